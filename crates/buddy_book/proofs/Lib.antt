@@ -1,0 +1,8 @@
+pub mod TakeGive
+pub mod Orders
+pub mod Table
+pub mod Kept
+pub mod StoredLaws
+pub mod BookProofs
+pub mod Beginning
+mod Rows

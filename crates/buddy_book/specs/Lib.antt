@@ -1,0 +1,4 @@
+pub mod Book
+pub mod Place
+pub mod Shown
+pub mod Stored

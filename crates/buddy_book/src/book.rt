@@ -1,0 +1,288 @@
+// The book, with its taken blocks.
+ghost use Rattle.std.specs.Prelude.{◌≡◌, ◌+◌, ◌-◌, ◌*◌, ◌^◌, ◌%◌, ◌≤◌, [], Some, None, IfOk, IfSome, IfNone};
+ghost use Rattle.buddy_book.specs.Book.{start, take, give};
+ghost use Rattle.buddy_book.specs.Shown.{IsTaken, with_taken, without_taken, head_address};
+
+use crate::lists::{empty_lists, give_block, head_of, take_block, zeros};
+use rpp_words::NoMemory;
+use std::alloc::Global;
+use std::marker::Model;
+
+/// The free lists of a heap, and its taken blocks with their orders.
+#[derive(Drop)]
+pub struct Book {
+    /// The order of the heap.
+    h: u32,
+    /// The address of the heap.
+    base: u32,
+    /// For each order from 1 on the distances of its free blocks from the base, the head last.
+    lists: Vec<Vec<u32>>,
+    /// For each second word of the heap the order of the taken block that begins there, or 0.
+    orders: Vec<u32>,
+}
+
+impl Model for Book {
+    ghost use Rattle.buddy_book.specs.Shown.{Shown};
+    ghost use Rattle.buddy_book.specs.Stored.{shown, IsStored};
+
+    ghost Value = { Shown };
+
+    ghost view = { λ b. shown b.h b.base b.lists.items b.orders.items };
+
+    ghost invariant = { λ b. IsStored b.h b.base b.lists.items b.orders.items };
+}
+
+impl Book {
+    /// The book of an empty heap, with room for every block.
+    pub fn new(alloc: Global, h: u32, base: u32) -> Result<Book, NoMemory>
+        requires from { 1 ≤ h }
+        requires to { h ≤ 20 }
+        requires multiple { base % 2 ^ h ≡ 0 }
+        requires base_from { 40 ≤ base }
+        requires base_to { base ≤ 2 ^ 21 }
+        ensures { IfOk result (λ book. book ≡ record { h = h; base = base; free = start h; taken = [] }) }
+    {
+        let lists = empty_lists(alloc, h)?;
+        let orders = zeros(alloc, h)?;
+        Ok(Book {
+            h,
+            base,
+            lists,
+            orders,
+        })
+    }
+
+    /// Takes a block of order `k`, where there is one, and answers its address.
+    pub fn take(&mut self, k: u32) -> Option<u32>
+        requires { 1 ≤ k }
+        ensures none { IfNone result (take self.old.free k ≡ None) }
+        ensures stays { IfNone result (self.new ≡ self.old) }
+        ensures from_base { IfSome result (λ at. self.old.base ≤ at) }
+        ensures takes { IfSome result (λ at. take self.old.free k ≡ Some (at - self.old.base, self.new.free)) }
+        ensures taken { IfSome result (λ at. self.new.taken ≡ with_taken (at - self.old.base) k self.old.taken) }
+        ensures is_taken { IfSome result (λ at. IsTaken self.new at k) }
+        ensures heap { self.new ≡ record self.old { free = self.new.free; taken = self.new.taken } }
+        ensures undone { IfSome result (λ at. give self.new.free k (at - self.old.base) ≡ self.old.free) }
+    {
+        match take_block(&mut self.lists, k) {
+            None => None,
+            Some(block) => {
+                self.orders[(block / 2) as usize] = k;
+                Some(self.base + block)
+            }
+        }
+    }
+
+    /// Gives back a taken block.
+    pub fn give(&mut self, k: u32, block: u32)
+        requires { IsTaken self.old block k }
+        ensures gives { self.new.free ≡ give self.old.free k (block - self.old.base) }
+        ensures taken { self.new.taken ≡ without_taken (block - self.old.base) self.old.taken }
+        ensures heap { self.new ≡ record self.old { free = self.new.free; taken = self.new.taken } }
+        ensures undone { take self.new.free k ≡ Some (block - self.old.base, self.old.free) }
+    {
+        let at = block - self.base;
+        self.orders[(at / 2) as usize] = 0;
+        give_block(&mut self.lists, k, at);
+    }
+
+    /// The address of the head of the list of order `k`.
+    pub fn head(&self, k: u32) -> Option<u32>
+        requires from { 1 ≤ k }
+        requires to { k ≤ self.now.h }
+        ensures { result ≡ head_address self.now k }
+    {
+        match head_of(&self.lists[(k - 1) as usize]) {
+            None => None,
+            Some(block) => Some(self.base + block),
+        }
+    }
+}
+
+#[cfg(test)]
+mod tests {
+    use super::*;
+    use std::process::Abort;
+    use std::test::Fail;
+
+    #[test]
+    fn blocks_are_taken_from_above(rt: HostRuntime) -> Result<(), Fail> {
+        let mut book = Book::new(rt.alloc(), 2, 40)?;
+        assert_eq!(rt; book.head(2), Some(40), "the whole heap is free");
+        let taken = [book.take(1), book.take(1), book.take(1)];
+        assert_eq!(rt; taken, [Some(42), Some(40), None], "upper halves first");
+        assert_eq!(rt; book.head(1), None, "no block is left");
+        Ok(())
+    }
+
+    #[test]
+    fn a_block_given_back_merges(rt: HostRuntime) -> Result<(), Fail> {
+        let mut book = Book::new(rt.alloc(), 2, 40)?;
+        if let Some(block) = book.take(1) {
+            assert_eq!(rt; book.head(1), Some(40), "the lower half is free");
+            book.give(1, block);
+        }
+        assert_eq!(rt; book.head(1), None, "both halves merged");
+        assert_eq!(rt; book.head(2), Some(40), "the whole heap is free again");
+        Ok(())
+    }
+
+    /// The plain lists of an empty heap of order 10, the head of each last.
+    fn plain_start(alloc: Global) -> Result<Vec<Vec<u32>>, Fail> {
+        let mut lists = Vec::new(alloc);
+        for _ in 1..10 {
+            lists.push(Vec::new(alloc))?;
+        }
+        lists.push(vec![in alloc; 0; 1]?)?;
+        Ok(lists)
+    }
+
+    /// Halves a block of a higher order down to order `k`: the lower halves become free.
+    fn plain_halve<R: Abort>(
+        rt: &R,
+        lists: &mut Vec<Vec<u32>>,
+        k: u32,
+        order: u32,
+        block: u32,
+    ) -> Result<u32, Fail> {
+        let mut upper = block;
+        for step in k..order {
+            let lower = order.wrapping_sub(1).wrapping_sub(step.wrapping_sub(k));
+            assert!(rt; 1 <= lower && lower <= 10 && (lower as usize) <= lists.len());
+            lists[(lower - 1) as usize].push(upper)?;
+            upper = upper.wrapping_add(1 << lower);
+        }
+        Ok(upper)
+    }
+
+    /// Takes a block from plain lists: the first free one of the least order from `k` on, halved.
+    fn plain_take<R: Abort>(
+        rt: &R,
+        lists: &mut Vec<Vec<u32>>,
+        k: u32,
+    ) -> Result<Option<u32>, Fail> {
+        for order in k..11 {
+            assert!(rt; 1 <= order && (order as usize) <= lists.len());
+            match lists[(order - 1) as usize].pop() {
+                None => {}
+                Some(block) => return Ok(Some(plain_halve(rt, lists, k, order, block)?)),
+            }
+        }
+        Ok(None)
+    }
+
+    /// Gives a block back to plain lists: it merges while its list holds its lower half alone.
+    fn plain_give<R: Abort>(
+        rt: &R,
+        lists: &mut Vec<Vec<u32>>,
+        k: u32,
+        block: u32,
+    ) -> Result<(), Fail> {
+        let mut given = block;
+        for order in k..11 {
+            assert!(rt; 1 <= order && order <= 10 && (order as usize) <= lists.len());
+            let low = given.wrapping_sub(1 << order);
+            let aligned = low & (2u32 << order).wrapping_sub(1) == 0;
+            let list = &mut lists[(order - 1) as usize];
+            if !aligned || list.len() != 1 || list[0] != low {
+                list.push(given)?;
+                return Ok(());
+            }
+            list.clear();
+            given = low;
+        }
+        Ok(())
+    }
+
+    /// The order of the taken block at an address, if there is one.
+    fn order_at(book: &Book, at: u32) -> Option<u32>
+        ensures { IfSome result (λ k. IsTaken book.now at k) }
+    {
+        if at < book.base || (at - book.base) % 2 != 0 {
+            return None;
+        }
+        let entry = ((at - book.base) / 2) as usize;
+        if entry >= book.orders.len() {
+            return None;
+        }
+        let order = book.orders[entry];
+        if order == 0 { None } else { Some(order) }
+    }
+
+    /// The book and the plain lists take the same block.
+    fn take_both<R: Abort>(
+        rt: &R,
+        book: &mut Book,
+        lists: &mut Vec<Vec<u32>>,
+        k: u32,
+    ) -> Result<Option<u32>, Fail> {
+        assert!(rt; 1 <= k);
+        let plain = plain_take(rt, lists, k)?;
+        let taken = book.take(k);
+        match plain {
+            None => assert_eq!(rt; taken, None),
+            Some(block) => assert_eq!(rt; taken, Some(block.wrapping_add(1024))),
+        }
+        assert!(rt; book.lists == *lists);
+        Ok(taken)
+    }
+
+    /// The block is given back to the book and to the plain lists; the answer is its order.
+    fn give_both<R: Abort>(
+        rt: &R,
+        book: &mut Book,
+        lists: &mut Vec<Vec<u32>>,
+        at: u32,
+    ) -> Result<u32, Fail> {
+        let order = order_at(book, at);
+        match order {
+            None => {
+                assert!(rt; false);
+                Ok(0)
+            }
+            Some(k) => {
+                plain_give(rt, lists, k, at.wrapping_sub(1024))?;
+                book.give(k, at);
+                assert!(rt; book.lists == *lists);
+                Ok(k)
+            }
+        }
+    }
+
+    #[test]
+    fn mixed_takes_and_gives_lead_back(rt: HostRuntime) -> Result<(), Fail> {
+        let alloc = rt.alloc();
+        let mut book = Book::new(alloc, 10, 1024)?;
+        let mut lists = plain_start(alloc)?;
+        let mut held = Vec::new(alloc);
+        let mut log = Vec::new(alloc);
+        let mut number = 7u32;
+        for _ in 0..4000 {
+            number = number.wrapping_mul(1664525).wrapping_add(1013904223);
+            if held.is_empty() || (number >> 20) % 2 == 0 {
+                let order = 1 + (number >> 16) % 4;
+                if let Some(at) = take_both(&rt, &mut book, &mut lists, order)? {
+                    held.push(at)?;
+                    log.push((order, at, true))?;
+                }
+            } else {
+                let at = held.swap_remove((number >> 8) as usize % held.len());
+                let order = give_both(&rt, &mut book, &mut lists, at)?;
+                log.push((order, at, false))?;
+            }
+        }
+        assert!(rt; log.len() > 2000);
+        for _ in 0..4000 {
+            if let Some((order, at, took)) = log.pop() {
+                if took {
+                    assert_eq!(rt; give_both(&rt, &mut book, &mut lists, at)?, order);
+                } else {
+                    assert_eq!(rt; take_both(&rt, &mut book, &mut lists, order)?, Some(at));
+                }
+            }
+        }
+        assert!(rt; book.lists == plain_start(alloc)?);
+        assert!(rt; book.orders == zeros(alloc, 10)?);
+        Ok(())
+    }
+}

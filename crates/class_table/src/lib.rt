@@ -1,0 +1,29 @@
+// The class table of a program: the numbers of its classes, their fields, method slots, dispatch and inheritance.
+// `ClassTable::build` refuses a program that has none, at the first rule that refuses it.
+// A `Checked` holds a program that every rule accepts, together with its table; the rules of types stand in specs/.
+#![tactic(auto)]
+
+mod chains;
+mod checked;
+mod error;
+mod fields;
+mod kind;
+mod laws;
+mod limits;
+mod mains;
+mod method;
+mod names;
+mod overrides;
+mod phases;
+mod slots;
+mod table;
+#[cfg(test)]
+mod tests;
+
+pub use checked::Checked;
+pub use error::ClassError;
+pub use kind::Kind;
+pub use laws::{chain_ends_within, first_is_first, table_reads_classes};
+pub use limits::{MAX_FIELDS, MAX_SLOTS};
+pub use method::MethodId;
+pub use table::ClassTable;

@@ -1,0 +1,107 @@
+// The phases in which a class table is refused.
+ghost use Rattle.std.specs.Prelude.{◌≡◌, MatchResult, None, map};
+ghost use Rattle.rpp_tree.specs.Views.{source_of, class_text_of, procedure_of};
+ghost use Rattle.class_table.specs.Rules.{IsFirst, class_names, duplicate_class, unknown_class, unknown_in_class, unknown_params, unknown_var, unknown_type, unknown_name, unknown_parent};
+ghost use Rattle.class_table.specs.First.{first_in};
+
+use crate::error::ClassError;
+use crate::names::add_name;
+use indexmap::IndexSet;
+use rpp_tree::text::Text;
+use rpp_tree::tree::{Class, Ident, Method, Program, Var, VarType};
+use std::alloc::Global;
+
+/// The names of the classes, each of which has only one.
+pub fn name_classes(alloc: Global, program: &Program) -> Result<IndexSet<Text>, ClassError>
+    ensures { MatchResult result (λ names. (names.keys ≡ class_names (source_of program.now)) × (duplicate_class (source_of program.now) ≡ None)) (IsFirst (duplicate_class (source_of program.now))) }
+{
+    let mut names = IndexSet::new(alloc);
+    for class in &program.classes {
+        if !add_name(alloc, &mut names, &class.name.text)? {
+            return Err(ClassError::DuplicateClass { at: class.name.at });
+        }
+    }
+    Ok(names)
+}
+
+fn know_name(names: &IndexSet<Text>, name: &Ident) -> Option<ClassError>
+    ensures { result ≡ unknown_name names.now.keys name.now }
+{
+    if names.contains(&name.text) {
+        None
+    } else {
+        Some(ClassError::UnknownClass { at: name.at })
+    }
+}
+
+fn know_type(names: &IndexSet<Text>, kind: &VarType) -> Option<ClassError>
+    ensures { result ≡ unknown_type names.now.keys kind.now }
+{
+    match kind {
+        VarType::Int => None,
+        VarType::Class(name) => know_name(names, name),
+        VarType::IntArray => None,
+        VarType::ClassArray(name) => know_name(names, name),
+    }
+}
+
+fn know_vars(names: &IndexSet<Text>, vars: &[Var]) -> Option<ClassError>
+    ensures { result ≡ first_in (unknown_var names.now.keys) vars.now }
+{
+    for var in vars {
+        let refused = know_type(names, &var.kind);
+        if refused.is_some() {
+            return refused;
+        }
+    }
+    None
+}
+
+fn know_methods(names: &IndexSet<Text>, methods: &[Method]) -> Option<ClassError>
+    ensures { result ≡ first_in (unknown_params names.now.keys) (map procedure_of methods.now) }
+{
+    for method in methods {
+        let refused = know_vars(names, &method.params);
+        if refused.is_some() {
+            return refused;
+        }
+    }
+    None
+}
+
+fn know_parent(names: &IndexSet<Text>, parent: &Option<Ident>) -> Option<ClassError>
+    ensures { result ≡ unknown_parent names.now.keys parent.now }
+{
+    match parent {
+        None => None,
+        Some(name) => know_name(names, name),
+    }
+}
+
+fn know_class(names: &IndexSet<Text>, class: &Class) -> Option<ClassError>
+    ensures { result ≡ unknown_in_class names.now.keys (class_text_of class.now) }
+{
+    let refused = know_parent(names, &class.parent);
+    if refused.is_some() {
+        return refused;
+    }
+    let refused = know_vars(names, &class.fields);
+    if refused.is_some() {
+        return refused;
+    }
+    know_methods(names, &class.methods)
+}
+
+/// The first name that stands for a class and is none.
+pub fn know_classes(names: &IndexSet<Text>, program: &Program) -> Option<ClassError>
+    requires { names.now.keys ≡ class_names (source_of program.now) }
+    ensures { result ≡ unknown_class (source_of program.now) }
+{
+    for class in &program.classes {
+        let refused = know_class(names, class);
+        if refused.is_some() {
+            return refused;
+        }
+    }
+    None
+}

@@ -1,0 +1,69 @@
+-- What a piece is: its cells and its marks; and how the calls put them together.
+use Rattle.std.specs.Prelude.{ℕ, ◌+◌, ◌-◌, ◌^◌, ◌<◌, ◌≤◌, List, [], ◌∷◌, ◌++◌, length, take, drop}
+use Rattle.paired_code.specs.declared.part.Symbol.{Symbol}
+use Rattle.paired_code.specs.declared.part.Mark.{Mark}
+use Rattle.paired_code.specs.Layout.{branch_cells, loop_cells}
+use Rattle.paired_code.specs.Fit.{AllFit}
+
+pub record Code : Type 0 where
+  pub cells : List Symbol
+  pub marks : List Mark
+
+-- each mark is a range of so many cells
+abbrev pub AllWithin : ℕ → List Mark → Type 0
+AllWithin n [] = Unit {0}
+AllWithin n (k ∷ ks) = (k.first ≤ k.end) × (k.end ≤ n) × AllWithin n ks
+
+-- what each piece keeps: few cells, each of which an image may hold, and marks on them
+pub record Kept (cells : List Symbol) (marks : List Mark) : Type 0 where
+  pub small : length cells < 2 ^ 28
+  pub fit : AllFit cells
+  pub within : AllWithin (length cells) marks
+
+abbrev pub moved_on : ℕ → Mark → Mark
+moved_on n k = record { first = n + k.first; end = n + k.end; at = k.at }
+
+abbrev pub shift : ℕ → List Mark → List Mark
+shift n [] = []
+shift n (k ∷ ks) = moved_on n k ∷ shift n ks
+
+abbrev pub unmarked : List Symbol → Code
+unmarked p = record { cells = p; marks = [] }
+
+abbrev pub seq_code : Code → Code → Code
+seq_code a b = record { cells = a.cells ++ b.cells; marks = a.marks ++ shift (length a.cells) b.marks }
+
+abbrev pub branch_code : ℕ → Code → Code → Code
+branch_code r p q = record {
+  cells = branch_cells r p.cells q.cells;
+  marks = shift 2 q.marks ++ shift (5 + length q.cells) p.marks;
+}
+
+abbrev pub loop_code : ℕ → Code → Code → Code
+loop_code r head tail = record {
+  cells = loop_cells r head.cells tail.cells;
+  marks = shift 3 tail.marks ++ shift (5 + length tail.cells) head.marks;
+}
+
+abbrev pub marked_code : ℕ → Code → Code
+marked_code at p = record {
+  cells = p.cells;
+  marks = p.marks ++ record { first = 0; end = length p.cells; at = at } ∷ [];
+}
+
+-- the cells alone, of each
+abbrev pub bodies : List Code → List (List Symbol)
+bodies [] = []
+bodies (c ∷ cs) = c.cells ∷ bodies cs
+
+-- a place of the source, and the cells that it made
+pub record Marked : Type 0 where
+  pub at : ℕ
+  pub cells : List Symbol
+
+abbrev pub marked_parts : List Symbol → List Mark → List Marked
+marked_parts cells [] = []
+marked_parts cells (k ∷ ks) = record { at = k.at; cells = take (k.end - k.first) (drop k.first cells) } ∷ marked_parts cells ks
+
+abbrev pub parts : Code → List Marked
+parts c = marked_parts c.cells c.marks

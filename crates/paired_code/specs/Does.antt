@@ -1,0 +1,71 @@
+-- How a run of a piece meets what the source says.
+use Rattle.std.specs.Prelude.{ℕ, zero, suc, ◌+◌, ◌-◌, ◌*◌, ◌≤◌, Bool, true, false, List, [], ◌∷◌, ◌++◌}
+use Rattle.paired_code.specs.declared.part.Symbol.{Symbol}
+use Rattle.paired_code.specs.Machine.{Memory, Image}
+use Rattle.paired_code.specs.Layout.{xor, branch_cells, check_cells}
+use Rattle.paired_code.specs.Pieces.{Outcome, Done, Trapped, Still, Will}
+
+-- what the source says, with its cost
+pub data Told (A : Type 0) : Type 0 where
+  Fine : (a : A) (cost : ℕ) → Told A
+  Fault : (code cost : ℕ) → Told A
+  More : Told A
+
+abbrev pub plus : {A : Type 0} → ℕ → Told A → Told A
+plus n (Fine a c) = Fine a (n + c)
+plus n (Fault w c) = Fault w (n + c)
+plus n More = More
+
+-- one part and, with what it cost, the next
+abbrev pub told_then : {A B : Type 0} → Told A → (ℕ → A → Told B) → Told B
+told_then (Fine a c) g = plus c (g c a)
+told_then (Fault w c) g = Fault w c
+told_then More g = More
+
+-- a count of 1, where there is fuel for it
+abbrev pub ticked : {A : Type 0} → ℕ → (ℕ → Told A) → Told A
+ticked zero g = More
+ticked (suc n) g = plus 1 (g n)
+
+-- how much a step may stand for at most, and how many steps come with a count at most
+pub record Rates : Type 0 where
+  pub counts : ℕ
+  pub steps : ℕ
+
+-- the run does what the source says with fuel n: within the rates b, and x steps more
+pub data Meets {A : Type 0} (R : A → Memory → Type 0) (b : Rates) (n x : ℕ) : Told A → Outcome → Type 0 where
+  fine : {a : A} {m : Memory} {c k : ℕ} → R a m → c ≤ b.counts * k → k ≤ b.steps * c + x → Meets R b n x (Fine a c) (Done m k)
+  faults : {w c k : ℕ} → k ≤ b.steps * c + x → Meets R b n x (Fault w c) (Trapped w k)
+  more : {k : ℕ} → n ≤ b.counts * (k + 1) → Meets R b n x More (Still k)
+
+-- from each related memory, the piece does what the source says
+pub record Does {A B : Type 0} (im : Image) (p : List Symbol) (d : Bool) (R : A → Memory → Type 0) (R' : B → Memory → Type 0) (b : Rates) (n x : ℕ) (f : A → Told B) : Type 0 where
+  pub does : (a : A) (m : Memory) → R a m → Will im p d m (Meets R' b n x (f a))
+
+-- pieces in the order in which they are run
+abbrev pub in_order : Bool → List (List Symbol) → List Symbol
+in_order d [] = []
+in_order false (p ∷ ps) = p ++ in_order false ps
+in_order true (p ∷ ps) = in_order true ps ++ p
+
+-- a value of 0 or 1 that is xored into a register, with what it costs: v is the register's value before
+pub record Tells {A : Type 0} (im : Image) (p : List Symbol) (d : Bool) (R : Bool → A → Memory → Type 0) (b : Rates) (x : ℕ) (t : ℕ → A → Told Bool) : Type 0 where
+  pub tells : (n : ℕ) (v : Bool) (a : A) (m : Memory) → R v a m → Will im p d m (Meets (λ w m1. R (xor v w) a m1) b n x (t n a))
+
+abbrev pub chosen : {A : Type 0} → Bool → Told A → Told A → Told A
+chosen true s t = s
+chosen false s t = t
+
+-- a fault, where the tests before and after differ
+abbrev pub agreed : {A : Type 0} → Bool → A → Told A
+agreed true a = Fault 1 0
+agreed false a = Fine a 0
+
+-- the meaning of `if t then p else q fi u`
+abbrev pub if_told : {A : Type 0} → (t u : ℕ → A → Told Bool) (p q : ℕ → A → Told A) → ℕ → A → Told A
+if_told t u p q n a =
+    ticked n (λ n. told_then (t n a) (λ c v. told_then (chosen v (p (n - c) a) (q (n - c) a)) (λ c2 a1. told_then (u (n - c - c2) a1) (λ c3 w. agreed (xor v w) a1))))
+
+-- its code, where t and u stand for the code of the tests
+abbrev pub if_cells : ℕ → (t u p q : List Symbol) → List Symbol
+if_cells r t u p q = check_cells r 1 ++ (t ++ (branch_cells r p q ++ (u ++ check_cells r 1)))

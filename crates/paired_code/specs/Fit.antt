@@ -1,0 +1,26 @@
+-- Cells that a piece may hold.
+use Rattle.std.specs.Prelude.{◌≡◌, false, List, [], ◌∷◌}
+use Rattle.pisa_isa.specs.declared.cell.Cell.{Cell}
+use Rattle.pisa_isa.specs.Table.{IsCell}
+use Rattle.paired_code.specs.declared.part.Symbol.{Symbol}
+use Rattle.paired_code.specs.declared.part.Symbol.TheVariants.{Own, Fixed}
+use Rattle.paired_code.specs.Machine.{is_end}
+
+-- an image may hold it, and it is neither START nor FINISH
+pub record IsInner (c : Cell) : Type 0 where
+  pub holds : IsCell c
+  pub no_end : is_end c ≡ false
+
+abbrev pub IsFit : Symbol → Type 0
+IsFit (Own c) = IsInner c
+IsFit (Fixed c) = IsInner c
+IsFit _ = Unit {0}
+
+abbrev pub AllFit : List Symbol → Type 0
+AllFit [] = Unit {0}
+AllFit (c ∷ p) = IsFit c × AllFit p
+
+-- so have the cells of each
+abbrev pub EachFit : List (List Symbol) → Type 0
+EachFit [] = Unit {0}
+EachFit (b ∷ bs) = AllFit b × EachFit bs

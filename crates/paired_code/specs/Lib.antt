@@ -1,0 +1,11 @@
+pub mod Cells
+pub mod Machine
+pub mod Layout
+pub mod Pieces
+pub mod Laws
+pub mod Fit
+pub mod Code
+pub mod Literal
+pub mod Closed
+pub mod Link
+pub mod Does

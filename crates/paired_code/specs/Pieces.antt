@@ -1,0 +1,107 @@
+-- What a piece does.
+use Rattle.std.specs.Prelude.{◌≡◌, ℕ, suc, ◌+◌, ◌^◌, ◌<◌, ◌≤◌, Bool, true, false, List, length, Some, None, ℤ}
+use Rattle.pisa_isa.specs.declared.cell.Cell.{Cell}
+use Rattle.paired_code.specs.declared.part.Symbol.{Symbol}
+use Rattle.pisa_isa.specs.Machine.{State, fetch, stop_at, stop}
+use Rattle.pisa_isa.specs.declared.machine.Stop.{Stop}
+use Rattle.pisa_isa.specs.declared.machine.Stop.TheVariants.{Trap, BadAddress}
+use Rattle.paired_code.specs.Machine.{Memory, Image, act, change, is_end, Level}
+use Rattle.paired_code.specs.Layout.{Frame, place, at, Stands}
+
+-- the place is that of a cell from a to b, or a routine is open, or a jump is under way
+pub data Inside (f : Frame) (a b : ℕ) : ℕ → ℤ → ℕ → Type 0 where
+  cell : {e br : ℕ} (i : ℕ) → a ≤ i → i < b → Inside f a b e (place f i) br
+  open_call : {e br : ℕ} {p : ℤ} → Inside f a b (suc e) p br
+  in_flight : {e br : ℕ} {p : ℤ} → 0 < br → Inside f a b e p br
+
+-- so many steps lead from a state to another, each made inside; e counts the open routines
+pub data Path (im : Image) (f : Frame) (a b : ℕ) : ℕ → ℕ → State → ℕ → State → Type 0 where
+  stay : {e : ℕ} {s : State} → Path im f a b 0 e s e s
+  step : {k e e1 e' : ℕ} {s s' : State} (c : Cell) → Inside f a b e s.pc s.br → fetch im.code s.pc ≡ Some c → stop_at (Some c) s ≡ None → is_end c ≡ false → Level (change im.routines c s) e e1 → Path im f a b k e1 (act c s) e' s' → Path im f a b (suc k) e s e' s'
+
+-- how a run of a piece goes, with its number of steps
+pub data Outcome : Type 0 where
+  Done : (m : Memory) (k : ℕ) → Outcome
+  Trapped : (w k : ℕ) → Outcome
+  Bad : (a k : ℕ) → Outcome
+  Still : (k : ℕ) → Outcome
+
+abbrev pub near_end : Bool → ℕ → ℕ → ℕ
+near_end false a b = a
+near_end true a b = b
+
+abbrev pub far_end : Bool → ℕ → ℕ → ℕ
+far_end false a b = b
+far_end true a b = a
+
+-- from gap i to gap j in the direction d, in k steps, each inside the cells from a to b
+pub record Way (im : Image) (f : Frame) (d : Bool) (a b k i : ℕ) (m : Memory) (j : ℕ) (m' : Memory) : Type 0 where
+  pub path : Path im f a b k 0 (at f d i m) 0 (at f d j m')
+
+-- from gap i the run makes k steps inside, and stops
+pub record Halts (im : Image) (f : Frame) (d : Bool) (a b k i : ℕ) (m : Memory) (why : Stop) : Type 0 where
+  pub last : State
+  pub depth : ℕ
+  pub path : Path im f a b k 0 (at f d i m) depth last
+  pub stops : stop im.code last ≡ Some why
+  pub inside : Inside f a b depth last.pc last.br
+
+-- from gap i the run makes k steps inside, and may go on
+pub record Goes_on (im : Image) (f : Frame) (d : Bool) (a b k i : ℕ) (m : Memory) : Type 0 where
+  pub last : State
+  pub depth : ℕ
+  pub path : Path im f a b k 0 (at f d i m) depth last
+
+-- from gap i, a run inside the cells from a to b goes so, and where it leaves, it leaves at gap j
+pub data Ends (im : Image) (f : Frame) (d : Bool) (a b i : ℕ) (m : Memory) (j : ℕ) : Outcome → Type 0 where
+  finishes : {m' : Memory} {k : ℕ} → Way im f d a b k i m j m' → Ends im f d a b i m j (Done m' k)
+  traps : {w k : ℕ} → Halts im f d a b k i m (Trap w) → Ends im f d a b i m j (Trapped w k)
+  bad : {w k : ℕ} → Halts im f d a b k i m (BadAddress w) → Ends im f d a b i m j (Bad w k)
+  still : {k : ℕ} → Goes_on im f d a b k i m → Ends im f d a b i m j (Still k)
+
+-- the piece, wherever it stands, run along or back from this memory goes so
+pub record Runs (im : Image) (p : List Symbol) (d : Bool) (m : Memory) (o : Outcome) : Type 0 where
+  pub run : (f : Frame) (i : ℕ) → i + length p < 2 ^ 30 → Stands im f i p → Ends im f d i (i + length p) (near_end d i (i + length p)) m (far_end d i (i + length p)) o
+
+-- wherever the piece stands, run along or back from this memory, it goes in one of these ways
+pub record Will (im : Image) (p : List Symbol) (d : Bool) (m : Memory) (Q : Outcome → Type 0) : Type 0 where
+  pub will : (f : Frame) (i : ℕ) → i + length p < 2 ^ 30 → Stands im f i p → (o : Outcome) × Ends im f d i (i + length p) (near_end d i (i + length p)) m (far_end d i (i + length p)) o × Q o
+
+-- the steps of an outcome, and more before or after
+abbrev pub after : ℕ → Outcome → Outcome
+after n (Done m k) = Done m (n + k)
+after n (Trapped w k) = Trapped w (n + k)
+after n (Bad w k) = Bad w (n + k)
+after n (Still k) = Still (n + k)
+
+-- one run and, where it leaves, the next
+abbrev pub then_do : Outcome → (Memory → Outcome) → Outcome
+then_do (Done m k) g = after k (g m)
+then_do (Trapped w k) g = Trapped w k
+then_do (Bad w k) g = Bad w k
+then_do (Still k) g = Still k
+
+-- so many steps before, and so many after where it leaves
+abbrev pub around : ℕ → ℕ → Outcome → Outcome
+around x y o = after x (then_do o (λ m. Done m y))
+
+-- a run that does not leave
+abbrev pub IsOver : Outcome → Type 0
+IsOver (Done m k) = ⊥
+IsOver (Trapped w k) = Unit {0}
+IsOver (Bad w k) = Unit {0}
+IsOver (Still k) = Unit {0}
+
+-- the steps between head and tail, and between tail and head
+abbrev pub to_tail : Bool → ℕ
+to_tail false = 4
+to_tail true = 2
+
+abbrev pub to_head : Bool → ℕ
+to_head false = 2
+to_head true = 4
+
+-- how many steps stand before and after the part that is run where the register is 0
+abbrev pub around_no : Bool → Outcome → Outcome
+around_no false o = around 2 4 o
+around_no true o = around 4 2 o

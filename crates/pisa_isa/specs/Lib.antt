@@ -1,0 +1,7 @@
+pub mod Table
+pub mod Machine
+pub mod Image
+pub mod Runs
+pub mod Ends
+pub mod Loaded
+pub mod Flipped

@@ -1,0 +1,43 @@
+-- The memory that a run begins with.
+use Rattle.std.specs.Prelude.{ℕ, ◌+◌, ◌-◌, ◌*◌, ◌/◌, ◌^◌, List, [], ◌∷◌, ◌++◌, length, replicate, slice_set}
+use Rattle.rpp_words.specs.declared.input.FieldWord.{FieldWord}
+use Rattle.rpp_words.specs.declared.input.Limits.{Limits}
+use Rattle.pisa_isa.specs.Machine.{State}
+use Rattle.pisa_isa.specs.Image.{Segments}
+use Rattle.pisa_isa.specs.Runs.{started, zero_registers}
+
+-- the first cell after the fixed ones: the static cells begin here
+abbrev pub statics_at : ℕ
+statics_at = 40
+
+-- the least multiple of the heap's size not below the end of the static cells
+abbrev pub heap_base : (heap statics : ℕ) → ℕ
+heap_base heap statics = (statics_at + statics + 2 ^ heap - 1) / 2 ^ heap * 2 ^ heap
+
+-- the fixed cells: the order, the heap base, the stack base, the stack end, and the heads of the free lists from order 1 on
+abbrev pub fixed_cells : (heap deep base : ℕ) → List ℕ → List ℕ
+fixed_cells heap deep base heads =
+    0 ∷ heap ∷ base ∷ (base + 2 ^ heap) ∷ (base + 2 ^ heap + 512 * deep) ∷ 0 ∷ 0 ∷ 0 ∷ 0 ∷ (heads ++ replicate (31 - length heads) 0)
+
+-- the heads of an empty heap: the whole heap is the one free block
+abbrev pub empty_heads : (heap base : ℕ) → List ℕ
+empty_heads heap base = replicate (heap - 1) 0 ++ base ∷ []
+
+-- the static cells with the input's words in the main object's fields
+abbrev pub with_words : List FieldWord → List ℕ → List ℕ
+with_words [] statics = statics
+with_words (entry ∷ input) statics = with_words input (slice_set statics (2 + entry.field) entry.word)
+
+-- all cells, from the first one to the end of the stack
+abbrev pub loaded : List ℕ → Limits → List FieldWord → List ℕ
+loaded statics limits input =
+    let base = heap_base limits.heap (length statics) in
+    fixed_cells limits.heap limits.deep base (empty_heads limits.heap base)
+    ++ with_words input statics
+    ++ replicate (base - statics_at - length statics) 0
+    ++ replicate (2 ^ limits.heap) 0
+    ++ replicate (512 * limits.deep) 0
+
+-- where the run of an image begins with these limits and this input
+abbrev pub loaded_state : Segments → Limits → List FieldWord → State
+loaded_state image limits input = started image.code zero_registers (loaded image.statics limits input)

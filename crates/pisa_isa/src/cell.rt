@@ -1,0 +1,248 @@
+// The instructions.
+ghost use Rattle.std.specs.Prelude.{◌≡◌, ◌↔◌, IsTrue};
+ghost use Rattle.pisa_isa.specs.Table.{IsInRange, inverse_of, is_one_to_one, new_value, has_a, has_b, c_is_source, register_end, imm_end};
+
+use rpp_words::{
+    less, shift_left, shift_right, shift_right_signed, turn_left, turn_right, wrap_add, wrap_sub,
+};
+
+/// What an instruction does: the rows of the Pendulum instruction set PISA (Vieri; Axelsen, Glück
+/// and Yokoyama), as the thesis on ROOPL++ (Cservenka) uses it. `d` is the register in `a`, `s` the
+/// one in `b`, `t` the one in `c`, `i` the word, `n` the amount and `o` the offset in `imm`. Each
+/// effect is that of direction 1; in the other direction a cell acts as its inverse.
+#[derive(Clone, Copy, PartialEq, Eq, Debug)]
+pub enum Op {
+    /// `ADD d s`: adds s.
+    Add,
+    /// `SUB d s`: subtracts s.
+    Sub,
+    /// `XOR d s`: xors with s.
+    Xor,
+    /// `NEG d`: negates.
+    Neg,
+    /// `ADDI d i`: adds the word.
+    Addi,
+    /// `XORI d i`: xors with the word.
+    Xori,
+    /// `RL d n`: turns left.
+    Rl,
+    /// `RR d n`: turns right.
+    Rr,
+    /// `RLV d s`: turns left by the low five bits of s.
+    Rlv,
+    /// `RRV d s`: turns right by the low five bits of s.
+    Rrv,
+    /// `ANDX d s t`: xors with s and t.
+    Andx,
+    /// `ORX d s t`: xors with s or t.
+    Orx,
+    /// `NORX d s t`: xors with the complement of s or t.
+    Norx,
+    /// `SLTX d s t`: xors with 1 where s is below t as signed numbers.
+    Sltx,
+    /// `ANDIX d s i`: xors with s and the word.
+    Andix,
+    /// `ORIX d s i`: xors with s or the word.
+    Orix,
+    /// `SLLX d s n`: xors with s shifted left.
+    Sllx,
+    /// `SRLX d s n`: xors with s shifted right, zeros coming in.
+    Srlx,
+    /// `SRAX d s n`: xors with s shifted right, the sign coming in.
+    Srax,
+    /// `SLLVX d s t`: as SLLX, by the low five bits of t.
+    Sllvx,
+    /// `SRLVX d s t`: as SRLX, by the low five bits of t.
+    Srlvx,
+    /// `SRAVX d s t`: as SRAX, by the low five bits of t.
+    Sravx,
+    /// `EXCH d s`: swaps d with the data cell at the address in s.
+    Exch,
+    /// `SWAPBR d`: swaps d with the branch register.
+    Swapbr,
+    /// `BRA o`: adds the offset to the branch register.
+    Bra,
+    /// `RBRA o`: as BRA, then negates the branch register and turns the direction.
+    Rbra,
+    /// `BEQ d s o`: as BRA where d equals s.
+    Beq,
+    /// `BNE d s o`: as BRA where d differs from s.
+    Bne,
+    /// `BGEZ d o`: as BRA where d is at least 0, signed.
+    Bgez,
+    /// `BGTZ d o`: as BRA where d is above 0, signed.
+    Bgtz,
+    /// `BLEZ d o`: as BRA where d is at most 0, signed.
+    Blez,
+    /// `BLTZ d o`: as BRA where d is below 0, signed.
+    Bltz,
+    /// `START`: where a run begins; stops one that comes backward.
+    Start,
+    /// `FINISH`: stops a run that comes forward.
+    Finish,
+    /// `DATA i`: stops with the word.
+    DataWord,
+}
+
+/// An instruction with its operands. An unused field is 0.
+#[derive(Clone, Copy, PartialEq, Eq, Debug)]
+pub struct Cell {
+    /// The row.
+    pub op: Op,
+    /// The first register, from 0 to 31.
+    pub a: u8,
+    /// The second register, from 0 to 31.
+    pub b: u8,
+    /// The third register, from 0 to 31.
+    pub c: u8,
+    /// A word, an amount from 0 to 31, or a signed offset: target's place minus this cell's.
+    pub imm: u32,
+}
+
+impl Cell {
+    /// The instruction that undoes this one: the inverse row with the same operands, ADDI with the
+    /// negated word, a branch and RBRA with the negated offset.
+    pub fn inverse(self) -> Cell
+        ensures { result ≡ inverse_of self }
+    {
+        let (op, imm) = match self.op {
+            Op::Add => (Op::Sub, self.imm),
+            Op::Sub => (Op::Add, self.imm),
+            Op::Rl => (Op::Rr, self.imm),
+            Op::Rr => (Op::Rl, self.imm),
+            Op::Rlv => (Op::Rrv, self.imm),
+            Op::Rrv => (Op::Rlv, self.imm),
+            Op::Start => (Op::Finish, self.imm),
+            Op::Finish => (Op::Start, self.imm),
+            Op::Addi
+            | Op::Bra
+            | Op::Rbra
+            | Op::Beq
+            | Op::Bne
+            | Op::Bgez
+            | Op::Bgtz
+            | Op::Blez
+            | Op::Bltz => { (self.op, wrap_sub(0, self.imm)) }
+            _ => (self.op, self.imm),
+        };
+        Cell { op, imm, ..self }
+    }
+
+    /// Whether its fields are in the ranges of its row.
+    pub fn is_in_range(&self) -> bool
+        ensures { IsTrue result ↔ IsInRange self.now }
+    {
+        let (has_a, has_b, has_c) = registers(self.op);
+        self.a < register_end(has_a)
+            && self.b < register_end(has_b)
+            && self.c < register_end(has_c)
+            && u64::from(self.imm) < imm_end(self.op)
+    }
+
+    /// Whether its target is none of its sources.
+    pub fn is_one_to_one(&self) -> bool
+        ensures { result ≡ is_one_to_one self.now }
+    {
+        match self.op {
+            Op::Add
+            | Op::Sub
+            | Op::Xor
+            | Op::Rlv
+            | Op::Rrv
+            | Op::Andix
+            | Op::Orix
+            | Op::Sllx
+            | Op::Srlx
+            | Op::Srax
+            | Op::Exch => { self.a != self.b }
+            Op::Andx | Op::Orx | Op::Norx | Op::Sltx | Op::Sllvx | Op::Srlvx | Op::Sravx => {
+                self.a != self.b && self.a != self.c
+            }
+            _ => true,
+        }
+    }
+}
+
+/// The end of the range of a register's number, where a row has it or not.
+fn register_end(has: bool) -> u8
+    ensures { result ≡ register_end has }
+{
+    if has { 32 } else { 1 }
+}
+
+/// Which of `a`, `b` and `c` name a register.
+fn registers(op: Op) -> (bool, bool, bool)
+    ensures { result ≡ (has_a op, has_b op, c_is_source op) }
+{
+    match op {
+        Op::Bra | Op::Rbra | Op::Start | Op::Finish | Op::DataWord => (false, false, false),
+        Op::Neg
+        | Op::Addi
+        | Op::Xori
+        | Op::Rl
+        | Op::Rr
+        | Op::Swapbr
+        | Op::Bgez
+        | Op::Bgtz
+        | Op::Blez
+        | Op::Bltz => (true, false, false),
+        Op::Andx | Op::Orx | Op::Norx | Op::Sltx | Op::Sllvx | Op::Srlvx | Op::Sravx => {
+            (true, true, true)
+        }
+        _ => (true, true, false),
+    }
+}
+
+/// The end of the range of `imm`.
+fn imm_end(op: Op) -> u64
+    ensures { result ≡ imm_end op }
+{
+    match op {
+        Op::Rl | Op::Rr | Op::Sllx | Op::Srlx | Op::Srax => 32,
+        Op::Addi
+        | Op::Xori
+        | Op::Andix
+        | Op::Orix
+        | Op::Bra
+        | Op::Rbra
+        | Op::Beq
+        | Op::Bne
+        | Op::Bgez
+        | Op::Bgtz
+        | Op::Blez
+        | Op::Bltz
+        | Op::DataWord => 1 << 32,
+        _ => 1,
+    }
+}
+
+/// What the rows from ADD to SRAVX make of the target `x`, with sources `y` and `z` and a word `i`.
+pub(crate) fn new_word(op: Op, x: u32, y: u32, z: u32, i: u32) -> u32
+    ensures { result ≡ new_value op x y z i }
+{
+    match op {
+        Op::Add => wrap_add(x, y),
+        Op::Sub => wrap_sub(x, y),
+        Op::Xor => x ^ y,
+        Op::Neg => wrap_sub(0, x),
+        Op::Addi => wrap_add(x, i),
+        Op::Xori => x ^ i,
+        Op::Rl => turn_left(x, i),
+        Op::Rr => turn_right(x, i),
+        Op::Rlv => turn_left(x, y),
+        Op::Rrv => turn_right(x, y),
+        Op::Andx => x ^ (y & z),
+        Op::Orx => x ^ (y | z),
+        Op::Norx => x ^ !(y | z),
+        Op::Sltx => x ^ u32::from(less(y, z)),
+        Op::Andix => x ^ (y & i),
+        Op::Orix => x ^ (y | i),
+        Op::Sllx => x ^ shift_left(y, i),
+        Op::Srlx => x ^ shift_right(y, i),
+        Op::Srax => x ^ shift_right_signed(y, i),
+        Op::Sllvx => x ^ shift_left(y, z),
+        Op::Srlvx => x ^ shift_right(y, z),
+        Op::Sravx => x ^ shift_right_signed(y, z),
+        _ => x,
+    }
+}

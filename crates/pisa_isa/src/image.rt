@@ -1,0 +1,295 @@
+// Images: code and static cells that keep the rules of the machine.
+ghost use Rattle.std.specs.Prelude.{◌≡◌, ◌≤◌, ◌<◌, ◌^◌, not, length, position, vec_len, count_by, All, MatchResult, IfOk, Some, None};
+ghost use Rattle.pisa_isa.specs.Table.{IsInRange, is_one_to_one};
+ghost use Rattle.pisa_isa.specs.Image.{Segments, IsImage, is_start, is_finish, first_seal_refusal, start_of};
+
+use crate::cell::{Cell, Op};
+use std::marker::Model;
+use thiserror::Error;
+
+/// The most code cells of an image.
+pub const MOST_CELLS: usize = 8_050_000;
+
+/// The most static cells of an image.
+pub const MOST_STATICS: usize = 262_144;
+
+/// Why cells are no image.
+#[derive(Clone, Copy, PartialEq, Eq, Debug, Error)]
+pub enum SealError {
+    /// The cell with this number is the first one whose target is one of its sources.
+    #[error("cell {at} is not one-to-one")]
+    NotOneToOne { at: u32 },
+    /// The number of START cells is not 1.
+    #[error("not exactly one START")]
+    NoStart,
+    /// The number of FINISH cells is not 1.
+    #[error("not exactly one FINISH")]
+    NoFinish,
+    /// Want of memory, which `Image::seal` never answers.
+    #[error("no memory")]
+    NoMemory,
+}
+
+/// A program of the machine: code cells, each one-to-one and with its fields in range, with exactly
+/// one START and one FINISH, and the static cells that its data memory begins with.
+#[derive(Drop)]
+pub struct Image {
+    code: Vec<Cell>,
+    statics: Vec<u32>,
+}
+
+impl Model for Image {
+    ghost use Rattle.pisa_isa.specs.Image.{Segments, IsImage};
+
+    ghost Value = { Segments };
+
+    ghost view = { λ i. record { code = i.code.items; statics = i.statics.items } };
+
+    ghost invariant = { λ i. IsImage (record { code = i.code.items; statics = i.statics.items }) };
+}
+
+/// Whether it is a START cell.
+fn is_start(cell: &Cell) -> bool
+    ensures { result ≡ is_start cell.now }
+{
+    matches!(cell.op, Op::Start)
+}
+
+/// Whether it is a FINISH cell.
+fn is_finish(cell: &Cell) -> bool
+    ensures { result ≡ is_finish cell.now }
+{
+    matches!(cell.op, Op::Finish)
+}
+
+/// How many START cells there are.
+fn starts(code: &[Cell]) -> usize
+    ensures { result ≡ count_by is_start code.now }
+{
+    code.iter().filter(|cell| is_start(cell)).count()
+}
+
+/// How many FINISH cells there are.
+fn finishes(code: &[Cell]) -> usize
+    ensures { result ≡ count_by is_finish code.now }
+{
+    code.iter().filter(|cell| is_finish(cell)).count()
+}
+
+/// The first cell whose target is one of its sources.
+fn first_not_one_to_one(code: &[Cell]) -> Option<usize>
+    ensures { result ≡ position (λ c. not (is_one_to_one c)) code.now }
+{
+    code.iter().position(|cell| !cell.is_one_to_one())
+}
+
+/// The place of the first START cell, if there is one.
+fn first_start(code: &[Cell]) -> Option<usize>
+    ensures { result ≡ position is_start code.now }
+{
+    code.iter().position(|cell| is_start(cell))
+}
+
+/// Why these cells are no code of an image, if they are none.
+fn first_refusal(code: &[Cell]) -> Option<SealError>
+    requires { length code.now ≤ MOST_CELLS }
+    ensures { result ≡ first_seal_refusal code.now }
+{
+    let starts = starts(code);
+    let finishes = finishes(code);
+    match first_not_one_to_one(code) {
+        Some(at) => Some(SealError::NotOneToOne { at: at as u32 }),
+        None if starts != 1 => Some(SealError::NoStart),
+        None if finishes != 1 => Some(SealError::NoFinish),
+        None => None,
+    }
+}
+
+impl Image {
+    /// An image of these cells. It takes no memory, and hands nothing back where it refuses.
+    pub fn seal(code: Vec<Cell>, statics: Vec<u32>) -> Result<Image, SealError>
+        requires code_in_limit { vec_len code ≤ MOST_CELLS }
+        requires statics_in_limit { vec_len statics ≤ MOST_STATICS }
+        requires in_range { All IsInRange code.items }
+        ensures sealed { MatchResult result (λ _. first_seal_refusal code.items ≡ None)
+            (λ refusal. first_seal_refusal code.items ≡ Some refusal) }
+        ensures image { IfOk result (λ image. image ≡ record { code = code.items; statics = statics.items }) }
+    {
+        match first_refusal(&code) {
+            Some(refusal) => Err(refusal),
+            None => Ok(Image { code, statics }),
+        }
+    }
+
+    /// The code cells.
+    pub fn code(&self) -> &[Cell]
+        ensures code { result.now ≡ self.now.code }
+        ensures image { IsImage self.now }
+    {
+        &self.code
+    }
+
+    /// The static cells.
+    pub fn statics(&self) -> &[u32]
+        ensures statics { result.now ≡ self.now.statics }
+        ensures image { IsImage self.now }
+    {
+        &self.statics
+    }
+
+    /// The place of the START cell.
+    pub fn start(&self) -> u32
+        ensures start { result ≡ start_of self.now.code }
+        ensures image { IsImage self.now }
+    {
+        match first_start(&self.code) {
+            Some(at) => at as u32,
+            None => unreachable!(),
+        }
+    }
+}
+
+#[cfg(test)]
+mod tests {
+    use super::*;
+    use crate::machine::{Cells, Core, Stop, step};
+    use std::alloc::Global;
+    use std::process::Abort;
+    use std::test::Fail;
+
+    /// Data cells in a vector.
+    #[derive(Drop)]
+    struct VecCells {
+        words: Vec<u32>,
+        ghost in_limit: { length words.items < 2 ^ 32 },
+    }
+
+    impl Cells for VecCells {
+        ghost words = { λ s. s.words.items };
+
+        fn len(&self) -> u32 {
+            self.words.len() as u32
+        }
+
+        fn exchange(&mut self, at: u32, word: &mut u32) {
+            let i = at as usize;
+            let old = self.words[i];
+            self.words[i] = *word;
+            *word = old;
+        }
+    }
+
+    fn cell(op: Op, a: u8, b: u8, imm: u32) -> Cell {
+        Cell {
+            op,
+            a,
+            b,
+            c: 0,
+            imm,
+        }
+    }
+
+    /// An image of these cells, each with its fields in range.
+    fn sealed(
+        rt: &impl Abort,
+        alloc: Global,
+        code: &[Cell],
+    ) -> Result<Result<Image, SealError>, Fail> {
+        let code = code.to_vec(alloc)?;
+        assert!(rt; code.len() <= MOST_CELLS);
+        assert!(rt; code.iter().all(|cell| cell.is_in_range()));
+        Ok(Image::seal(code, vec![in alloc; 3, 4]?))
+    }
+
+    #[test]
+    fn a_subroutine_runs_forward_and_backward(rt: HostRuntime) -> Result<(), Fail> {
+        let image = sealed(
+            &rt,
+            rt.alloc(),
+            &[
+                cell(Op::Start, 0, 0, 0),
+                cell(Op::Bra, 0, 0, 5),
+                cell(Op::Rbra, 0, 0, 4),
+                cell(Op::Bra, 0, 0, 3),
+                cell(Op::Finish, 0, 0, 0),
+                cell(Op::Bra, 0, 0, 4),
+                cell(Op::Swapbr, 2, 0, 0),
+                cell(Op::Neg, 2, 0, 0),
+                cell(Op::Addi, 1, 0, 5),
+                cell(Op::Bra, 0, 0, 4294967292),
+            ],
+        )?
+        .expect(&rt, "an image");
+        assert_eq!(rt; image.start(), 0);
+        assert_eq!(rt; image.statics(), [3, 4].as_slice());
+        let mut cells = VecCells {
+            words: Vec::new(rt.alloc()),
+        };
+        let mut core = Core {
+            pc: 0,
+            br: 0,
+            back: false,
+            regs: [0; 32],
+        };
+        let mut made = 0u32;
+        let mut last = None;
+        for _ in 0..100 {
+            last = step(&mut core, image.code(), &mut cells);
+            if last.is_some() {
+                break;
+            }
+            made = made.wrapping_add(1);
+        }
+        assert_eq!(rt; last, Some(Stop::Finished));
+        assert_eq!(rt; made, 25);
+        assert_eq!(rt; core.pc, 4);
+        assert_eq!(rt; core.regs[1], 5);
+        Ok(())
+    }
+
+    #[test]
+    fn the_first_refusal_is_answered(rt: HostRuntime) -> Result<(), Fail> {
+        let (start, finish) = (cell(Op::Start, 0, 0, 0), cell(Op::Finish, 0, 0, 0));
+        let merging = sealed(&rt, rt.alloc(), &[start, cell(Op::Add, 4, 4, 0), start])?;
+        assert_eq!(rt; merging.err(), Some(SealError::NotOneToOne { at: 1 }));
+        let two_starts = sealed(&rt, rt.alloc(), &[start, start])?;
+        assert_eq!(rt; two_starts.err(), Some(SealError::NoStart));
+        let no_finish = sealed(&rt, rt.alloc(), &[start, cell(Op::Exch, 2, 1, 0)])?;
+        assert_eq!(rt; no_finish.err(), Some(SealError::NoFinish));
+        let empty = sealed(&rt, rt.alloc(), &[start, finish])?;
+        assert_eq!(rt; empty.map(|image| image.start()).ok(), Some(0));
+        Ok(())
+    }
+
+    #[test]
+    fn inverses(rt: HostRuntime) -> Result<(), Fail> {
+        let rows = [
+            (cell(Op::Add, 1, 2, 0), cell(Op::Sub, 1, 2, 0), "ADD"),
+            (
+                cell(Op::Addi, 1, 0, 5),
+                cell(Op::Addi, 1, 0, 4294967291),
+                "ADDI",
+            ),
+            (cell(Op::Rl, 1, 0, 7), cell(Op::Rr, 1, 0, 7), "RL"),
+            (
+                cell(Op::Bne, 1, 2, 4294967295),
+                cell(Op::Bne, 1, 2, 1),
+                "BNE",
+            ),
+            (
+                cell(Op::Rbra, 0, 0, 3),
+                cell(Op::Rbra, 0, 0, 4294967293),
+                "RBRA",
+            ),
+            (cell(Op::Start, 0, 0, 0), cell(Op::Finish, 0, 0, 0), "START"),
+            (cell(Op::Exch, 2, 1, 0), cell(Op::Exch, 2, 1, 0), "EXCH"),
+        ];
+        for (row, inverse, name) in rows {
+            assert_eq!(rt; row.inverse(), inverse, "{name}");
+            assert!(rt; row.is_one_to_one(), "{name}");
+        }
+        assert!(rt; !cell(Op::Sllx, 1, 2, 32).is_in_range());
+        assert!(rt; !cell(Op::Neg, 1, 1, 0).is_in_range());
+        Ok(())
+    }
+}

@@ -1,0 +1,14 @@
+//! The reversible machine PISA: its instructions, one step forward and back, and images, the
+//! programs that it runs. The definitions that the contracts of all layers above share stand here:
+//! the table of instructions, states, stops, steps, runs, and the memory that a run begins with.
+#![tactic(auto)]
+
+mod cell;
+mod image;
+mod laws;
+mod machine;
+
+pub use cell::{Cell, Op};
+pub use image::{Image, MOST_CELLS, MOST_STATICS, SealError};
+pub use laws::{back_undoes_next, back_undoes_steps, flipped_image_is_image, flipped_run_restores};
+pub use machine::{Cells, Core, Stop, step, unstep};

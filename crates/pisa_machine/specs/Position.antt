@@ -1,0 +1,20 @@
+-- What contracts see of a machine.
+use Rattle.std.specs.Prelude.{ℕ, List}
+use Rattle.pisa_isa.specs.Machine.{State}
+use Rattle.pisa_isa.specs.Image.{Segments, IsImage}
+use Rattle.pisa_isa.specs.Runs.{started, IsReached}
+
+-- its image, its state, and how many steps led to it that were no stops and were not taken back
+pub record Position : Type 0 where
+  pub image : Segments
+  pub state : State
+  pub made : ℕ
+
+-- the first position of a run of an image
+abbrev pub first_position : Segments → (regs cells : List ℕ) → Position
+first_position image regs cells = record { image = image; state = started image.code regs cells; made = 0 }
+
+-- what every machine keeps: its steps led to its state, and each can be taken back
+pub record IsMachine (position : Position) : Type 0 where
+  pub is_image : IsImage position.image
+  pub reached : IsReached position.image.code position.made position.state

@@ -1,0 +1,15 @@
+//! Machines that own their image and their memory: runs of at most so many steps, and steps back.
+//! A machine always stands at a position of its run, so each step that it made can be taken back.
+//! Every step, forward or back, is counted by the caller's counter.
+#![tactic(auto)]
+
+mod cells;
+mod machine;
+mod run;
+mod steps;
+#[cfg(test)]
+mod tests;
+
+pub use machine::Machine;
+pub use run::RunEnd;
+pub use steps::Steps;

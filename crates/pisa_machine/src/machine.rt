@@ -1,0 +1,177 @@
+// Machines.
+ghost use Rattle.std.specs.Prelude.{◌≡◌, ◌<◌, ◌≤◌, ◌^◌, ◌+◌, ◌-◌, ◌↔◌, pos, false, All, length, slice_get, vec_len, IsTrue, IsFalse, IfOk, if◌then◌else◌};
+ghost use Rattle.rpp_words.specs.Words.{IsWord};
+ghost use Rattle.pisa_isa.specs.Machine.{state_of, back, IsNext};
+ghost use Rattle.pisa_isa.specs.Image.{IsImage, start_of};
+ghost use Rattle.pisa_isa.specs.Runs.{run, counted};
+ghost use Rattle.pisa_machine.specs.Position.{Position, IsMachine, first_position};
+
+use crate::cells::VecCells;
+use crate::run::{RunEnd, run_from, steps_of};
+use crate::steps::Steps;
+use pisa_isa::{Core, Image, unstep};
+use rpp_words::NoMemory;
+use std::marker::Model;
+use std::sync::ledger::Ledger;
+
+/// A machine with its image, its registers and its data cells, at a position of its run: the state
+/// after `made` steps that were no stops.
+#[derive(Drop)]
+pub struct Machine {
+    image: Image,
+    core: Core,
+    cells: VecCells,
+    made: u64,
+}
+
+impl Model for Machine {
+    ghost use Rattle.pisa_isa.specs.Machine.{state_of};
+    ghost use Rattle.pisa_machine.specs.Position.{Position, IsMachine};
+
+    ghost Value = { Position };
+
+    ghost view = { λ m. record { image = m.image; state = state_of m.core m.cells.words.items; made = m.made } };
+
+    ghost invariant = { λ m. IsMachine (record { image = m.image; state = state_of m.core m.cells.words.items; made = m.made }) };
+}
+
+/// A slice holds words.
+fn are_words(words: &[u32])
+    ensures { All IsWord words.now }
+{}
+
+/// Registers are 32 words.
+fn are_registers(regs: &[u32; 32])
+    ensures count { length regs.now ≡ 32 }
+    ensures words { All IsWord regs.now }
+{
+    are_words(regs);
+}
+
+/// The registers at the start of a run.
+fn start_core(image: &Image, regs: [u32; 32]) -> Core
+    ensures core { result ≡ record { pc = pos (start_of image.now.code); br = 0; back = false; regs = regs } }
+    ensures image { IsImage image.now }
+{
+    Core {
+        pc: i64::from(image.start()),
+        br: 0,
+        back: false,
+        regs,
+    }
+}
+
+impl Machine {
+    /// A machine at the start of a run of an image, with these registers and data cells.
+    pub fn start_with(image: Image, regs: [u32; 32], cells: Vec<u32>) -> Result<Machine, NoMemory>
+        requires { vec_len cells < 2 ^ 32 }
+        ensures { IfOk result (λ machine. machine ≡ first_position image regs cells.items) }
+    {
+        are_registers(&regs);
+        are_words(&cells);
+        Ok(Machine {
+            core: start_core(&image, regs),
+            image,
+            cells: VecCells { words: cells },
+            made: 0,
+        })
+    }
+
+    /// Runs at most `bound` steps, and counts those that it makes.
+    pub fn run<L: Ledger>(&mut self, bound: u64, steps: &mut Steps<L>) -> RunEnd
+        requires { self.old.made + bound < 2 ^ 63 }
+        ensures runs { run self.old.image.code bound self.old.state
+            ≡ record { why = result.stop; spent = result.spent; last = self.new.state } }
+        ensures image { self.new.image ≡ self.old.image }
+        ensures made { self.new.made + counted result.stop ≡ self.old.made + result.spent }
+        ensures within { result.spent ≤ bound }
+        ensures counter { steps.new ≡ steps.old + result.spent }
+        ensures machine { IsMachine self.old }
+    {
+        let end = run_from(
+            &mut self.core,
+            self.image.code(),
+            &mut self.cells,
+            bound,
+            steps,
+        );
+        self.made += end.spent - steps_of(end.stop);
+        end
+    }
+
+    /// Takes the last step back, or answers false where none is left.
+    pub fn step_back<L: Ledger>(&mut self, steps: &mut Steps<L>) -> bool
+        ensures answer { IsTrue result ↔ (0 < self.old.made) }
+        ensures stays { IsFalse result → self.new ≡ self.old }
+        ensures goes { IsTrue result → self.new ≡ record self.old
+            { state = back self.old.image.code self.old.state; made = self.old.made - 1 } }
+        ensures undoes { IsTrue result → IsNext self.old.image.code self.old.state }
+        ensures counter { steps.new ≡ steps.old + (if result then 1 else 0) }
+    {
+        if self.made == 0 {
+            return false;
+        }
+        unstep(&mut self.core, self.image.code(), &mut self.cells);
+        self.made -= 1;
+        steps.tick();
+        true
+    }
+
+    /// How many steps led here that were no stops and were not taken back.
+    pub fn made(&self) -> u64
+        ensures made { result ≡ self.now.made }
+        ensures machine { IsMachine self.now }
+    {
+        self.made
+    }
+
+    /// The place, the branch register, the direction and the registers.
+    pub fn core(&self) -> &Core
+        ensures state { state_of result.now self.now.state.cells ≡ self.now.state }
+        ensures machine { IsMachine self.now }
+    {
+        &self.core
+    }
+
+    /// The word in a data cell, if there is the cell.
+    pub fn cell(&self, at: u32) -> Option<u32>
+        ensures { result ≡ slice_get self.now.state.cells at }
+    {
+        self.cells.words.get(at as usize).copied()
+    }
+
+    /// How many data cells there are.
+    pub fn cells(&self) -> u32
+        ensures { result ≡ length self.now.state.cells }
+    {
+        self.cells.words.len() as u32
+    }
+
+    /// The image.
+    pub fn image(&self) -> &Image
+        ensures image { result.now ≡ self.now.image }
+        ensures machine { IsMachine self.now }
+    {
+        &self.image
+    }
+
+    /// The machine at the start of a run of another image, with its registers and data cells kept.
+    pub fn with_image(self, image: Image) -> Machine
+        ensures { result ≡ first_position image self.state.regs self.state.cells }
+    {
+        let Machine {
+            image: _,
+            core,
+            cells,
+            made: _,
+        } = self;
+        are_registers(&core.regs);
+        are_words(&cells.words);
+        Machine {
+            core: start_core(&image, core.regs),
+            image,
+            cells,
+            made: 0,
+        }
+    }
+}

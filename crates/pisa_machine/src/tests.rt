@@ -1,0 +1,125 @@
+ghost use Rattle.std.specs.Prelude.{◌≡◌};
+
+use crate::machine::Machine;
+use crate::run::RunEnd;
+use crate::steps::Steps;
+use pisa_isa::{Cell, Image, MOST_CELLS, Op, Stop};
+use std::alloc::Global;
+use std::marker::Brand;
+use std::process::Abort;
+use std::sync::ledger::{Blank, Ledger};
+use std::test::Fail;
+
+fn cell(op: Op, a: u8, b: u8, imm: u32) -> Cell {
+    Cell {
+        op,
+        a,
+        b,
+        c: 0,
+        imm,
+    }
+}
+
+/// An image of these cells.
+fn image<R: Abort>(rt: &R, alloc: Global, code: &[Cell]) -> Result<Image, Fail> {
+    let code = code.to_vec(alloc)?;
+    assert!(rt; code.len() <= MOST_CELLS);
+    assert!(rt; code.iter().all(|cell| cell.is_in_range()));
+    Ok(Image::seal(code, Vec::new(alloc))?)
+}
+
+/// A subroutine that adds 5 to $1, run forward, backward and forward.
+fn subroutine<R: Abort>(rt: &R, alloc: Global) -> Result<Image, Fail> {
+    image(
+        rt,
+        alloc,
+        &[
+            cell(Op::Start, 0, 0, 0),
+            cell(Op::Bra, 0, 0, 5),
+            cell(Op::Rbra, 0, 0, 4),
+            cell(Op::Bra, 0, 0, 3),
+            cell(Op::Finish, 0, 0, 0),
+            cell(Op::Bra, 0, 0, 4),
+            cell(Op::Swapbr, 2, 0, 0),
+            cell(Op::Neg, 2, 0, 0),
+            cell(Op::Addi, 1, 0, 5),
+            cell(Op::Bra, 0, 0, 4294967292),
+        ],
+    )
+}
+
+/// An address that no cell has.
+fn bad_address<R: Abort>(rt: &R, alloc: Global) -> Result<Image, Fail> {
+    image(
+        rt,
+        alloc,
+        &[
+            cell(Op::Start, 0, 0, 0),
+            cell(Op::Addi, 1, 0, 4294967295),
+            cell(Op::Exch, 2, 1, 0),
+            cell(Op::Finish, 0, 0, 0),
+        ],
+    )
+}
+
+fn walk<L: Ledger, R: Abort>(rt: &R, alloc: Global, blank: Blank) -> Result<(), Fail>
+    requires name { blank.name ≡ L.name }
+    requires parts { blank.parts ≡ L.parts }
+    requires one { blank.parts ≡ 1 }
+{
+    let mut steps = Steps::<L>::new(blank);
+    let cells = vec![in alloc; 7, 8]?;
+    let mut machine = Machine::start_with(subroutine(rt, alloc)?, [0; 32], cells)?;
+    let ten = machine.run(10, &mut steps);
+    assert_eq!(rt;
+        ten,
+        RunEnd {
+            stop: Stop::Bound,
+            spent: 10
+        }
+    );
+    assert_eq!(rt; machine.core().pc, 6);
+    assert_eq!(rt; machine.core().br, 4294967292);
+    assert!(rt; machine.core().back);
+    let rest = machine.run(1000, &mut steps);
+    assert_eq!(rt;
+        rest,
+        RunEnd {
+            stop: Stop::Finished,
+            spent: 16
+        }
+    );
+    assert_eq!(rt; machine.made(), 25);
+    assert_eq!(rt; machine.core().pc, 4);
+    assert_eq!(rt; machine.core().regs[1], 5);
+    assert_eq!(rt; machine.image().start(), 0);
+    let mut taken_back = 0u32;
+    for _ in 0..100 {
+        if !machine.step_back(&mut steps) {
+            break;
+        }
+        taken_back = taken_back.wrapping_add(1);
+    }
+    assert_eq!(rt; taken_back, 25);
+    assert_eq!(rt; machine.core().pc, 0);
+    assert_eq!(rt; machine.core().regs, [0; 32]);
+    let mut machine = machine.with_image(bad_address(rt, alloc)?);
+    let end = machine.run(1000, &mut steps);
+    assert_eq!(rt;
+        end,
+        RunEnd {
+            stop: Stop::BadAddress(4294967295),
+            spent: 3
+        }
+    );
+    assert_eq!(rt; machine.core().pc, 2);
+    assert_eq!(rt; machine.cells(), 2);
+    assert_eq!(rt; machine.cell(1), Some(8));
+    assert_eq!(rt; machine.cell(2), None);
+    Ok(())
+}
+
+#[test]
+fn runs_and_steps_back(rt: HostRuntime) -> Result<(), Fail> {
+    walk::<Brand, HostRuntime>(&rt, rt.alloc(), Blank::new(1))
+}

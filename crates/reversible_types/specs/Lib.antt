@@ -1,0 +1,2 @@
+pub mod ScopeView
+pub mod Verdicts

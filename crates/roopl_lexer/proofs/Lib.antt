@@ -1,0 +1,8 @@
+pub mod Words
+pub mod Signs
+pub mod Numbers
+pub mod Fronts
+pub mod Cuts
+pub mod Found
+pub mod Unique
+pub mod Order

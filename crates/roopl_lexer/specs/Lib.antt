@@ -1,0 +1,4 @@
+pub mod Signs
+pub mod Tokens
+pub mod Begins
+pub mod Readable

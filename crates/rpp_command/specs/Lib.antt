@@ -1,0 +1,14 @@
+pub mod Lines
+pub mod Limiting
+pub mod Refused
+pub mod IntGrammar
+pub mod IntReading
+pub mod IntRules
+pub mod IntLanguage
+pub mod Built
+pub mod IntCode
+pub mod Faults
+pub mod Plans
+pub mod Causes
+pub mod Answers
+pub mod GoRun

@@ -1,0 +1,91 @@
+// What a command has made up its mind to do, and what stops it before.
+ghost use Rattle.std.specs.Prelude.{◌≡◌, string_bytes};
+ghost use Rattle.rpp_command.specs.declared.plan.Stop.TheVariants.{NoMemory};
+ghost use Rattle.rpp_command.specs.Plans.{code_of, planned, prints};
+
+use std::alloc::{AllocError, AllocFailed};
+
+/// How a command ended that nothing stopped.
+#[derive(Clone, Copy, Debug, PartialEq, Eq)]
+pub enum Verdict {
+    Done,
+    SourceRefused,
+    Trapped,
+    Bound,
+    InputRefused,
+}
+
+impl Verdict {
+    /// The status of the program.
+    pub fn code(self) -> u8
+        ensures { result ≡ code_of self }
+    {
+        match self {
+            Verdict::Done => 0,
+            Verdict::SourceRefused => 3,
+            Verdict::Trapped => 5,
+            Verdict::Bound => 6,
+            Verdict::InputRefused => 8,
+        }
+    }
+}
+
+/// A file that is to be written.
+#[derive(Drop)]
+pub struct Writing {
+    pub name: String,
+    pub bytes: Vec<u8>,
+}
+
+/// What is to be written, printed and answered.
+#[derive(Drop)]
+pub struct Plan {
+    pub verdict: Verdict,
+    pub text: String,
+    pub writing: Option<Writing>,
+}
+
+impl Plan {
+    /// Prints a text and writes nothing.
+    pub fn prints(verdict: Verdict, text: String) -> Plan
+        ensures { planned result ≡ prints verdict (string_bytes text) }
+    {
+        Plan {
+            verdict,
+            text,
+            writing: None,
+        }
+    }
+}
+
+/// What keeps a command from a plan.
+#[derive(Drop)]
+pub enum Stop {
+    NoMemory,
+    /// A file could not be read, with what is to be printed.
+    Unread { text: String },
+}
+
+impl From<AllocError> for Stop {
+    ghost from_gives = { λ _ e. e ≡ NoMemory };
+
+    fn from(_: AllocError) -> Self {
+        Stop::NoMemory
+    }
+}
+
+impl From<rpp_words::NoMemory> for Stop {
+    ghost from_gives = { λ _ e. e ≡ NoMemory };
+
+    fn from(_: rpp_words::NoMemory) -> Self {
+        Stop::NoMemory
+    }
+}
+
+impl<T: Drop> From<AllocFailed<T>> for Stop {
+    ghost from_gives = { λ _ e. e ≡ NoMemory };
+
+    fn from(_: AllocFailed<T>) -> Self {
+        Stop::NoMemory
+    }
+}

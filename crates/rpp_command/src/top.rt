@@ -1,0 +1,140 @@
+// The top call.
+ghost use Rattle.std.specs.Prelude.{◌≡◌, ◌≢◌, ◌⊎◌, ◌≤◌, ◌<◌, OnOk, map, string_bytes, IfOk, IfErr, IfSome, IsErrOf};
+ghost use Rattle.rpp_ports.specs.Ports.{Rose};
+ghost use Rattle.rpp_command.specs.Lines.{asked, line_of, HasShortNumbers};
+ghost use Rattle.rpp_command.specs.Plans.{planned, code_of, IsPlan};
+ghost use Rattle.rpp_command.specs.Causes.{OnlyReads, Unreadable, LacksOne, KeepsButTarget, files_of, needed, target, target_of};
+ghost use Rattle.rpp_command.specs.Answers.{CarriesOut, Answers, EndsEarly};
+
+use crate::finish::{Broken, finish, say};
+use crate::go::go;
+use crate::line::{Line, read_words};
+use crate::plan::{Plan, Stop, Verdict};
+use pisa_machine::Steps;
+use rpp_ports::{Probe, Shelf, Sink};
+use std::alloc::Global;
+use std::marker::Brand;
+use std::sync::ledger::{Blank, Ledger};
+
+/// Does what the words say, and answers the status of the program.
+pub fn rooplpp<S: Shelf, K: Sink>(
+    alloc: Global,
+    words: &[String],
+    shelf: &mut S,
+    out: &mut K,
+    probes: &mut Vec<Box<dyn Probe>>,
+) -> u8
+    // The whole answer, where the shelf tells its texts.
+    ensures answer { result ≢ 2 → result ≢ 7 → IfSome (S.texts shelf.old) (λ texts.
+        Answers (line_of (map string_bytes words.now)) texts (S.texts shelf.new) result (K.written out.old) (K.written out.new)) }
+
+    // 1 comes exactly where the words are no line.
+    ensures words { result ≡ 1 → line_of (map string_bytes words.now) ≡ None }
+    ensures no_line { line_of (map string_bytes words.now) ≡ None → result ≢ 2 → result ≢ 7 → result ≡ 1 }
+
+    // 2 comes only where a count rose, or a told map lacks a file that is to be read.
+    ensures outside { result ≡ 2 → Unreadable (S.texts shelf.old) (needed (line_of (map string_bytes words.now)))
+        (Rose (S.faults shelf.old) (S.faults shelf.new) ⊎ Rose (K.faults out.old) (K.faults out.new)) }
+
+    // Where a told map lacks a file that is to be read, nothing else comes but want of memory.
+    ensures lacking { IfSome (S.texts shelf.old) (λ texts. LacksOne texts (needed (line_of (map string_bytes words.now))) → result ≢ 7 → result ≡ 2) }
+
+    // What 2 and 7 leave.
+    ensures fault { result ≡ 2 → IfSome (S.texts shelf.old) (λ texts.
+        EndsEarly (line_of (map string_bytes words.now)) texts (Rose (S.faults shelf.old) (S.faults shelf.new))
+        (S.texts shelf.new) (K.written out.old) (K.written out.new) Broken.Outside) }
+    ensures memory { result ≡ 7 → IfSome (S.texts shelf.old) (λ texts.
+        EndsEarly (line_of (map string_bytes words.now)) texts (Rose (S.faults shelf.old) (S.faults shelf.new))
+        (S.texts shelf.new) (K.written out.old) (K.written out.new) Broken.NoMemory) }
+
+    // Whatever the status, each name keeps its text but the one that the line writes.
+    ensures kept { KeepsButTarget (S.texts shelf.old) (S.texts shelf.new) (target (line_of (map string_bytes words.now))) }
+    ensures later { S.faults shelf.old ≤ S.faults shelf.new }
+    ensures later_sink { K.faults out.old ≤ K.faults out.new }
+
+    ensures probes { probes.new.items ≡ probes.old.items }
+{
+    let Ok(line) = read_words(words) else {
+        return Broken::NoMemory.code();
+    };
+    match line {
+        None => match say(out, "words refused\n") {
+            Ok(()) => 1,
+            Err(broken) => broken.code(),
+        },
+        Some(line) => {
+            let served = serve::<S, K, Brand>(alloc, &line, shelf, out, probes, Blank::new(1));
+            discard(line);
+            match served {
+                Ok(verdict) => verdict.code(),
+                Err(broken) => broken.code(),
+            }
+        }
+    }
+}
+
+// Drops a line. The proof of what drops one goes by its variants, so no larger function does.
+fn discard(_line: Line) {}
+
+// Makes a plan of a line, and carries it out.
+fn serve<S: Shelf, K: Sink, L: Ledger>(
+    alloc: Global,
+    line: &Line,
+    shelf: &mut S,
+    out: &mut K,
+    probes: &mut Vec<Box<dyn Probe>>,
+    blank: Blank,
+) -> Result<Verdict, Broken>
+    requires numbers { HasShortNumbers (asked line.now) }
+    requires name { blank.name ≡ L.name }
+    requires parts { blank.parts ≡ L.parts }
+    requires has_a_part { 0 < L.parts }
+    ensures carried { IfOk result (λ verdict. IfSome (S.texts shelf.old) (λ texts.
+        CarriesOut (asked line.now) texts (S.texts shelf.new) (code_of verdict) (K.written out.old) (K.written out.new))) }
+    ensures outside { IsErrOf result Broken.Outside → Unreadable (S.texts shelf.old) (files_of (asked line.now))
+        (Rose (S.faults shelf.old) (S.faults shelf.new) ⊎ Rose (K.faults out.old) (K.faults out.new)) }
+    ensures early { IfErr result (λ broken. IfSome (S.texts shelf.old) (λ texts.
+        EndsEarly (Some (asked line.now)) texts (Rose (S.faults shelf.old) (S.faults shelf.new)) (S.texts shelf.new) (K.written out.old) (K.written out.new) broken)) }
+    ensures whole { OnOk result (IfSome (S.texts shelf.old) (λ texts. ¬ LacksOne texts (files_of (asked line.now)))) }
+    ensures kept { KeepsButTarget (S.texts shelf.old) (S.texts shelf.new) (target_of (asked line.now)) }
+    ensures later { S.faults shelf.old ≤ S.faults shelf.new }
+    ensures later_sink { K.faults out.old ≤ K.faults out.new }
+    ensures probes { probes.new.items ≡ probes.old.items }
+{
+    let mut steps = Steps::<L>::new(blank);
+    let plan = match plan_line(alloc, line, shelf, probes, &mut steps) {
+        Ok(plan) => plan,
+        Err(Stop::NoMemory) => return Err(Broken::NoMemory),
+        Err(Stop::Unread { text }) => {
+            say(out, text.as_str())?;
+            return Err(Broken::Outside);
+        }
+    };
+    finish(alloc, shelf, out, &plan)?;
+    Ok(plan.verdict)
+}
+
+// The plan of a line.
+#[tactic(auto, unfolding(crate::specs::Plans::IsPlan, crate::specs::Causes::files_of))]
+fn plan_line<S: Shelf, L: Ledger>(
+    alloc: Global,
+    line: &Line,
+    shelf: &mut S,
+    _probes: &mut Vec<Box<dyn Probe>>,
+    counter: &mut Steps<L>,
+) -> Result<Plan, Stop>
+    requires { HasShortNumbers (asked line.now) }
+    ensures plan { IfOk result (λ plan. IfSome (S.texts shelf.old) (λ texts. IsPlan (asked line.now) texts (planned plan))) }
+    ensures reads { OnlyReads (S.texts shelf.old) (S.texts shelf.new) (S.faults shelf.old) (S.faults shelf.new) (files_of (asked line.now)) result }
+    ensures probes { _probes.new.items ≡ _probes.old.items }
+{
+    match line {
+        Line::Go {
+            file,
+            heap,
+            deep,
+            steps,
+            ..
+        } => go(alloc, shelf, file.as_str(), *heap, *deep, *steps, counter),
+    }
+}

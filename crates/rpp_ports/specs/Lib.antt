@@ -1,0 +1,5 @@
+pub mod Ports
+pub mod Memory
+pub mod Failures
+pub mod Shelves
+pub mod Files

@@ -1,0 +1,47 @@
+// Standard output as a sink. What it has taken is not told.
+ghost use Rattle.std.specs.Prelude.{◌≡◌, ◌≤◌, None, OnOk, OnErr, IsErrOf};
+ghost use Rattle.std.specs.Io.KnownBytes.{Appends};
+ghost use Rattle.rpp_ports.specs.Ports.{Rose, AppendsPrefix};
+ghost use Rattle.rpp_ports.specs.Failures.{risen};
+
+use crate::{Sink, SinkFault};
+
+/// Standard output. No clause says what it has taken.
+#[derive(Drop)]
+pub struct OutSink<'a, R: Print> {
+    rt: &'a R,
+    faults: u64,
+}
+
+impl<'a, R: Print> OutSink<'a, R> {
+    /// The standard output of this runtime, with no failure so far.
+    pub fn new(rt: &'a R) -> Self
+        ensures { ⟦<OutSink<'a, R> as Sink>⟧.faults result ≡ 0 }
+    {
+        OutSink { rt, faults: 0 }
+    }
+}
+
+impl<'a, R: Print> Sink for OutSink<'a, R> {
+    ghost written = { λ _. None };
+
+    ghost faults = { λ s. s.faults };
+
+    // Each error is counted.
+    fn put(&mut self, bytes: &[u8]) -> Result<(), SinkFault>
+        ensures appended { OnOk result (Appends None None bytes.now) }
+        ensures failed { IsErrOf result SinkFault.Failed → AppendsPrefix None None bytes.now }
+        ensures cause { IsErrOf result SinkFault.Failed → Rose self.old.faults self.new.faults }
+        ensures counts { OnErr result (self.new.faults ≡ risen self.old.faults) }
+        ensures calm { OnOk result (self.new.faults ≡ self.old.faults) }
+        ensures later { self.old.faults ≤ self.new.faults }
+    {
+        match self.rt.write_all(bytes) {
+            Ok(()) => Ok(()),
+            Err(_) => {
+                self.faults = self.faults.saturating_add(1);
+                Err(SinkFault::Failed)
+            }
+        }
+    }
+}

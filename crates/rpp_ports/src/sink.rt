@@ -1,0 +1,45 @@
+// Where output goes.
+ghost use Rattle.std.specs.Prelude.{◌≡◌, ◌≤◌, List, ℕ, OnOk, IsErrOf};
+ghost use Rattle.std.specs.declared.option.Option.{Option};
+ghost use Rattle.std.specs.Io.KnownBytes.{Appends, Keeps};
+ghost use Rattle.rpp_ports.specs.declared.sink.SinkFault.TheVariants.{NoMemory};
+ghost use Rattle.rpp_ports.specs.Ports.{Rose, AppendsPrefix};
+
+use std::alloc::AllocError;
+
+/// Why a sink has not taken all of a piece.
+#[derive(Clone, Copy, Debug, PartialEq, Eq)]
+pub enum SinkFault {
+    /// The outside has failed; the count of faults rose.
+    Failed,
+    /// No memory was left.
+    NoMemory,
+}
+
+impl From<AllocError> for SinkFault {
+    ghost from_gives = { λ _ e. e ≡ NoMemory };
+
+    fn from(_: AllocError) -> Self {
+        SinkFault::NoMemory
+    }
+}
+
+/// Where bytes go, one piece after the other.
+pub trait Sink {
+    /// Where they are told: the bytes written.
+    ghost written: { Self → Option (List ℕ) };
+
+    /// How often the outside has failed, up to 2^64 - 1. It never falls.
+    ghost faults: { Self → ℕ };
+
+    /// Appends all the bytes. A sink that takes nothing of a piece that is not empty has failed.
+    ///
+    /// `Failed` comes only where the count of faults rose, and then some first bytes of the piece,
+    /// or none, were appended. After `NoMemory` nothing of it was.
+    fn put(&mut self, bytes: &[u8]) -> Result<(), SinkFault>
+        ensures appended { OnOk result (Appends (written self.old) (written self.new) bytes.now) }
+        ensures failed { IsErrOf result SinkFault.Failed → AppendsPrefix (written self.old) (written self.new) bytes.now }
+        ensures memory { IsErrOf result SinkFault.NoMemory → Keeps (written self.old) (written self.new) }
+        ensures cause { IsErrOf result SinkFault.Failed → Rose (faults self.old) (faults self.new) }
+        ensures later { faults self.old ≤ faults self.new };
+}

@@ -1,0 +1,6 @@
+pub mod Tree
+pub mod Views
+pub mod Bare
+pub mod Names
+pub mod Parts
+pub mod Limits

@@ -1,0 +1,27 @@
+// The syntax tree of a program, with the names of the language and the limits of its sources.
+// The layers above build trees, copy and compare them, and state their rules over the plain trees of `specs/`.
+#![tactic(auto)]
+
+mod alike_code;
+mod alike_values;
+mod copy;
+mod copy_code;
+mod copy_program;
+mod count;
+pub mod limits;
+pub mod text;
+pub mod tree;
+
+pub use alike_code::alike;
+pub use count::{depth, nodes};
+pub use limits::{
+    LimitKind, MOST_BYTES, MOST_CLASSES, MOST_FIELDS, MOST_INDEX_DEPTH, MOST_LOCALS, MOST_METHODS,
+    MOST_NESTING, MOST_NODES, MOST_PARAMETERS, MOST_PARENS, MOST_TOKENS,
+};
+pub use text::Text;
+pub use tree::{
+    BinOp, Block, Class, Expr, Ident, Made, Method, Place, Program, Stmt, UpdateOp, Var, VarType,
+};
+
+#[cfg(test)]
+mod tests;

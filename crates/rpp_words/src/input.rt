@@ -1,0 +1,26 @@
+// What a run is given beside its image.
+
+/// The size of a run's memory: the heap has `2 ^ heap` words, the stack `512 * deep`.
+#[derive(Clone, Copy, Debug, PartialEq, Eq)]
+pub struct Limits {
+    /// The order of the heap.
+    pub heap: u32,
+    /// How many calls may be open, that of `main` included.
+    pub deep: u32,
+}
+
+/// A field of the main object with the word that it begins with.
+#[derive(Clone, Copy, Debug, PartialEq, Eq)]
+pub struct FieldWord {
+    /// The field's number among the fields of the main class, from 0, inherited ones first.
+    pub field: u32,
+    /// The word.
+    pub word: u32,
+}
+
+/// The fields that do not begin with 0.
+#[derive(Debug, Drop)]
+pub struct Input {
+    /// One entry a field, in the order in which the words are set.
+    pub words: Vec<FieldWord>,
+}

@@ -1,0 +1,18 @@
+//! Words of 32 bits, and the small types that many layers share: the limits of a run, its input,
+//! and want of memory. Every operation on words stands here; no layer above adds one.
+#![tactic(auto)]
+
+mod input;
+mod memory;
+mod order;
+mod words;
+
+pub use input::{FieldWord, Input, Limits};
+pub use memory::NoMemory;
+pub use order::order_for;
+pub use words::{
+    less, shift_left, shift_right, shift_right_signed, turn_left, turn_right, wrap_add, wrap_sub,
+};
+
+#[cfg(test)]
+mod tests;

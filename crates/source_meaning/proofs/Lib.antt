@@ -1,0 +1,9 @@
+pub mod CostBound
+pub mod MoreFuel
+pub mod Exactly
+pub mod Testing
+pub mod IntRows
+mod CallRows
+pub mod ObjectRows
+mod ArrayRows
+mod MemoryRows

@@ -1,0 +1,237 @@
+// Statements of each form, with copies of their names, places and expressions.
+ghost use Rattle.std.specs.Prelude.{◌≡◌, IfOk};
+ghost use Rattle.rpp_tree.specs.Tree.{Update, If, From as FromLoop, Construct, Local, New, Delete, Copy as CopyTo, Uncopy, Call};
+ghost use Rattle.rpp_tree.specs.Views.{expression_of, lvalue_of, creation_of, optional_lvalue_of, statement_of, block_of};
+ghost use Rattle.stmt_inverter.specs.Inverse.{inverse_operator};
+
+use rpp_tree::tree::{Block, Expr, Ident, Made, Place, Stmt, UpdateOp, Var, VarType};
+use rpp_words::NoMemory;
+use std::alloc::Global;
+
+/// The operator of the update that undoes one.
+pub fn invert_op(op: UpdateOp) -> UpdateOp
+    ensures { result ≡ inverse_operator op }
+{
+    match op {
+        UpdateOp::Add => UpdateOp::Sub,
+        UpdateOp::Sub => UpdateOp::Add,
+        UpdateOp::Xor => UpdateOp::Xor,
+    }
+}
+
+/// An update.
+pub fn update(
+    alloc: Global,
+    at: u32,
+    op: UpdateOp,
+    place: &Place,
+    value: &Expr,
+) -> Result<Stmt, NoMemory>
+    ensures { IfOk result (λ s. statement_of s ≡ Update at op (lvalue_of place.now) (expression_of value.now)) }
+{
+    let place = place.copy(alloc)?;
+    let value = value.copy(alloc)?;
+    Ok(Stmt::Update {
+        at,
+        op,
+        place,
+        value,
+    })
+}
+
+/// A conditional.
+pub fn conditional(
+    alloc: Global,
+    at: u32,
+    test: &Expr,
+    yes: Block,
+    no: Block,
+    after: &Expr,
+) -> Result<Stmt, NoMemory>
+    ensures { IfOk result (λ s. statement_of s ≡ If at (expression_of test.now) (block_of yes) (block_of no) (expression_of after.now)) }
+{
+    let test = test.copy(alloc)?;
+    let after = after.copy(alloc)?;
+    Ok(Stmt::If {
+        at,
+        test,
+        yes,
+        no,
+        after,
+    })
+}
+
+/// A loop.
+pub fn turns(
+    alloc: Global,
+    at: u32,
+    entry: &Expr,
+    first: Block,
+    again: Block,
+    until: &Expr,
+) -> Result<Stmt, NoMemory>
+    ensures { IfOk result (λ s. statement_of s ≡ FromLoop at (expression_of entry.now) (block_of first) (block_of again) (expression_of until.now)) }
+{
+    let entry = entry.copy(alloc)?;
+    let until = until.copy(alloc)?;
+    Ok(Stmt::From {
+        at,
+        entry,
+        first,
+        again,
+        until,
+    })
+}
+
+/// A `construct`.
+pub fn construct(
+    alloc: Global,
+    at: u32,
+    class: &Ident,
+    name: &Ident,
+    body: Block,
+    end: &Ident,
+) -> Result<Stmt, NoMemory>
+    ensures { IfOk result (λ s. statement_of s ≡ Construct at class.now name.now (block_of body) end.now) }
+{
+    let class = class.copy(alloc)?;
+    let name = name.copy(alloc)?;
+    let end = end.copy(alloc)?;
+    Ok(Stmt::Construct {
+        at,
+        class,
+        name,
+        body,
+        end,
+    })
+}
+
+/// A `local`: what it begins with, its body, and what it ends with.
+pub fn local(
+    alloc: Global,
+    at: u32,
+    var: &Var,
+    value: &Expr,
+    body: Block,
+    end_var: &Var,
+    end_value: &Expr,
+) -> Result<Stmt, NoMemory>
+    ensures { IfOk result (λ s. statement_of s ≡ Local at var.now (expression_of value.now) (block_of body) end_var.now (expression_of end_value.now)) }
+{
+    let var = var.copy(alloc)?;
+    let value = value.copy(alloc)?;
+    let end_var = end_var.copy(alloc)?;
+    let end_value = end_value.copy(alloc)?;
+    Ok(Stmt::Local {
+        at,
+        var,
+        value,
+        body,
+        end_var,
+        end_value,
+    })
+}
+
+/// A `new`.
+pub fn new_stmt(alloc: Global, at: u32, made: &Made, place: &Place) -> Result<Stmt, NoMemory>
+    ensures { IfOk result (λ s. statement_of s ≡ New at (creation_of made.now) (lvalue_of place.now)) }
+{
+    let made = made.copy(alloc)?;
+    let place = place.copy(alloc)?;
+    Ok(Stmt::New { at, made, place })
+}
+
+/// A `delete`.
+pub fn delete_stmt(alloc: Global, at: u32, made: &Made, place: &Place) -> Result<Stmt, NoMemory>
+    ensures { IfOk result (λ s. statement_of s ≡ Delete at (creation_of made.now) (lvalue_of place.now)) }
+{
+    let made = made.copy(alloc)?;
+    let place = place.copy(alloc)?;
+    Ok(Stmt::Delete { at, made, place })
+}
+
+/// A `copy`.
+pub fn copy_stmt(
+    alloc: Global,
+    at: u32,
+    kind: &VarType,
+    source: &Place,
+    target: &Place,
+) -> Result<Stmt, NoMemory>
+    ensures { IfOk result (λ s. statement_of s ≡ CopyTo at kind.now (lvalue_of source.now) (lvalue_of target.now)) }
+{
+    let kind = kind.copy(alloc)?;
+    let source = source.copy(alloc)?;
+    let target = target.copy(alloc)?;
+    Ok(Stmt::Copy {
+        at,
+        kind,
+        source,
+        target,
+    })
+}
+
+/// An `uncopy`.
+pub fn uncopy_stmt(
+    alloc: Global,
+    at: u32,
+    kind: &VarType,
+    source: &Place,
+    target: &Place,
+) -> Result<Stmt, NoMemory>
+    ensures { IfOk result (λ s. statement_of s ≡ Uncopy at kind.now (lvalue_of source.now) (lvalue_of target.now)) }
+{
+    let kind = kind.copy(alloc)?;
+    let source = source.copy(alloc)?;
+    let target = target.copy(alloc)?;
+    Ok(Stmt::Uncopy {
+        at,
+        kind,
+        source,
+        target,
+    })
+}
+
+// Equal names.
+fn copy_names(alloc: Global, names: &[Ident]) -> Result<Vec<Ident>, NoMemory>
+    ensures { IfOk result (λ copied. copied.items ≡ names.now) }
+{
+    let mut copied = Vec::new(alloc);
+    for name in names {
+        copied.push(name.copy(alloc)?)?;
+    }
+    Ok(copied)
+}
+
+// An equal receiver.
+fn copy_receiver(alloc: Global, receiver: &Option<Place>) -> Result<Option<Place>, NoMemory>
+    ensures { IfOk result (λ copied. optional_lvalue_of copied ≡ optional_lvalue_of receiver.now) }
+{
+    match receiver {
+        None => Ok(None),
+        Some(place) => Ok(Some(place.copy(alloc)?)),
+    }
+}
+
+/// A call, or an `uncall` where `back` holds.
+pub fn call(
+    alloc: Global,
+    at: u32,
+    back: bool,
+    receiver: &Option<Place>,
+    method: &Ident,
+    args: &[Ident],
+) -> Result<Stmt, NoMemory>
+    ensures { IfOk result (λ s. statement_of s ≡ Call at back (optional_lvalue_of receiver.now) method.now args.now) }
+{
+    let receiver = copy_receiver(alloc, receiver)?;
+    let method = method.copy(alloc)?;
+    let args = copy_names(alloc, args)?;
+    Ok(Stmt::Call {
+        at,
+        back,
+        receiver,
+        method,
+        args,
+    })
+}
