@@ -8,8 +8,8 @@ use Rattle.rpp_tree.specs.Tree.{End, Procedure, ClassText, Source}
 use Rattle.class_table.specs.declared.method.MethodId.{MethodId}
 use Rattle.class_table.specs.declared.error.ClassError.{ClassError}
 use Rattle.class_table.specs.declared.error.ClassError.TheVariants.{DuplicateField, Limit}
-use Rattle.rpp_tree.specs.declared.tree.LimitKind.TheVariants as kind
-use Rattle.class_table.specs.declared.limits.TheConstants.{MAX_FIELDS, MAX_SLOTS}
+use Rattle.rpp_tree.specs.declared.limits.LimitKind.TheVariants as kind
+use Rattle.rpp_tree.specs.declared.limits.TheConstants.{MOST_FIELDS, MOST_METHODS}
 use Rattle.class_table.specs.First.{refused_if, first_of, first_at, each_below}
 use Rattle.class_table.specs.Names.{has_name, with_names}
 use Rattle.class_table.specs.Chains.{line_of}
@@ -67,7 +67,7 @@ duplicate_field program = first_at (duplicate_field_at program) 0 program.classe
 
 -- 4: the class has more fields than the limit
 abbrev pub too_many_fields_at : Source → ℕ → ClassText → Option ClassError
-too_many_fields_at program number class = refused_if (nat_lt MAX_FIELDS (length (fields_of program number))) (Limit kind.Fields class.name.at)
+too_many_fields_at program number class = refused_if (nat_lt MOST_FIELDS (length (fields_of program number))) (Limit kind.Fields class.name.at)
 
 abbrev pub too_many_fields : Source → Option ClassError
 too_many_fields program = first_at (too_many_fields_at program) 0 program.classes
@@ -95,7 +95,7 @@ slots program = each_below (slots_of program) (length program.classes)
 
 -- 4: the class has more method slots than the limit
 abbrev pub too_many_slots_at : Source → ℕ → ClassText → Option ClassError
-too_many_slots_at program number class = refused_if (nat_lt MAX_SLOTS (length (slots_of program number))) (Limit kind.Methods class.name.at)
+too_many_slots_at program number class = refused_if (nat_lt MOST_METHODS (length (slots_of program number))) (Limit kind.Methods class.name.at)
 
 abbrev pub too_many_slots : Source → Option ClassError
 too_many_slots program = first_at (too_many_slots_at program) 0 program.classes

@@ -2,6 +2,7 @@
 use Rattle.std.specs.Prelude.{◌≡◌, ℕ, ◌+◌, not, List, [], ◌∷◌}
 use Rattle.rpp_tree.specs.declared.tree.Var.{Var}
 use Rattle.rpp_tree.specs.Tree.{Procedure, ClassText, Source}
+use Rattle.rpp_tree.specs.Limits.{IsWithinLimits}
 use Rattle.class_table.specs.Members.{has_field}
 use Rattle.class_table.specs.Table.{Table, table_of, HasClassTable}
 use Rattle.class_table.specs.Refusal.{redeclared}
@@ -34,7 +35,8 @@ check_classes program table number (class ∷ classes) = in_turn (check_class pr
 abbrev pub check_program : Source → Verdict
 check_program program = check_classes program (table_of program) 0 program.classes
 
--- no rule of the class table and none of the types refuses the program; the limits of its tree join here as a field
+-- the tree keeps the limits, and no rule of the class table and none of the types refuses the program
 pub record IsAccepted (program : Source) : Type 0 where
+  pub limits : IsWithinLimits program
   pub classes : HasClassTable program
   pub types : check_program program ≡ passed

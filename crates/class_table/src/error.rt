@@ -1,5 +1,5 @@
 // Why a class table is refused.
-use rpp_tree::tree::LimitKind;
+use rpp_tree::limits::LimitKind;
 use thiserror::Error;
 
 /// Why a class table is refused. `at` is the place of a name, in bytes from the start of the text.

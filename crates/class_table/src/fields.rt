@@ -1,5 +1,5 @@
 // The fields of classes.
-ghost use Rattle.std.specs.Prelude.{◌≡◌, ◌-◌, ◌<◌, ◌++◌, MatchResult, None, [], map, length, take, position};
+ghost use Rattle.std.specs.Prelude.{◌≡◌, ◌-◌, ◌<◌, ◌≤◌, ◌++◌, MatchResult, IfSome, None, [], map, length, take, position};
 ghost use Rattle.std.specs.Str.{bytes_eq};
 ghost use Rattle.rpp_tree.specs.Views.{source_of, class_text_of};
 ghost use Rattle.class_table.specs.Rules.{IsFirst};
@@ -9,11 +9,11 @@ ghost use Rattle.class_table.specs.Members.{class_at, field_name, fields_of, tak
 
 use crate::chains::line_at;
 use crate::error::ClassError;
-use crate::limits::MAX_FIELDS;
 use crate::names::add_name;
 use indexmap::IndexSet;
+use rpp_tree::limits::{LimitKind, MOST_FIELDS};
 use rpp_tree::text::Text;
-use rpp_tree::tree::{Class, LimitKind, Program, Var};
+use rpp_tree::tree::{Class, Program, Var};
 use std::alloc::Global;
 use std::marker::Model;
 
@@ -39,14 +39,16 @@ impl Model for ClassFields {
 impl ClassFields {
     /// The fields in their order.
     pub fn vars(&self) -> &[Var]
-        ensures { result.now ≡ self.now }
+        ensures vars { result.now ≡ self.now }
+        ensures few { length result.now ≤ 64 }
     {
         &self.vars
     }
 
     /// The number of the field of this name.
     pub fn number_of(&self, name: &Text) -> Option<u32>
-        ensures { result ≡ position (bytes_eq name.now) (map field_name self.now) }
+        ensures number { result ≡ position (bytes_eq name.now) (map field_name self.now) }
+        ensures few { IfSome result (λ number. number < 64) }
     {
         match self.names.get_index_of(name) {
             None => None,
@@ -183,7 +185,7 @@ fn class_fields(
     ensures { MatchResult result (λ list. (list ≡ fields_of (source_of program.now) number) × (too_many_fields_at (source_of program.now) number (class_text_of class.now) ≡ None)) (IsFirst (too_many_fields_at (source_of program.now) number (class_text_of class.now))) }
 {
     let vars = fields_along(alloc, program, line_at(lines, number))?;
-    if vars.len() > MAX_FIELDS {
+    if vars.len() > MOST_FIELDS as usize {
         return Err(ClassError::Limit {
             which: LimitKind::Fields,
             at: class.name.at,

@@ -39,7 +39,8 @@ pub fn duplicate_methods(alloc: Global, program: &Program) -> Result<(), ClassEr
     Ok(())
 }
 
-fn same_kinds(a: &VarType, b: &VarType) -> bool
+/// Whether two types are equal.
+pub fn same_type(a: &VarType, b: &VarType) -> bool
     ensures { result ≡ same_type a.now b.now }
 {
     match (a, b) {
@@ -61,7 +62,7 @@ fn same_types(a: &[Var], b: &[Var]) -> bool
         },
         [x, xs @ ..] => match b {
             [] => false,
-            [y, ys @ ..] => same_kinds(&x.kind, &y.kind) && same_types(xs, ys),
+            [y, ys @ ..] => same_type(&x.kind, &y.kind) && same_types(xs, ys),
         },
     }
 }

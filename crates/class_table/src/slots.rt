@@ -9,11 +9,11 @@ ghost use Rattle.class_table.specs.Members.{class_at, with_methods, slots_along 
 
 use crate::chains::line_at;
 use crate::error::ClassError;
-use crate::limits::MAX_SLOTS;
 use crate::method::MethodId;
 use indexmap::IndexMap;
+use rpp_tree::limits::{LimitKind, MOST_METHODS};
 use rpp_tree::text::Text;
-use rpp_tree::tree::{Class, LimitKind, Method, Program};
+use rpp_tree::tree::{Class, Method, Program};
 use std::alloc::Global;
 use std::marker::Model;
 
@@ -43,6 +43,14 @@ impl MethodSlots {
             None => None,
             Some(slot) => Some(slot as u32),
         }
+    }
+
+    /// The number of slots.
+    pub fn count(&self) -> u32
+        ensures count { result ≡ length self.now }
+        ensures few { result ≤ 256 }
+    {
+        self.map.len() as u32
     }
 
     /// The method in a slot.
@@ -130,7 +138,7 @@ fn class_slots(
     ensures { MatchResult result (λ slots. (slots ≡ slots_of (source_of program.now) number) × (too_many_slots_at (source_of program.now) number (class_text_of class.now) ≡ None)) (IsFirst (too_many_slots_at (source_of program.now) number (class_text_of class.now))) }
 {
     let map = slots_along(alloc, program, line_at(lines, number))?;
-    if map.len() > MAX_SLOTS {
+    if map.len() > MOST_METHODS as usize {
         return Err(ClassError::Limit {
             which: LimitKind::Methods,
             at: class.name.at,

@@ -89,7 +89,8 @@ impl ClassTable {
 
     /// The fields of a class, the inherited ones first.
     pub fn fields(&self, class: u32) -> &[Var]
-        ensures { result.now ≡ fields_in self.now class }
+        ensures fields { result.now ≡ fields_in self.now class }
+        ensures few { length result.now ≤ 64 }
     {
         match self.fields.get(class as usize) {
             None => &[],
@@ -101,6 +102,7 @@ impl ClassTable {
     pub fn field_of(&self, class: u32, name: &Text) -> Option<u32>
         ensures number { result ≡ field_in self.now class name.now }
         ensures within { IfSome result (λ number. number < length (fields_in self.now class)) }
+        ensures few { IfSome result (λ number. number < 64) }
     {
         match self.fields.get(class as usize) {
             None => None,
@@ -116,6 +118,17 @@ impl ClassTable {
         match self.slots.get(class as usize) {
             None => None,
             Some(slots) => slots.slot(name),
+        }
+    }
+
+    /// The number of a class's method slots.
+    pub fn slot_count(&self, class: u32) -> u32
+        ensures count { result ≡ length (slots_in self.now class) }
+        ensures few { result ≤ 256 }
+    {
+        match self.slots.get(class as usize) {
+            None => 0,
+            Some(slots) => slots.count(),
         }
     }
 

@@ -279,6 +279,7 @@ fn reads_the_table(rt: HostRuntime) -> Result<(), Fail> {
         Some(1),
         "an overriding method keeps its slot"
     );
+    assert_eq!(rt; table.slot_count(1), 3);
     assert_eq!(rt;
         table.dispatch(1, 1),
         MethodId {

@@ -2,6 +2,7 @@
 use Rattle.std.proofs.Common.{◌≡◌, ◌≢◌, ℕ, zero, suc, ◌+◌, ◌-◌, ◌^◌, ◌<◌, ◌≤◌, Bool, true, false, List, [], ◌∷◌, length, Some, refl, sym, ap, ◌∙◌, subst, arith}
 use Rattle.std.specs.Prelude.{ℤ, pos, ◌+ℤ◌, not, slice_index, slice_set, nat_eq, if◌then◌else◌}
 use Rattle.std.proofs.lemmas.Int.{ints}
+use Rattle.std.proofs.lemmas.Bool.{false_from_ne_true}
 use Rattle.std.proofs.lemmas.Bool.Decides.{nat_tests}
 use Rattle.std.proofs.lemmas.List.{get_or-set_other}
 use Rattle.pisa_isa.specs.declared.cell.Cell.{Cell}
@@ -109,12 +110,8 @@ before true g x q1 p q2 P h1 h h2 a b = (q2, sym (next_down g (x + 1) p q2 h h2)
 not_bra : (i w : ℕ) → Some (addi 2 i) ≡ Some (bra w) → ⊥
 not_bra i w e = let l : addi 2 i ≡ bra w = cc in let k : Addi ≡ Bra = ap (λ (c : Cell). c.op) l in cc
 
-is_no : (b : Bool) → (b ≡ true → ⊥) → b ≡ false
-is_no false h = refl
-is_no true h = absurd (h refl)
-
 not_routine : (im : Image) (q i : ℕ) → Tidy im → fetch im.code (pos q) ≡ Some (addi 2 i) → is_routine im.routines (pos (q + 1)) ≡ false
-not_routine im q i t h = is_no (is_routine im.routines (pos (q + 1))) (λ e. let j = t.jump_before q e in not_bra i j.0 (sym h ∙ j.1))
+not_routine im q i t h = false_from_ne_true (is_routine im.routines (pos (q + 1))) (λ e. let j = t.jump_before q e in not_bra i j.0 (sym h ∙ j.1))
 
 record Core (im : Image) (f : Frame) (a i p : ℕ) : Type 0 where
   add1 : fetch im.code (place f (i + 1)) ≡ Some (add 2 a)

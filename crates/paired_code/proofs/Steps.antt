@@ -3,7 +3,6 @@ use Rattle.std.proofs.Common.{◌≡◌, ◌≢◌, ℕ, ◌^◌, ◌<◌, ◌�
 use Rattle.std.specs.Prelude.{ℤ, pos, ◌+ℤ◌, Option, nat_lt, if◌then◌else◌, slice_index}
 use Rattle.std.proofs.lemmas.Bool.Decides.{nat_tests}
 use Rattle.rpp_words.specs.Words.{sum_of}
-use Rattle.rpp_words.proofs.Laws.{negated-negated}
 use Rattle.pisa_isa.specs.declared.cell.Op.{Op}
 use Rattle.pisa_isa.specs.declared.cell.Op.TheVariants.{Add, Sub, Rl, Rr, Rlv, Rrv, Addi, Exch, Swapbr, Bra, Rbra, Beq, Bne, Bgez, Bgtz, Blez, Bltz, Start, Finish, DataWord}
 use Rattle.pisa_isa.specs.declared.cell.Cell.{Cell}
@@ -11,6 +10,7 @@ use Rattle.pisa_isa.specs.Table.{inverse_op, inverse_word, inverse_of}
 use Rattle.pisa_isa.specs.declared.machine.Stop.{Stop}
 use Rattle.pisa_isa.specs.declared.machine.Stop.TheVariants.{BadAddress}
 use Rattle.pisa_isa.specs.Machine.{State, row, row_of, faced, effect, moved, stride, fetch, stop_at, stop_in, has_cell}
+use Rattle.pisa_isa.proofs.Mirror.{inverse_op-twice, inverse_word-twice}
 use Rattle.paired_code.specs.Cells.{bra, bgtz, bltz}
 use Rattle.paired_code.specs.Machine.{Memory, mem_of, state, Image, act, reversed, reversed_word, effect_along, is_single_op, is_single, is_end_op, is_end, reg, change_by, change, Same, Level, same}
 use Rattle.paired_code.specs.Layout.{xor, Frame, spot, place, at, between}
@@ -139,19 +139,8 @@ word_twice Blez i = opposite_twice i
 word_twice Bltz i = opposite_twice i
 word_twice _ i = either_way (nat_lt (if nat_lt i (2 ^ 32) then i else i) (2 ^ 32)) (if nat_lt i (2 ^ 32) then i else i) ∙ either_way (nat_lt i (2 ^ 32)) i
 
-pub op_twice : (op : Op) → inverse_op (inverse_op op) ≡ op
-op_twice Add = refl
-op_twice Sub = refl
-op_twice Rl = refl
-op_twice Rr = refl
-op_twice Rlv = refl
-op_twice Rrv = refl
-op_twice Start = refl
-op_twice Finish = refl
-op_twice _ = refl
-
 pub inverse_twice : (c : Cell) → reversed (reversed c) ≡ c
-inverse_twice c = ap (λ o. record c { op = o; imm = reversed_word (inverse_op c.op) (reversed_word c.op c.imm) }) (op_twice c.op) ∙ ap (λ i. record c { imm = i }) (word_twice c.op c.imm)
+inverse_twice c = ap (λ o. record c { op = o; imm = reversed_word (inverse_op c.op) (reversed_word c.op c.imm) }) (inverse_op-twice c.op) ∙ ap (λ i. record c { imm = i }) (word_twice c.op c.imm)
 
 -- of a cell whose word is one, the inverse is the machine's
 pub reversed_is : (c : Cell) → c.imm < 2 ^ 32 → reversed c ≡ inverse_of c
@@ -159,20 +148,8 @@ reversed_is c h =
     let e : nat_lt c.imm (2 ^ 32) ≡ true = grind (arith, nat_tests) in
     ap (λ t. record c { op = inverse_op c.op; imm = if t then inverse_word c.op c.imm else c.imm }) e
 
-back_word : (op : Op) (i : ℕ) → i < 2 ^ 32 → inverse_word (inverse_op op) (inverse_word op i) ≡ i
-back_word Addi i h = negated-negated i h
-back_word Bra i h = negated-negated i h
-back_word Rbra i h = negated-negated i h
-back_word Beq i h = negated-negated i h
-back_word Bne i h = negated-negated i h
-back_word Bgez i h = negated-negated i h
-back_word Bgtz i h = negated-negated i h
-back_word Blez i h = negated-negated i h
-back_word Bltz i h = negated-negated i h
-back_word _ i h = refl
-
 inverse_of_twice : (c : Cell) → c.imm < 2 ^ 32 → inverse_of (inverse_of c) ≡ c
-inverse_of_twice c h = ap (λ o. record c { op = o; imm = inverse_word (inverse_op c.op) (inverse_word c.op c.imm) }) (op_twice c.op) ∙ ap (λ i. record c { imm = i }) (back_word c.op c.imm h)
+inverse_of_twice c h = ap (λ o. record c { op = o; imm = inverse_word (inverse_op c.op) (inverse_word c.op c.imm) }) (inverse_op-twice c.op) ∙ ap (λ i. record c { imm = i }) (inverse_word-twice c.op c.imm h)
 
 -- which row acts does not depend on which way round the cell stands
 faced_is : (flip d : Bool) (c : Cell) → c.imm < 2 ^ 32 → faced (xor flip d) (oriented flip c) ≡ faced d c

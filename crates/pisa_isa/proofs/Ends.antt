@@ -2,6 +2,7 @@
 use Rattle.std.proofs.Common.{◌≡◌, ◌∙◌, sym, ap, refl, ℕ, zero, suc, ◌-◌, ◌<◌, Bool, true, false, not, ◌&&◌, cond, arith, List, [], ◌∷◌, length, get_or, map, ℤ, pos, negsuc, Option, Some, None}
 use Rattle.std.specs.Prelude.{slice_get, filter, count_by}
 use Rattle.std.specs.List.{position_or_len}
+use Rattle.std.proofs.lemmas.Bool.{false_from_ne_true}
 use Rattle.std.proofs.lemmas.Bool.Decides.{nat_tests}
 use Rattle.std.proofs.lemmas.List.{get_or-reverse, get_or-map, length-reverse, length-map}
 use Rattle.std.proofs.lemmas.List.Sums.{length-filter, position_or_len_is, passes_at_first}
@@ -73,10 +74,6 @@ get_or-flipped code k c h =
     ∙ ap (λ m. get_or (map inverse_of code) (m - 1 - k) (inverse_of c)) n
     ∙ get_or-map inverse_of code (length code - 1 - k) c (inverse_of c) (omega arith)
 
-not_true : (b : Bool) → (b ≡ true → ⊥) → b ≡ false
-not_true true h = absurd (h refl)
-not_true false h = refl
-
 pub start_of-flipped : (code : List Cell) (f : ℕ) → count_by is_finish code ≡ 1 → Stands is_finish code f → start_of (flipped code) ≡ length code - 1 - f
 start_of-flipped code f one s =
     let n : length (flipped code) ≡ length code = length-reverse (map inverse_of code) ∙ length-map code inverse_of in
@@ -87,7 +84,7 @@ start_of-flipped code f one s =
     λ k h. ap is_start (get_or-flipped code k s.cell h) ∙ is_start-inverse_op _ in
     let place : length code - 1 - (length code - 1 - f) ≡ f = omega arith in
     position_or_len_is is_start (flipped code) (length code - 1 - f) d (omega arith)
-    (λ k h. not_true _ (λ t. let same = only_one is_finish code (length code - 1 - k) f s.cell one (omega arith) within (sym (test k (omega arith)) ∙ t) here in omega arith))
+    (λ k h. false_from_ne_true _ (λ t. let same = only_one is_finish code (length code - 1 - k) f s.cell one (omega arith) within (sym (test k (omega arith)) ∙ t) here in omega arith))
     (λ _. test (length code - 1 - f) (omega arith) ∙ ap (λ j. is_finish (get_or code j s.cell)) place ∙ here)
 
 -- steps at START and FINISH

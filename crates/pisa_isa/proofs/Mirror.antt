@@ -17,11 +17,11 @@ use Rattle.pisa_isa.specs.Machine.{State, moved, place_moved, stride, effect, ef
 abbrev pub mirrored : ℕ → State → State
 mirrored n m = record m { pc = (pos n -ℤ pos 1) -ℤ m.pc; back = not m.back }
 
-inverse_op-twice : (op : Op) → inverse_op (inverse_op op) ≡ op
+pub inverse_op-twice : (op : Op) → inverse_op (inverse_op op) ≡ op
 inverse_op-twice Add = refl
 inverse_op-twice _ = refl
 
-inverse_word-twice : (op : Op) (i : ℕ) → i < 2 ^ 32 → inverse_word (inverse_op op) (inverse_word op i) ≡ i
+pub inverse_word-twice : (op : Op) (i : ℕ) → i < 2 ^ 32 → inverse_word (inverse_op op) (inverse_word op i) ≡ i
 inverse_word-twice Addi i h = negated-negated i h
 inverse_word-twice Bra i h = negated-negated i h
 inverse_word-twice Rbra i h = negated-negated i h

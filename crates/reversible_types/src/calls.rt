@@ -3,9 +3,8 @@ ghost use Rattle.std.specs.Prelude.{◌≡◌, ◌++◌, map};
 ghost use Rattle.std.specs.List.{list_any};
 ghost use Rattle.std.specs.Option.{is_none};
 ghost use Rattle.std.specs.Str.{bytes_eq};
-ghost use Rattle.rpp_tree.specs.Views.{source_of, procedure_of, lvalue_of, optional_lvalue_of};
+ghost use Rattle.rpp_tree.specs.Views.{procedure_of, lvalue_of, optional_lvalue_of};
 ghost use Rattle.class_table.specs.Table.{dispatch_in};
-ghost use Rattle.class_table.specs.Members.{class_at};
 ghost use Rattle.class_table.specs.Overrides.{parameters_in as methods_params, parameters_of};
 ghost use Rattle.class_table.specs.Statements.{argument_known, argument_new, argument_fits, arguments_fit as all_fit, receiver_kind, receiver_class, plain_receiver, call_rules as of_call, each_passes, each_passes_after};
 ghost use Rattle.reversible_types.specs.ScopeView.{setting_of, locals_of};
@@ -15,9 +14,9 @@ use crate::error::TypeError;
 use crate::expressions::{occurs_inside, type_place};
 use crate::scope::{Locals, Setting, kind_of_local, kind_of_name, kind_of_type};
 use crate::statements::{equal_kinds, name_of_place};
-use class_table::Kind;
+use class_table::{Kind, methods_at};
 use rpp_tree::text::Text;
-use rpp_tree::tree::{Ident, Method, Place, Program, Var};
+use rpp_tree::tree::{Ident, Method, Place, Var};
 
 fn know_argument(
     setting: &Setting,
@@ -125,15 +124,6 @@ fn fit_arguments(
                 fit_arguments(setting, locals, parameters, arguments)
             }
         },
-    }
-}
-
-fn methods_at(program: &Program, number: u32) -> &[Method]
-    ensures { map procedure_of result.now ≡ (class_at (source_of program.now) number).methods }
-{
-    match program.classes.get(number as usize) {
-        None => &[],
-        Some(class) => &class.methods,
     }
 }
 

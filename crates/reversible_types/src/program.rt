@@ -1,6 +1,7 @@
 // The rules of methods, classes and programs.
 ghost use Rattle.std.specs.Prelude.{◌≡◌, ◌<◌, length, [], map, IfOk, IfErr, OnOk, Err};
 ghost use Rattle.rpp_tree.specs.Views.{procedure_of, class_text_of, source_of, block_of};
+ghost use Rattle.rpp_tree.specs.Limits.{IsWithinLimits};
 ghost use Rattle.reversible_types.specs.Verdicts.{verdict_of, refusal_of};
 ghost use Rattle.reversible_types.specs.ScopeView.{setting_of, locals_of};
 ghost use Rattle.class_table.specs.Members.{has_field};
@@ -82,7 +83,8 @@ fn check_class(setting: &Setting, class: &Class) -> Result<(), TypeError>
     Ok(())
 }
 
-fn check_all(program: &Program, table: &ClassTable) -> Result<(), TypeError>
+/// The rules of all methods, in the order of the text.
+pub fn check_all(program: &Program, table: &ClassTable) -> Result<(), TypeError>
     requires { length table.now.names ≡ length program.now.classes.items }
     ensures { verdict_of result ≡ of_classes (source_of program.now) table.now 0 (map class_text_of program.now.classes.items) }
 {
@@ -100,10 +102,12 @@ fn check_all(program: &Program, table: &ClassTable) -> Result<(), TypeError>
 }
 
 /// The program with its table where every rule accepts it, and else the first refusal in the order of the text.
-/// The table must be the program's, as `ClassTable::build` gives it. No memory is taken.
+/// The table must be the program's, as `ClassTable::build` gives it, and the tree must keep the limits, as the parser's trees do.
+/// No memory is taken.
 pub fn check(program: Program, table: ClassTable) -> Result<Checked, TypeError>
     requires table { table ≡ table_of (source_of program) }
     requires classes { HasClassTable (source_of program) }
+    requires limits { IsWithinLimits (source_of program) }
     ensures checked { IfOk result (λ checked. checked ≡ program) }
     ensures accepted { OnOk result (IsAccepted (source_of program)) }
     ensures refused { IfErr result (λ error. check_program (source_of program) ≡ Err (refusal_of error)) }

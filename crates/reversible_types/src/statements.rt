@@ -7,14 +7,13 @@ ghost use Rattle.rpp_tree.specs.Views.{procedure_of, expression_of, lvalue_of, c
 ghost use Rattle.reversible_types.specs.Verdicts.{verdict_of};
 ghost use Rattle.reversible_types.specs.ScopeView.{setting_of, locals_of};
 ghost use Rattle.class_table.specs.Table.{dispatch_in};
-ghost use Rattle.class_table.specs.Overrides.{same_type};
 ghost use Rattle.class_table.specs.Statements.{same_kind, is_class, takes_object, place_name, is_nil_word, same_plain, written_class, update_rules as of_update, swap_rules as of_swap, test_rules as of_tests, class_known, type_known, local_rules as of_local, construct_rules as of_construct, copy_rules as of_copy, made_known, length_is_int, occurs_in_length, takes as takes_made, make_rules as of_make, check_statement, check_statements};
 
 use crate::calls::call_rules;
 use crate::error::TypeError;
 use crate::expressions::{first_token, holds_int, occurs_in, occurs_inside, type_expr, type_place};
 use crate::scope::{Locals, Setting, kind_of_class, kind_of_local, kind_of_type};
-use class_table::{ClassTable, Kind};
+use class_table::{ClassTable, Kind, same_type};
 use rpp_tree::text::Text;
 use rpp_tree::tree::{Block, Expr, Ident, Made, Place, Stmt, Var, VarType};
 
@@ -28,18 +27,6 @@ pub fn equal_kinds(a: Kind, b: Kind) -> bool
         (Kind::Class(a), Kind::Class(b)) => a == b,
         (Kind::IntArray, Kind::IntArray) => true,
         (Kind::ClassArray(a), Kind::ClassArray(b)) => a == b,
-        _ => false,
-    }
-}
-
-fn equal_types(a: &VarType, b: &VarType) -> bool
-    ensures { result ≡ same_type a.now b.now }
-{
-    match (a, b) {
-        (VarType::Int, VarType::Int) => true,
-        (VarType::Class(a), VarType::Class(b)) => a.text == b.text,
-        (VarType::IntArray, VarType::IntArray) => true,
-        (VarType::ClassArray(a), VarType::ClassArray(b)) => a.text == b.text,
         _ => false,
     }
 }
@@ -174,7 +161,7 @@ fn local_rules(
     if kind_of_local(locals, name).is_some() {
         return Err(TypeError::Redeclared { at: var.name.at });
     }
-    if !(equal_types(&var.kind, &end_var.kind) && *name == end_var.name.text) {
+    if !(same_type(&var.kind, &end_var.kind) && *name == end_var.name.text) {
         return Err(TypeError::TypeDiffers {
             at: end_var.name.at,
         });

@@ -1,6 +1,6 @@
 //! A program that is accepted, and programs that are refused.
 use crate::error::TypeError;
-use crate::program::check;
+use crate::program::check_all;
 use class_table::ClassTable;
 use rpp_tree::text::Text;
 use rpp_tree::tree::{
@@ -68,8 +68,8 @@ fn refusal_with(alloc: Global, value: Expr) -> Result<(u32, u32), Fail> {
         return Ok((99, 0));
     }
     let table = ClassTable::build(alloc, &program, 36)?;
-    match check(program, table) {
-        Ok(_) => Ok((0, 0)),
+    match check_all(&program, &table) {
+        Ok(()) => Ok((0, 0)),
         Err(TypeError::UnknownName { at }) => Ok((13, at)),
         Err(TypeError::TypeDiffers { at }) => Ok((15, at)),
         Err(TypeError::SelfUpdate { at }) => Ok((16, at)),

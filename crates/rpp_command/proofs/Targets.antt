@@ -1,5 +1,5 @@
 -- A plan of a line writes the line's target, or nothing.
-use Rattle.std.proofs.Common.{◌≡◌, ℕ, ◌≤◌, List, length, None, Some, Ok, Err, IsSomeAnd, option_map, IfSome, subst, sym, refl}
+use Rattle.std.proofs.Common.{◌≡◌, ℕ, ◌≤◌, List, [], length, None, Some, Ok, Err, IsSomeAnd, option_map, IfSome, subst, sym, refl}
 use Rattle.std.specs.declared.option.Option.{Option}
 use Rattle.std.specs.Prelude.{Result}
 use Rattle.rpp_words.specs.declared.input.Limits.{Limits}
@@ -7,9 +7,14 @@ use Rattle.rpp_tree.specs.Tree.{Source}
 use Rattle.pisa_isa.specs.declared.machine.Stop.{Stop}
 use Rattle.pisa_isa.specs.declared.machine.Stop.TheVariants.{Finished, Trap, Bound, Returned, BadAddress, OffCode}
 use Rattle.rpp_ports.specs.Ports.{Texts}
-use Rattle.rpp_command.specs.declared.pisa_loader.LimitsError.{LimitsError}
-use Rattle.rpp_command.specs.Lines.{Asked, Go}
-use Rattle.rpp_command.specs.Plans.{Planned, IsPlan, IsPlanOf, IsLimitedPlan, ReportsStop}
+use Rattle.rpp_words.specs.declared.input.FieldWord.{FieldWord}
+use Rattle.pisa_loader.specs.declared.error.LoadError.{LoadError}
+use Rattle.rpp_command.specs.Inputs.{given_input}
+use Rattle.rpp_command.specs.Lines.{Asked, Go, Check}
+use Rattle.class_table.specs.Refusal.{Refusal}
+use Rattle.program_codegen.specs.declared.unbuilt.Unbuilt.{Unbuilt}
+use Rattle.program_codegen.specs.Unbuilt.{unbuilt}
+use Rattle.rpp_command.specs.Plans.{Planned, IsPlan, IsPlanOf, IsBuiltPlan, IsJudgementPlan, IsLimitedPlan, IsInputPlan, IsGoPlan, WithInput, ReportsStop}
 use Rattle.rpp_command.specs.Causes.{target_of, WritesOnly, KeepsButTarget}
 
 -- what holds of each text that the name may have
@@ -20,25 +25,42 @@ of_text (Some text) limit P Q h k = k text h.1
 along : (p q : Planned) (name : Option (List ℕ)) → p ≡ q → WritesOnly q name → WritesOnly p name
 along p q name e h = subst (λ r. WritesOnly r name) (sym e) h
 
-stop_writes : (why : Stop) (program : Source) (limits : Limits) (cells : List ℕ) (spent steps : ℕ) (p : Planned) → ReportsStop why program limits cells spent steps p → WritesOnly p None
-stop_writes Finished program limits cells spent steps p h = along p _ None h.reported refl
-stop_writes (Trap code) program limits cells spent steps p h = along p _ None h.reported refl
-stop_writes Bound program limits cells spent steps p h = along p _ None h refl
-stop_writes Returned program limits cells spent steps p h = absurd h
-stop_writes (BadAddress a) program limits cells spent steps p h = absurd h
-stop_writes (OffCode a) program limits cells spent steps p h = absurd h
+stop_writes : (why : Stop) (program : Source) (limits : Limits) (input : List FieldWord) (cells : List ℕ) (spent steps : ℕ) (p : Planned) → ReportsStop why program limits input cells spent steps p → WritesOnly p None
+stop_writes Finished program limits input cells spent steps p h = along p _ None h.reported refl
+stop_writes (Trap code) program limits input cells spent steps p h = along p _ None h.reported refl
+stop_writes Bound program limits input cells spent steps p h = along p _ None h refl
+stop_writes Returned program limits input cells spent steps p h = absurd h
+stop_writes (BadAddress a) program limits input cells spent steps p h = absurd h
+stop_writes (OffCode a) program limits input cells spent steps p h = absurd h
 
-limited_writes : (refusal : Option LimitsError) (program : Source) (limits : Limits) (steps : ℕ) (p : Planned) → IsLimitedPlan refusal program limits steps p → WritesOnly p None
-limited_writes (Some e) program limits steps p h = along p _ None h refl
-limited_writes None program limits steps p h = stop_writes _ program limits _ _ steps p h.reports
+input_writes : (input : Result (List FieldWord) LoadError) (program : Source) (limits : Limits) (steps : ℕ) (p : Planned) → IsInputPlan input program limits steps p → WritesOnly p None
+input_writes (Err e) program limits steps p h = along p _ None h refl
+input_writes (Ok input) program limits steps p h = stop_writes _ program limits input _ _ steps p h.reports
 
-go_writes : (answer : Result Source ℕ) (heap deep steps : ℕ) (p : Planned) → IsPlanOf answer heap deep steps p → WritesOnly p None
-go_writes (Err at) heap deep steps p h = along p _ None h refl
-go_writes (Ok program) heap deep steps p h = limited_writes _ program _ steps p h
+limited_writes : (refusal : Option LoadError) (given : List ℕ) (program : Source) (limits : Limits) (steps : ℕ) (p : Planned) → IsLimitedPlan refusal given program limits steps p → WritesOnly p None
+limited_writes (Some e) given program limits steps p h = along p _ None h refl
+limited_writes None given program limits steps p h = input_writes (given_input program given) program limits steps p h
+
+built_writes : (found : Option Unbuilt) (text given : List ℕ) (program : Source) (heap deep steps : ℕ) (p : Planned) → IsBuiltPlan found text given program heap deep steps p → WritesOnly p None
+built_writes (Some found) text given program heap deep steps p h = along p _ None h.told refl
+built_writes None text given program heap deep steps p h = limited_writes _ given program _ steps p h
+
+go_writes : (judgement : Result Source Refusal) (text given : List ℕ) (heap deep steps : ℕ) (p : Planned) → IsPlanOf judgement text given heap deep steps p → WritesOnly p None
+go_writes (Err refusal) text given heap deep steps p h = along p _ None h refl
+go_writes (Ok program) text given heap deep steps p h = built_writes (unbuilt program) text given program heap deep steps p h
+
+check_writes : (judgement : Result Source Refusal) (p : Planned) → IsJudgementPlan judgement p → WritesOnly p None
+check_writes (Err refusal) p h = along p _ None h refl
+check_writes (Ok program) p h = along p _ None h refl
+
+of_input : (texts : Texts) (input : Option (List ℕ)) (text : List ℕ) (heap deep steps : ℕ) (p : Planned) → WithInput texts input (λ given. IsGoPlan text given heap deep steps p) → WritesOnly p None
+of_input texts None text heap deep steps p g = go_writes g.judgement text [] heap deep steps p g.plan
+of_input texts (Some name) text heap deep steps p h = of_text (texts name) _ _ (WritesOnly p None) h (λ given g. go_writes g.judgement text given heap deep steps p g.plan)
 
 pub plan_writes : (line : Asked) (texts : Texts) (p : Planned) → IsPlan line texts p → WritesOnly p (target_of line)
 unfolding IsPlan target_of
-plan_writes (Go file heap deep steps input) texts p h = of_text (texts file) _ _ (WritesOnly p None) h (λ text g. go_writes g.answer heap deep steps p g.plan)
+plan_writes (Check file) texts p h = of_text (texts file) _ _ (WritesOnly p None) h (λ text g. check_writes g.judgement p g.plan)
+plan_writes (Go file heap deep steps input) texts p h = of_text (texts file) _ _ (WritesOnly p None) h (λ text g. of_input texts input text heap deep steps p g)
 
 -- so what it leaves is as the line says
 pub kept_by_plan : (line : Asked) (old new : Option Texts) (p : Planned) → IfSome old (λ texts. IsPlan line texts p)

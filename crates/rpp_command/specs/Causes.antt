@@ -1,11 +1,13 @@
 -- What stops a command before it has a plan, and why.
 use Rattle.std.specs.Prelude.{◌≡◌, ◌≢◌, ◌++◌, codes, string_bytes, ◌⊎◌, ℕ, ◌≤◌, List, [], ◌∷◌, ⊤, None, Some, IsSomeAnd, option_map, IfSome, OnOk, IfErr, Result}
 use Rattle.std.specs.declared.option.Option.{Option}
+use Rattle.rpp_tree.specs.declared.limits.TheConstants.{MOST_BYTES}
+use Rattle.pisa_loader.specs.declared.input.TheConstants.{MOST_INPUT}
 use Rattle.rpp_ports.specs.Ports.{Texts, Rose, IsMissing, IsTooLong, ReadCause, KeepsOthers}
 use Rattle.rpp_ports.specs.declared.shelf.ShelfFault.{ShelfFault}
 use Rattle.rpp_ports.specs.declared.shelf.ShelfFault.TheVariants as fault
-use Rattle.rpp_command.specs.Lines.{Asked, Go}
-use Rattle.rpp_command.specs.Plans.{source_limit, Planned}
+use Rattle.rpp_command.specs.Lines.{Asked, Go, Check}
+use Rattle.rpp_command.specs.Plans.{Planned}
 use Rattle.rpp_command.specs.declared.plan.Stop.{Stop}
 use Rattle.rpp_command.specs.declared.plan.Stop.TheVariants.{NoMemory, Unread}
 
@@ -15,11 +17,20 @@ pub record Needed : Type 0 where
   pub limit : ℕ
 
 abbrev pub source : List ℕ → Needed
-source name = record { name = name; limit = source_limit }
+source name = record { name = name; limit = MOST_BYTES }
+
+abbrev pub input : List ℕ → Needed
+input name = record { name = name; limit = MOST_INPUT }
+
+-- the input, where there is one
+abbrev pub input_files : Option (List ℕ) → List Needed
+input_files None = []
+input_files (Some name) = input name ∷ []
 
 -- the files that a line reads, in order
 unfoldable pub files_of : Asked → List Needed
-files_of (Go file heap deep steps input) = source file ∷ []
+files_of (Check file) = source file ∷ []
+files_of (Go file heap deep steps given) = source file ∷ input_files given
 
 -- one of the files is missing or too long
 abbrev pub LacksOne : Texts → List Needed → Type 0
@@ -77,7 +88,8 @@ needed (Some line) = files_of line
 
 -- the file that a line may write
 unfoldable pub target_of : Asked → Option (List ℕ)
-target_of (Go file heap deep steps input) = None
+target_of (Check file) = None
+target_of (Go file heap deep steps given) = None
 
 -- the file that the words may have written
 abbrev pub target : Option Asked → Option (List ℕ)

@@ -1,25 +1,24 @@
 -- What the report of a run rests on.
-use Rattle.std.specs.Prelude.{◌≡◌, ℕ, [], length}
+use Rattle.std.specs.Prelude.{◌≡◌, ℕ, List, None}
+use Rattle.rpp_words.specs.declared.input.FieldWord.{FieldWord}
 use Rattle.rpp_words.specs.declared.input.Limits.{Limits}
 use Rattle.rpp_tree.specs.Tree.{Source}
 use Rattle.pisa_isa.specs.declared.machine.Stop.{Stop}
-use Rattle.pisa_isa.specs.Image.{Segments}
 use Rattle.pisa_machine.specs.Position.{Position}
-use Rattle.source_meaning.specs.Source.{IsLimits}
+use Rattle.class_table.specs.Program.{IsAccepted}
+use Rattle.source_meaning.specs.Source.{main_body, IsLimits, IsValid}
 use Rattle.source_meaning.specs.StandsFor.{StandsFor, run_of}
-use Rattle.rpp_command.specs.Built.{IsBuilt}
-use Rattle.rpp_command.specs.IntRules.{int_fields}
-use Rattle.rpp_command.specs.IntCode.{int_code, int_statics}
+use Rattle.program_codegen.specs.Code.{program_image}
+use Rattle.program_codegen.specs.Unbuilt.{unbuilt}
+use Rattle.program_codegen.specs.Words.{BlockHasWords}
 
--- the image of a program of int fields
-pub record IsIntImage (program : Source) (image : Segments) : Type 0 where
-  pub code : image.code ≡ int_code program
-  pub statics : image.statics ≡ int_statics (length (int_fields program.classes))
-
--- a machine stands where the run of the program's image, on nothing and of at most so many steps, ended
-pub record HasRun (program : Source) (limits : Limits) (bound : ℕ) (end : Position) (why : Stop) (spent : ℕ) : Type 0 where
-  pub built : IsBuilt program
+-- a machine stands where the run of the program's image, on this input and of at most so many steps, ended
+pub record HasRun (program : Source) (limits : Limits) (input : List FieldWord) (bound : ℕ) (end : Position) (why : Stop) (spent : ℕ) : Type 0 where
+  pub accepted : IsAccepted program
+  pub built : unbuilt program ≡ None
+  pub words : BlockHasWords (main_body program)
   pub allowed : IsLimits limits
-  pub is_int : IsIntImage program end.image
+  pub valid : IsValid program input
+  pub image : end.image ≡ program_image program
   pub stands : StandsFor program end.image
-  pub runs : run_of end.image limits [] bound ≡ record { why = why; spent = spent; last = end.state }
+  pub runs : run_of end.image limits input bound ≡ record { why = why; spent = spent; last = end.state }

@@ -8,9 +8,11 @@ use Rattle.rpp_command.specs.declared.line.Line.TheVariants as line
 
 -- a line as contracts see it
 pub data Asked : Type 0 where
+  Check : (file : List ℕ) → Asked
   Go : (file : List ℕ) (heap deep steps : ℕ) (input : Option (List ℕ)) → Asked
 
 abbrev pub asked : Line → Asked
+asked (line.Check file) = Check (string_bytes file)
 asked (line.Go file heap deep steps input) = Go (string_bytes file) heap deep steps (option_map string_bytes input)
 
 -- the number after the digits so far, if the rest are digits
@@ -22,20 +24,29 @@ digits_after n (c ∷ cs) = if is_ascii_digit c then digits_after (10 * n + (c -
 abbrev pub number_of : List ℕ → Option ℕ
 number_of word = if nat_lt 0 (length word) && nat_le (length word) 18 then digits_after 0 word else None
 
--- a file, an order of the heap, a depth and a number of steps
-abbrev pub go_with : List ℕ → Option ℕ → Option ℕ → Option ℕ → Option Asked
-go_with file (Some heap) (Some deep) (Some steps) = Some (Go file heap deep steps None)
-go_with file _ _ _ = None
+-- a file, an order of the heap, a depth, a number of steps, and the file of an input, if there is one
+abbrev pub go_with : List ℕ → Option ℕ → Option ℕ → Option ℕ → Option (List ℕ) → Option Asked
+go_with file (Some heap) (Some deep) (Some steps) input = Some (Go file heap deep steps input)
+go_with file _ _ _ input = None
 
 abbrev pub go_line_of : List (List ℕ) → Option Asked
-go_line_of (file ∷ heap ∷ deep ∷ steps ∷ []) = go_with file (number_of heap) (number_of deep) (number_of steps)
+go_line_of (file ∷ heap ∷ deep ∷ steps ∷ []) = go_with file (number_of heap) (number_of deep) (number_of steps) None
+go_line_of (file ∷ heap ∷ deep ∷ steps ∷ input ∷ []) = go_with file (number_of heap) (number_of deep) (number_of steps) (Some input)
 go_line_of _ = None
+
+abbrev pub check_line_of : List (List ℕ) → Option Asked
+check_line_of (file ∷ []) = Some (Check file)
+check_line_of _ = None
 
 -- the line that the words are, if they are one
 unfoldable pub line_of : List (List ℕ) → Option Asked
 line_of [] = None
-line_of (name ∷ args) = if bytes_eq name (codes "go") then go_line_of args else None
+line_of (name ∷ args) =
+    if bytes_eq name (codes "check") then check_line_of args
+    else if bytes_eq name (codes "go") then go_line_of args
+    else None
 
 -- the numbers of a line have at most 18 digits
 abbrev pub HasShortNumbers : Asked → Type 0
+HasShortNumbers (Check file) = Unit {0}
 HasShortNumbers (Go file heap deep steps input) = (heap < 10 ^ 18) × (deep < 10 ^ 18) × (steps < 10 ^ 18)

@@ -2,9 +2,16 @@
 use Rattle.std.specs.Prelude.{◌≡◌, ℕ, ◌≤◌, List, [], ◌∷◌, ◌++◌, length, None, Some, Result, Ok, Err, IsSomeAnd, option_map, string_bytes, codes}
 use Rattle.std.specs.declared.option.Option.{Option}
 use Rattle.std.specs.Fmt.{decimal}
+use Rattle.rpp_words.specs.declared.input.FieldWord.{FieldWord}
 use Rattle.rpp_words.specs.declared.input.Limits.{Limits}
+use Rattle.rpp_tree.specs.declared.limits.TheConstants.{MOST_BYTES}
 use Rattle.rpp_tree.specs.Tree.{Source}
 use Rattle.rpp_ports.specs.Ports.{Texts}
+use Rattle.roopl_lexer.specs.declared.token.Token.{Token}
+use Rattle.roopl_lexer.specs.Tokens.{IsCutting}
+use Rattle.class_table.specs.Refusal.{Refusal}
+use Rattle.program_codegen.specs.declared.unbuilt.Unbuilt.{Unbuilt}
+use Rattle.program_codegen.specs.Unbuilt.{unbuilt}
 use Rattle.pisa_isa.specs.declared.machine.Stop.{Stop}
 use Rattle.pisa_isa.specs.declared.machine.Stop.TheVariants.{Finished, Trap, Bound as AtBound}
 use Rattle.pisa_isa.specs.Image.{Segments, IsImage}
@@ -14,12 +21,18 @@ use Rattle.source_meaning.specs.Source.{GivesDone, GivesFault}
 use Rattle.source_meaning.specs.Report.{signed_decimal}
 use Rattle.source_meaning.specs.Walk.{run_report}
 use Rattle.source_meaning.specs.StandsFor.{StandsFor, run_of}
-use Rattle.rpp_command.specs.Lines.{Asked, Go}
-use Rattle.rpp_command.specs.IntLanguage.{IsReadAs}
+use Rattle.rpp_command.specs.Lines.{Asked, Go, Check}
+use Rattle.rpp_command.specs.Judged.{IsJudged}
+use Rattle.rpp_command.specs.NotBuilt.{not_built}
+use Rattle.rpp_command.specs.Refusals.{refused_line}
+use Rattle.rpp_command.specs.Words.{line_end}
 use Rattle.rpp_command.specs.Faults.{fault_name}
-use Rattle.rpp_command.specs.Limiting.{limits_refusal}
-use Rattle.rpp_command.specs.declared.pisa_loader.LimitsError.{LimitsError}
-use Rattle.rpp_command.specs.declared.pisa_loader.LimitsError.TheVariants.{HeapOrder, DeepRange}
+use Rattle.pisa_loader.specs.Limiting.{limits_refusal}
+use Rattle.pisa_loader.specs.declared.error.LoadError.{LoadError}
+use Rattle.pisa_loader.specs.declared.error.LoadError.TheVariants as load
+use Rattle.pisa_loader.specs.declared.input.TheConstants.{MOST_INPUT}
+use Rattle.pisa_loader.specs.declared.limits.TheConstants.{MOST_DEEP}
+use Rattle.rpp_command.specs.Inputs.{given_input}
 use Rattle.rpp_command.specs.declared.plan.Verdict.{Verdict}
 use Rattle.rpp_command.specs.declared.plan.Verdict.TheVariants.{Done, SourceRefused, Trapped, Bound, InputRefused}
 use Rattle.rpp_command.specs.declared.plan.Writing.{Writing}
@@ -57,19 +70,14 @@ prints verdict text = record { verdict = verdict; text = text; writing = None }
 abbrev pub WithText : Texts → List ℕ → ℕ → (List ℕ → Type 0) → Type 0
 WithText texts name limit P = IsSomeAnd (texts name) (λ text. (length text ≤ limit) × P text)
 
-abbrev pub source_limit : ℕ
-source_limit = 1048576
-
-abbrev pub line_end : List ℕ
-line_end = 10 ∷ []
-
--- the text of a source that is not built yet at this place
-abbrev pub not_built : ℕ → List ℕ
-not_built at = codes "refused 42 NotBuilt at " ++ (decimal at ++ line_end)
-
-abbrev pub limits_line : LimitsError → List ℕ
-limits_line HeapOrder = codes "refused 35 HeapOrder" ++ line_end
-limits_line DeepRange = codes "refused 36 DeepRange" ++ line_end
+-- what is printed where the limits, the input or a state are refused
+abbrev pub load_line : LoadError → List ℕ
+load_line load.HeapOrder = codes "refused 35 HeapOrder" ++ line_end
+load_line load.DeepRange = codes "refused 36 DeepRange" ++ line_end
+load_line (load.UnknownField line) = codes "refused 37 UnknownField at " ++ (decimal line ++ line_end)
+load_line (load.BadState at) = codes "refused 38 BadState at " ++ (decimal at ++ line_end)
+load_line (load.BadInputLine line) = codes "refused 40 BadInputLine at " ++ (decimal line ++ line_end)
+load_line load.NoMemory = []
 
 abbrev pub steps_line : ℕ → List ℕ
 steps_line steps = codes "steps " ++ (decimal steps ++ line_end)
@@ -78,49 +86,79 @@ abbrev pub fault_line : ℕ → List ℕ
 fault_line code = codes "fault " ++ (signed_decimal code ++ (fault_name code ++ line_end))
 
 -- the source gives a store, and the plan reports it, as it stands in these cells
-pub record ReportsStore (program : Source) (limits : Limits) (cells : List ℕ) (spent : ℕ) (p : Planned) : Type 0 where
+pub record ReportsStore (program : Source) (limits : Limits) (input : List FieldWord) (cells : List ℕ) (spent : ℕ) (p : Planned) : Type 0 where
   pub end : State
-  pub gives : GivesDone program limits [] end
+  pub gives : GivesDone program limits input end
   pub reported : p ≡ prints Done (run_report program end.store cells ++ steps_line spent)
 
 -- the source gives this fault, and the plan reports it
-pub record ReportsFault (program : Source) (limits : Limits) (code spent : ℕ) (p : Planned) : Type 0 where
-  pub gives : GivesFault program limits [] code
+pub record ReportsFault (program : Source) (limits : Limits) (input : List FieldWord) (code spent : ℕ) (p : Planned) : Type 0 where
+  pub gives : GivesFault program limits input code
   pub reported : p ≡ prints Trapped (fault_line code ++ steps_line spent)
 
 -- what the plan of a run says, by why the run ended; it never ends otherwise
-abbrev pub ReportsStop : Stop → Source → Limits → (cells : List ℕ) (spent steps : ℕ) → Planned → Type 0
-ReportsStop Finished program limits cells spent steps p = ReportsStore program limits cells spent p
-ReportsStop (Trap code) program limits cells spent steps p = ReportsFault program limits code spent p
-ReportsStop AtBound program limits cells spent steps p = p ≡ prints Bound (codes "bound" ++ (line_end ++ steps_line steps))
-ReportsStop _ program limits cells spent steps p = ⊥
+abbrev pub ReportsStop : Stop → Source → Limits → List FieldWord → (cells : List ℕ) (spent steps : ℕ) → Planned → Type 0
+ReportsStop Finished program limits input cells spent steps p = ReportsStore program limits input cells spent p
+ReportsStop (Trap code) program limits input cells spent steps p = ReportsFault program limits input code spent p
+ReportsStop AtBound program limits input cells spent steps p = p ≡ prints Bound (codes "bound" ++ (line_end ++ steps_line steps))
+ReportsStop _ program limits input cells spent steps p = ⊥
 
 -- what the plan of a run of at most so many steps says, by its end
-abbrev pub ReportsEnd : End → Source → Limits → (steps : ℕ) → Planned → Type 0
-ReportsEnd end program limits steps p = ReportsStop end.why program limits end.last.cells end.spent steps p
+abbrev pub ReportsEnd : End → Source → Limits → List FieldWord → (steps : ℕ) → Planned → Type 0
+ReportsEnd end program limits input steps p = ReportsStop end.why program limits input end.last.cells end.spent steps p
 
 -- there is an image that stands for the program, and the plan reports its run
-pub record RunsImage (program : Source) (limits : Limits) (steps : ℕ) (p : Planned) : Type 0 where
+pub record RunsImage (program : Source) (limits : Limits) (input : List FieldWord) (steps : ℕ) (p : Planned) : Type 0 where
   pub image : Segments
   pub is_image : IsImage image
   pub stands : StandsFor program image
-  pub reports : ReportsEnd (run_of image limits [] steps) program limits steps p
+  pub reports : ReportsEnd (run_of image limits input steps) program limits input steps p
 
--- the size of the memory is tried before the run
-abbrev pub IsLimitedPlan : Option LimitsError → Source → Limits → ℕ → Planned → Type 0
-IsLimitedPlan (Some e) program limits steps p = p ≡ prints InputRefused (limits_line e)
-IsLimitedPlan None program limits steps p = RunsImage program limits steps p
+-- the input is judged, and then the run is made on it
+abbrev pub IsInputPlan : Result (List FieldWord) LoadError → Source → Limits → ℕ → Planned → Type 0
+IsInputPlan (Err e) program limits steps p = p ≡ prints InputRefused (load_line e)
+IsInputPlan (Ok input) program limits steps p = RunsImage program limits input steps p
 
-abbrev pub IsPlanOf : Result Source ℕ → (heap deep steps : ℕ) → Planned → Type 0
-IsPlanOf (Err at) heap deep steps p = p ≡ prints SourceRefused (not_built at)
-IsPlanOf (Ok program) heap deep steps p = IsLimitedPlan (limits_refusal heap deep 8192) program (record { heap = heap; deep = deep }) steps p
+-- the size of the memory is tried before the input
+abbrev pub IsLimitedPlan : Option LoadError → (given : List ℕ) → Source → Limits → ℕ → Planned → Type 0
+IsLimitedPlan (Some e) given program limits steps p = p ≡ prints InputRefused (load_line e)
+IsLimitedPlan None given program limits steps p = IsInputPlan (given_input program given) program limits steps p
 
--- the text is read as a program or refused, and the plan is that of the answer
-pub record IsGoPlan (text : List ℕ) (heap deep steps : ℕ) (p : Planned) : Type 0 where
-  pub answer : Result Source ℕ
-  pub read : IsReadAs text answer
-  pub plan : IsPlanOf answer heap deep steps p
+-- a form that is not built yet is told before the run
+pub record TellsUnbuilt (text : List ℕ) (found : Unbuilt) (p : Planned) : Type 0 where
+  pub tokens : List Token
+  pub cutting : IsCutting text tokens
+  pub told : p ≡ prints SourceRefused (refused_line (not_built tokens found))
+
+abbrev pub IsBuiltPlan : Option Unbuilt → (text given : List ℕ) → Source → (heap deep steps : ℕ) → Planned → Type 0
+IsBuiltPlan (Some found) text given program heap deep steps p = TellsUnbuilt text found p
+IsBuiltPlan None text given program heap deep steps p = IsLimitedPlan (limits_refusal heap deep MOST_DEEP) given program (record { heap = heap; deep = deep }) steps p
+
+abbrev pub IsPlanOf : Result Source Refusal → (text given : List ℕ) → (heap deep steps : ℕ) → Planned → Type 0
+IsPlanOf (Err refusal) text given heap deep steps p = p ≡ prints SourceRefused (refused_line refusal)
+IsPlanOf (Ok program) text given heap deep steps p = IsBuiltPlan (unbuilt program) text given program heap deep steps p
+
+-- the text is judged, and the plan is that of the judgement
+pub record IsGoPlan (text given : List ℕ) (heap deep steps : ℕ) (p : Planned) : Type 0 where
+  pub judgement : Result Source Refusal
+  pub judged : IsJudged text judgement
+  pub plan : IsPlanOf judgement text given heap deep steps p
+
+abbrev pub IsJudgementPlan : Result Source Refusal → Planned → Type 0
+IsJudgementPlan (Err refusal) p = p ≡ prints SourceRefused (refused_line refusal)
+IsJudgementPlan (Ok program) p = p ≡ prints Done (codes "accepted" ++ line_end)
+
+pub record IsCheckPlan (text : List ℕ) (p : Planned) : Type 0 where
+  pub judgement : Result Source Refusal
+  pub judged : IsJudged text judgement
+  pub plan : IsJudgementPlan judgement p
+
+-- P holds of the text of the input, which is empty where there is none
+abbrev pub WithInput : Texts → Option (List ℕ) → (List ℕ → Type 0) → Type 0
+WithInput texts None P = P []
+WithInput texts (Some name) P = WithText texts name MOST_INPUT P
 
 -- a plan of the line, where the shelf has these texts
 unfoldable pub IsPlan : Asked → Texts → Planned → Type 0
-IsPlan (Go file heap deep steps input) texts p = WithText texts file source_limit (λ text. IsGoPlan text heap deep steps p)
+IsPlan (Check file) texts p = WithText texts file MOST_BYTES (λ text. IsCheckPlan text p)
+IsPlan (Go file heap deep steps input) texts p = WithText texts file MOST_BYTES (λ text. WithInput texts input (λ given. IsGoPlan text given heap deep steps p))

@@ -1,139 +1,202 @@
 // `go F H D STEPS`: compiles a program, runs its image and reports.
-ghost use Rattle.std.specs.Prelude.{◌≡◌, ◌≤◌, ◌<◌, ◌^◌, ◌++◌, [], ◌∷◌, length, IfOk, IfSome, string_bytes, codes};
+ghost use Rattle.std.specs.Prelude.{◌≡◌, ◌≤◌, ◌<◌, ◌^◌, ◌++◌, [], ◌∷◌, None, length, option_map, IfOk, IfSome, string_bytes, codes};
 ghost use Rattle.rpp_tree.specs.Views.{source_of};
-ghost use Rattle.source_meaning.specs.Source.{IsLimits};
-ghost use Rattle.rpp_command.specs.Built.{IsBuilt};
-ghost use Rattle.rpp_command.specs.Limiting.{limits_refusal};
-ghost use Rattle.rpp_command.specs.Plans.{planned, prints, RunsImage, ReportsStop, ReportsStore, IsGoPlan, IsLimitedPlan, WithText, source_limit, not_built, limits_line as line_of_limits, fault_line as line_of_fault, steps_line, line_end};
+ghost use Rattle.rpp_tree.specs.declared.limits.TheConstants.{MOST_BYTES};
+ghost use Rattle.class_table.specs.Program.{IsAccepted};
+ghost use Rattle.source_meaning.specs.Source.{IsLimits, IsValid};
+ghost use Rattle.program_codegen.specs.Unbuilt.{unbuilt};
+ghost use Rattle.pisa_loader.specs.Limiting.{limits_refusal};
+ghost use Rattle.pisa_loader.specs.declared.input.TheConstants.{MOST_INPUT};
+ghost use Rattle.rpp_command.specs.Inputs.{given_input};
+ghost use Rattle.rpp_command.specs.Plans.{planned, prints, RunsImage, ReportsStop, ReportsStore, IsGoPlan, IsBuiltPlan, IsLimitedPlan, IsInputPlan, WithText, WithInput, load_line as line_of_load, fault_line as line_of_fault, steps_line};
+ghost use Rattle.rpp_command.specs.Words.{line_end};
+ghost use Rattle.roopl_lexer.specs.Tokens.{IsCutting};
 ghost use Rattle.rpp_command.specs.GoRun.{HasRun};
 ghost use Rattle.rpp_command.specs.Faults.{fault_name as name_of_fault};
-ghost use Rattle.rpp_command.specs.Causes.{OnlyReads, source};
+ghost use Rattle.rpp_command.specs.Causes.{OnlyReads, source, input_files};
 
 use crate::error::SourceError;
-use crate::int_language::read_text;
-use crate::int_rules::fields;
-use crate::pisa_loader::{LimitsError, MOST_DEEP, check_limits, load};
+use crate::judge::{Judged, judge};
+use crate::not_built::unbuilt_place;
 use crate::plan::{Plan, Stop as Stopped, Verdict};
-use crate::program_codegen::compile;
-use crate::reading::{SOURCE_LIMIT, read_file};
-use crate::store_report::report;
+use crate::reading::read_given;
+use crate::refusing::refuse_source;
+use crate::settable::input_fields;
+use class_table::Checked;
 use pisa_isa::Stop;
+use pisa_loader::{LoadError, MOST_DEEP, check_limits, load, read_input};
 use pisa_machine::{Machine, RunEnd, Steps};
+use program_codegen::{compile, first_unbuilt};
 use rpp_ports::Shelf;
-use rpp_tree::tree::Program;
-use rpp_words::{Limits, NoMemory};
+use rpp_tree::limits::MOST_BYTES;
+use rpp_words::{Input, Limits, NoMemory};
 use std::alloc::{AllocError, Global};
 use std::sync::ledger::Ledger;
+use store_report::report;
 
-/// Compiles a file, runs the image for at most `bound` steps, and reports.
+/// Compiles a file, runs the image for at most `bound` steps, on an input where there is one, and reports.
 pub fn go<S: Shelf, L: Ledger>(
     alloc: Global,
     shelf: &mut S,
     file: &str,
+    input: &Option<String>,
     heap: u64,
     deep: u64,
     bound: u64,
     steps: &mut Steps<L>,
 ) -> Result<Plan, Stopped>
     requires { bound < 2 ^ 63 }
-    ensures plan { IfOk result (λ plan. IfSome (S.texts shelf.old) (λ texts. WithText texts file.now source_limit (λ text. IsGoPlan text heap deep bound (planned plan)))) }
-    ensures reads { OnlyReads (S.texts shelf.old) (S.texts shelf.new) (S.faults shelf.old) (S.faults shelf.new) (source file.now ∷ []) result }
+    ensures plan { IfOk result (λ plan. IfSome (S.texts shelf.old) (λ texts. WithText texts file.now MOST_BYTES (λ text. WithInput texts (option_map string_bytes input.now) (λ given. IsGoPlan text given heap deep bound (planned plan))))) }
+    ensures reads { OnlyReads (S.texts shelf.old) (S.texts shelf.new) (S.faults shelf.old) (S.faults shelf.new) (source file.now ∷ input_files (option_map string_bytes input.now)) result }
 {
-    let text = read_file(alloc, shelf, file, SOURCE_LIMIT)?;
-    Ok(go_over(alloc, &text, heap, deep, bound, steps)?)
+    let given = read_given(alloc, shelf, file, input)?;
+    Ok(go_over(alloc, &given.text, &given.input, heap, deep, bound, steps)?)
 }
 
 fn go_over<L: Ledger>(
     alloc: Global,
     text: &[u8],
+    given: &[u8],
     heap: u64,
     deep: u64,
     bound: u64,
     steps: &mut Steps<L>,
 ) -> Result<Plan, NoMemory>
     requires text { length text.now ≤ 1048576 }
+    requires given { length given.now ≤ MOST_INPUT }
     requires bound { bound < 2 ^ 63 }
-    ensures { IfOk result (λ plan. IsGoPlan text.now heap deep bound (planned plan)) }
+    ensures { IfOk result (λ plan. IsGoPlan text.now given.now heap deep bound (planned plan)) }
 {
-    match read_text(alloc, text) {
-        Ok(program) => go_limited(alloc, &program, heap, deep, bound, steps),
-        Err(SourceError::NotBuilt { at }) => Ok(Plan::prints(
-            Verdict::SourceRefused,
-            not_built_line(alloc, at)?,
-        )),
+    match judge(alloc, text) {
+        Ok(judged) => go_judged(alloc, text, given, &judged, heap, deep, bound, steps),
+        Err(SourceError::Refused { number, at }) => Ok(refuse_source(alloc, number, at)?),
         Err(SourceError::NoMemory) => Err(NoMemory),
     }
 }
 
-fn not_built_line(alloc: Global, at: u32) -> Result<String, AllocError>
-    ensures { IfOk result (λ line. string_bytes line ≡ not_built at) }
-{
-    format!(in alloc; "refused 42 NotBuilt at {at}\n")
-}
-
-fn go_limited<L: Ledger>(
+// A form that is not built yet is told before the run.
+fn go_judged<L: Ledger>(
     alloc: Global,
-    program: &Program,
+    _text: &[u8],
+    given: &[u8],
+    judged: &Judged,
     heap: u64,
     deep: u64,
     bound: u64,
     steps: &mut Steps<L>,
 ) -> Result<Plan, NoMemory>
-    requires built { IsBuilt (source_of program.now) }
+    requires tokens { IsCutting _text.now judged.now.tokens.items }
+    requires given { length given.now ≤ MOST_INPUT }
     requires bound { bound < 2 ^ 63 }
-    ensures { IfOk result (λ plan. IsLimitedPlan (limits_refusal heap deep 8192) (source_of program.now) (record { heap = heap; deep = deep }) bound (planned plan)) }
+    ensures { IfOk result (λ plan. IsBuiltPlan (unbuilt (source_of judged.now.checked)) _text.now given.now (source_of judged.now.checked) heap deep bound (planned plan)) }
+{
+    match first_unbuilt(judged.checked.program()) {
+        Some(found) => Ok(refuse_source(alloc, 42, unbuilt_place(&judged.tokens, found))?),
+        None => go_limited(alloc, &judged.checked, given, heap, deep, bound, steps),
+    }
+}
+
+// The sizes of heap and stack are tried before the input.
+fn go_limited<L: Ledger>(
+    alloc: Global,
+    checked: &Checked,
+    given: &[u8],
+    heap: u64,
+    deep: u64,
+    bound: u64,
+    steps: &mut Steps<L>,
+) -> Result<Plan, NoMemory>
+    requires accepted { IsAccepted (source_of checked.now) }
+    requires built { unbuilt (source_of checked.now) ≡ None }
+    requires given { length given.now ≤ MOST_INPUT }
+    requires bound { bound < 2 ^ 63 }
+    ensures { IfOk result (λ plan. IsLimitedPlan (limits_refusal heap deep MOST_DEEP) given.now (source_of checked.now) (record { heap = heap; deep = deep }) bound (planned plan)) }
 {
     match check_limits(heap, deep, MOST_DEEP) {
-        Ok(limits) => run_program(alloc, program, limits, bound, steps),
-        Err(e) => Ok(Plan::prints(
-            Verdict::InputRefused,
-            String::from_str(alloc, limits_line(e))?,
-        )),
+        Ok(limits) => go_given(alloc, checked, given, limits, bound, steps),
+        Err(e) => Ok(Plan::prints(Verdict::InputRefused, load_line(alloc, e)?)),
     }
 }
 
-fn limits_line(e: LimitsError) -> &'static str
-    ensures { result.now ≡ line_of_limits e }
-{
-    match e {
-        LimitsError::HeapOrder => "refused 35 HeapOrder\n",
-        LimitsError::DeepRange => "refused 36 DeepRange\n",
-    }
-}
-
-// Compiles a program, loads its image, runs it and reports.
-fn run_program<L: Ledger>(
+// The input is judged, and then the run is made on it.
+fn go_given<L: Ledger>(
     alloc: Global,
-    program: &Program,
+    checked: &Checked,
+    given: &[u8],
     limits: Limits,
     bound: u64,
     steps: &mut Steps<L>,
 ) -> Result<Plan, NoMemory>
-    requires built { IsBuilt (source_of program.now) }
+    requires accepted { IsAccepted (source_of checked.now) }
+    requires built { unbuilt (source_of checked.now) ≡ None }
+    requires given { length given.now ≤ MOST_INPUT }
     requires limits { IsLimits limits }
     requires bound { bound < 2 ^ 63 }
-    ensures { IfOk result (λ plan. RunsImage (source_of program.now) limits bound (planned plan)) }
+    ensures { IfOk result (λ plan. IsInputPlan (given_input (source_of checked.now) given.now) (source_of checked.now) limits bound (planned plan)) }
 {
-    let image = compile(alloc, program)?;
-    let mut machine = load(alloc, image, limits)?;
+    let fields = input_fields(alloc, checked)?;
+    match read_input(alloc, given, &fields) {
+        Ok(input) => run_program(alloc, checked, limits, &input, bound, steps),
+        Err(LoadError::NoMemory) => Err(NoMemory),
+        Err(e) => Ok(Plan::prints(Verdict::InputRefused, load_line(alloc, e)?)),
+    }
+}
+
+// What is printed where the limits or the input are refused.
+fn load_line(alloc: Global, e: LoadError) -> Result<String, AllocError>
+    ensures { IfOk result (λ line. string_bytes line ≡ line_of_load e) }
+{
+    match e {
+        LoadError::HeapOrder => String::from_str(alloc, "refused 35 HeapOrder\n"),
+        LoadError::DeepRange => String::from_str(alloc, "refused 36 DeepRange\n"),
+        LoadError::UnknownField { line } => {
+            format!(in alloc; "refused 37 UnknownField at {line}\n")
+        }
+        LoadError::BadState { at } => format!(in alloc; "refused 38 BadState at {at}\n"),
+        LoadError::BadInputLine { line } => {
+            format!(in alloc; "refused 40 BadInputLine at {line}\n")
+        }
+        LoadError::NoMemory => Ok(String::new(alloc)),
+    }
+}
+
+// Compiles a program, loads its image with an input, runs it and reports.
+fn run_program<L: Ledger>(
+    alloc: Global,
+    checked: &Checked,
+    limits: Limits,
+    input: &Input,
+    bound: u64,
+    steps: &mut Steps<L>,
+) -> Result<Plan, NoMemory>
+    requires accepted { IsAccepted (source_of checked.now) }
+    requires built { unbuilt (source_of checked.now) ≡ None }
+    requires limits { IsLimits limits }
+    requires valid { IsValid (source_of checked.now) input.now.words.items }
+    requires bound { bound < 2 ^ 63 }
+    ensures { IfOk result (λ plan. RunsImage (source_of checked.now) limits input.now.words.items bound (planned plan)) }
+{
+    let image = compile(alloc, checked)?;
+    let mut machine = load(alloc, image, limits, input)?;
     let end = machine.run(bound, steps);
-    report_run(alloc, program, limits, bound, &machine, end)
+    report_run(alloc, checked, limits, input, bound, &machine, end)
 }
 
 // The plan of a run that ended.
 fn report_run(
     alloc: Global,
-    program: &Program,
+    checked: &Checked,
     limits: Limits,
+    input: &Input,
     bound: u64,
     machine: &Machine,
     end: RunEnd,
 ) -> Result<Plan, NoMemory>
-    requires { HasRun (source_of program.now) limits bound machine.now end.stop end.spent }
-    ensures { IfOk result (λ plan. ReportsStop end.stop (source_of program.now) limits machine.now.state.cells end.spent bound (planned plan)) }
+    requires { HasRun (source_of checked.now) limits input.now.words.items bound machine.now end.stop end.spent }
+    ensures { IfOk result (λ plan. ReportsStop end.stop (source_of checked.now) limits input.now.words.items machine.now.state.cells end.spent bound (planned plan)) }
 {
     match end.stop {
-        Stop::Finished => report_store(alloc, program, limits, bound, machine, end.spent),
+        Stop::Finished => report_store(alloc, checked, limits, input, bound, machine, end.spent),
         Stop::Trap(code) => Ok(report_fault(alloc, code, end.spent)?),
         Stop::Bound => Ok(report_bound(alloc, bound)?),
         Stop::Returned => unreachable!(),
@@ -145,16 +208,17 @@ fn report_run(
 // The plan of a run that finished.
 fn report_store(
     alloc: Global,
-    program: &Program,
+    checked: &Checked,
     limits: Limits,
+    input: &Input,
     bound: u64,
     machine: &Machine,
     spent: u64,
 ) -> Result<Plan, NoMemory>
-    requires { HasRun (source_of program.now) limits bound machine.now Stop.Finished spent }
-    ensures { IfOk result (λ plan. ReportsStore (source_of program.now) limits machine.now.state.cells spent (planned plan)) }
+    requires { HasRun (source_of checked.now) limits input.now.words.items bound machine.now Stop.Finished spent }
+    ensures { IfOk result (λ plan. ReportsStore (source_of checked.now) limits input.now.words.items machine.now.state.cells spent (planned plan)) }
 {
-    let lines = report(alloc, fields(program), machine)?;
+    let lines = report(alloc, machine, checked)?;
     let text = with_steps(lines, spent)?;
     Ok(Plan::prints(Verdict::Done, text))
 }

@@ -1,24 +1,25 @@
 //! The top call: what the program does with its words, over any shelf and any sink.
 #![tactic(auto)]
 
+mod check;
 mod error;
 mod finish;
 mod go;
-mod int_language;
-mod int_reader;
-mod int_rules;
+mod judge;
 mod laws;
 mod line;
-mod pisa_loader;
+mod not_built;
 mod plan;
-mod program_codegen;
 mod reading;
-mod store_report;
+mod refusing;
+mod settable;
 mod top;
 
-pub use laws::one_reading;
+pub use laws::one_judgement;
 pub use line::{Line, read_words};
 pub use top::rooplpp;
 
+#[cfg(test)]
+mod check_tests;
 #[cfg(test)]
 mod tests;

@@ -1,12 +1,16 @@
 // What the words ask for.
 ghost use Rattle.std.specs.Prelude.{◌≡◌, ◌<◌, ◌^◌, map, option_map, IfOk, IfSome, string_bytes};
-ghost use Rattle.rpp_command.specs.Lines.{asked, line_of, go_line_of, number_of, HasShortNumbers};
+ghost use Rattle.rpp_command.specs.Lines.{asked, line_of, check_line_of, go_line_of, go_with as go_asked, number_of, HasShortNumbers};
 
 use rpp_words::NoMemory;
 
 /// A command with its words read.
 #[derive(Debug, Drop)]
 pub enum Line {
+    /// Accepts or refuses a source: its file.
+    Check {
+        file: String,
+    },
     /// Compiles and runs a program: its file, the order of the heap, the depth, the number of steps,
     /// and the file of its input, if there is one.
     Go {
@@ -28,18 +32,47 @@ pub fn read_words(words: &[String]) -> Result<Option<Line>, NoMemory>
         return Ok(None);
     };
     match name.as_str() {
+        "check" => check_line(args),
         "go" => go_line(args),
         _ => Ok(None),
     }
+}
+
+fn check_line(args: &[String]) -> Result<Option<Line>, NoMemory>
+    ensures line { IfOk result (λ line. option_map asked line ≡ check_line_of (map string_bytes args.now)) }
+    ensures numbers { IfOk result (λ line. IfSome line (λ line. HasShortNumbers (asked line))) }
+{
+    let [file] = args else {
+        return Ok(None);
+    };
+    Ok(Some(Line::Check {
+        file: file.clone()?,
+    }))
 }
 
 fn go_line(args: &[String]) -> Result<Option<Line>, NoMemory>
     ensures line { IfOk result (λ line. option_map asked line ≡ go_line_of (map string_bytes args.now)) }
     ensures numbers { IfOk result (λ line. IfSome line (λ line. HasShortNumbers (asked line))) }
 {
-    let [file, heap, deep, steps] = args else {
-        return Ok(None);
-    };
+    match args {
+        [file, heap, deep, steps] => go_with(file, heap, deep, steps, None),
+        [file, heap, deep, steps, input] => {
+            go_with(file, heap, deep, steps, Some(input.clone()?))
+        }
+        _ => Ok(None),
+    }
+}
+
+fn go_with(
+    file: &String,
+    heap: &String,
+    deep: &String,
+    steps: &String,
+    input: Option<String>,
+) -> Result<Option<Line>, NoMemory>
+    ensures line { IfOk result (λ line. option_map asked line ≡ go_asked (string_bytes file.now) (number_of (string_bytes heap.now)) (number_of (string_bytes deep.now)) (number_of (string_bytes steps.now)) (option_map string_bytes input)) }
+    ensures numbers { IfOk result (λ line. IfSome line (λ line. HasShortNumbers (asked line))) }
+{
     let Some(heap) = read_number(heap.as_str()) else {
         return Ok(None);
     };
@@ -54,7 +87,7 @@ fn go_line(args: &[String]) -> Result<Option<Line>, NoMemory>
         heap,
         deep,
         steps,
-        input: None,
+        input,
     }))
 }
 

@@ -1,14 +1,15 @@
 // Files that a command reads.
-ghost use Rattle.std.specs.Prelude.{◌≡◌, ◌≤◌, [], ◌∷◌, length, Some, IfOk, IfSome, string_bytes};
-ghost use Rattle.rpp_command.specs.Plans.{WithText};
-ghost use Rattle.rpp_command.specs.Causes.{OnlyReads, Needed, why_of, unread};
+ghost use Rattle.std.specs.Prelude.{◌≡◌, ◌≤◌, [], ◌∷◌, length, Some, option_map, IfOk, IfSome, string_bytes};
+ghost use Rattle.rpp_tree.specs.declared.limits.TheConstants.{MOST_BYTES};
+ghost use Rattle.pisa_loader.specs.declared.input.TheConstants.{MOST_INPUT};
+ghost use Rattle.rpp_command.specs.Plans.{WithText, WithInput};
+ghost use Rattle.rpp_command.specs.Causes.{OnlyReads, Needed, source, input_files, why_of, unread};
 
 use crate::plan::Stop;
+use pisa_loader::MOST_INPUT;
 use rpp_ports::{Shelf, ShelfFault};
+use rpp_tree::MOST_BYTES;
 use std::alloc::{AllocError, Global};
-
-/// The most bytes of a source text.
-pub const SOURCE_LIMIT: u64 = 1_048_576;
 
 /// The text of a file, of at most so many bytes.
 pub fn read_file<S: Shelf>(
@@ -28,6 +29,46 @@ pub fn read_file<S: Shelf>(
         Err(fault) => Err(Stop::Unread {
             text: unread_line(alloc, name, fault)?,
         }),
+    }
+}
+
+/// A source, and the input to it.
+#[derive(Drop)]
+pub struct Given {
+    pub text: Vec<u8>,
+    pub input: Vec<u8>,
+}
+
+/// A source, and an input where there is one; else the input is empty.
+pub fn read_given<S: Shelf>(
+    alloc: Global,
+    shelf: &mut S,
+    file: &str,
+    input: &Option<String>,
+) -> Result<Given, Stop>
+    ensures text { IfOk result (λ given. IfSome (S.texts shelf.old) (λ texts. WithText texts file.now MOST_BYTES (λ text. WithInput texts (option_map string_bytes input.now) (λ bytes. (given.text.items ≡ text) × (given.input.items ≡ bytes))))) }
+    ensures within { IfOk result (λ given. length given.text.items ≤ MOST_BYTES) }
+    ensures within_input { IfOk result (λ given. length given.input.items ≤ MOST_INPUT) }
+    ensures reads { OnlyReads (S.texts shelf.old) (S.texts shelf.new) (S.faults shelf.old) (S.faults shelf.new) (source file.now ∷ input_files (option_map string_bytes input.now)) result }
+{
+    let text = read_file(alloc, shelf, file, MOST_BYTES as u64)?;
+    let input = read_input(alloc, shelf, input)?;
+    Ok(Given { text, input })
+}
+
+// The text of an input, where there is one.
+fn read_input<S: Shelf>(
+    alloc: Global,
+    shelf: &mut S,
+    input: &Option<String>,
+) -> Result<Vec<u8>, Stop>
+    ensures text { IfOk result (λ bytes. IfSome (S.texts shelf.old) (λ texts. WithInput texts (option_map string_bytes input.now) (λ text. bytes.items ≡ text))) }
+    ensures within { IfOk result (λ bytes. length bytes.items ≤ MOST_INPUT) }
+    ensures reads { OnlyReads (S.texts shelf.old) (S.texts shelf.new) (S.faults shelf.old) (S.faults shelf.new) (input_files (option_map string_bytes input.now)) result }
+{
+    match input {
+        None => Ok(Vec::new(alloc)),
+        Some(name) => read_file(alloc, shelf, name.as_str(), MOST_INPUT as u64),
     }
 }
 

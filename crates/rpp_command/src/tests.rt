@@ -5,15 +5,15 @@ use std::test::Fail;
 
 // What a command answers.
 #[derive(Drop)]
-struct Answer {
-    status: u8,
-    text: Vec<u8>,
+pub struct Answer {
+    pub status: u8,
+    pub text: Vec<u8>,
 }
 
-// The answer to these words, over a shelf with one file F, some of whose calls fail, and a sink likewise.
-fn answer_of(
+// The answer to these words, over a shelf with these files, some of whose calls fail, and a sink likewise.
+fn answer_over(
     alloc: Global,
-    source: &[u8],
+    files: &[(&str, &[u8])],
     words: &str,
     failing_reads: &[u64],
     failing_puts: &[u64],
@@ -23,16 +23,29 @@ fn answer_of(
         owned.push(String::from_str(alloc, word)?)?;
     }
     let mut texts = Vec::new(alloc);
-    texts.push(Named {
-        name: String::from_str(alloc, "F")?,
-        bytes: source.to_vec(alloc)?,
-    })?;
+    for (name, bytes) in files {
+        texts.push(Named {
+            name: String::from_str(alloc, name)?,
+            bytes: bytes.to_vec(alloc)?,
+        })?;
+    }
     let mut shelf = MemoryShelf::new(alloc, texts, failing_reads.to_vec(alloc)?);
     let mut out = MemorySink::new(alloc, failing_puts.to_vec(alloc)?);
     let mut probes: Vec<Box<dyn Probe>> = Vec::new(alloc);
     let status = rooplpp(alloc, &owned, &mut shelf, &mut out, &mut probes);
     let text = out.bytes().to_vec(alloc)?;
     Ok(Answer { status, text })
+}
+
+// The same over a shelf with one file F.
+pub fn answer_of(
+    alloc: Global,
+    source: &[u8],
+    words: &str,
+    failing_reads: &[u64],
+    failing_puts: &[u64],
+) -> Result<Answer, AllocError> {
+    answer_over(alloc, &[("F", source)], words, failing_reads, failing_puts)
 }
 
 const FIRST: &str = "class P int x method main() x += 5";
@@ -66,6 +79,24 @@ fn rows(rt: HostRuntime) -> Result<(), Fail> {
             "x = -4\ny = -11\nlive 0\nsteps 31\n",
         ),
         (
+            "class P int x method main() x += (5)",
+            "go F 1 1 1000000",
+            0,
+            "x = 5\nlive 0\nsteps 7\n",
+        ),
+        (
+            "class P int x Q q method main() x += 1 class Q inherits P",
+            "go F 1 1 1000000",
+            0,
+            "x = 1\nq = nil\nlive 0\nsteps 7\n",
+        ),
+        (
+            "class Q int[] a int x class P inherits Q Q[] qs int y method main() y += 3 x -= y class R",
+            "go F 1 1 1000000",
+            0,
+            "a = nil\nx = -3\nqs = nil\ny = 3\nlive 0\nsteps 16\n",
+        ),
+        (
             "class P int x method main() x += 2147483647 x += 1",
             "go F 1 1 1000000",
             0,
@@ -84,38 +115,98 @@ fn rows(rt: HostRuntime) -> Result<(), Fail> {
 }
 
 #[test]
-fn refused_texts(rt: HostRuntime) -> Result<(), Fail> {
-    for (source, at) in [
-        // The first place at which no token of the language begins.
-        ("class P int x method main() x += #", 33),
-        ("class P int x method main() x += 2147483648", 33),
-        ("class P int x method main() if x", 28),
-        ("class P int x method main() x <=> x", 30),
-        ("class P int x method main() x += nil #", 33),
-        ("class P int x int y method main() x += y * 2", 41),
-        ("// a comment\n class P int x[] method main() skip", 27),
-        // The first token with which no program begins so.
-        ("", 0),
-        ("class", 5),
-        ("method P", 0),
-        ("class 5", 6),
-        ("class P method other() skip", 15),
-        ("class P method main(x) skip", 20),
-        ("class P method main()", 21),
-        ("class P int x method main() x 5", 30),
-        ("class P int x method main() x += skip", 33),
-        ("class P int x method main() skip class Q", 33),
-        // The first field that is there already.
-        ("class P int x int y int x method main() z += 1", 24),
-        // The first fault of a statement.
-        ("class P int x method main() z += 1", 28),
-        ("class P int x method main() x += z", 33),
-        ("class P int x method main() skip x += x", 33),
+fn refused_runs(rt: HostRuntime) -> Result<(), Fail> {
+    for (source, words, status, line) in [
+        // The refusals of `check` come first.
+        (
+            "class P int x method main() x += #",
+            "go F 0 0 5",
+            3,
+            "refused 1 BadByte at 33\n",
+        ),
+        (
+            "class P int x method main() z += 1",
+            "go F 0 0 5",
+            3,
+            "refused 13 UnknownName at 28\n",
+        ),
+        (
+            "class P int x method main() x += x",
+            "go F 1 1 5",
+            3,
+            "refused 16 SelfUpdate at 28\n",
+        ),
+        (
+            "class P int x int y method main() x += y * 2",
+            "go F 1 1 5",
+            3,
+            "refused 21 RefusedOperator at 41\n",
+        ),
+        // Then the first form that is not built yet.
+        (
+            "class P int x method main() x += 1 method q() skip",
+            "go F 0 0 5",
+            3,
+            "refused 42 NotBuilt at 35\n",
+        ),
+        (
+            "class P int x method q(int a) x += nil + 1 method main() skip",
+            "go F 1 1 5",
+            3,
+            "refused 15 TypeDiffers at 39\n",
+        ),
+        (
+            "class P int x method q(int a) x += 1 + 1 method main() skip",
+            "go F 1 1 5",
+            3,
+            "refused 42 NotBuilt at 14\n",
+        ),
+        (
+            "class P int x method main() if x = 0 then skip else skip fi x = 0",
+            "go F 1 1 5",
+            3,
+            "refused 42 NotBuilt at 28\n",
+        ),
+        (
+            "class P int x int y method main() skip x <=> y",
+            "go F 1 1 5",
+            3,
+            "refused 42 NotBuilt at 39\n",
+        ),
+        (
+            "class P int x method main() x += (1 + 2)",
+            "go F 1 1 5",
+            3,
+            "refused 42 NotBuilt at 36\n",
+        ),
+        (
+            "class P int x method main() x += (nil = nil)",
+            "go F 1 1 5",
+            3,
+            "refused 42 NotBuilt at 34\n",
+        ),
+        (
+            "class P int[] a int x method main() x += a[0]",
+            "go F 1 1 5",
+            3,
+            "refused 42 NotBuilt at 41\n",
+        ),
+        (
+            "class P int[] a method main() a[0] += 1",
+            "go F 1 1 5",
+            3,
+            "refused 42 NotBuilt at 30\n",
+        ),
+        // Then the sizes of heap and stack.
+        (FIRST, "go F 21 0 5", 8, "refused 35 HeapOrder\n"),
     ] {
-        let answer = answer_of(rt.alloc(), source.as_bytes(), "go F 1 1 5", &[], &[])?;
-        let text = format!(in rt.alloc(); "refused 42 NotBuilt at {at}\n")?;
-        assert_eq!(rt; answer.status, 3, "{source}");
-        assert_eq!(rt; answer.text.as_slice(), text.as_bytes(), "{source}");
+        let answer = answer_of(rt.alloc(), source.as_bytes(), words, &[], &[])?;
+        assert_eq!(rt; answer.status, status, "{words} on {source}");
+        assert_eq!(rt;
+            answer.text.as_slice(),
+            line.as_bytes(),
+            "{words} on {source}"
+        );
     }
     Ok(())
 }
@@ -141,23 +232,62 @@ fn the_largest_text_and_one_token_more(rt: HostRuntime) -> Result<(), Fail> {
     let answer = answer_of(rt.alloc(), longer.as_bytes(), "go F 1 1 1000000", &[], &[])?;
     assert_eq!(rt;
         answer.text.as_slice(),
-        b"refused 42 NotBuilt at 24988\n".as_slice()
+        b"refused 4 Limit at 24988\n".as_slice()
     );
     Ok(())
 }
 
 #[test]
-fn a_field_too_many(rt: HostRuntime) -> Result<(), Fail> {
-    let mut text = String::from_str(rt.alloc(), "class P")?;
-    for number in 0..65 {
-        write!(text, " int f{number:02}")?;
+fn inputs(rt: HostRuntime) -> Result<(), Fail> {
+    let source = "class P int x Q q int y method main() x += 1 class Q";
+    for (input, words, status, text) in [
+        (
+            "x = 2147483647",
+            "go F 1 1 1000000 I",
+            0,
+            "x = -2147483648\nq = nil\ny = 0\nlive 0\nsteps 7\n",
+        ),
+        (
+            "\n y=-3\n\tx = 00\t\n",
+            "go F 1 1 1000000 I",
+            0,
+            "x = 1\nq = nil\ny = -3\nlive 0\nsteps 7\n",
+        ),
+        (
+            "",
+            "go F 1 1 1000000 I",
+            0,
+            "x = 1\nq = nil\ny = 0\nlive 0\nsteps 7\n",
+        ),
+        ("z = 1", "go F 1 1 5 I", 8, "refused 37 UnknownField at 1\n"),
+        ("q = 1", "go F 1 1 5 I", 8, "refused 37 UnknownField at 1\n"),
+        (
+            "x = 1\n\nx = 2",
+            "go F 1 1 5 I",
+            8,
+            "refused 37 UnknownField at 3\n",
+        ),
+        ("x 1", "go F 1 1 5 I", 8, "refused 40 BadInputLine at 1\n"),
+        (
+            "x = 2147483648",
+            "go F 1 1 5 I",
+            8,
+            "refused 40 BadInputLine at 1\n",
+        ),
+        ("x 1", "go F 1 0 5 I", 8, "refused 36 DeepRange\n"),
+        ("x 1", "go F 1 1 5 J", 2, "cannot read J: missing\n"),
+        ("x 1", "go G 1 1 5 J", 2, "cannot read G: missing\n"),
+        ("x = 1", "go F 1 1 5 I I", 1, "words refused\n"),
+    ] {
+        let files = [("F", source.as_bytes()), ("I", input.as_bytes())];
+        let answer = answer_over(rt.alloc(), &files, words, &[], &[])?;
+        assert_eq!(rt; answer.status, status, "{words} on {input}");
+        assert_eq!(rt;
+            answer.text.as_slice(),
+            text.as_bytes(),
+            "{words} on {input}"
+        );
     }
-    text.push_str(" method main() skip")?;
-    let answer = answer_of(rt.alloc(), text.as_bytes(), "go F 1 1 5", &[], &[])?;
-    assert_eq!(rt;
-        answer.text.as_slice(),
-        b"refused 42 NotBuilt at 524\n".as_slice()
-    );
     Ok(())
 }
 

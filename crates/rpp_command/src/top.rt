@@ -6,6 +6,7 @@ ghost use Rattle.rpp_command.specs.Plans.{planned, code_of, IsPlan};
 ghost use Rattle.rpp_command.specs.Causes.{OnlyReads, Unreadable, LacksOne, KeepsButTarget, files_of, needed, target, target_of};
 ghost use Rattle.rpp_command.specs.Answers.{CarriesOut, Answers, EndsEarly};
 
+use crate::check::check;
 use crate::finish::{Broken, finish, say};
 use crate::go::go;
 use crate::line::{Line, read_words};
@@ -129,12 +130,22 @@ fn plan_line<S: Shelf, L: Ledger>(
     ensures probes { _probes.new.items ≡ _probes.old.items }
 {
     match line {
+        Line::Check { file } => check(alloc, shelf, file.as_str()),
         Line::Go {
             file,
             heap,
             deep,
             steps,
-            ..
-        } => go(alloc, shelf, file.as_str(), *heap, *deep, *steps, counter),
+            input,
+        } => go(
+            alloc,
+            shelf,
+            file.as_str(),
+            input,
+            *heap,
+            *deep,
+            *steps,
+            counter,
+        ),
     }
 }

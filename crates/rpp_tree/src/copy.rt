@@ -111,7 +111,7 @@ impl Made {
     }
 }
 
-/// Equal names.
+/// Equal names, with equal places. The only error is that memory ran out.
 pub fn copy_names(alloc: Global, names: &[Ident]) -> Result<Vec<Ident>, AllocError>
     ensures { IfOk result (λ copied. copied.items ≡ names.now) }
 {
@@ -122,7 +122,7 @@ pub fn copy_names(alloc: Global, names: &[Ident]) -> Result<Vec<Ident>, AllocErr
     Ok(copied)
 }
 
-/// An equal receiver, with equal places.
+/// An equal receiver, with equal places. The only error is that memory ran out.
 pub fn copy_receiver(alloc: Global, receiver: &Option<Place>) -> Result<Option<Place>, AllocError>
     ensures { IfOk result (λ copied. optional_lvalue_of copied ≡ optional_lvalue_of receiver.now) }
 {

@@ -49,8 +49,8 @@ impl Program {
     }
 }
 
-/// Equal variables.
-fn copy_vars(alloc: Global, vars: &[Var]) -> Result<Vec<Var>, AllocError>
+/// Equal variables, with equal places. The only error is that memory ran out.
+pub fn copy_vars(alloc: Global, vars: &[Var]) -> Result<Vec<Var>, AllocError>
     ensures { IfOk result (λ copied. copied.items ≡ vars.now) }
 {
     let mut copied = Vec::new(alloc);
@@ -60,8 +60,8 @@ fn copy_vars(alloc: Global, vars: &[Var]) -> Result<Vec<Var>, AllocError>
     Ok(copied)
 }
 
-/// An equal parent.
-fn copy_parent(alloc: Global, parent: &Option<Ident>) -> Result<Option<Ident>, AllocError>
+/// An equal parent, with an equal place. The only error is that memory ran out.
+pub fn copy_parent(alloc: Global, parent: &Option<Ident>) -> Result<Option<Ident>, AllocError>
     ensures { IfOk result (λ copied. copied ≡ parent.now) }
 {
     match parent {

@@ -13,6 +13,8 @@ pub mod text;
 pub mod tree;
 
 pub use alike_code::alike;
+pub use copy::{copy_names, copy_receiver};
+pub use copy_program::{copy_parent, copy_vars};
 pub use count::{depth, nodes};
 pub use limits::{
     LimitKind, MOST_BYTES, MOST_CLASSES, MOST_FIELDS, MOST_INDEX_DEPTH, MOST_LOCALS, MOST_METHODS,

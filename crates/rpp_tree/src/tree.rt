@@ -253,17 +253,3 @@ pub enum Stmt {
         at: u32,
     },
 }
-
-/// A quantity of a program that has a limit.
-#[derive(Clone, Copy, Debug, PartialEq, Eq)]
-pub enum LimitKind {
-    Tokens,
-    Classes,
-    Parameters,
-    Nesting,
-    Locals,
-    Nodes,
-    Parens,
-    Fields,
-    Methods,
-}

@@ -9,47 +9,47 @@ use Rattle.rpp_tree.specs.Tree.{Number, Binary, Whole, Item, Object as AnObject,
 use Rattle.source_meaning.proofs.Testing.{named, var, procedure, class_text, block, program, Finished, Faulted, lines, ending}
 
 -- class P int[] a method main() new int[3] a a[3] += 1
-abbrev pub row14-index-text : Source
-row14-index-text = program (class_text (named 6 (codes "P")) None ((var kind.IntArray (named 14 (codes "a"))) ∷ []) (procedure (named 23 (codes "main")) [] (block ((New 30 (Ints (Number 38 3)) (Whole (named 41 (codes "a")))) ∷ (Update 43 update.Add (Item (named 43 (codes "a")) (Number 45 3)) (Number 51 1)) ∷ [])) ∷ []) ∷ [])
+abbrev pub index-past_end-text : Source
+index-past_end-text = program (class_text (named 6 (codes "P")) None ((var kind.IntArray (named 14 (codes "a"))) ∷ []) (procedure (named 23 (codes "main")) [] (block ((New 30 (Ints (Number 38 3)) (Whole (named 41 (codes "a")))) ∷ (Update 43 update.Add (Item (named 43 (codes "a")) (Number 45 3)) (Number 51 1)) ∷ [])) ∷ []) ∷ [])
 
-row14-index : ending row14-index-text 3 1 [] 1000 ≡ Faulted 9 11
-row14-index = refl
+index-past_end : ending index-past_end-text 3 1 [] 1000 ≡ Faulted 9 11
+index-past_end = refl
 
 -- class P int[] a method main() new int[3] a a[0 - 1] += 1
-abbrev pub row14-negative-text : Source
-row14-negative-text = program (class_text (named 6 (codes "P")) None ((var kind.IntArray (named 14 (codes "a"))) ∷ []) (procedure (named 23 (codes "main")) [] (block ((New 30 (Ints (Number 38 3)) (Whole (named 41 (codes "a")))) ∷ (Update 43 update.Add (Item (named 43 (codes "a")) (Binary 47 op.Sub (Number 45 0) (Number 49 1))) (Number 55 1)) ∷ [])) ∷ []) ∷ [])
+abbrev pub index-negative-text : Source
+index-negative-text = program (class_text (named 6 (codes "P")) None ((var kind.IntArray (named 14 (codes "a"))) ∷ []) (procedure (named 23 (codes "main")) [] (block ((New 30 (Ints (Number 38 3)) (Whole (named 41 (codes "a")))) ∷ (Update 43 update.Add (Item (named 43 (codes "a")) (Binary 47 op.Sub (Number 45 0) (Number 49 1))) (Number 55 1)) ∷ [])) ∷ []) ∷ [])
 
-row14-negative : ending row14-negative-text 3 1 [] 1000 ≡ Faulted 9 13
-row14-negative = refl
+index-negative : ending index-negative-text 3 1 [] 1000 ≡ Faulted 9 13
+index-negative = refl
 
 -- class P int[] a method main() new int[0] a
-abbrev pub row14-length-text : Source
-row14-length-text = program (class_text (named 6 (codes "P")) None ((var kind.IntArray (named 14 (codes "a"))) ∷ []) (procedure (named 23 (codes "main")) [] (block ((New 30 (Ints (Number 38 0)) (Whole (named 41 (codes "a")))) ∷ [])) ∷ []) ∷ [])
+abbrev pub array-no_length-text : Source
+array-no_length-text = program (class_text (named 6 (codes "P")) None ((var kind.IntArray (named 14 (codes "a"))) ∷ []) (procedure (named 23 (codes "main")) [] (block ((New 30 (Ints (Number 38 0)) (Whole (named 41 (codes "a")))) ∷ [])) ∷ []) ∷ [])
 
-row14-length : ending row14-length-text 3 1 [] 1000 ≡ Faulted 13 2
-row14-length = refl
+array-no_length : ending array-no_length-text 3 1 [] 1000 ≡ Faulted 13 2
+array-no_length = refl
 
 -- class P int[] a method main() new int[7] a
-abbrev pub row14-full-text : Source
-row14-full-text = program (class_text (named 6 (codes "P")) None ((var kind.IntArray (named 14 (codes "a"))) ∷ []) (procedure (named 23 (codes "main")) [] (block ((New 30 (Ints (Number 38 7)) (Whole (named 41 (codes "a")))) ∷ [])) ∷ []) ∷ [])
+abbrev pub array-no_block-text : Source
+array-no_block-text = program (class_text (named 6 (codes "P")) None ((var kind.IntArray (named 14 (codes "a"))) ∷ []) (procedure (named 23 (codes "main")) [] (block ((New 30 (Ints (Number 38 7)) (Whole (named 41 (codes "a")))) ∷ [])) ∷ []) ∷ [])
 
-row14-full : ending row14-full-text 3 1 [] 1000 ≡ Faulted 8 6
-row14-full = refl
+array-no_block : ending array-no_block-text 3 1 [] 1000 ≡ Faulted 8 6
+array-no_block = refl
 
 -- class P int[] a method main() new int[3] a delete int[2] a
-abbrev pub row14-differs-text : Source
-row14-differs-text = program (class_text (named 6 (codes "P")) None ((var kind.IntArray (named 14 (codes "a"))) ∷ []) (procedure (named 23 (codes "main")) [] (block ((New 30 (Ints (Number 38 3)) (Whole (named 41 (codes "a")))) ∷ (Delete 43 (Ints (Number 54 2)) (Whole (named 57 (codes "a")))) ∷ [])) ∷ []) ∷ [])
+abbrev pub array-other_length-text : Source
+array-other_length-text = program (class_text (named 6 (codes "P")) None ((var kind.IntArray (named 14 (codes "a"))) ∷ []) (procedure (named 23 (codes "main")) [] (block ((New 30 (Ints (Number 38 3)) (Whole (named 41 (codes "a")))) ∷ (Delete 43 (Ints (Number 54 2)) (Whole (named 57 (codes "a")))) ∷ [])) ∷ []) ∷ [])
 
-row14-differs : ending row14-differs-text 3 1 [] 1000 ≡ Faulted 12 11
-row14-differs = refl
+array-other_length : ending array-other_length-text 3 1 [] 1000 ≡ Faulted 12 11
+array-other_length = refl
 
 -- class P int[] a method main() new int[3] a a[1] <=> a[1]
-abbrev pub row14-swap-text : Source
-row14-swap-text = program (class_text (named 6 (codes "P")) None ((var kind.IntArray (named 14 (codes "a"))) ∷ []) (procedure (named 23 (codes "main")) [] (block ((New 30 (Ints (Number 38 3)) (Whole (named 41 (codes "a")))) ∷ (Swap 43 (Item (named 43 (codes "a")) (Number 45 1)) (Item (named 52 (codes "a")) (Number 54 1))) ∷ [])) ∷ []) ∷ [])
+abbrev pub element-swapped_with_itself-text : Source
+element-swapped_with_itself-text = program (class_text (named 6 (codes "P")) None ((var kind.IntArray (named 14 (codes "a"))) ∷ []) (procedure (named 23 (codes "main")) [] (block ((New 30 (Ints (Number 38 3)) (Whole (named 41 (codes "a")))) ∷ (Swap 43 (Item (named 43 (codes "a")) (Number 45 1)) (Item (named 52 (codes "a")) (Number 54 1))) ∷ [])) ∷ []) ∷ [])
 
-row14-swap : ending row14-swap-text 3 1 [] 1000 ≡ Finished (lines (codes "a = #1" ∷ codes "#1 int[3] count 1" ∷ codes "  [0] = 0" ∷ codes "  [1] = 0" ∷ codes "  [2] = 0" ∷ codes "live 1" ∷ [])) 12
+element-swapped_with_itself : ending element-swapped_with_itself-text 3 1 [] 1000 ≡ Finished (lines (codes "a = #1" ∷ codes "#1 int[3] count 1" ∷ codes "  [0] = 0" ∷ codes "  [1] = 0" ∷ codes "  [2] = 0" ∷ codes "live 1" ∷ [])) 12
 unfolding digits
-row14-swap = refl
+element-swapped_with_itself = refl
 
 -- class P Q[] qs int n method main() new Q[2] qs new Q qs[1] call qs[1]::inc(n) uncall qs[1]::inc(n) delete Q qs[1] delete Q[2] qs class Q int f method inc(int m) f += 7 m += 3
 abbrev element-text : Source

@@ -9,71 +9,71 @@ use Rattle.rpp_tree.specs.Tree.{Number, Variable, Binary, Whole, Update, If, Fro
 use Rattle.source_meaning.proofs.Testing.{named, var, procedure, class_text, block, program, word_for, Finished, Faulted, Unfinished, lines, ending}
 
 -- class P int x method main() x += 5
-abbrev pub row1-text : Source
-row1-text = program (class_text (named 6 (codes "P")) None ((var kind.Int (named 12 (codes "x"))) ∷ []) (procedure (named 21 (codes "main")) [] (block ((Update 28 update.Add (Whole (named 28 (codes "x"))) (Number 33 5)) ∷ [])) ∷ []) ∷ [])
+abbrev pub adds-text : Source
+adds-text = program (class_text (named 6 (codes "P")) None ((var kind.Int (named 12 (codes "x"))) ∷ []) (procedure (named 21 (codes "main")) [] (block ((Update 28 update.Add (Whole (named 28 (codes "x"))) (Number 33 5)) ∷ [])) ∷ []) ∷ [])
 
-row1 : ending row1-text 1 1 [] 2 ≡ Finished (lines (codes "x = 5" ∷ codes "live 0" ∷ [])) 2
+adds : ending adds-text 1 1 [] 2 ≡ Finished (lines (codes "x = 5" ∷ codes "live 0" ∷ [])) 2
 unfolding digits
-row1 = refl
+adds = refl
 
-row1-short : ending row1-text 1 1 [] 1 ≡ Unfinished
-row1-short = refl
+adds-too_few_turns : ending adds-text 1 1 [] 1 ≡ Unfinished
+adds-too_few_turns = refl
 
 -- class P int x method main() x -= 1
-abbrev pub row2-minus-text : Source
-row2-minus-text = program (class_text (named 6 (codes "P")) None ((var kind.Int (named 12 (codes "x"))) ∷ []) (procedure (named 21 (codes "main")) [] (block ((Update 28 update.Sub (Whole (named 28 (codes "x"))) (Number 33 1)) ∷ [])) ∷ []) ∷ [])
+abbrev pub subtracts-text : Source
+subtracts-text = program (class_text (named 6 (codes "P")) None ((var kind.Int (named 12 (codes "x"))) ∷ []) (procedure (named 21 (codes "main")) [] (block ((Update 28 update.Sub (Whole (named 28 (codes "x"))) (Number 33 1)) ∷ [])) ∷ []) ∷ [])
 
-row2-minus : ending row2-minus-text 1 1 [] 10 ≡ Finished (lines (codes "x = -1" ∷ codes "live 0" ∷ [])) 2
+subtracts : ending subtracts-text 1 1 [] 10 ≡ Finished (lines (codes "x = -1" ∷ codes "live 0" ∷ [])) 2
 unfolding digits
-row2-minus = refl
+subtracts = refl
 
 -- class P int x method main() x += 1
-abbrev pub row2-wraps-text : Source
-row2-wraps-text = program (class_text (named 6 (codes "P")) None ((var kind.Int (named 12 (codes "x"))) ∷ []) (procedure (named 21 (codes "main")) [] (block ((Update 28 update.Add (Whole (named 28 (codes "x"))) (Number 33 1)) ∷ [])) ∷ []) ∷ [])
+abbrev pub wraps-text : Source
+wraps-text = program (class_text (named 6 (codes "P")) None ((var kind.Int (named 12 (codes "x"))) ∷ []) (procedure (named 21 (codes "main")) [] (block ((Update 28 update.Add (Whole (named 28 (codes "x"))) (Number 33 1)) ∷ [])) ∷ []) ∷ [])
 
-row2-wraps : ending row2-wraps-text 1 1 (word_for 0 2147483647 ∷ []) 10 ≡ Finished (lines (codes "x = -2147483648" ∷ codes "live 0" ∷ [])) 2
+wraps : ending wraps-text 1 1 (word_for 0 2147483647 ∷ []) 10 ≡ Finished (lines (codes "x = -2147483648" ∷ codes "live 0" ∷ [])) 2
 unfolding digits
-row2-wraps = refl
+wraps = refl
 
 -- class P int x method main() x += (2147483647 < (0 - 2147483647 - 1))
-abbrev pub row2-signed-text : Source
-row2-signed-text = program (class_text (named 6 (codes "P")) None ((var kind.Int (named 12 (codes "x"))) ∷ []) (procedure (named 21 (codes "main")) [] (block ((Update 28 update.Add (Whole (named 28 (codes "x"))) (Binary 45 op.Less (Number 34 2147483647) (Binary 63 op.Sub (Binary 50 op.Sub (Number 48 0) (Number 52 2147483647)) (Number 65 1)))) ∷ [])) ∷ []) ∷ [])
+abbrev pub compares_signed-text : Source
+compares_signed-text = program (class_text (named 6 (codes "P")) None ((var kind.Int (named 12 (codes "x"))) ∷ []) (procedure (named 21 (codes "main")) [] (block ((Update 28 update.Add (Whole (named 28 (codes "x"))) (Binary 45 op.Less (Number 34 2147483647) (Binary 63 op.Sub (Binary 50 op.Sub (Number 48 0) (Number 52 2147483647)) (Number 65 1)))) ∷ [])) ∷ []) ∷ [])
 
-row2-signed : ending row2-signed-text 1 1 [] 10 ≡ Finished (lines (codes "x = 0" ∷ codes "live 0" ∷ [])) 8
+compares_signed : ending compares_signed-text 1 1 [] 10 ≡ Finished (lines (codes "x = 0" ∷ codes "live 0" ∷ [])) 8
 unfolding digits
-row2-signed = refl
+compares_signed = refl
 
 -- class P int x method main() if x = 0 then x += 1 else skip fi x = 0
-abbrev pub row3-after_then-text : Source
-row3-after_then-text = program (class_text (named 6 (codes "P")) None ((var kind.Int (named 12 (codes "x"))) ∷ []) (procedure (named 21 (codes "main")) [] (block ((If 28 (Binary 33 op.Equal (Variable (named 31 (codes "x"))) (Number 35 0)) (block ((Update 42 update.Add (Whole (named 42 (codes "x"))) (Number 47 1)) ∷ [])) (block ((Skip 54) ∷ [])) (Binary 64 op.Equal (Variable (named 62 (codes "x"))) (Number 66 0))) ∷ [])) ∷ []) ∷ [])
+abbrev pub fi-after_then-text : Source
+fi-after_then-text = program (class_text (named 6 (codes "P")) None ((var kind.Int (named 12 (codes "x"))) ∷ []) (procedure (named 21 (codes "main")) [] (block ((If 28 (Binary 33 op.Equal (Variable (named 31 (codes "x"))) (Number 35 0)) (block ((Update 42 update.Add (Whole (named 42 (codes "x"))) (Number 47 1)) ∷ [])) (block ((Skip 54) ∷ [])) (Binary 64 op.Equal (Variable (named 62 (codes "x"))) (Number 66 0))) ∷ [])) ∷ []) ∷ [])
 
-row3-after_then : ending row3-after_then-text 1 1 [] 1000 ≡ Faulted 1 9
-row3-after_then = refl
+fi-after_then : ending fi-after_then-text 1 1 [] 1000 ≡ Faulted 1 9
+fi-after_then = refl
 
 -- class P int x method main() if x = 0 then x += 1 else skip fi x = 1
-abbrev pub row3-after_else-text : Source
-row3-after_else-text = program (class_text (named 6 (codes "P")) None ((var kind.Int (named 12 (codes "x"))) ∷ []) (procedure (named 21 (codes "main")) [] (block ((If 28 (Binary 33 op.Equal (Variable (named 31 (codes "x"))) (Number 35 0)) (block ((Update 42 update.Add (Whole (named 42 (codes "x"))) (Number 47 1)) ∷ [])) (block ((Skip 54) ∷ [])) (Binary 64 op.Equal (Variable (named 62 (codes "x"))) (Number 66 1))) ∷ [])) ∷ []) ∷ [])
+abbrev pub fi-after_else-text : Source
+fi-after_else-text = program (class_text (named 6 (codes "P")) None ((var kind.Int (named 12 (codes "x"))) ∷ []) (procedure (named 21 (codes "main")) [] (block ((If 28 (Binary 33 op.Equal (Variable (named 31 (codes "x"))) (Number 35 0)) (block ((Update 42 update.Add (Whole (named 42 (codes "x"))) (Number 47 1)) ∷ [])) (block ((Skip 54) ∷ [])) (Binary 64 op.Equal (Variable (named 62 (codes "x"))) (Number 66 1))) ∷ [])) ∷ []) ∷ [])
 
-row3-after_else : ending row3-after_else-text 1 1 (word_for 0 1 ∷ []) 1000 ≡ Faulted 1 8
-row3-after_else = refl
+fi-after_else : ending fi-after_else-text 1 1 (word_for 0 1 ∷ []) 1000 ≡ Faulted 1 8
+fi-after_else = refl
 
 -- class P int x method main() from x = 0 do x += 1 loop skip until x = 10
-abbrev pub row4-text : Source
-row4-text = program (class_text (named 6 (codes "P")) None ((var kind.Int (named 12 (codes "x"))) ∷ []) (procedure (named 21 (codes "main")) [] (block ((From 28 (Binary 35 op.Equal (Variable (named 33 (codes "x"))) (Number 37 0)) (block ((Update 42 update.Add (Whole (named 42 (codes "x"))) (Number 47 1)) ∷ [])) (block ((Skip 54) ∷ [])) (Binary 67 op.Equal (Variable (named 65 (codes "x"))) (Number 69 10))) ∷ [])) ∷ []) ∷ [])
+abbrev pub loop-text : Source
+loop-text = program (class_text (named 6 (codes "P")) None ((var kind.Int (named 12 (codes "x"))) ∷ []) (procedure (named 21 (codes "main")) [] (block ((From 28 (Binary 35 op.Equal (Variable (named 33 (codes "x"))) (Number 37 0)) (block ((Update 42 update.Add (Whole (named 42 (codes "x"))) (Number 47 1)) ∷ [])) (block ((Skip 54) ∷ [])) (Binary 67 op.Equal (Variable (named 65 (codes "x"))) (Number 69 10))) ∷ [])) ∷ []) ∷ [])
 
-row4 : ending row4-text 1 1 [] 1000 ≡ Finished (lines (codes "x = 10" ∷ codes "live 0" ∷ [])) 90
+loop : ending loop-text 1 1 [] 1000 ≡ Finished (lines (codes "x = 10" ∷ codes "live 0" ∷ [])) 90
 unfolding digits
-row4 = refl
+loop = refl
 
-row4-entry : ending row4-text 1 1 (word_for 0 1 ∷ []) 1000 ≡ Faulted 2 4
-row4-entry = refl
+loop-not_entered : ending loop-text 1 1 (word_for 0 1 ∷ []) 1000 ≡ Faulted 2 4
+loop-not_entered = refl
 
 -- class P int x method main() from 0 = 0 do x += 1 loop skip until x = 10
-abbrev pub row4-again-text : Source
-row4-again-text = program (class_text (named 6 (codes "P")) None ((var kind.Int (named 12 (codes "x"))) ∷ []) (procedure (named 21 (codes "main")) [] (block ((From 28 (Binary 35 op.Equal (Number 33 0) (Number 37 0)) (block ((Update 42 update.Add (Whole (named 42 (codes "x"))) (Number 47 1)) ∷ [])) (block ((Skip 54) ∷ [])) (Binary 67 op.Equal (Variable (named 65 (codes "x"))) (Number 69 10))) ∷ [])) ∷ []) ∷ [])
+abbrev pub loop-entered_again-text : Source
+loop-entered_again-text = program (class_text (named 6 (codes "P")) None ((var kind.Int (named 12 (codes "x"))) ∷ []) (procedure (named 21 (codes "main")) [] (block ((From 28 (Binary 35 op.Equal (Number 33 0) (Number 37 0)) (block ((Update 42 update.Add (Whole (named 42 (codes "x"))) (Number 47 1)) ∷ [])) (block ((Skip 54) ∷ [])) (Binary 67 op.Equal (Variable (named 65 (codes "x"))) (Number 69 10))) ∷ [])) ∷ []) ∷ [])
 
-row4-again : ending row4-again-text 1 1 [] 1000 ≡ Faulted 2 13
-row4-again = refl
+loop-entered_again : ending loop-entered_again-text 1 1 [] 1000 ≡ Faulted 2 13
+loop-entered_again = refl
 
 -- class P int x method main() x += 1 from x = 1 do skip loop x += 1 until x = 0
 abbrev endless-text : Source

@@ -7,3 +7,4 @@ mod CallRows
 pub mod ObjectRows
 mod ArrayRows
 mod MemoryRows
+pub mod MainPlace

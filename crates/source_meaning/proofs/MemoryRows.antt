@@ -10,8 +10,8 @@ use Rattle.pisa_isa.specs.Loaded.{loaded}
 use Rattle.source_meaning.specs.Layout.{main_statics, tables, layout}
 use Rattle.source_meaning.specs.Walk.{counted}
 use Rattle.source_meaning.proofs.Testing.{word_for}
-use Rattle.source_meaning.proofs.IntRows.{row1-text}
-use Rattle.source_meaning.proofs.ObjectRows.{row9-one-text, row13-text}
+use Rattle.source_meaning.proofs.IntRows.{adds-text}
+use Rattle.source_meaning.proofs.ObjectRows.{one_object-text, ring-text}
 
 abbrev limits : ℕ → ℕ → Limits
 limits heap deep = record { heap = heap; deep = deep }
@@ -32,30 +32,30 @@ memory program heap deep places = laid program (limits heap deep) (statics progr
 abbrev body : Source → ℕ → ℕ → List (List ℕ) → List ℕ
 body program heap deep places = let cells = memory program heap deep places in drop 40 (take (length cells - 512 * deep) cells)
 
-row1-statics : statics row1-text ((7 ∷ []) ∷ []) ≡ 43 ∷ 1 ∷ 0 ∷ 1 ∷ 7 ∷ []
-row1-statics = refl
+adds-statics : statics adds-text ((7 ∷ []) ∷ []) ≡ 43 ∷ 1 ∷ 0 ∷ 1 ∷ 7 ∷ []
+adds-statics = refl
 
-row1-length : length (memory row1-text 1 1 ((7 ∷ []) ∷ [])) ≡ 560
-row1-length = refl
+adds-length : length (memory adds-text 1 1 ((7 ∷ []) ∷ [])) ≡ 560
+adds-length = refl
 
-row1-fixed : take 12 (memory row1-text 1 1 ((7 ∷ []) ∷ [])) ≡ 0 ∷ 1 ∷ 46 ∷ 48 ∷ 560 ∷ 0 ∷ 0 ∷ 0 ∷ 0 ∷ 46 ∷ 0 ∷ 0 ∷ []
-row1-fixed = refl
+adds-fixed : take 12 (memory adds-text 1 1 ((7 ∷ []) ∷ [])) ≡ 0 ∷ 1 ∷ 46 ∷ 48 ∷ 560 ∷ 0 ∷ 0 ∷ 0 ∷ 0 ∷ 46 ∷ 0 ∷ 0 ∷ []
+adds-fixed = refl
 
-row1-body : body row1-text 1 1 ((7 ∷ []) ∷ []) ≡ 43 ∷ 1 ∷ 5 ∷ 1 ∷ 7 ∷ 0 ∷ 0 ∷ 0 ∷ []
-row1-body = refl
+adds-body : body adds-text 1 1 ((7 ∷ []) ∷ []) ≡ 43 ∷ 1 ∷ 5 ∷ 1 ∷ 7 ∷ 0 ∷ 0 ∷ 0 ∷ []
+adds-body = refl
 
 -- the starting store is laid out as the loaded memory
-row1-loaded : layout row1-text (limits 1 1) (statics row1-text ((7 ∷ []) ∷ [])) (starting row1-text (word_for 0 9 ∷ [])).store [] ≡ loaded (statics row1-text ((7 ∷ []) ∷ [])) (limits 1 1) (word_for 0 9 ∷ [])
-row1-loaded = refl
+adds-loaded : layout adds-text (limits 1 1) (statics adds-text ((7 ∷ []) ∷ [])) (starting adds-text (word_for 0 9 ∷ [])).store [] ≡ loaded (statics adds-text ((7 ∷ []) ∷ [])) (limits 1 1) (word_for 0 9 ∷ [])
+adds-loaded = refl
 
-row13-length : length (memory row13-text 3 2 ((5 ∷ []) ∷ (7 ∷ 9 ∷ []) ∷ [])) ≡ 1088
-row13-length = refl
+ring-length : length (memory ring-text 3 2 ((5 ∷ []) ∷ (7 ∷ 9 ∷ []) ∷ [])) ≡ 1088
+ring-length = refl
 
-row13-counted : counted row13-text (memory row13-text 3 2 ((5 ∷ []) ∷ (7 ∷ 9 ∷ []) ∷ [])) ≡ 2
-row13-counted = refl
+ring-counted : counted ring-text (memory ring-text 3 2 ((5 ∷ []) ∷ (7 ∷ 9 ∷ []) ∷ [])) ≡ 2
+ring-counted = refl
 
-row9-counted : counted row9-one-text (memory row9-one-text 1 1 ((5 ∷ []) ∷ (7 ∷ []) ∷ [])) ≡ 1
-row9-counted = refl
+two_objects-counted : counted one_object-text (memory one_object-text 1 1 ((5 ∷ []) ∷ (7 ∷ []) ∷ [])) ≡ 1
+two_objects-counted = refl
 
-row1-counted : counted row1-text (memory row1-text 1 1 ((7 ∷ []) ∷ [])) ≡ 0
-row1-counted = refl
+adds-counted : counted adds-text (memory adds-text 1 1 ((7 ∷ []) ∷ [])) ≡ 0
+adds-counted = refl

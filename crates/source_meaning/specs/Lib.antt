@@ -4,6 +4,7 @@ pub mod Store
 pub mod Value
 pub mod Execution
 pub mod Source
+pub mod Alone
 pub mod Agreement
 pub mod Report
 pub mod Layout

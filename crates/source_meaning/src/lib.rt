@@ -4,3 +4,6 @@
 #![tactic(auto)]
 
 pub mod laws;
+mod main_object;
+
+pub use main_object::FIRST_FIELD;

@@ -5,6 +5,7 @@ ghost use Rattle.rpp_tree.specs.Views.{expression_of, lvalue_of, creation_of, op
 ghost use Rattle.stmt_inverter.specs.Inverse.{inverse_operator};
 
 use rpp_tree::tree::{Block, Expr, Ident, Made, Place, Stmt, UpdateOp, Var, VarType};
+use rpp_tree::{copy_names, copy_receiver};
 use rpp_words::NoMemory;
 use std::alloc::Global;
 
@@ -190,27 +191,6 @@ pub fn uncopy_stmt(
         source,
         target,
     })
-}
-
-// Equal names.
-fn copy_names(alloc: Global, names: &[Ident]) -> Result<Vec<Ident>, NoMemory>
-    ensures { IfOk result (λ copied. copied.items ≡ names.now) }
-{
-    let mut copied = Vec::new(alloc);
-    for name in names {
-        copied.push(name.copy(alloc)?)?;
-    }
-    Ok(copied)
-}
-
-// An equal receiver.
-fn copy_receiver(alloc: Global, receiver: &Option<Place>) -> Result<Option<Place>, NoMemory>
-    ensures { IfOk result (λ copied. optional_lvalue_of copied ≡ optional_lvalue_of receiver.now) }
-{
-    match receiver {
-        None => Ok(None),
-        Some(place) => Ok(Some(place.copy(alloc)?)),
-    }
 }
 
 /// A call, or an `uncall` where `back` holds.

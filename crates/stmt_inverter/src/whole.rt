@@ -4,30 +4,10 @@ ghost use Rattle.rpp_tree.specs.Views.{procedure_of, class_text_of, source_of};
 ghost use Rattle.stmt_inverter.specs.Inverse.{inverse_procedure, inverse_class, inverse_program};
 
 use crate::code::undo_block;
-use rpp_tree::tree::{Class, Ident, Method, Program, Var};
+use rpp_tree::tree::{Class, Method, Program};
+use rpp_tree::{copy_parent, copy_vars};
 use rpp_words::NoMemory;
 use std::alloc::Global;
-
-/// Equal variables.
-fn copy_vars(alloc: Global, vars: &[Var]) -> Result<Vec<Var>, NoMemory>
-    ensures { IfOk result (λ copied. copied.items ≡ vars.now) }
-{
-    let mut copied = Vec::new(alloc);
-    for var in vars {
-        copied.push(var.copy(alloc)?)?;
-    }
-    Ok(copied)
-}
-
-/// An equal name, if there is one.
-fn copy_parent(alloc: Global, parent: &Option<Ident>) -> Result<Option<Ident>, NoMemory>
-    ensures { IfOk result (λ copied. copied ≡ parent.now) }
-{
-    match parent {
-        None => Ok(None),
-        Some(name) => Ok(Some(name.copy(alloc)?)),
-    }
-}
 
 /// A method of the inverse program.
 fn invert_method(alloc: Global, method: &Method) -> Result<Method, NoMemory>
@@ -82,7 +62,7 @@ mod tests {
     use super::*;
     use crate::code::{invert_block, invert_stmt};
     use rpp_tree::text::Text;
-    use rpp_tree::tree::{Block, Expr, Place, Stmt, UpdateOp};
+    use rpp_tree::tree::{Block, Expr, Ident, Place, Stmt, UpdateOp};
     use std::test::Fail;
 
     fn name(alloc: Global, at: u32, text: &str) -> Result<Ident, Fail> {

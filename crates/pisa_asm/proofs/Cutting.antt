@@ -1,0 +1,97 @@
+-- A text is its first line and the lines behind it; a line is its first word and the words behind it.
+use Rattle.std.proofs.Common.{◌≡◌, ◌∙◌, ap, refl, ℕ, suc, ◌+◌, ◌<◌, Bool, true, false, ◌==◌, arith, List, [], ◌∷◌, length, take, drop}
+use Rattle.std.specs.List.{prefix_len, position_or_len}
+use Rattle.std.proofs.lemmas.Bool.Decides.{nat_tests}
+use Rattle.pisa_asm.specs.Lines.{onto_first, lines_of, words_of, is_blank}
+
+pub one_more : (n : ℕ) → 1 + n ≡ suc n
+one_more n = omega arith
+
+-- how many bytes stand before the first line feed
+abbrev line_length : List ℕ → ℕ
+line_length text = position_or_len (λ b. b == 10) text
+
+-- how many bytes stand before the first blank
+abbrev word_length : List ℕ → ℕ
+word_length line = position_or_len is_blank line
+
+-- a byte before the first line feed belongs to the first line
+line_grows : (b : ℕ) (text : List ℕ) → (b == 10) ≡ false
+    → lines_of (b ∷ text) ≡ (b ∷ take (line_length text) text) ∷ lines_of (drop 1 (drop (line_length text) text))
+line_grows b [] e = rw e refl
+line_grows b (c ∷ text) e = by_case (c == 10) refl (λ f. line_grows c text f)
+  where
+    by_case : (t : Bool) → (c == 10) ≡ t
+        → (t ≡ false → lines_of (c ∷ text) ≡ (c ∷ take (line_length text) text) ∷ lines_of (drop 1 (drop (line_length text) text)))
+        → lines_of (b ∷ c ∷ text) ≡ (b ∷ take (line_length (c ∷ text)) (c ∷ text)) ∷ lines_of (drop 1 (drop (line_length (c ∷ text)) (c ∷ text)))
+    by_case true f rest = simp (e, f, one_more)
+    by_case false f rest = rw e (ap (onto_first b) (rest refl) ∙ simp (f, one_more))
+
+pub lines_cut : (text : List ℕ) → 0 < length text
+    → lines_of text ≡ take (line_length text) text ∷ lines_of (drop 1 (drop (line_length text) text))
+lines_cut [] h = absurd (omega arith)
+lines_cut (b ∷ text) h = by_case (b == 10) refl
+  where
+    by_case : (t : Bool) → (b == 10) ≡ t → lines_of (b ∷ text) ≡ take (line_length (b ∷ text)) (b ∷ text) ∷ lines_of (drop 1 (drop (line_length (b ∷ text)) (b ∷ text)))
+    by_case true f = simp (f, one_more)
+    by_case false f = line_grows b text f ∙ simp (f, one_more)
+
+-- no blank stands between
+pub joined : (b c : ℕ) (line : List ℕ) → is_blank b ≡ false → is_blank c ≡ false → words_of (b ∷ c ∷ line) ≡ onto_first b (words_of (c ∷ line))
+joined b c line e f = rw (e, f) refl
+
+-- a byte before the first blank belongs to the first word
+word_grows : (b : ℕ) (line : List ℕ) → is_blank b ≡ false
+    → words_of (b ∷ line) ≡ (b ∷ take (word_length line) line) ∷ words_of (drop (word_length line) line)
+word_grows b [] e = rw e refl
+word_grows b (c ∷ line) e = by_case (is_blank c) refl (λ f. word_grows c line f)
+  where
+    by_case : (t : Bool) → is_blank c ≡ t
+        → (t ≡ false → words_of (c ∷ line) ≡ (c ∷ take (word_length line) line) ∷ words_of (drop (word_length line) line))
+        → words_of (b ∷ c ∷ line) ≡ (b ∷ take (word_length (c ∷ line)) (c ∷ line)) ∷ words_of (drop (word_length (c ∷ line)) (c ∷ line))
+    by_case true f rest = simp (e, f, one_more)
+    by_case false f rest = joined b c line e f ∙ ap (onto_first b) (rest refl) ∙ simp (f, one_more)
+
+-- blanks stand for nothing
+pub words_skip : (line : List ℕ) → words_of line ≡ words_of (drop (prefix_len is_blank line) line)
+words_skip [] = refl
+words_skip (b ∷ line) = by_case (is_blank b) refl (words_skip line)
+  where
+    by_case : (t : Bool) → is_blank b ≡ t → words_of line ≡ words_of (drop (prefix_len is_blank line) line)
+        → words_of (b ∷ line) ≡ words_of (drop (prefix_len is_blank (b ∷ line)) (b ∷ line))
+    by_case true f rest = simp (f, one_more) rest
+    by_case false f rest = simp (f, one_more)
+
+-- the first word of what stands behind blanks, and the words behind it
+pub words_cut : (line : List ℕ) → 0 < length (drop (prefix_len is_blank line) line)
+    → words_of line ≡ take (word_length (drop (prefix_len is_blank line) line)) (drop (prefix_len is_blank line) line)
+    ∷ words_of (drop (word_length (drop (prefix_len is_blank line) line)) (drop (prefix_len is_blank line) line))
+words_cut [] h = absurd (omega arith)
+words_cut (b ∷ line) h = by_case (is_blank b) refl (words_cut line) h
+  where
+    by_case : (t : Bool) → is_blank b ≡ t
+        → (0 < length (drop (prefix_len is_blank line) line) → words_of line ≡ take (word_length (drop (prefix_len is_blank line) line)) (drop (prefix_len is_blank line) line)
+        ∷ words_of (drop (word_length (drop (prefix_len is_blank line) line)) (drop (prefix_len is_blank line) line)))
+        → 0 < length (drop (prefix_len is_blank (b ∷ line)) (b ∷ line))
+        → words_of (b ∷ line) ≡ take (word_length (drop (prefix_len is_blank (b ∷ line)) (b ∷ line))) (drop (prefix_len is_blank (b ∷ line)) (b ∷ line))
+        ∷ words_of (drop (word_length (drop (prefix_len is_blank (b ∷ line)) (b ∷ line))) (drop (prefix_len is_blank (b ∷ line)) (b ∷ line)))
+    by_case true f rest h = simp (f, one_more) (rest (simp (f, one_more) at h))
+    by_case false f rest h = word_grows b line f ∙ simp (f, one_more)
+
+-- a word has a byte
+pub word_some : (line : List ℕ) → 0 < length (drop (prefix_len is_blank line) line) → 0 < word_length (drop (prefix_len is_blank line) line)
+word_some [] h = absurd (omega arith)
+word_some (b ∷ line) h = by_case (is_blank b) refl (word_some line) h
+  where
+    by_case : (t : Bool) → is_blank b ≡ t
+        → (0 < length (drop (prefix_len is_blank line) line) → 0 < word_length (drop (prefix_len is_blank line) line))
+        → 0 < length (drop (prefix_len is_blank (b ∷ line)) (b ∷ line)) → 0 < word_length (drop (prefix_len is_blank (b ∷ line)) (b ∷ line))
+    by_case true f rest h = simp (f, one_more) (rest (simp (f, one_more) at h))
+    by_case false f rest h = simp (f, one_more) (omega arith)
+
+pub no_words : (line : List ℕ) → (length line == 0) ≡ true → words_of line ≡ []
+no_words [] e = refl
+no_words (b ∷ line) e = absurd (grind (arith, nat_tests))
+
+pub some_bytes : (line : List ℕ) → (length line == 0) ≡ false → 0 < length line
+some_bytes line e = grind (arith, nat_tests)

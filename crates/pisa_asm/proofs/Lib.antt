@@ -1,0 +1,16 @@
+pub mod Cutting
+pub mod Placing
+pub mod Reading
+pub mod Chaining
+pub mod Ranging
+pub mod Sealing
+pub mod Gathering
+pub mod Spelling
+pub mod Respacing
+pub mod Rereading
+pub mod Relisting
+pub mod Measuring
+pub mod Texts
+pub mod Operating
+pub mod Labeling
+pub mod Written

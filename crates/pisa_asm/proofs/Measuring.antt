@@ -1,0 +1,84 @@
+-- A listing is no longer than a text may be.
+use Rattle.std.proofs.Common.{ℕ, ◌+◌, ◌-◌, ◌*◌, ◌<◌, ◌≤◌, ◌^◌, Bool, true, false, cond, arith, List, [], ◌∷◌, ◌++◌, length, length-append}
+use Rattle.std.specs.Prelude.{nat_lt}
+use Rattle.std.specs.List.{All}
+use Rattle.std.specs.Fmt.{decimal}
+use Rattle.std.proofs.lemmas.Fmt.{length-decimal-le}
+use Rattle.rpp_words.specs.Words.{IsWord}
+use Rattle.pisa_isa.specs.declared.cell.Op.{Op}
+use Rattle.pisa_isa.specs.declared.cell.Op.TheVariants.{Add}
+use Rattle.pisa_isa.specs.declared.cell.Cell.{Cell}
+use Rattle.pisa_isa.specs.Table.{IsCell, has_a, has_b, c_is_source}
+use Rattle.pisa_isa.specs.Image.{Segments, IsImage}
+use Rattle.pisa_isa.proofs.Ranges.{a_below, b_below, c_below, imm_word}
+use Rattle.pisa_asm.specs.declared.assembler.TheConstants.{MOST_TEXT}
+use Rattle.pisa_asm.specs.declared.operand.Last.{Last}
+use Rattle.pisa_asm.specs.declared.operand.Last.TheVariants.{Nothing, Word, Amount, Offset}
+use Rattle.pisa_asm.specs.Mnemonics.{mnemonic}
+use Rattle.pisa_asm.specs.Operands.{last_of}
+use Rattle.pisa_asm.specs.Listing.{signed_text, offset_text, register_text, last_text, cell_text, static_text, code_lines, static_lines, listing}
+use Rattle.pisa_asm.proofs.Relisting.{head, tail}
+
+mnemonic_short : (op : Op) → length (mnemonic op) ≤ 6
+unfolding mnemonic
+mnemonic_short Add = omega arith
+mnemonic_short _ = omega arith
+
+signed_short : (n : ℕ) → n < 2 ^ 32 → length (signed_text n) ≤ 11
+signed_short n h = by_sign (nat_lt n (2 ^ 31))
+  where
+    by_sign : (t : Bool) → length (cond t (decimal n) (45 ∷ decimal (2 ^ 32 - n))) ≤ 11
+    by_sign true = let s = length-decimal-le 10 n (omega arith) (omega arith) (omega arith) in omega arith
+    by_sign false = let s = length-decimal-le 10 (2 ^ 32 - n) (omega arith) (omega arith) (omega arith) in omega arith
+
+offset_short : (n : ℕ) → n < 2 ^ 32 → length (offset_text n) ≤ 11
+offset_short n h = by_sign (nat_lt n (2 ^ 31))
+  where
+    by_sign : (t : Bool) → length (cond t (43 ∷ decimal n) (45 ∷ decimal (2 ^ 32 - n))) ≤ 11
+    by_sign true = let s = length-decimal-le 10 n (omega arith) (omega arith) (omega arith) in omega arith
+    by_sign false = let s = length-decimal-le 10 (2 ^ 32 - n) (omega arith) (omega arith) (omega arith) in omega arith
+
+register_short : (has : Bool) (r : ℕ) → r < 32 → length (register_text has r) ≤ 4
+register_short false r h = omega arith
+register_short true r h = let s = length-decimal-le 2 r (omega arith) (omega arith) (omega arith) in omega arith
+
+last_short : (last : Last) (imm : ℕ) → imm < 2 ^ 32 → length (last_text last imm) ≤ 12
+last_short Nothing imm h = omega arith
+last_short Word imm h = let s = signed_short imm h in omega arith
+last_short Amount imm h = let s = length-decimal-le 10 imm (omega arith) (omega arith) (omega arith) in omega arith
+last_short Offset imm h = let s = offset_short imm h in omega arith
+
+cell_short : (c : Cell) → IsCell c → length (cell_text c) ≤ 30
+cell_short c i =
+    let m = mnemonic_short c.op in
+    let a = register_short (has_a c.op) c.a (a_below c i.in_range) in
+    let b = register_short (has_b c.op) c.b (b_below c i.in_range) in
+    let t = register_short (c_is_source c.op) c.c (c_below c i.in_range) in
+    let l = last_short (last_of c.op) c.imm (imm_word c i.in_range) in
+    simp length-append (omega arith)
+
+line_short : (line rest : List ℕ) (n m : ℕ) → length line ≤ n → length rest ≤ m → length (line ++ 10 ∷ rest) ≤ n + 1 + m
+line_short line rest n m h g = simp length-append (omega arith)
+
+code_short : (code : List Cell) → All IsCell code → length (code_lines code) ≤ 31 * length code
+code_short [] all = omega arith
+code_short (c ∷ code) all =
+    let whole = line_short (cell_text c) (code_lines code) 30 (31 * length code) (cell_short c (head IsCell c code all)) (code_short code (tail IsCell c code all)) in
+    omega arith
+
+static_short : (word : ℕ) → word < 2 ^ 32 → length (static_text word) ≤ 18
+static_short word h = let s = signed_short word h in simp length-append (omega arith)
+
+statics_short : (statics : List ℕ) → All IsWord statics → length (static_lines statics) ≤ 19 * length statics
+statics_short [] all = omega arith
+statics_short (word ∷ statics) all =
+    let whole = line_short (static_text word) (static_lines statics) 18 (19 * length statics) (static_short word (head IsWord word statics all)) (statics_short statics (tail IsWord word statics all)) in
+    omega arith
+
+pub listing_short : (image : Segments) → IsImage image → All IsWord image.statics → length (listing image) ≤ MOST_TEXT
+listing_short image i words =
+    let code = code_short image.code i.is_code.cells in
+    let statics = statics_short image.statics words in
+    let few = i.is_code.in_limit in
+    let few_statics = i.statics_in_limit in
+    simp length-append (omega arith)

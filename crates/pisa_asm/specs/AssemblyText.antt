@@ -1,0 +1,90 @@
+-- Which image a list of lines writes.
+use Rattle.std.specs.Prelude.{◌≡◌, ℕ, ◌+◌, ◌^◌, ◌<◌, ◌≤◌, Bool, true, false, List, [], ◌∷◌, ◌++◌, length, map, Some, None, All}
+use Rattle.std.specs.Fmt.{decimal}
+use Rattle.std.specs.Str.Parse.{IsNumeral, digits_value}
+use Rattle.rpp_words.specs.Words.{negated, difference_of}
+use Rattle.pisa_isa.specs.declared.cell.Cell.{Cell}
+use Rattle.pisa_isa.specs.Table.{has_a, has_b, c_is_source}
+use Rattle.pisa_isa.specs.Image.{Segments, IsImage}
+use Rattle.pisa_asm.specs.declared.operand.Last.{Last}
+use Rattle.pisa_asm.specs.declared.operand.Last.TheVariants.{Nothing, Word, Amount, Offset}
+use Rattle.pisa_asm.specs.Lines.{content_of, words_of}
+use Rattle.pisa_asm.specs.LabelNames.{is_name, Labels, place_of}
+use Rattle.pisa_asm.specs.Mnemonics.{mnemonic, static_word}
+use Rattle.pisa_asm.specs.Operands.{last_of}
+
+-- decimal digits with an optional sign, for a number that is at least -low and below `end`, and its word
+pub data NumberText (low end : ℕ) (bytes : List ℕ) (word : ℕ) : Type 0 where
+  plain : IsNumeral 10 bytes → digits_value 10 bytes < end → word ≡ digits_value 10 bytes → NumberText low end bytes word
+  plus : (digits : List ℕ) → bytes ≡ 43 ∷ digits → IsNumeral 10 digits → digits_value 10 digits < end → word ≡ digits_value 10 digits → NumberText low end bytes word
+  minus : (digits : List ℕ) → bytes ≡ 45 ∷ digits → IsNumeral 10 digits → digits_value 10 digits ≤ low → word ≡ negated (digits_value 10 digits) → NumberText low end bytes word
+
+-- `$` and 0 to 31 without leading zeros
+pub record RegisterText (bytes : List ℕ) (r : ℕ) : Type 0 where
+  pub in_range : r < 32
+  pub written : bytes ≡ 36 ∷ decimal r
+
+-- the words for a register that a row has or not
+abbrev pub RegisterWords : Bool → List (List ℕ) → ℕ → Type 0
+RegisterWords false words r = (words ≡ []) × (r ≡ 0)
+RegisterWords true words r = (word : List ℕ) × (words ≡ word ∷ []) × RegisterText word r
+
+-- an offset: a number, or a label's name and then its place minus this one
+pub data OffsetText (labels : Labels) (at : ℕ) (bytes : List ℕ) (offset : ℕ) : Type 0 where
+  by_number : NumberText (2 ^ 31) (2 ^ 31) bytes offset → OffsetText labels at bytes offset
+  by_label : (place : ℕ) → is_name bytes ≡ true → place_of bytes labels ≡ Some place → offset ≡ difference_of place at → OffsetText labels at bytes offset
+
+-- the words for what a row has behind its registers
+abbrev pub LastWords : Labels → ℕ → Last → List (List ℕ) → ℕ → Type 0
+LastWords labels at Nothing words imm = (words ≡ []) × (imm ≡ 0)
+LastWords labels at Word words imm = (word : List ℕ) × (words ≡ word ∷ []) × NumberText (2 ^ 31) (2 ^ 32) word imm
+LastWords labels at Amount words imm = (word : List ℕ) × (words ≡ word ∷ []) × NumberText 0 32 word imm
+LastWords labels at Offset words imm = (word : List ℕ) × (words ≡ word ∷ []) × OffsetText labels at word imm
+
+-- an instruction at a place: its mnemonic, its registers in their order, and what else it has
+pub record InstructionText (labels : Labels) (at : ℕ) (words : List (List ℕ)) (cell : Cell) : Type 0 where
+  pub a : List (List ℕ)
+  pub b : List (List ℕ)
+  pub c : List (List ℕ)
+  pub last : List (List ℕ)
+  pub written : words ≡ mnemonic cell.op ∷ (a ++ (b ++ (c ++ last)))
+  pub is_a : RegisterWords (has_a cell.op) a cell.a
+  pub is_b : RegisterWords (has_b cell.op) b cell.b
+  pub is_c : RegisterWords (c_is_source cell.op) c cell.c
+  pub is_last : LastWords labels at (last_of cell.op) last cell.imm
+
+-- nothing, an instruction, or STATIC and a word
+pub data ItemText (labels : Labels) (at : ℕ) (words : List (List ℕ)) (code : List Cell) (statics : List ℕ) : Type 0 where
+  nothing : words ≡ [] → code ≡ [] → statics ≡ [] → ItemText labels at words code statics
+  instruction : (cell : Cell) → InstructionText labels at words cell → code ≡ cell ∷ [] → statics ≡ [] → ItemText labels at words code statics
+  static : (word : List ℕ) (n : ℕ) → words ≡ static_word ∷ word ∷ [] → NumberText (2 ^ 31) (2 ^ 32) word n → code ≡ [] → statics ≡ n ∷ [] → ItemText labels at words code statics
+
+-- a name followed directly by `:`
+abbrev pub label_word : List ℕ → List ℕ
+label_word name = name ++ 58 ∷ []
+
+-- a line has labels and then other words, but for a carriage return at its end and a comment
+pub record LabeledLine (line : List ℕ) (names words : List (List ℕ)) : Type 0 where
+  pub are_names : All (λ name. is_name name ≡ true) names
+  pub written : words_of (content_of line) ≡ map label_word names ++ words
+
+-- lines, the first of which has this place for its cell, write these labels, code cells and static words
+pub data LinesText (labels : Labels) : (at : ℕ) (lines : List (List ℕ)) (written : Labels) (code : List Cell) (statics : List ℕ) → Type 0 where
+  finish : (at : ℕ) → LinesText labels at [] [] [] []
+  one_line : (at : ℕ) (line : List ℕ) (lines names words : List (List ℕ)) (written : Labels) (cells code : List Cell) (words_here statics : List ℕ)
+      → LabeledLine line names words
+      → ItemText labels at words cells words_here
+      → LinesText labels (at + length cells) lines written code statics
+      → LinesText labels at (line ∷ lines) (map (λ name. (name, at)) names ++ written) (cells ++ code) (words_here ++ statics)
+
+-- each label is none of those before it
+abbrev pub AreNew : (before labels : Labels) → Type 0
+AreNew before [] = Unit {0}
+AreNew before (label ∷ labels) = (place_of label.0 before ≡ None) × AreNew (before ++ label ∷ []) labels
+
+-- the lines write the image, with labels all of whose names differ
+pub record AssemblyText (lines : List (List ℕ)) (image : Segments) : Type 0 where
+  pub labels : Labels
+  pub are_new : AreNew [] labels
+  pub written : LinesText labels 0 lines labels image.code image.statics
+  pub is_image : IsImage image

@@ -1,0 +1,41 @@
+-- Labels: their names, and their places.
+use Rattle.std.specs.Prelude.{ℕ, Bool, false, List, [], ◌∷◌, ◌==◌, ◌||◌, ◌&&◌, if◌then◌else◌, Option, Some, None}
+use Rattle.std.specs.Str.{bytes_eq}
+use Rattle.std.specs.List.{list_all}
+use Rattle.std.specs.Char.{is_ascii_alphabetic, is_ascii_digit}
+use Rattle.pisa_asm.specs.Lines.{ends_in, all_but_last}
+
+-- a letter or `_`
+abbrev pub begins_name : ℕ → Bool
+begins_name b = is_ascii_alphabetic b || b == 95
+
+-- a letter, a digit or `_`
+abbrev pub is_name_byte : ℕ → Bool
+is_name_byte b = is_ascii_alphabetic b || is_ascii_digit b || b == 95
+
+abbrev pub is_name : List ℕ → Bool
+is_name [] = false
+is_name (first ∷ rest) = begins_name first && list_all is_name_byte rest
+
+-- a name followed directly by `:`
+abbrev pub is_label : List ℕ → Bool
+is_label word = ends_in 58 word && is_name (all_but_last word)
+
+-- the names of the labels at the front of a line's words
+abbrev pub label_names : List (List ℕ) → List (List ℕ)
+label_names [] = []
+label_names (word ∷ words) = if is_label word then all_but_last word ∷ label_names words else []
+
+-- the words behind the labels
+abbrev pub after_labels : List (List ℕ) → List (List ℕ)
+after_labels [] = []
+after_labels (word ∷ words) = if is_label word then after_labels words else word ∷ words
+
+-- labels with their places in the code
+abbrev pub Labels : Type 0
+Labels = List (List ℕ × ℕ)
+
+-- the place of a label
+abbrev pub place_of : List ℕ → Labels → Option ℕ
+place_of name [] = None
+place_of name (label ∷ labels) = if bytes_eq name label.0 then Some label.1 else place_of name labels

@@ -1,0 +1,10 @@
+pub mod Chain
+pub mod Lines
+pub mod Numerals
+pub mod LabelNames
+pub mod Mnemonics
+pub mod Operands
+pub mod Items
+pub mod Passes
+pub mod Listing
+pub mod AssemblyText

@@ -1,0 +1,104 @@
+-- The meaning of a text: its lines are tried twice from the first on.
+use Rattle.std.specs.Prelude.{ℕ, ◌+◌, nat_lt, nat_eq, List, [], ◌∷◌, ◌++◌, length, Option, Some, None, Result, Ok, Err, count_by, if◌then◌else◌}
+use Rattle.std.specs.Option.{option_map}
+use Rattle.rpp_words.specs.Words.{difference_of}
+use Rattle.pisa_isa.specs.declared.cell.Cell.{Cell}
+use Rattle.pisa_isa.specs.declared.image.TheConstants.{MOST_CELLS, MOST_STATICS}
+use Rattle.pisa_isa.specs.Table.{is_one_to_one}
+use Rattle.pisa_isa.specs.Image.{Segments, is_start, is_finish}
+use Rattle.pisa_asm.specs.declared.error.AsmError.{AsmError}
+use Rattle.pisa_asm.specs.declared.error.AsmError.TheVariants.{DuplicateLabel, UnknownLabel, NotOneToOne, NoStart, NoFinish, TooManyCells}
+use Rattle.pisa_asm.specs.declared.operand.Given.{Given}
+use Rattle.pisa_asm.specs.declared.item.Item.{Item}
+use Rattle.pisa_asm.specs.declared.item.Item.TheVariants.{Nothing, Code, Static}
+use Rattle.pisa_asm.specs.Chain.{and_then}
+use Rattle.pisa_asm.specs.Lines.{lines_of, content_of, words_of}
+use Rattle.pisa_asm.specs.LabelNames.{Labels, place_of, label_names, after_labels}
+use Rattle.pisa_asm.specs.Items.{item_from}
+
+-- the labels, the number of code cells and the static words of the lines so far
+pub record Surveyed : Type 0 where
+  pub labels : Labels
+  pub cells : ℕ
+  pub statics : List ℕ
+
+abbrev pub no_lines : Surveyed
+no_lines = record { labels = []; cells = 0; statics = [] }
+
+-- a label at a place
+abbrev pub label_at : ℕ → List ℕ → ℕ → Labels → Option ℕ → Result Labels AsmError
+label_at line name place labels None = Ok (labels ++ (name, place) ∷ [])
+label_at line name place labels (Some earlier) = Err (DuplicateLabel line)
+
+-- the labels of a line: each stands for the place of the next code cell
+abbrev pub labels_at : ℕ → ℕ → Labels → List (List ℕ) → Result Labels AsmError
+labels_at line place labels [] = Ok labels
+labels_at line place labels (name ∷ names) =
+    and_then (label_at line name place labels (place_of name labels)) (λ longer. labels_at line place longer names)
+
+-- what stands behind the labels, counted
+abbrev pub counted : ℕ → Surveyed → Item → Result Surveyed AsmError
+counted line so_far Nothing = Ok so_far
+counted line so_far (Code given) =
+    if is_one_to_one given.cell
+    then (if nat_lt so_far.cells MOST_CELLS then Ok (record so_far { cells = so_far.cells + 1 }) else Err (TooManyCells line))
+    else Err (NotOneToOne line)
+counted line so_far (Static word) =
+    if nat_lt (length so_far.statics) MOST_STATICS then Ok (record so_far { statics = so_far.statics ++ word ∷ [] }) else Err (TooManyCells line)
+
+-- the words of a line, surveyed
+abbrev pub surveyed_words : ℕ → Surveyed → List (List ℕ) → Result Surveyed AsmError
+surveyed_words line so_far words =
+    and_then (item_from line (after_labels words)) (λ item.
+    and_then (labels_at line so_far.cells so_far.labels (label_names words)) (λ labels.
+    counted line (record so_far { labels = labels }) item))
+
+-- the first pass over lines, the first of which has this number
+abbrev pub surveyed : ℕ → Surveyed → List (List ℕ) → Result Surveyed AsmError
+surveyed number so_far [] = Ok so_far
+surveyed number so_far (line ∷ lines) =
+    and_then (surveyed_words number so_far (words_of (content_of line))) (λ longer. surveyed (number + 1) longer lines)
+
+-- a cell at a place, with its offset where a label gives it: the label's place minus this one
+abbrev pub resolved_by : Labels → ℕ → Cell → Option (List ℕ) → Option Cell
+resolved_by labels at cell None = Some cell
+resolved_by labels at cell (Some name) = option_map (λ place. record cell { imm = difference_of place at }) (place_of name labels)
+
+abbrev pub resolved : Labels → ℕ → Given → Option Cell
+resolved labels at given = resolved_by labels at given.cell given.target
+
+-- a cell put last
+abbrev pub with_cell : ℕ → List Cell → Option Cell → Result (List Cell) AsmError
+with_cell line code None = Err (UnknownLabel line)
+with_cell line code (Some cell) = Ok (code ++ cell ∷ [])
+
+-- the code with what stands behind the labels of a line
+abbrev pub linked_item : ℕ → Labels → List Cell → Item → Result (List Cell) AsmError
+linked_item line labels code Nothing = Ok code
+linked_item line labels code (Code given) = with_cell line code (resolved labels (length code) given)
+linked_item line labels code (Static word) = Ok code
+
+-- the second pass over lines
+abbrev pub linked : ℕ → Labels → List Cell → List (List ℕ) → Result (List Cell) AsmError
+linked number labels code [] = Ok code
+linked number labels code (line ∷ lines) =
+    and_then (item_from number (after_labels (words_of (content_of line)))) (λ item.
+    and_then (linked_item number labels code item) (λ longer. linked (number + 1) labels longer lines))
+
+-- an image has one START and one FINISH
+abbrev pub sealed : List Cell → List ℕ → Result Segments AsmError
+sealed code statics =
+    if nat_eq (count_by is_start code) 1
+    then (if nat_eq (count_by is_finish code) 1 then Ok (record { code = code; statics = statics }) else Err NoFinish)
+    else Err NoStart
+
+-- the image of these lines, or their first refusal
+abbrev pub image_of_lines : List (List ℕ) → Result Segments AsmError
+image_of_lines lines =
+    and_then (surveyed 1 no_lines lines) (λ survey.
+    and_then (linked 1 survey.labels [] lines) (λ code.
+    sealed code survey.statics))
+
+-- the image of a text, or its first refusal
+abbrev pub image_of_text : List ℕ → Result Segments AsmError
+image_of_text text = image_of_lines (lines_of text)

@@ -1,0 +1,113 @@
+// Labels.
+ghost use Rattle.std.specs.Prelude.{◌≡◌, ◌≢◌, ◌<◌, MatchResult, Ok, Err};
+ghost use Rattle.std.specs.List.{list_all};
+ghost use Rattle.pisa_asm.specs.Chain.{Refuses};
+ghost use Rattle.pisa_asm.specs.Lines.{words_of};
+ghost use Rattle.pisa_asm.specs.LabelNames.{begins_name, is_name_byte, is_name, is_label, label_names, after_labels, place_of};
+ghost use Rattle.pisa_asm.specs.Passes.{label_at, labels_at};
+
+use crate::error::AsmError;
+use crate::line::{all_but_last, ends_in, next_word};
+use indexmap::IndexMap;
+use rpp_tree::Text;
+use std::alloc::Global;
+
+/// Whether a byte may begin a name.
+fn begins_name(byte: u8) -> bool
+    ensures { result ≡ begins_name byte }
+{
+    byte.is_ascii_alphabetic() || byte == b'_'
+}
+
+/// Whether a byte may follow the first of a name.
+fn is_name_byte(byte: u8) -> bool
+    ensures { result ≡ is_name_byte byte }
+{
+    byte.is_ascii_alphabetic() || byte.is_ascii_digit() || byte == b'_'
+}
+
+/// Whether all of these bytes may follow the first of a name.
+fn are_name_bytes(bytes: &[u8]) -> bool
+    ensures { result ≡ list_all is_name_byte bytes.now }
+{
+    bytes.iter().all(|byte| is_name_byte(*byte))
+}
+
+/// Whether a word is a name.
+pub fn is_name(word: &[u8]) -> bool
+    ensures { result ≡ is_name word.now }
+{
+    match word {
+        [] => false,
+        [first, rest @ ..] => begins_name(*first) && are_name_bytes(rest),
+    }
+}
+
+/// Whether a word is a label.
+fn is_label(word: &[u8]) -> bool
+    ensures { result ≡ is_label word.now }
+{
+    ends_in(b':', word) && is_name(all_but_last(word))
+}
+
+/// What stands behind the labels of a line.
+pub fn after_labels(line: &[u8]) -> &[u8]
+    ensures { words_of result.now ≡ after_labels (words_of line.now) }
+{
+    let mut rest = line;
+    while let Some((word, behind)) = next_word(rest) {
+        if !is_label(word) {
+            return rest;
+        }
+        rest = behind;
+    }
+    rest
+}
+
+/// Puts a label last, unless there is one of this name.
+fn note_label(
+    alloc: Global,
+    labels: &mut IndexMap<Text, u32>,
+    name: &[u8],
+    place: u32,
+    line: u32,
+) -> Result<(), AsmError>
+    ensures { MatchResult result
+        (λ _. label_at line name.now place labels.old.entries (place_of name.now labels.old.entries) ≡ Ok labels.new.entries)
+        (Refuses (label_at line name.now place labels.old.entries (place_of name.now labels.old.entries))) }
+{
+    match labels.insert(Text::of(alloc, name)?, place)? {
+        None => Ok(()),
+        Some(_earlier) => Err(AsmError::DuplicateLabel { line }),
+    }
+}
+
+/// Puts the labels of a line last, each for this place.
+pub fn note_labels(
+    alloc: Global,
+    labels: &mut IndexMap<Text, u32>,
+    content: &[u8],
+    place: u32,
+    line: u32,
+) -> Result<(), AsmError>
+    ensures { MatchResult result
+        (λ _. labels_at line place labels.old.entries (label_names (words_of content.now)) ≡ Ok labels.new.entries)
+        (Refuses (labels_at line place labels.old.entries (label_names (words_of content.now)))) }
+{
+    let mut rest = content;
+    while let Some((word, behind)) = next_word(rest) {
+        if !is_label(word) {
+            return Ok(());
+        }
+        note_label(alloc, labels, all_but_last(word), place, line)?;
+        rest = behind;
+    }
+    Ok(())
+}
+
+/// The place of the label of this name.
+pub fn place_of(labels: &IndexMap<Text, u32>, name: &Text) -> Option<u32>
+    ensures { result ≡ place_of name.now labels.now.entries }
+{
+    labels.get(name).copied()
+}

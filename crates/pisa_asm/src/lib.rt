@@ -1,0 +1,26 @@
+//! Assembly text of the machine PISA: `assemble` reads an image from it or answers its first refusal, and
+//! `list` writes the one listing of an image. The layers above use these two calls, the errors, what lines
+//! write (specs/AssemblyText), the order of refusals (specs/Passes), the listing (specs/Listing), and the
+//! two laws: what is read is what is written, and a listing reads back.
+#![tactic(auto)]
+
+mod assembler;
+mod error;
+mod item;
+mod label;
+mod laws;
+mod line;
+mod link;
+mod listing;
+mod mnemonic;
+mod number;
+mod operand;
+mod survey;
+
+pub use assembler::{MOST_TEXT, assemble};
+pub use error::AsmError;
+pub use laws::{listing_reads_back, what_is_read_is_written};
+pub use listing::list;
+
+#[cfg(test)]
+mod tests;

@@ -1,0 +1,5 @@
+pub mod RowNumbers
+pub mod Many
+pub mod Words
+pub mod Cells
+pub mod Whole

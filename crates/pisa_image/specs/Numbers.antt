@@ -1,0 +1,31 @@
+-- Numbers of 32 bits as bytes, the lowest byte first.
+use Rattle.std.specs.Prelude.{ℕ, zero, suc, ◌+◌, List, [], ◌∷◌, length, take, drop, Result, Ok, Err, nat_lt, if◌then◌else◌}
+use Rattle.std.specs.List.{flat_map}
+use Rattle.std.specs.Int.{w32, to_le_bytes, from_le_bytes}
+
+abbrev pub word_bytes : ℕ → List ℕ
+word_bytes n = to_le_bytes w32 n
+
+abbrev pub words_bytes : List ℕ → List ℕ
+words_bytes words = flat_map word_bytes words
+
+-- a step of reading, and the next one where it refuses nothing
+infixl 10 ◌>>=◌
+abbrev pub ◌>>=◌ : {E A B : Type 0} → Result A E → (A → Result B E) → Result B E
+(Ok x) >>= f = f x
+(Err e) >>= f = Err e
+
+-- the number at the front and the bytes behind it, where these bytes stand at a place; else they are refused as cut at their end
+abbrev pub word_at : {E : Type 0} → (cut : ℕ → E) → (at : ℕ) → List ℕ → Result (ℕ × List ℕ) E
+word_at cut at bytes = if nat_lt (length bytes) 4 then Err (cut (at + length bytes)) else Ok (from_le_bytes w32 (take 4 bytes), drop 4 bytes)
+
+-- so many items by a reader of one, each of so many bytes, and the bytes behind them
+unfoldable pub many_at : {E A : Type 0} → (one : ℕ → List ℕ → Result (A × List ℕ) E) → (size count at : ℕ) → List ℕ → Result (List A × List ℕ) E
+many_at one size zero at bytes = Ok ([], bytes)
+many_at one size (suc count) at bytes = do
+  first ← one at bytes
+  others ← many_at one size count (at + size) first.1
+  Ok (first.0 ∷ others.0, others.1)
+
+abbrev pub words_at : {E : Type 0} → (cut : ℕ → E) → (count at : ℕ) → List ℕ → Result (List ℕ × List ℕ) E
+words_at cut count at bytes = many_at (word_at cut) 4 count at bytes

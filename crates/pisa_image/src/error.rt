@@ -1,0 +1,51 @@
+// Why bytes are no image.
+ghost use Rattle.std.specs.Prelude.{◌≡◌};
+ghost use Rattle.pisa_image.specs.declared.error.ImageError.TheVariants.{NoMemory};
+
+use std::alloc::{AllocError, AllocFailed};
+use thiserror::Error;
+
+/// The first thing that is wrong with the bytes of an image file. A place is a number of bytes.
+#[derive(Clone, Copy, PartialEq, Eq, Debug, Error)]
+pub enum ImageError {
+    /// The target of the code cell that begins here is one of its sources.
+    #[error("the cell at {at} is not one-to-one")]
+    NotOneToOne { at: u32 },
+    /// The number of START cells is not 1.
+    #[error("not exactly one START")]
+    NoStart,
+    /// The number of FINISH cells is not 1.
+    #[error("not exactly one FINISH")]
+    NoFinish,
+    /// The bytes end within a field; the place is their end.
+    #[error("the image ends at {at}")]
+    ImageTruncated { at: u32 },
+    /// The first four bytes are not `RPPI`.
+    #[error("no image at {at}")]
+    ImageMagic { at: u32 },
+    /// The field that begins here has a value outside its range.
+    #[error("bad field at {at}")]
+    ImageField { at: u32 },
+    /// Bytes follow the image, from this one on.
+    #[error("bytes behind the image at {at}")]
+    ImageTrailing { at: u32 },
+    /// Want of memory.
+    #[error("no memory")]
+    NoMemory,
+}
+
+impl From<AllocError> for ImageError {
+    ghost from_gives = { λ _ e. e ≡ NoMemory };
+
+    fn from(_: AllocError) -> Self {
+        ImageError::NoMemory
+    }
+}
+
+impl<T: Drop> From<AllocFailed<T>> for ImageError {
+    ghost from_gives = { λ _ e. e ≡ NoMemory };
+
+    fn from(_: AllocFailed<T>) -> Self {
+        ImageError::NoMemory
+    }
+}

@@ -1,0 +1,16 @@
+//! The bytes of image files. The bytes of an image are one function of it, `image_bytes`; the reader
+//! accepts exactly those bytes, and else answers the first field that is wrong. A layer above may use
+//! both, and the reading and writing of numbers of 32 bits, which state files share.
+#![tactic(auto)]
+
+mod error;
+mod ranges;
+mod reading;
+mod rows;
+#[cfg(test)]
+mod tests;
+mod writing;
+
+pub use error::ImageError;
+pub use reading::{VERSION, read_image};
+pub use writing::{add_word, add_words, write_image};

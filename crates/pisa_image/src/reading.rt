@@ -1,0 +1,232 @@
+// Reads images.
+ghost use Rattle.std.specs.Prelude.{◌≡◌, ◌≤◌, ◌<◌, ◌+◌, ◌*◌, ◌^◌, ℕ, List, All, length, vec_len, IfOk, IsTrue, Ok};
+ghost use Rattle.rpp_words.specs.Words.{IsWord};
+ghost use Rattle.pisa_isa.specs.Table.{IsCell};
+ghost use Rattle.pisa_isa.specs.Image.{Segments, IsImage};
+ghost use Rattle.pisa_image.specs.declared.error.ImageError.TheVariants.{ImageTruncated};
+ghost use Rattle.pisa_image.specs.Numbers.{word_at, words_at};
+ghost use Rattle.pisa_image.specs.ImageBytes.{image_bytes};
+ghost use Rattle.pisa_image.specs.Reading.{Gives, byte_below, row_at, fields_at, cell_at, cells_at, header_at, segments_at, sealed, image_at, segments, is_of_counts, as_image_error};
+
+use crate::error::ImageError;
+use crate::ranges::{a_end, b_end, c_end, is_word_of};
+use crate::rows::row_with;
+use pisa_isa::{Cell, Image, MOST_CELLS, MOST_STATICS, Op, SealError};
+use std::alloc::Global;
+
+/// The first four bytes, `RPPI`, as a number.
+pub const MARK: u32 = 0x4950_5052;
+/// The version of the format.
+pub const VERSION: u32 = 1;
+
+/// The image that the bytes are.
+pub fn read_image(alloc: Global, bytes: &[u8]) -> Result<Image, ImageError>
+    // What it answers, the first refusal included.
+    ensures exact { Gives (λ image. image) result (image_at bytes.now) }
+    // What is read as an image is its bytes.
+    ensures found { IfOk result (λ image. bytes.now ≡ image_bytes image) }
+    // The bytes of an image are read as it, unless memory runs out.
+    ensures only { (image : Segments) → IsImage image → All IsWord image.statics → bytes.now ≡ image_bytes image
+        → Gives (λ image. image) result (Ok image) }
+{
+    image_of(alloc, bytes)
+}
+
+#[tactic(auto, unfolding(crate::specs::Reading::image_at))]
+fn image_of(alloc: Global, bytes: &[u8]) -> Result<Image, ImageError>
+    ensures { Gives (λ image. image) result (image_at bytes.now) }
+{
+    let (cells, statics, rest) = header_at(bytes)?;
+    let (code, words) = segments_at(alloc, cells, statics, rest)?;
+    sealed(code, words)
+}
+
+/// The numbers of code cells and of static cells.
+#[tactic(auto, unfolding(crate::specs::Reading::header_at))]
+fn header_at(bytes: &[u8]) -> Result<(u32, u32, &[u8]), ImageError>
+    ensures read { Gives (λ x. (x.0, x.1, x.2.now)) result (header_at bytes.now) }
+    ensures cells { IfOk result (λ x. x.0 ≤ MOST_CELLS) }
+    ensures statics { IfOk result (λ x. x.1 ≤ MOST_STATICS) }
+{
+    let (mark, rest) = word_at(0, bytes)?;
+    if mark != MARK {
+        return Err(ImageError::ImageMagic { at: 0 });
+    }
+    let (version, rest) = word_at(4, rest)?;
+    if version != VERSION {
+        return Err(ImageError::ImageField { at: 4 });
+    }
+    let (cells, rest) = word_at(8, rest)?;
+    if cells < 2 || cells as usize > MOST_CELLS {
+        return Err(ImageError::ImageField { at: 8 });
+    }
+    let (statics, rest) = word_at(12, rest)?;
+    if statics as usize > MOST_STATICS {
+        return Err(ImageError::ImageField { at: 12 });
+    }
+    Ok((cells, statics, rest))
+}
+
+/// The code and the static cells behind the header, which end the bytes.
+#[tactic(auto, unfolding(crate::specs::Reading::segments_at))]
+fn segments_at(
+    alloc: Global,
+    cells: u32,
+    statics: u32,
+    bytes: &[u8],
+) -> Result<(Vec<Cell>, Vec<u32>), ImageError>
+    requires cells { cells ≤ MOST_CELLS }
+    requires statics { statics ≤ MOST_STATICS }
+    ensures read { Gives (λ x. segments x.0.items x.1.items) result (segments_at cells statics bytes.now) }
+    ensures cells { IfOk result (λ x. All IsCell x.0.items) }
+    ensures code { IfOk result (λ x. vec_len x.0 ≤ MOST_CELLS) }
+    ensures words { IfOk result (λ x. vec_len x.1 ≤ MOST_STATICS) }
+{
+    let (code, rest) = cells_at(alloc, cells, bytes)?;
+    let statics_from = 16 + 8 * cells;
+    let (words, rest) = words_at(alloc, statics, statics_from, rest)?;
+    if !rest.is_empty() {
+        return Err(ImageError::ImageTrailing {
+            at: statics_from + 4 * statics,
+        });
+    }
+    Ok((code, words))
+}
+
+/// An image of these cells.
+fn sealed(code: Vec<Cell>, statics: Vec<u32>) -> Result<Image, ImageError>
+    requires cells { All IsCell code.items }
+    requires code_in_limit { vec_len code ≤ MOST_CELLS }
+    requires statics_in_limit { vec_len statics ≤ MOST_STATICS }
+    ensures { Gives (λ image. image) result (sealed (segments code.items statics.items)) }
+{
+    match Image::seal(code, statics) {
+        Ok(image) => Ok(image),
+        Err(refusal) => Err(count_refusal(refusal)),
+    }
+}
+
+/// The refusal of the number of START or of FINISH cells.
+fn count_refusal(refusal: SealError) -> ImageError
+    requires { IsTrue (is_of_counts refusal) }
+    ensures { result ≡ as_image_error refusal }
+{
+    match refusal {
+        SealError::NoStart => ImageError::NoStart,
+        SealError::NoFinish => ImageError::NoFinish,
+        SealError::NotOneToOne { at: _ } | SealError::NoMemory => unreachable!(),
+    }
+}
+
+/// So many code cells.
+fn cells_at(alloc: Global, count: u32, bytes: &[u8]) -> Result<(Vec<Cell>, &[u8]), ImageError>
+    requires { count ≤ MOST_CELLS }
+    ensures read { Gives (λ x. (x.0.items, x.1.now)) result (cells_at count 16 bytes.now) }
+    ensures cells { IfOk result (λ x. All IsCell x.0.items) }
+    ensures len { IfOk result (λ x. vec_len x.0 ≡ count) }
+{
+    // What is announced takes no more memory than the bytes that are there can hold.
+    let mut cells = Vec::with_capacity(alloc, (count as usize).min(bytes.len() / 8))?;
+    let mut rest = bytes;
+    let mut at = 16;
+    for _ in 0..count {
+        let (cell, after) = cell_at(at, rest)?;
+        cells.push(cell)?;
+        rest = after;
+        at += 8;
+    }
+    Ok((cells, rest))
+}
+
+/// So many numbers, the first of which begins at a place.
+fn words_at(
+    alloc: Global,
+    count: u32,
+    from: u32,
+    bytes: &[u8],
+) -> Result<(Vec<u32>, &[u8]), ImageError>
+    requires count { count ≤ MOST_STATICS }
+    requires from { from < 2 ^ 30 }
+    ensures read { Gives (λ x. (x.0.items, x.1.now)) result (words_at (λ at. ImageTruncated at) count from bytes.now) }
+    ensures len { IfOk result (λ x. vec_len x.0 ≡ count) }
+{
+    let mut words = Vec::with_capacity(alloc, (count as usize).min(bytes.len() / 4))?;
+    let mut rest = bytes;
+    let mut at = from;
+    for _ in 0..count {
+        let (word, after) = word_at(at, rest)?;
+        words.push(word)?;
+        rest = after;
+        at += 4;
+    }
+    Ok((words, rest))
+}
+
+/// The code cell that begins at a place.
+#[tactic(auto, unfolding(crate::specs::Reading::cell_at))]
+fn cell_at(at: u32, bytes: &[u8]) -> Result<(Cell, &[u8]), ImageError>
+    requires { at < 2 ^ 30 }
+    ensures { Gives (λ x. (x.0, x.1.now)) result (cell_at at bytes.now) }
+{
+    let (op, rest) = row_at(at, bytes)?;
+    let (cell, rest) = fields_at(at, op, rest)?;
+    if !cell.is_one_to_one() {
+        return Err(ImageError::NotOneToOne { at });
+    }
+    Ok((cell, rest))
+}
+
+/// The row of the cell that begins at a place.
+fn row_at(at: u32, bytes: &[u8]) -> Result<(Op, &[u8]), ImageError>
+    ensures { Gives (λ x. (x.0, x.1.now)) result (row_at at bytes.now) }
+{
+    match bytes {
+        [] => Err(ImageError::ImageTruncated { at }),
+        [number, rest @ ..] => match row_with(*number) {
+            None => Err(ImageError::ImageField { at }),
+            Some(op) => Ok((op, rest)),
+        },
+    }
+}
+
+/// The other fields of the cell that begins at a place.
+#[tactic(auto, unfolding(crate::specs::Reading::fields_at))]
+fn fields_at(at: u32, op: Op, bytes: &[u8]) -> Result<(Cell, &[u8]), ImageError>
+    requires { at < 2 ^ 30 }
+    ensures { Gives (λ x. (x.0, x.1.now)) result (fields_at at op bytes.now) }
+{
+    let (a, rest) = byte_below(at + 1, a_end(op), bytes)?;
+    let (b, rest) = byte_below(at + 2, b_end(op), rest)?;
+    let (c, rest) = byte_below(at + 3, c_end(op), rest)?;
+    let (imm, rest) = word_at(at + 4, rest)?;
+    if !is_word_of(op, imm) {
+        return Err(ImageError::ImageField { at: at + 4 });
+    }
+    Ok((Cell { op, a, b, c, imm }, rest))
+}
+
+/// The byte at a place, which must be below an end.
+fn byte_below(at: u32, end: u8, bytes: &[u8]) -> Result<(u8, &[u8]), ImageError>
+    ensures { Gives (λ x. (x.0, x.1.now)) result (byte_below at end bytes.now) }
+{
+    match bytes {
+        [] => Err(ImageError::ImageTruncated { at }),
+        [byte, rest @ ..] if *byte < end => Ok((*byte, rest)),
+        [_, ..] => Err(ImageError::ImageField { at }),
+    }
+}
+
+/// The number at a place.
+fn word_at(at: u32, bytes: &[u8]) -> Result<(u32, &[u8]), ImageError>
+    requires { at < 2 ^ 31 }
+    ensures { Gives (λ x. (x.0, x.1.now)) result (word_at (λ at. ImageTruncated at) at bytes.now) }
+{
+    if bytes.len() < 4 {
+        return Err(ImageError::ImageTruncated {
+            at: at + bytes.len() as u32,
+        });
+    }
+    let (front, rest) = bytes.split_at(4);
+    let number = u32::from_le_bytes([front[0], front[1], front[2], front[3]]);
+    Ok((number, rest))
+}

@@ -1,0 +1,4 @@
+pub mod Limiting
+pub mod States
+pub mod InputLines
+pub mod InputGrammar

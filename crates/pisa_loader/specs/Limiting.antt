@@ -1,0 +1,32 @@
+-- The limits of a run, and the size of its memory.
+use Rattle.std.specs.Prelude.{ℕ, ◌+◌, ◌*◌, ◌^◌, ◌<◌, ◌≤◌, Bool, ◌||◌, nat_eq, nat_lt, List, All, length, Option, Some, None, if◌then◌else◌}
+use Rattle.rpp_words.specs.declared.input.FieldWord.{FieldWord}
+use Rattle.rpp_words.specs.declared.input.Limits.{Limits}
+use Rattle.pisa_isa.specs.Loaded.{heap_base}
+use Rattle.pisa_loader.specs.declared.limits.TheConstants.{MOST_HEAP, MOST_DEEP}
+use Rattle.pisa_loader.specs.declared.error.LoadError.{LoadError}
+use Rattle.pisa_loader.specs.declared.error.LoadError.TheVariants.{HeapOrder, DeepRange}
+
+-- whether a number is outside 1 to the most
+abbrev pub is_outside : (number most : ℕ) → Bool
+is_outside number most = nat_eq number 0 || nat_lt most number
+
+-- the order of the heap is tried first
+abbrev pub limits_refusal : (heap deep most : ℕ) → Option LoadError
+limits_refusal heap deep most =
+    if is_outside heap MOST_HEAP then Some HeapOrder else if is_outside deep most then Some DeepRange else None
+
+-- limits that a run may have
+pub record IsLimits (limits : Limits) : Type 0 where
+  pub heap_from : 1 ≤ limits.heap
+  pub heap_to : limits.heap ≤ MOST_HEAP
+  pub deep_from : 1 ≤ limits.deep
+  pub deep_to : limits.deep ≤ MOST_DEEP
+
+-- the end of the stack is that of the memory
+abbrev pub memory_size : (statics : ℕ) → Limits → ℕ
+memory_size statics limits = heap_base limits.heap statics + 2 ^ limits.heap + 512 * limits.deep
+
+-- the cells that an input sets are static cells
+abbrev pub IsInputOf : List ℕ → List FieldWord → Type 0
+IsInputOf statics input = All (λ entry. 2 + entry.field < length statics) input

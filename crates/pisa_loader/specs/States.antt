@@ -1,0 +1,55 @@
+-- The bytes of a state file, and how they are read, with the first refusal.
+use Rattle.std.specs.Prelude.{◌≡◌, ℕ, ◌+◌, ◌*◌, List, ◌++◌, All, length, codes, Result, Ok, Err, nat_eq, if◌then◌else◌}
+use Rattle.rpp_words.specs.Words.{IsWord}
+use Rattle.pisa_isa.specs.Image.{Segments}
+use Rattle.pisa_machine.specs.Position.{Position, first_position}
+use Rattle.pisa_image.specs.Numbers.{◌>>=◌, word_bytes, words_bytes, word_at, words_at}
+use Rattle.pisa_loader.specs.declared.state.TheConstants.{STATE_MARK, STATE_VERSION}
+use Rattle.pisa_loader.specs.declared.error.LoadError.{LoadError}
+use Rattle.pisa_loader.specs.declared.error.LoadError.TheVariants.{BadState, NoMemory}
+
+-- the registers and the data cells
+pub record Memory : Type 0 where
+  pub regs : List ℕ
+  pub cells : List ℕ
+
+abbrev pub memory : (regs cells : List ℕ) → Memory
+memory regs cells = record { regs = regs; cells = cells }
+
+-- 32 registers and so many cells, all of them words
+pub record IsMemory (count : ℕ) (m : Memory) : Type 0 where
+  pub registers : length m.regs ≡ 32
+  pub size : length m.cells ≡ count
+  pub register_words : All IsWord m.regs
+  pub cell_words : All IsWord m.cells
+
+-- the mark of the format, its version, the registers, the number of cells, the cells
+abbrev pub state_bytes : Memory → List ℕ
+state_bytes m = codes "RPPS" ++ word_bytes STATE_VERSION ++ words_bytes m.regs ++ word_bytes (length m.cells) ++ words_bytes m.cells
+
+-- what a function returned, seen by `view`, is what reading gives, unless memory ran out
+abbrev pub Fails : {Y : Type 0} → LoadError → Result Y LoadError → Type 0
+Fails NoMemory read = Unit {0}
+Fails refusal read = read ≡ Err refusal
+
+abbrev pub Gives : {X Y : Type 0} → (X → Y) → Result X LoadError → Result Y LoadError → Type 0
+Gives view (Ok x) read = read ≡ Ok (view x)
+Gives view (Err e) read = Fails e read
+
+-- a number that must be this one, and the bytes behind it
+abbrev pub known_word : (known at : ℕ) → List ℕ → Result (List ℕ) LoadError
+known_word known at bytes = word_at (λ k. BadState k) at bytes >>= λ number. if nat_eq number.0 known then Ok number.1 else Err (BadState at)
+
+-- a state with so many cells, all of the bytes
+unfoldable pub state_at : (count : ℕ) → List ℕ → Result Memory LoadError
+state_at count bytes = do
+  marked ← known_word STATE_MARK 0 bytes
+  versioned ← known_word STATE_VERSION 4 marked
+  regs ← words_at (λ k. BadState k) 32 8 versioned
+  counted ← known_word count 136 regs.1
+  cells ← words_at (λ k. BadState k) count 140 counted
+  if nat_eq (length cells.1) 0 then Ok (memory regs.0 cells.0) else Err (BadState (140 + 4 * count))
+
+-- the machine of an image at the start of a run from a memory
+abbrev pub at_start : Segments → Result Memory LoadError → Result Position LoadError
+at_start image read = read >>= λ m. Ok (first_position image m.regs m.cells)

@@ -1,0 +1,21 @@
+//! The memory that a machine begins with, and the files beside an image: the limits of a run, its
+//! input, and states. A layer above may use that the cells of a machine which `load` makes are the
+//! loaded memory, and those of `load_state` the memory of the state; each refusal is the first one.
+#![tactic(auto)]
+
+mod error;
+mod input;
+mod laws;
+mod limits;
+mod lines;
+mod memory;
+mod state;
+#[cfg(test)]
+mod tests;
+
+pub use error::LoadError;
+pub use input::{InputField, MOST_INPUT, read_input};
+pub use laws::lines_have_one_form;
+pub use limits::{MOST_DEEP, MOST_HEAP, check_limits};
+pub use memory::load;
+pub use state::{load_state, save_state};

@@ -1,0 +1,136 @@
+// The memory that a run begins with.
+ghost use Rattle.std.specs.Prelude.{◌≡◌, ◌≤◌, ◌<◌, ◌+◌, ◌-◌, ◌*◌, ◌/◌, ◌++◌, ◌^◌, All, length, replicate, vec_len, IfOk, OnOk};
+ghost use Rattle.rpp_words.specs.Words.{IsWord};
+ghost use Rattle.pisa_isa.specs.Loaded.{loaded, heap_base as base_of, fixed_cells, empty_heads, with_words};
+ghost use Rattle.pisa_isa.specs.Image.{IsImage};
+ghost use Rattle.pisa_isa.specs.Runs.{zero_registers};
+ghost use Rattle.pisa_machine.specs.Position.{first_position};
+ghost use Rattle.pisa_loader.specs.Limiting.{IsLimits, IsInputOf, memory_size};
+
+use pisa_isa::Image;
+use pisa_machine::Machine;
+use rpp_words::{FieldWord, Input, Limits, NoMemory};
+use std::alloc::{AllocError, Global};
+
+/// The stack's words for each open call.
+const FRAME_WORDS: u32 = 512;
+/// The cells of the main object before its fields.
+const HEAD_WORDS: u32 = 2;
+
+/// A machine at the start of a run of an image: an empty heap, zero registers, and the input's words
+/// in the fields of the main object, which the static cells begin with.
+pub fn load(alloc: Global, image: Image, limits: Limits, input: &Input) -> Result<Machine, NoMemory>
+    requires limits { IsLimits limits }
+    requires input { IsInputOf image.statics input.now.words.items }
+    ensures machine { IfOk result (λ machine.
+        machine ≡ first_position image zero_registers (loaded image.statics limits input.now.words.items)) }
+    ensures image { IfOk result (λ machine. IsImage machine.image) }
+{
+    let cells = memory(alloc, image.statics(), limits, &input.words)?;
+    Machine::start_with(image, [0; 32], cells)
+}
+
+/// The number of cells of a run's memory, for an image with so many static cells.
+pub(crate) fn memory_size(statics: u32, limits: Limits) -> u32
+    requires limits { IsLimits limits }
+    requires statics { statics ≤ 262144 }
+    ensures size { result ≡ memory_size statics limits }
+    ensures high { result < 2 ^ 24 }
+{
+    heap_base(limits.heap, statics) + heap_size(limits.heap) + FRAME_WORDS * limits.deep
+}
+
+/// The memory of a run that begins with these static cells, this input and an empty heap.
+fn memory(
+    alloc: Global,
+    statics: &[u32],
+    limits: Limits,
+    input: &[FieldWord],
+) -> Result<Vec<u32>, AllocError>
+    requires limits { IsLimits limits }
+    requires statics { length statics.now ≤ 262144 }
+    requires input { IsInputOf statics.now input.now }
+    ensures items { IfOk result (λ cells. cells.items ≡ loaded statics.now limits input.now) }
+    ensures len { IfOk result (λ cells. vec_len cells < 2 ^ 32) }
+{
+    let count = statics.len() as u32;
+    let base = heap_base(limits.heap, count);
+    let words = with_words(alloc, statics, input)?;
+    let mut cells = Vec::with_capacity(alloc, memory_size(count, limits) as usize)?;
+    add_fixed(&mut cells, limits, base)?;
+    cells.extend_from_slice(&words)?;
+    add_zeros(&mut cells, base - 40 - count)?;
+    add_zeros(&mut cells, heap_size(limits.heap))?;
+    add_zeros(&mut cells, FRAME_WORDS * limits.deep)?;
+    Ok(cells)
+}
+
+/// The static cells with the input's words in the main object's fields.
+fn with_words(alloc: Global, statics: &[u32], input: &[FieldWord]) -> Result<Vec<u32>, AllocError>
+    requires statics { length statics.now ≤ 262144 }
+    requires input { IsInputOf statics.now input.now }
+    ensures items { IfOk result (λ words. words.items ≡ with_words input.now statics.now) }
+    ensures len { IfOk result (λ words. vec_len words ≡ length statics.now) }
+{
+    let mut words = statics.to_vec(alloc)?;
+    for entry in input {
+        words[(HEAD_WORDS + entry.field) as usize] = entry.word;
+    }
+    Ok(words)
+}
+
+/// The fixed cells, with the whole heap as its one free block.
+fn add_fixed(cells: &mut Vec<u32>, limits: Limits, base: u32) -> Result<(), AllocError>
+    requires limits { IsLimits limits }
+    requires base { base < 2 ^ 22 }
+    requires empty { vec_len cells.old ≡ 0 }
+    ensures items { OnOk result (cells.new.items ≡ fixed_cells limits.heap limits.deep base (empty_heads limits.heap base)) }
+    ensures len { OnOk result (vec_len cells.new ≡ 40) }
+{
+    let stack = base + heap_size(limits.heap);
+    let end = stack + FRAME_WORDS * limits.deep;
+    cells.extend_from_slice(&[0, limits.heap, base, stack, end, 0, 0, 0, 0])?;
+    add_zeros(cells, limits.heap - 1)?;
+    cells.push(base)?;
+    add_zeros(cells, 31 - limits.heap)
+}
+
+fn add_zeros(cells: &mut Vec<u32>, count: u32) -> Result<(), AllocError>
+    requires { vec_len cells.old + count < 2 ^ 32 }
+    ensures items { OnOk result (cells.new.items ≡ cells.old.items ++ replicate count 0) }
+    ensures len { OnOk result (vec_len cells.new ≡ vec_len cells.old + count) }
+{
+    let end = cells.len() + count as usize;
+    cells.resize(end, 0)
+}
+
+/// The least multiple of the heap's size not below the end of so many static cells.
+fn heap_base(heap: u32, statics: u32) -> u32
+    requires heap { heap ≤ 20 }
+    requires statics { statics ≤ 262144 }
+    ensures base { result ≡ base_of heap statics }
+    ensures low { 40 + statics ≤ result }
+    ensures high { result < 2 ^ 22 }
+{
+    multiple_below(40 + statics + heap_size(heap) - 1, heap_size(heap))
+}
+
+/// The words of a heap.
+fn heap_size(heap: u32) -> u32
+    requires { heap ≤ 20 }
+    ensures size { result ≡ 2 ^ heap }
+    ensures low { 1 ≤ result }
+    ensures high { result ≤ 2 ^ 20 }
+{
+    1 << heap
+}
+
+/// The greatest multiple of a size that is not above a number.
+fn multiple_below(number: u32, size: u32) -> u32
+    requires { 1 ≤ size }
+    ensures multiple { result ≡ number / size * size }
+    ensures low { number < result + size }
+    ensures high { result ≤ number }
+{
+    number - number % size
+}

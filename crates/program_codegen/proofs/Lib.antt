@@ -1,0 +1,12 @@
+pub mod Straight
+pub mod StraightLine
+pub mod Values
+pub mod Meaning
+pub mod Rules
+pub mod Accepted
+pub mod Memory
+pub mod LaidOut
+pub mod Stands
+pub mod Sealed
+pub mod Tables
+pub mod Finished

@@ -1,0 +1,4 @@
+pub mod Unbuilt
+pub mod Code
+pub mod Words
+pub mod Statics

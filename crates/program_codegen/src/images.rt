@@ -1,0 +1,78 @@
+// The image of a program.
+ghost use Rattle.std.specs.Prelude.{◌≡◌, None, length, map, slice_get, vec_len, IfOk, OnOk};
+ghost use Rattle.std.specs.Option.{unwrap_or};
+ghost use Rattle.rpp_tree.specs.Views.{statement_of, statements_of, procedure_of, source_of};
+ghost use Rattle.class_table.specs.Members.{no_procedure};
+ghost use Rattle.class_table.specs.Classes.{procedure_at};
+ghost use Rattle.source_meaning.specs.Source.{main_body};
+ghost use Rattle.source_meaning.specs.StandsFor.{StandsFor};
+ghost use Rattle.program_codegen.specs.Code.{program_code, program_image};
+ghost use Rattle.program_codegen.specs.Unbuilt.{unbuilt};
+ghost use Rattle.program_codegen.specs.Words.{BlockHasWords};
+
+use crate::cells::one;
+use crate::statements::add_block;
+use crate::statics::statics;
+use class_table::{Checked, MethodId, methods_at};
+use pisa_isa::{Cell, Image, Op};
+use rpp_tree::tree::{Method, Program, Stmt};
+use rpp_words::NoMemory;
+use std::alloc::{AllocError, Global};
+
+/// The image of a program of which every form is compiled.
+pub fn compile(alloc: Global, checked: &Checked) -> Result<Image, NoMemory>
+    requires { unbuilt (source_of checked.now) ≡ None }
+
+    // On every input, heap and depth the image does what the program does.
+    ensures stands { IfOk result (λ image. StandsFor (source_of checked.now) image) }
+    ensures cells { IfOk result (λ image. image ≡ program_image (source_of checked.now)) }
+
+    // Where it is made, the numbers in the statements of `main` are words.
+    ensures words { OnOk result (BlockHasWords (main_body (source_of checked.now))) }
+{
+    let code = code(alloc, checked)?;
+    let statics = statics(alloc, checked.table())?;
+    match Image::seal(code, statics) {
+        Ok(image) => Ok(image),
+        Err(_refusal) => unreachable!(),
+    }
+}
+
+// The code: START, the statements of `main` in their order, FINISH.
+fn code(alloc: Global, checked: &Checked) -> Result<Vec<Cell>, AllocError>
+    ensures code { IfOk result (λ code. code.items ≡ program_code (source_of checked.now)) }
+    ensures len { IfOk result (λ code. vec_len code ≡ length code.items) }
+    ensures words { OnOk result (BlockHasWords (main_body (source_of checked.now))) }
+{
+    let table = checked.table();
+    let main = table.main();
+    let body = body(checked.program(), main);
+    let mut code = Vec::new(alloc);
+    code.push(one(Op::Start, 0, 0))?;
+    add_block(&mut code, table, main.class, body)?;
+    code.push(one(Op::Finish, 0, 0))?;
+    Ok(code)
+}
+
+// The statements of a method.
+fn body(program: &Program, id: MethodId) -> &[Stmt]
+    ensures { statements_of (map statement_of result.now) ≡ (procedure_at (source_of program.now) id).body }
+{
+    statements_in(methods_at(program, id.class), id.method)
+}
+
+// The statements of the method of this number.
+fn statements_in(methods: &[Method], number: u32) -> &[Stmt]
+    ensures { statements_of (map statement_of result.now) ≡ (unwrap_or (slice_get (map procedure_of methods.now) number) no_procedure).body }
+{
+    match methods.get(number as usize) {
+        None => &[],
+        Some(method) => statements_of_method(method),
+    }
+}
+
+fn statements_of_method(method: &Method) -> &[Stmt]
+    ensures { statements_of (map statement_of result.now) ≡ (procedure_of method.now).body }
+{
+    &method.body.list
+}

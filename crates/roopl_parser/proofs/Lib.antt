@@ -1,0 +1,14 @@
+pub mod ReadRows
+pub mod Moves
+pub mod Sound
+pub mod Productive
+pub mod Complete
+pub mod Fault
+pub mod Exact
+pub mod MoreMoves
+pub mod Stmts
+pub mod MoveSets
+pub mod Parts
+pub mod Answered
+pub mod Kept
+pub mod Steps

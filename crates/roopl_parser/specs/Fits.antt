@@ -1,0 +1,16 @@
+-- Statements and blocks that keep the limits where they stand: d statements and l locals are round them.
+use Rattle.std.specs.Prelude.{ℕ, ◌+◌, ◌≤◌}
+use Rattle.rpp_tree.specs.Tree.{Statement, Statements, depth, statement_depth}
+use Rattle.rpp_tree.specs.Limits.{locals, statement_locals, IsSmallStatement, AreSmall, AreInnerSmall}
+use Rattle.rpp_tree.specs.declared.limits.TheConstants.{MOST_NESTING, MOST_LOCALS}
+
+pub record Fits (d l : ℕ) (statement : Statement) : Type 0 where
+  pub nested : d + statement_depth statement ≤ MOST_NESTING
+  pub held : l + statement_locals statement ≤ MOST_LOCALS
+  pub small : IsSmallStatement statement
+  pub inner : AreInnerSmall statement
+
+pub record BlockFits (d l : ℕ) (block : Statements) : Type 0 where
+  pub nested : d + depth block ≤ MOST_NESTING
+  pub held : l + locals block ≤ MOST_LOCALS
+  pub small : AreSmall block

@@ -1,0 +1,12 @@
+-- What a reader of tokens may be given.
+use Rattle.std.specs.Prelude.{ℕ, ◌<◌, ◌≤◌, List, All, sum_by}
+use Rattle.rpp_tree.specs.declared.limits.TheConstants.{MOST_BYTES}
+use Rattle.roopl_lexer.specs.declared.token.Token.{Token}
+use Rattle.roopl_lexer.specs.Readable.{IsNamed, name_length}
+
+-- tokens with places and names as a source text of so many bytes has them
+pub record IsReadable (tokens : List Token) (bytes : ℕ) : Type 0 where
+  pub places : All (λ token. token.at < MOST_BYTES) tokens
+  pub names : All (λ token. IsNamed token.kind) tokens
+  pub name_bytes : sum_by (λ token. name_length token.kind) tokens ≤ MOST_BYTES
+  pub end : bytes ≤ MOST_BYTES

@@ -1,0 +1,23 @@
+// The parser: the tokens of a text are read as the one tree that the grammar gives them, within the limits, or
+// refused at the first token with which no program begins or that passes a limit. The layers above use `parse`
+// and its errors.
+#![tactic(auto)]
+
+mod arguments;
+mod class;
+mod error;
+mod expression;
+mod kinds;
+mod laws;
+mod params;
+mod parser;
+mod simple;
+mod single;
+mod statement;
+
+pub use error::ParseError;
+pub use laws::{no_limit_passed, one_tree};
+pub use parser::parse;
+
+#[cfg(test)]
+mod tests;

@@ -1,0 +1,58 @@
+// Programs.
+ghost use Rattle.std.specs.Prelude.{◌≡◌, ◌≢◌, ℕ, IfOk, Err, Ok, Option, Some, None, MatchResult};
+ghost use Rattle.rpp_tree.specs.declared.limits.LimitKind.{LimitKind};
+ghost use Rattle.rpp_tree.specs.declared.limits.LimitKind.TheVariants.{Tokens};
+ghost use Rattle.rpp_tree.specs.Limits.{IsWithinLimits};
+ghost use Rattle.rpp_tree.specs.Tree.{Source};
+ghost use Rattle.rpp_tree.specs.Views.{source_of};
+ghost use Rattle.roopl_parser.specs.Grammar.{Derives};
+ghost use Rattle.roopl_parser.specs.Readable.{IsReadable};
+ghost use Rattle.roopl_parser.specs.Reader.{Classes};
+ghost use Rattle.roopl_parser.specs.declared.error.ParseError.{ParseError};
+ghost use Rattle.roopl_parser.specs.Viable.{IsWrongAt, IsReached, first_limit, reading};
+
+use crate::class::classes;
+use crate::error::ParseError;
+use crate::single::next;
+use roopl_lexer::Token;
+use rpp_tree::{LimitKind, MOST_TOKENS, Program};
+use std::alloc::Global;
+
+/// The tree of the tokens, read by the machine.
+#[tactic(auto, unfolding(crate::specs::Reader::scan, crate::specs::Reader::walk, crate::specs::Reader::ends))]
+fn whole(alloc: Global, tokens: &[Token], end: u32) -> Result<Program, ParseError>
+    ensures reads { MatchResult result (λ b. reading end tokens.now ≡ Ok (Classes (source_of b).classes)) (λ e. e ≢ ParseError.NoMemory → reading end tokens.now ≡ Err e) }
+{
+    if tokens.len() > MOST_TOKENS as usize {
+        return Err(ParseError::Limit {
+            which: LimitKind::Tokens,
+            at: tokens[MOST_TOKENS as usize].at,
+        });
+    }
+    let (classes, rest) = classes(alloc, end, tokens)?;
+    match next(rest) {
+        None => Ok(Program { classes }),
+        Some((first, _)) => Err(ParseError::Syntax { at: first.at }),
+    }
+}
+
+/// The tree of the tokens of a text that has `end` bytes.
+pub fn parse(alloc: Global, tokens: &[Token], end: u32) -> Result<Program, ParseError>
+    requires { IsReadable tokens.now end }
+    // What is read is the tree that the grammar gives, and no token passes a limit.
+    ensures tree { IfOk result (λ b. Derives tokens.now (source_of b) × (first_limit tokens.now ≡ None)) }
+    // The tree keeps the limits that a tree shows.
+    ensures limits { IfOk result (λ b. IsWithinLimits (source_of b)) }
+    // What the grammar derives and passes no limit is read, unless memory runs out, and as this tree alone.
+    ensures only { (x : Source) → Derives tokens.now x → first_limit tokens.now ≡ None → MatchResult result (λ b. source_of b ≡ x) (λ e. e ≡ ParseError.NoMemory) }
+    // A syntax error is at the first token with which no program's tokens begin so, and no token before it passes a limit;
+    ensures syntax { (at : ℕ) → result ≡ Err (ParseError.Syntax at) → IsWrongAt end tokens.now at × (first_limit tokens.now ≡ None) }
+    // and it comes wherever that is so, unless memory runs out.
+    ensures wrong { (at : ℕ) → IsWrongAt end tokens.now at → first_limit tokens.now ≡ None → MatchResult result (λ b. ⊥) (λ e. e ≢ ParseError.NoMemory → e ≡ ParseError.Syntax at) }
+    // A limit is that of tokens, or at the first token that passes one, and then a program's tokens begin so;
+    ensures limit { (which : LimitKind) (at : ℕ) → result ≡ Err (ParseError.Limit which at) → (first_limit tokens.now ≡ Some (ParseError.Limit which at)) × (which ≢ Tokens → IsReached tokens.now at) }
+    // and it comes wherever one is passed, unless memory runs out.
+    ensures passed { (limit : ParseError) → first_limit tokens.now ≡ Some limit → MatchResult result (λ b. ⊥) (λ e. e ≢ ParseError.NoMemory → e ≡ limit) }
+{
+    whole(alloc, tokens, end)
+}

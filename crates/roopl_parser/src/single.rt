@@ -1,0 +1,265 @@
+// Single tokens.
+ghost use Rattle.std.specs.Prelude.{◌≡◌, ◌<◌, ◌∷◌, ℕ, length, IfOk, MatchOption, [], true, false};
+ghost use Rattle.roopl_lexer.specs.declared.token.TokenKind.TheVariants.{Sign};
+ghost use Rattle.roopl_lexer.specs.declared.token.Symbol.TheVariants as sign;
+ghost use Rattle.roopl_parser.specs.Operators.{operator_at, binary_operator, level_of, update_operator};
+ghost use Rattle.roopl_parser.specs.Reader.{Gives, scan, ASign, AWord, AName, AnIdent, is_sign, is_word, here, starts, types};
+ghost use Rattle.roopl_parser.specs.Viable.{place_of};
+
+use crate::error::ParseError;
+use roopl_lexer::{Keyword, Symbol, Token, TokenKind};
+use rpp_tree::{BinOp, Ident, UpdateOp};
+use std::alloc::Global;
+
+/// The first token and the others.
+pub fn next(tokens: &[Token]) -> Option<(&Token, &[Token])>
+    ensures { MatchOption result (tokens.now ≡ []) (λ x. tokens.now ≡ x.0.now ∷ x.1.now) }
+{
+    match tokens {
+        [] => None,
+        [first, rest @ ..] => Some((first, rest)),
+    }
+}
+
+/// Reads a sign.
+#[tactic(auto, unfolding(crate::specs::Reader::scan, crate::specs::Reader::walk, crate::specs::Reader::ends))]
+pub fn sign<'a>(end: u32, tokens: &'a [Token], wanted: Symbol) -> Result<&'a [Token], ParseError>
+    ensures gives { (n : ℕ) → Gives result (λ s vs. scan true end tokens.now n (ASign wanted ∷ s) vs) (λ rest s vs. scan true end rest.now n s vs) }
+    ensures shorter { IfOk result (λ rest. length rest.now < length tokens.now) }
+{
+    match next(tokens) {
+        None => Err(ParseError::Syntax { at: end }),
+        Some((first, rest)) => {
+            if is_sign(&first.kind, wanted) {
+                Ok(rest)
+            } else {
+                Err(ParseError::Syntax { at: first.at })
+            }
+        }
+    }
+}
+
+fn is_sign(kind: &TokenKind, wanted: Symbol) -> bool
+    ensures { result ≡ is_sign wanted kind.now }
+{
+    match kind {
+        TokenKind::Sign(sign) => *sign == wanted,
+        _ => false,
+    }
+}
+
+/// Reads a keyword.
+#[tactic(auto, unfolding(crate::specs::Reader::scan, crate::specs::Reader::walk, crate::specs::Reader::ends))]
+pub fn word<'a>(end: u32, tokens: &'a [Token], wanted: Keyword) -> Result<&'a [Token], ParseError>
+    ensures gives { (n : ℕ) → Gives result (λ s vs. scan true end tokens.now n (AWord wanted ∷ s) vs) (λ rest s vs. scan true end rest.now n s vs) }
+    ensures shorter { IfOk result (λ rest. length rest.now < length tokens.now) }
+{
+    match next(tokens) {
+        None => Err(ParseError::Syntax { at: end }),
+        Some((first, rest)) => {
+            if is_word(&first.kind, wanted) {
+                Ok(rest)
+            } else {
+                Err(ParseError::Syntax { at: first.at })
+            }
+        }
+    }
+}
+
+fn is_word(kind: &TokenKind, wanted: Keyword) -> bool
+    ensures { result ≡ is_word wanted kind.now }
+{
+    match kind {
+        TokenKind::Word(word) => *word == wanted,
+        _ => false,
+    }
+}
+
+/// Reads a name.
+#[tactic(auto, unfolding(crate::specs::Reader::scan, crate::specs::Reader::walk, crate::specs::Reader::ends))]
+pub fn name<'a>(
+    alloc: Global,
+    end: u32,
+    tokens: &'a [Token],
+) -> Result<(Ident, &'a [Token]), ParseError>
+    ensures gives { (n : ℕ) → Gives result (λ s vs. scan true end tokens.now n (AName ∷ s) vs) (λ x s vs. scan true end x.1.now n s (AnIdent x.0 ∷ vs)) }
+    ensures shorter { IfOk result (λ x. length x.1.now < length tokens.now) }
+{
+    match next(tokens) {
+        None => Err(ParseError::Syntax { at: end }),
+        Some((first, rest)) => match &first.kind {
+            TokenKind::Name(text) => Ok((
+                Ident {
+                    at: first.at,
+                    text: text.copy(alloc)?,
+                },
+                rest,
+            )),
+            _ => Err(ParseError::Syntax { at: first.at }),
+        },
+    }
+}
+
+/// The operator of a level that a token is.
+pub fn operator_at(level: u32, kind: &TokenKind) -> Option<BinOp>
+    ensures { result ≡ operator_at level kind.now }
+{
+    match binary_operator(kind) {
+        None => None,
+        Some(op) => if level == level_of(op) {
+            Some(op)
+        } else {
+            None
+        },
+    }
+}
+
+fn binary_operator(kind: &TokenKind) -> Option<BinOp>
+    ensures { result ≡ binary_operator kind.now }
+{
+    match kind {
+        TokenKind::Sign(sign) => sign_operator(*sign),
+        _ => None,
+    }
+}
+
+fn sign_operator(sign: Symbol) -> Option<BinOp>
+    ensures { result ≡ binary_operator (Sign sign) }
+{
+    match sign {
+        Symbol::Star => Some(BinOp::Mul),
+        Symbol::Slash => Some(BinOp::Div),
+        Symbol::Percent => Some(BinOp::Rem),
+        Symbol::Plus => Some(BinOp::Add),
+        Symbol::Minus => Some(BinOp::Sub),
+        Symbol::Less => Some(BinOp::Less),
+        Symbol::Greater => Some(BinOp::Greater),
+        Symbol::AtMost => Some(BinOp::AtMost),
+        Symbol::AtLeast => Some(BinOp::AtLeast),
+        Symbol::Equal => Some(BinOp::Equal),
+        Symbol::NotEqual => Some(BinOp::NotEqual),
+        Symbol::Amp => Some(BinOp::And),
+        Symbol::Caret => Some(BinOp::Xor),
+        Symbol::Bar => Some(BinOp::Or),
+        Symbol::AmpAmp => Some(BinOp::AndAlso),
+        Symbol::BarBar => Some(BinOp::OrElse),
+        _ => None,
+    }
+}
+
+/// How an operator binds: the strongest bind at level 1.
+fn level_of(op: BinOp) -> u32
+    ensures { result ≡ level_of op }
+{
+    match op {
+        BinOp::Mul | BinOp::Div | BinOp::Rem => 1,
+        BinOp::Add | BinOp::Sub => 2,
+        BinOp::Less | BinOp::Greater | BinOp::AtMost | BinOp::AtLeast => 3,
+        BinOp::Equal | BinOp::NotEqual => 4,
+        BinOp::And => 5,
+        BinOp::Xor => 6,
+        BinOp::Or => 7,
+        BinOp::AndAlso => 8,
+        BinOp::OrElse => 9,
+    }
+}
+
+/// How a token updates a place.
+pub fn update_operator(kind: &TokenKind) -> Option<UpdateOp>
+    ensures { result ≡ update_operator kind.now }
+{
+    match kind {
+        TokenKind::Sign(Symbol::AddTo) => Some(UpdateOp::Add),
+        TokenKind::Sign(Symbol::SubFrom) => Some(UpdateOp::Sub),
+        TokenKind::Sign(Symbol::XorInto) => Some(UpdateOp::Xor),
+        _ => None,
+    }
+}
+
+/// Whether a `[` stands here.
+pub fn bracket_here(tokens: &[Token]) -> bool
+    ensures { result ≡ here (is_sign sign.LeftBracket) tokens.now }
+{
+    match next(tokens) {
+        None => false,
+        Some((first, _)) => is_sign(&first.kind, Symbol::LeftBracket),
+    }
+}
+
+/// Whether a `)` stands here.
+pub fn paren_here(tokens: &[Token]) -> bool
+    ensures { result ≡ here (is_sign sign.RightParen) tokens.now }
+{
+    match next(tokens) {
+        None => false,
+        Some((first, _)) => is_sign(&first.kind, Symbol::RightParen),
+    }
+}
+
+/// Whether this keyword stands here.
+pub fn word_here(tokens: &[Token], wanted: Keyword) -> bool
+    ensures { result ≡ here (is_word wanted) tokens.now }
+{
+    match next(tokens) {
+        None => false,
+        Some((first, _)) => is_word(&first.kind, wanted),
+    }
+}
+
+/// Whether a statement begins here.
+pub fn starts_here(tokens: &[Token]) -> bool
+    ensures { result ≡ here starts tokens.now }
+{
+    match next(tokens) {
+        None => false,
+        Some((first, _)) => starts(&first.kind),
+    }
+}
+
+/// Whether a statement begins with a token.
+pub fn starts(kind: &TokenKind) -> bool
+    ensures { result ≡ starts kind.now }
+{
+    match kind {
+        TokenKind::Name(_text) => true,
+        TokenKind::Word(word) => match *word {
+            Keyword::If
+            | Keyword::From
+            | Keyword::Construct
+            | Keyword::Local
+            | Keyword::New
+            | Keyword::Delete
+            | Keyword::Copy
+            | Keyword::Uncopy
+            | Keyword::Call
+            | Keyword::Uncall
+            | Keyword::Skip => true,
+            _ => false,
+        },
+        _ => false,
+    }
+}
+
+/// Whether a type begins here.
+pub fn type_here(tokens: &[Token]) -> bool
+    ensures { result ≡ here types tokens.now }
+{
+    match next(tokens) {
+        None => false,
+        Some((first, _)) => match &first.kind {
+            TokenKind::Name(_text) => true,
+            TokenKind::Word(Keyword::Int) => true,
+            _ => false,
+        },
+    }
+}
+
+/// The place of the first token, or the end.
+pub fn place_of(end: u32, tokens: &[Token]) -> u32
+    ensures { result ≡ place_of end tokens.now }
+{
+    match next(tokens) {
+        None => end,
+        Some((first, _)) => first.at,
+    }
+}

@@ -1,0 +1,56 @@
+-- Printed tokens, and the text that they make.
+use Rattle.std.specs.Prelude.{ℕ, Bool, true, false, List, [], ◌∷◌, ◌++◌, decimal}
+use Rattle.std.specs.List.{flat_map}
+use Rattle.rpp_tree.specs.declared.tree.Ident.{Ident}
+use Rattle.roopl_lexer.specs.declared.token.Keyword.{Keyword}
+use Rattle.roopl_lexer.specs.declared.token.Symbol.{Symbol}
+use Rattle.roopl_lexer.specs.declared.token.TokenKind.{TokenKind}
+use Rattle.roopl_lexer.specs.declared.token.TokenKind.TheVariants.{Word, Name, Number, Sign}
+use Rattle.roopl_lexer.specs.Signs.{keyword_bytes, sign_bytes}
+
+-- a printed token, and whether it begins a line
+pub record Printed : Type 0 where
+  pub kind : TokenKind
+  pub fresh : Bool
+
+-- the first token of a line
+abbrev pub first : TokenKind → Printed
+first kind = record { kind = kind; fresh = true }
+
+-- a token behind others on its line
+abbrev pub behind : TokenKind → Printed
+behind kind = record { kind = kind; fresh = false }
+
+abbrev pub a_word : Keyword → Printed
+a_word keyword = behind (Word keyword)
+
+abbrev pub a_name : Ident → Printed
+a_name name = behind (Name name.text)
+
+abbrev pub a_sign : Symbol → Printed
+a_sign sign = behind (Sign sign)
+
+-- the bytes of a token: a number is written in decimal, without leading zeros
+abbrev pub kind_bytes : TokenKind → List ℕ
+kind_bytes (Word keyword) = keyword_bytes keyword
+kind_bytes (Name text) = text
+kind_bytes (Number n) = decimal n
+kind_bytes (Sign sign) = sign_bytes sign
+
+-- what stands before a token that is not the first of the text: a line feed or a space
+abbrev pub gap : Bool → ℕ
+gap true = 10
+gap false = 32
+
+-- a token with what stands before it
+abbrev pub with_gap : Printed → List ℕ
+with_gap token = gap token.fresh ∷ kind_bytes token.kind
+
+-- tokens with what stands before each
+abbrev pub with_gaps : List Printed → List ℕ
+with_gaps tokens = flat_map with_gap tokens
+
+-- the text of tokens: nothing stands before the first, and a line feed behind the last
+abbrev pub text_of : List Printed → List ℕ
+text_of [] = []
+text_of (token ∷ tokens) = kind_bytes token.kind ++ with_gaps tokens ++ 10 ∷ []

@@ -1,0 +1,11 @@
+use Rattle.std.proofs.Common.{◌∙◌, ap, sym, subst, Err}
+use Rattle.rpp_command.specs.Errors.{IfRefused}
+use Rattle.rpp_command.proofs.Judging.{IsRefusal, by_parser}
+use Rattle.rpp_command.proofs.judge.tree.Goals as goal
+
+pub returns-in-Err-clause-refused : goal.returns-in-Err-clause-refused
+returns-in-Err-clause-refused c =
+    subst (IfRefused (IsRefusal c.args.text.now)) (sym c.of_parser.ensures)
+    (by_parser c.args.text.now c.args.tokens.now c.in-Err.error c.requires.cutting
+    (λ at e. c.parse.ensures.syntax at (c.in-Err.is ∙ ap (λ x. Err x) e))
+    (λ which at e. c.parse.ensures.limit which at (c.in-Err.is ∙ ap (λ x. Err x) e)))

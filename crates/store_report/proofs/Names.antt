@@ -1,0 +1,70 @@
+-- The names of an accepted program's fields are ASCII.
+use Rattle.std.proofs.Common.{◌≡◌, ◌∙◌, sym, ap, subst, ℕ, zero, suc, ◌<◌, ◌≤◌, true, List, [], ◌∷◌, ◌++◌, length, get_or, Option, Some, None, arith, ⊎_elim, slice_get}
+use Rattle.std.specs.List.{All, flat_map}
+use Rattle.std.specs.Option.{unwrap_or}
+use Rattle.std.specs.Str.{IsAscii}
+use Rattle.std.proofs.lemmas.Bool.Decides.{nat_tests}
+use Rattle.std.proofs.lemmas.List.{get_or_past}
+use Rattle.std.proofs.lemmas.List.Elements.{All-head, All-tail, All-nil, All-cons, All-append}
+use Rattle.std.proofs.str.Laws.{order}
+use Rattle.rpp_tree.specs.declared.tree.Ident.{Ident}
+use Rattle.rpp_tree.specs.declared.tree.Var.{Var}
+use Rattle.rpp_tree.specs.Names.{IsName, is_name_byte}
+use Rattle.rpp_tree.specs.Parts.{type_names, var_names, procedure_names, parent_names, class_names, source_names}
+use Rattle.rpp_tree.specs.Tree.{ClassText, Source}
+use Rattle.class_table.specs.Chains.{line_of}
+use Rattle.class_table.specs.Members.{class_at, no_class, fields_along}
+use Rattle.class_table.specs.Program.{IsAccepted}
+use Rattle.source_meaning.specs.Source.{main_of, main_fields}
+use Rattle.store_report.specs.Ascii.{HasAsciiName}
+
+name_byte_ascii : (b : ℕ) → is_name_byte b ≡ true → b < 128
+name_byte_ascii b is = grind (arith, nat_tests)
+
+name_ascii : (text : List ℕ) → IsName text → IsAscii text
+name_ascii text named i =
+    ⊎_elim
+    (λ (within : i < length text). name_byte_ascii (get_or text i 0) (named.name_bytes i 0 within))
+    (λ (past : length text ≤ i). let none : get_or text i 0 ≡ 0 = get_or_past text i 0 past in omega arith)
+    (order i (length text))
+
+-- parts of what holds of all
+
+left : {A : Type 0} (P : A → Type 0) (xs ys : List A) → All P (xs ++ ys) → All P xs
+left P [] ys all = All-nil P
+left P (x ∷ xs) ys all = All-cons P x xs (All-head P x (xs ++ ys) all) (left P xs ys (All-tail P x (xs ++ ys) all))
+
+right : {A : Type 0} (P : A → Type 0) (xs ys : List A) → All P (xs ++ ys) → All P ys
+right P [] ys all = all
+right P (x ∷ xs) ys all = right P xs ys (All-tail P x (xs ++ ys) all)
+
+abbrev Named : Ident → Type 0
+Named name = IsName name.text
+
+ascii_fields : (fields : List Var) → All Named (flat_map var_names fields) → All HasAsciiName fields
+ascii_fields [] all = All-nil HasAsciiName
+ascii_fields (field ∷ fields) all =
+    let own = left Named (var_names field) (flat_map var_names fields) all in
+    let name = All-head Named field.name [] (right Named (type_names field.kind) (field.name ∷ []) own) in
+    All-cons HasAsciiName field fields (name_ascii field.name.text name) (ascii_fields fields (right Named (var_names field) (flat_map var_names fields) all))
+
+ascii_class : (class : ClassText) → All Named (class_names class) → All HasAsciiName class.fields
+ascii_class class all =
+    let inner = All-tail Named class.name (parent_names class.parent ++ flat_map var_names class.fields ++ flat_map procedure_names class.methods) all in
+    ascii_fields class.fields (by_parts (parent_names class.parent) (flat_map var_names class.fields) (flat_map procedure_names class.methods) inner)
+  where
+    by_parts : (xs ys zs : List Ident) → All Named (xs ++ ys ++ zs) → All Named ys
+    by_parts xs ys zs all = right Named xs ys (left Named (xs ++ ys) zs all)
+
+ascii_at : (classes : List ClassText) (k : ℕ) → All Named (flat_map class_names classes) → All HasAsciiName (unwrap_or (slice_get classes k) no_class).fields
+ascii_at [] k all = All-nil HasAsciiName
+ascii_at (class ∷ classes) zero all = ascii_class class (left Named (class_names class) (flat_map class_names classes) all)
+ascii_at (class ∷ classes) (suc k) all = ascii_at classes k (right Named (class_names class) (flat_map class_names classes) all)
+
+ascii_along : (program : Source) (line : List ℕ) → All Named (source_names program) → All HasAsciiName (fields_along program line)
+ascii_along program [] all = All-nil HasAsciiName
+ascii_along program (class ∷ below) all =
+    All-append HasAsciiName (class_at program class).fields (fields_along program below) (ascii_at program.classes class all) (ascii_along program below all)
+
+pub ascii_main_fields : (program : Source) → IsAccepted program → All HasAsciiName (main_fields program)
+ascii_main_fields program accepted = ascii_along program (line_of program (main_of program).class) accepted.limits.names

@@ -1,0 +1,10 @@
+-- The lines of the main object's fields.
+use Rattle.std.specs.Prelude.{ℕ, List, [], ◌++◌}
+use Rattle.rpp_tree.specs.Tree.{Source}
+use Rattle.source_meaning.specs.Source.{main_fields}
+use Rattle.source_meaning.specs.Alone.{values_of, field_words}
+use Rattle.source_meaning.specs.Report.{field_lines, live_line}
+
+-- the report of a memory in which the main object stands alone
+abbrev pub report_of : Source → List ℕ → List ℕ
+report_of program cells = field_lines [] [] (main_fields program) (values_of (main_fields program) (field_words program cells)) ++ live_line 0
