@@ -1,5 +1,5 @@
 -- A plan of a line writes the line's target, or nothing.
-use Rattle.std.proofs.Common.{◌≡◌, ℕ, ◌≤◌, List, [], length, None, Some, Ok, Err, IsSomeAnd, option_map, IfSome, subst, sym, refl}
+use Rattle.std.proofs.Common.{◌≡◌, ℕ, ◌≤◌, List, [], length, None, Some, Ok, Err, inl, inr, IsSomeAnd, option_map, IfSome, subst, sym, refl}
 use Rattle.std.specs.declared.option.Option.{Option}
 use Rattle.std.specs.Prelude.{Result}
 use Rattle.rpp_words.specs.declared.input.Limits.{Limits}
@@ -10,11 +10,16 @@ use Rattle.rpp_ports.specs.Ports.{Texts}
 use Rattle.rpp_words.specs.declared.input.FieldWord.{FieldWord}
 use Rattle.pisa_loader.specs.declared.error.LoadError.{LoadError}
 use Rattle.rpp_command.specs.Inputs.{given_input}
-use Rattle.rpp_command.specs.Lines.{Asked, Go, Check}
+use Rattle.pisa_isa.specs.Image.{Segments}
+use Rattle.pisa_image.specs.declared.error.ImageError.{ImageError}
+use Rattle.pisa_image.specs.Reading.{image_at}
+use Rattle.pisa_asm.specs.declared.error.AsmError.{AsmError}
+use Rattle.pisa_asm.specs.Passes.{image_of_text}
+use Rattle.rpp_command.specs.Lines.{Asked, Check, Compile, Asm, ListImage, Flip, Go}
 use Rattle.class_table.specs.Refusal.{Refusal}
 use Rattle.program_codegen.specs.declared.unbuilt.Unbuilt.{Unbuilt}
 use Rattle.program_codegen.specs.Unbuilt.{unbuilt}
-use Rattle.rpp_command.specs.Plans.{Planned, IsPlan, IsPlanOf, IsBuiltPlan, IsJudgementPlan, IsLimitedPlan, IsInputPlan, IsGoPlan, WithInput, ReportsStop}
+use Rattle.rpp_command.specs.Plans.{Planned, Written, IsPlan, IsPlanOf, IsBuiltPlan, IsJudgementPlan, IsLimitedPlan, IsInputPlan, IsGoPlan, IsImageOf, IsBuiltImage, IsAsmPlan, IsListPlan, IsFlipPlan, WithInput, ReportsStop}
 use Rattle.rpp_command.specs.Causes.{target_of, WritesOnly, KeepsButTarget}
 
 -- what holds of each text that the name may have
@@ -26,32 +31,52 @@ along : (p q : Planned) (name : Option (List ℕ)) → p ≡ q → WritesOnly q 
 along p q name e h = subst (λ r. WritesOnly r name) (sym e) h
 
 stop_writes : (why : Stop) (program : Source) (limits : Limits) (input : List FieldWord) (cells : List ℕ) (spent steps : ℕ) (p : Planned) → ReportsStop why program limits input cells spent steps p → WritesOnly p None
-stop_writes Finished program limits input cells spent steps p h = along p _ None h.reported refl
-stop_writes (Trap code) program limits input cells spent steps p h = along p _ None h.reported refl
-stop_writes Bound program limits input cells spent steps p h = along p _ None h refl
+stop_writes Finished program limits input cells spent steps p h = along p _ None h.reported (inl refl)
+stop_writes (Trap code) program limits input cells spent steps p h = along p _ None h.reported (inl refl)
+stop_writes Bound program limits input cells spent steps p h = along p _ None h (inl refl)
 stop_writes Returned program limits input cells spent steps p h = absurd h
 stop_writes (BadAddress a) program limits input cells spent steps p h = absurd h
 stop_writes (OffCode a) program limits input cells spent steps p h = absurd h
 
 input_writes : (input : Result (List FieldWord) LoadError) (program : Source) (limits : Limits) (steps : ℕ) (p : Planned) → IsInputPlan input program limits steps p → WritesOnly p None
-input_writes (Err e) program limits steps p h = along p _ None h refl
+input_writes (Err e) program limits steps p h = along p _ None h (inl refl)
 input_writes (Ok input) program limits steps p h = stop_writes _ program limits input _ _ steps p h.reports
 
 limited_writes : (refusal : Option LoadError) (given : List ℕ) (program : Source) (limits : Limits) (steps : ℕ) (p : Planned) → IsLimitedPlan refusal given program limits steps p → WritesOnly p None
-limited_writes (Some e) given program limits steps p h = along p _ None h refl
+limited_writes (Some e) given program limits steps p h = along p _ None h (inl refl)
 limited_writes None given program limits steps p h = input_writes (given_input program given) program limits steps p h
 
 built_writes : (found : Option Unbuilt) (text given : List ℕ) (program : Source) (heap deep steps : ℕ) (p : Planned) → IsBuiltPlan found text given program heap deep steps p → WritesOnly p None
-built_writes (Some found) text given program heap deep steps p h = along p _ None h.told refl
+built_writes (Some found) text given program heap deep steps p h = along p _ None h.told (inl refl)
 built_writes None text given program heap deep steps p h = limited_writes _ given program _ steps p h
 
 go_writes : (judgement : Result Source Refusal) (text given : List ℕ) (heap deep steps : ℕ) (p : Planned) → IsPlanOf judgement text given heap deep steps p → WritesOnly p None
-go_writes (Err refusal) text given heap deep steps p h = along p _ None h refl
+go_writes (Err refusal) text given heap deep steps p h = along p _ None h (inl refl)
 go_writes (Ok program) text given heap deep steps p h = built_writes (unbuilt program) text given program heap deep steps p h
 
 check_writes : (judgement : Result Source Refusal) (p : Planned) → IsJudgementPlan judgement p → WritesOnly p None
-check_writes (Err refusal) p h = along p _ None h refl
-check_writes (Ok program) p h = along p _ None h refl
+check_writes (Err refusal) p h = along p _ None h (inl refl)
+check_writes (Ok program) p h = along p _ None h (inl refl)
+
+image_writes : (found : Option Unbuilt) (text name : List ℕ) (program : Source) (p : Planned) → IsBuiltImage found text name program p → WritesOnly p (Some name)
+image_writes (Some found) text name program p h = along p _ (Some name) h.told (inl refl)
+image_writes None text name program p h = along p _ (Some name) h.written (inr refl)
+
+compile_writes : (judgement : Result Source Refusal) (text name : List ℕ) (p : Planned) → IsImageOf judgement text name p → WritesOnly p (Some name)
+compile_writes (Err refusal) text name p h = along p _ (Some name) h (inl refl)
+compile_writes (Ok program) text name p h = image_writes (unbuilt program) text name program p h
+
+asm_writes : (read : Result Segments AsmError) (name : List ℕ) (p : Planned) → IsAsmPlan read name p → WritesOnly p (Some name)
+asm_writes (Err e) name p h = along p _ (Some name) h (inl refl)
+asm_writes (Ok image) name p h = along p _ (Some name) h (inr refl)
+
+list_writes : (read : Result Segments ImageError) (name : List ℕ) (p : Planned) → IsListPlan read name p → WritesOnly p (Some name)
+list_writes (Err e) name p h = along p _ (Some name) h (inl refl)
+list_writes (Ok image) name p h = along p _ (Some name) h (inr refl)
+
+flip_writes : (read : Result Segments ImageError) (name : List ℕ) (p : Planned) → IsFlipPlan read name p → WritesOnly p (Some name)
+flip_writes (Err e) name p h = along p _ (Some name) h (inl refl)
+flip_writes (Ok image) name p h = along p _ (Some name) h (inr refl)
 
 of_input : (texts : Texts) (input : Option (List ℕ)) (text : List ℕ) (heap deep steps : ℕ) (p : Planned) → WithInput texts input (λ given. IsGoPlan text given heap deep steps p) → WritesOnly p None
 of_input texts None text heap deep steps p g = go_writes g.judgement text [] heap deep steps p g.plan
@@ -60,10 +85,26 @@ of_input texts (Some name) text heap deep steps p h = of_text (texts name) _ _ (
 pub plan_writes : (line : Asked) (texts : Texts) (p : Planned) → IsPlan line texts p → WritesOnly p (target_of line)
 unfolding IsPlan target_of
 plan_writes (Check file) texts p h = of_text (texts file) _ _ (WritesOnly p None) h (λ text g. check_writes g.judgement p g.plan)
+plan_writes (Compile file image) texts p h = of_text (texts file) _ _ (WritesOnly p (Some image)) h (λ text g. compile_writes g.judgement text image p g.plan)
+plan_writes (Asm text image) texts p h = of_text (texts text) _ _ (WritesOnly p (Some image)) h (λ bytes g. asm_writes (image_of_text bytes) image p g)
+plan_writes (ListImage image text) texts p h = of_text (texts image) _ _ (WritesOnly p (Some text)) h (λ bytes g. list_writes (image_at bytes) text p g)
+plan_writes (Flip image flipped) texts p h = of_text (texts image) _ _ (WritesOnly p (Some flipped)) h (λ bytes g. flip_writes (image_at bytes) flipped p g)
 plan_writes (Go file heap deep steps input) texts p h = of_text (texts file) _ _ (WritesOnly p None) h (λ text g. of_input texts input text heap deep steps p g)
+
+-- where nothing is written, each name keeps its text
+kept_all : (old new : Option Texts) (name : Option (List ℕ)) → KeepsButTarget old new None → KeepsButTarget old new name
+kept_all None new name kept = tt
+kept_all (Some old) None name kept = absurd kept
+kept_all (Some old) (Some new) None kept = kept
+kept_all (Some old) (Some new) (Some name) kept = λ other differs. kept other
+
+kept_where : (old new : Option Texts) (p : Planned) (name : Option (List ℕ)) → WritesOnly p name
+    → KeepsButTarget old new (option_map (λ w. w.name) p.writing) → KeepsButTarget old new name
+kept_where old new p name (inl none) kept = kept_all old new name (subst (λ (w : Option Written). KeepsButTarget old new (option_map (λ w. w.name) w)) none kept)
+kept_where old new p name (inr same) kept = subst (KeepsButTarget old new) same kept
 
 -- so what it leaves is as the line says
 pub kept_by_plan : (line : Asked) (old new : Option Texts) (p : Planned) → IfSome old (λ texts. IsPlan line texts p)
     → KeepsButTarget old new (option_map (λ w. w.name) p.writing) → KeepsButTarget old new (target_of line)
 kept_by_plan line None new p is kept = tt
-kept_by_plan line (Some texts) new p is kept = subst (KeepsButTarget (Some texts) new) (plan_writes line texts p is) kept
+kept_by_plan line (Some texts) new p is kept = kept_where (Some texts) new p (target_of line) (plan_writes line texts p is) kept

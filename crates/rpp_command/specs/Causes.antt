@@ -6,7 +6,9 @@ use Rattle.pisa_loader.specs.declared.input.TheConstants.{MOST_INPUT}
 use Rattle.rpp_ports.specs.Ports.{Texts, Rose, IsMissing, IsTooLong, ReadCause, KeepsOthers}
 use Rattle.rpp_ports.specs.declared.shelf.ShelfFault.{ShelfFault}
 use Rattle.rpp_ports.specs.declared.shelf.ShelfFault.TheVariants as fault
-use Rattle.rpp_command.specs.Lines.{Asked, Go, Check}
+use Rattle.pisa_asm.specs.declared.assembler.TheConstants.{MOST_TEXT}
+use Rattle.rpp_command.specs.declared.images.TheConstants.{MOST_IMAGE}
+use Rattle.rpp_command.specs.Lines.{Asked, Check, Compile, Asm, ListImage, Flip, Go}
 use Rattle.rpp_command.specs.Plans.{Planned}
 use Rattle.rpp_command.specs.declared.plan.Stop.{Stop}
 use Rattle.rpp_command.specs.declared.plan.Stop.TheVariants.{NoMemory, Unread}
@@ -19,6 +21,12 @@ pub record Needed : Type 0 where
 abbrev pub source : List ℕ → Needed
 source name = record { name = name; limit = MOST_BYTES }
 
+abbrev pub assembly : List ℕ → Needed
+assembly name = record { name = name; limit = MOST_TEXT }
+
+abbrev pub image_file : List ℕ → Needed
+image_file name = record { name = name; limit = MOST_IMAGE }
+
 abbrev pub input : List ℕ → Needed
 input name = record { name = name; limit = MOST_INPUT }
 
@@ -30,6 +38,10 @@ input_files (Some name) = input name ∷ []
 -- the files that a line reads, in order
 unfoldable pub files_of : Asked → List Needed
 files_of (Check file) = source file ∷ []
+files_of (Compile file image) = source file ∷ []
+files_of (Asm text image) = assembly text ∷ []
+files_of (ListImage image text) = image_file image ∷ []
+files_of (Flip image flipped) = image_file image ∷ []
 files_of (Go file heap deep steps given) = source file ∷ input_files given
 
 -- one of the files is missing or too long
@@ -89,6 +101,10 @@ needed (Some line) = files_of line
 -- the file that a line may write
 unfoldable pub target_of : Asked → Option (List ℕ)
 target_of (Check file) = None
+target_of (Compile file image) = Some image
+target_of (Asm text image) = Some image
+target_of (ListImage image text) = Some text
+target_of (Flip image flipped) = Some flipped
 target_of (Go file heap deep steps given) = None
 
 -- the file that the words may have written
@@ -103,6 +119,6 @@ KeepsButTarget (Some old) None name = ⊥
 KeepsButTarget (Some old) (Some new) None = (n : List ℕ) → new n ≡ old n
 KeepsButTarget (Some old) (Some new) (Some name) = KeepsOthers old new name
 
--- a plan writes the target or nothing
+-- a plan writes nothing or the target
 abbrev pub WritesOnly : Planned → Option (List ℕ) → Type 0
-WritesOnly p name = option_map (λ w. w.name) p.writing ≡ name
+WritesOnly p name = (p.writing ≡ None) ⊎ (option_map (λ w. w.name) p.writing ≡ name)

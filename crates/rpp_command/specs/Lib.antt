@@ -6,6 +6,7 @@ pub mod NotBuilt
 pub mod Lines
 pub mod Inputs
 pub mod Faults
+pub mod ImageRefusals
 pub mod Plans
 pub mod Causes
 pub mod Answers

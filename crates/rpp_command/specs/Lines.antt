@@ -9,10 +9,18 @@ use Rattle.rpp_command.specs.declared.line.Line.TheVariants as line
 -- a line as contracts see it
 pub data Asked : Type 0 where
   Check : (file : List ℕ) → Asked
+  Compile : (file image : List ℕ) → Asked
+  Asm : (text image : List ℕ) → Asked
+  ListImage : (image text : List ℕ) → Asked
+  Flip : (image flipped : List ℕ) → Asked
   Go : (file : List ℕ) (heap deep steps : ℕ) (input : Option (List ℕ)) → Asked
 
 abbrev pub asked : Line → Asked
 asked (line.Check file) = Check (string_bytes file)
+asked (line.Compile file image) = Compile (string_bytes file) (string_bytes image)
+asked (line.Asm text image) = Asm (string_bytes text) (string_bytes image)
+asked (line.List image text) = ListImage (string_bytes image) (string_bytes text)
+asked (line.Flip image flipped) = Flip (string_bytes image) (string_bytes flipped)
 asked (line.Go file heap deep steps input) = Go (string_bytes file) heap deep steps (option_map string_bytes input)
 
 -- the number after the digits so far, if the rest are digits
@@ -38,15 +46,28 @@ abbrev pub check_line_of : List (List ℕ) → Option Asked
 check_line_of (file ∷ []) = Some (Check file)
 check_line_of _ = None
 
+-- a line of two files
+abbrev pub files_line_of : (List ℕ → List ℕ → Asked) → List (List ℕ) → Option Asked
+files_line_of make (from ∷ to ∷ []) = Some (make from to)
+files_line_of make _ = None
+
 -- the line that the words are, if they are one
 unfoldable pub line_of : List (List ℕ) → Option Asked
 line_of [] = None
 line_of (name ∷ args) =
     if bytes_eq name (codes "check") then check_line_of args
+    else if bytes_eq name (codes "compile") then files_line_of Compile args
+    else if bytes_eq name (codes "asm") then files_line_of Asm args
+    else if bytes_eq name (codes "list") then files_line_of ListImage args
+    else if bytes_eq name (codes "flip") then files_line_of Flip args
     else if bytes_eq name (codes "go") then go_line_of args
     else None
 
 -- the numbers of a line have at most 18 digits
 abbrev pub HasShortNumbers : Asked → Type 0
 HasShortNumbers (Check file) = Unit {0}
+HasShortNumbers (Compile file image) = Unit {0}
+HasShortNumbers (Asm text image) = Unit {0}
+HasShortNumbers (ListImage image text) = Unit {0}
+HasShortNumbers (Flip image flipped) = Unit {0}
 HasShortNumbers (Go file heap deep steps input) = (heap < 10 ^ 18) × (deep < 10 ^ 18) × (steps < 10 ^ 18)

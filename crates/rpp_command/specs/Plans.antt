@@ -15,13 +15,24 @@ use Rattle.program_codegen.specs.Unbuilt.{unbuilt}
 use Rattle.pisa_isa.specs.declared.machine.Stop.{Stop}
 use Rattle.pisa_isa.specs.declared.machine.Stop.TheVariants.{Finished, Trap, Bound as AtBound}
 use Rattle.pisa_isa.specs.Image.{Segments, IsImage}
+use Rattle.pisa_isa.specs.Flipped.{flipped_image}
+use Rattle.pisa_isa.specs.declared.cell.Cell.{Cell}
+use Rattle.pisa_image.specs.declared.error.ImageError.{ImageError}
+use Rattle.pisa_image.specs.ImageBytes.{image_bytes}
+use Rattle.pisa_image.specs.Reading.{image_at}
+use Rattle.pisa_asm.specs.declared.assembler.TheConstants.{MOST_TEXT}
+use Rattle.pisa_asm.specs.declared.error.AsmError.{AsmError}
+use Rattle.pisa_asm.specs.Listing.{listing}
+use Rattle.pisa_asm.specs.Passes.{image_of_text}
 use Rattle.pisa_isa.specs.Runs.{End}
 use Rattle.source_meaning.specs.Store.{State}
 use Rattle.source_meaning.specs.Source.{GivesDone, GivesFault}
 use Rattle.source_meaning.specs.Report.{signed_decimal}
 use Rattle.source_meaning.specs.Walk.{run_report}
 use Rattle.source_meaning.specs.StandsFor.{StandsFor, run_of}
-use Rattle.rpp_command.specs.Lines.{Asked, Go, Check}
+use Rattle.rpp_command.specs.Lines.{Asked, Check, Compile, Asm, ListImage, Flip, Go}
+use Rattle.rpp_command.specs.ImageRefusals.{asm_line, image_line}
+use Rattle.rpp_command.specs.declared.images.TheConstants.{MOST_IMAGE}
 use Rattle.rpp_command.specs.Judged.{IsJudged}
 use Rattle.rpp_command.specs.NotBuilt.{not_built}
 use Rattle.rpp_command.specs.Refusals.{refused_line}
@@ -34,13 +45,14 @@ use Rattle.pisa_loader.specs.declared.input.TheConstants.{MOST_INPUT}
 use Rattle.pisa_loader.specs.declared.limits.TheConstants.{MOST_DEEP}
 use Rattle.rpp_command.specs.Inputs.{given_input}
 use Rattle.rpp_command.specs.declared.plan.Verdict.{Verdict}
-use Rattle.rpp_command.specs.declared.plan.Verdict.TheVariants.{Done, SourceRefused, Trapped, Bound, InputRefused}
+use Rattle.rpp_command.specs.declared.plan.Verdict.TheVariants.{Done, SourceRefused, ImageRefused, Trapped, Bound, InputRefused}
 use Rattle.rpp_command.specs.declared.plan.Writing.{Writing}
 use Rattle.rpp_command.specs.declared.plan.Plan.{Plan}
 
 abbrev pub code_of : Verdict → ℕ
 code_of Done = 0
 code_of SourceRefused = 3
+code_of ImageRefused = 4
 code_of Trapped = 5
 code_of Bound = 6
 code_of InputRefused = 8
@@ -65,6 +77,10 @@ planned p = record { verdict = p.verdict; text = string_bytes p.text; writing = 
 -- a plan that prints a text and writes nothing
 abbrev pub prints : Verdict → List ℕ → Planned
 prints verdict text = record { verdict = verdict; text = text; writing = None }
+
+-- a plan that writes a file, and prints a text
+abbrev pub writes : (name bytes text : List ℕ) → Planned
+writes name bytes text = record { verdict = Done; text = text; writing = Some (record { name = name; bytes = bytes }) }
 
 -- the name has a text of at most so many bytes, and P holds of it
 abbrev pub WithText : Texts → List ℕ → ℕ → (List ℕ → Type 0) → Type 0
@@ -153,6 +169,47 @@ pub record IsCheckPlan (text : List ℕ) (p : Planned) : Type 0 where
   pub judged : IsJudged text judgement
   pub plan : IsJudgementPlan judgement p
 
+-- what was done with so many code cells
+abbrev pub cells_line : (what : List ℕ) → List Cell → List ℕ
+cells_line what code = what ++ (codes " " ++ (decimal (length code) ++ (codes " cells" ++ line_end)))
+
+-- an image that stands for the program is written
+pub record WritesImage (program : Source) (name : List ℕ) (p : Planned) : Type 0 where
+  pub image : Segments
+  pub is_image : IsImage image
+  pub stands : StandsFor program image
+  pub written : p ≡ writes name (image_bytes image) (cells_line (codes "compiled") image.code)
+
+-- a form that is not built yet is told before the image is made
+abbrev pub IsBuiltImage : Option Unbuilt → (text name : List ℕ) → Source → Planned → Type 0
+IsBuiltImage (Some found) text name program p = TellsUnbuilt text found p
+IsBuiltImage None text name program p = WritesImage program name p
+
+abbrev pub IsImageOf : Result Source Refusal → (text name : List ℕ) → Planned → Type 0
+IsImageOf (Err refusal) text name p = p ≡ prints SourceRefused (refused_line refusal)
+IsImageOf (Ok program) text name p = IsBuiltImage (unbuilt program) text name program p
+
+-- the text is judged, and the plan is that of the judgement
+pub record IsCompilePlan (text name : List ℕ) (p : Planned) : Type 0 where
+  pub judgement : Result Source Refusal
+  pub judged : IsJudged text judgement
+  pub plan : IsImageOf judgement text name p
+
+-- the image that an assembly text writes is written, or its first refusal is told
+abbrev pub IsAsmPlan : Result Segments AsmError → (name : List ℕ) → Planned → Type 0
+IsAsmPlan (Err e) name p = p ≡ prints ImageRefused (asm_line e)
+IsAsmPlan (Ok image) name p = p ≡ writes name (image_bytes image) (cells_line (codes "assembled") image.code)
+
+-- the listing of an image that was read is written
+abbrev pub IsListPlan : Result Segments ImageError → (name : List ℕ) → Planned → Type 0
+IsListPlan (Err e) name p = p ≡ prints ImageRefused (image_line e)
+IsListPlan (Ok image) name p = p ≡ writes name (listing image) (cells_line (codes "listed") image.code)
+
+-- the flipped image of an image that was read is written
+abbrev pub IsFlipPlan : Result Segments ImageError → (name : List ℕ) → Planned → Type 0
+IsFlipPlan (Err e) name p = p ≡ prints ImageRefused (image_line e)
+IsFlipPlan (Ok image) name p = p ≡ writes name (image_bytes (flipped_image image)) (cells_line (codes "flipped") image.code)
+
 -- P holds of the text of the input, which is empty where there is none
 abbrev pub WithInput : Texts → Option (List ℕ) → (List ℕ → Type 0) → Type 0
 WithInput texts None P = P []
@@ -161,4 +218,8 @@ WithInput texts (Some name) P = WithText texts name MOST_INPUT P
 -- a plan of the line, where the shelf has these texts
 unfoldable pub IsPlan : Asked → Texts → Planned → Type 0
 IsPlan (Check file) texts p = WithText texts file MOST_BYTES (λ text. IsCheckPlan text p)
+IsPlan (Compile file image) texts p = WithText texts file MOST_BYTES (λ text. IsCompilePlan text image p)
+IsPlan (Asm text image) texts p = WithText texts text MOST_TEXT (λ bytes. IsAsmPlan (image_of_text bytes) image p)
+IsPlan (ListImage image text) texts p = WithText texts image MOST_IMAGE (λ bytes. IsListPlan (image_at bytes) text p)
+IsPlan (Flip image flipped) texts p = WithText texts image MOST_IMAGE (λ bytes. IsFlipPlan (image_at bytes) flipped p)
 IsPlan (Go file heap deep steps input) texts p = WithText texts file MOST_BYTES (λ text. WithInput texts input (λ given. IsGoPlan text given heap deep steps p))

@@ -2,9 +2,11 @@
 #![tactic(auto)]
 
 mod check;
+mod compiling;
 mod error;
 mod finish;
 mod go;
+mod images;
 mod judge;
 mod laws;
 mod line;
@@ -21,5 +23,7 @@ pub use top::rooplpp;
 
 #[cfg(test)]
 mod check_tests;
+#[cfg(test)]
+mod image_tests;
 #[cfg(test)]
 mod tests;

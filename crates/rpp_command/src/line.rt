@@ -1,6 +1,6 @@
 // What the words ask for.
 ghost use Rattle.std.specs.Prelude.{◌≡◌, ◌<◌, ◌^◌, map, option_map, IfOk, IfSome, string_bytes};
-ghost use Rattle.rpp_command.specs.Lines.{asked, line_of, check_line_of, go_line_of, go_with as go_asked, number_of, HasShortNumbers};
+ghost use Rattle.rpp_command.specs.Lines.{asked, line_of, check_line_of, files_line_of, Compile, Asm, ListImage, Flip, go_line_of, go_with as go_asked, number_of, HasShortNumbers};
 
 use rpp_words::NoMemory;
 
@@ -10,6 +10,26 @@ pub enum Line {
     /// Accepts or refuses a source: its file.
     Check {
         file: String,
+    },
+    /// Compiles a source: its file, and that of the image.
+    Compile {
+        file: String,
+        image: String,
+    },
+    /// Assembles a text: its file, and that of the image.
+    Asm {
+        text: String,
+        image: String,
+    },
+    /// Lists an image: its file, and that of the text.
+    List {
+        image: String,
+        text: String,
+    },
+    /// Flips an image: its file, and that of the flipped one.
+    Flip {
+        image: String,
+        flipped: String,
     },
     /// Compiles and runs a program: its file, the order of the heap, the depth, the number of steps,
     /// and the file of its input, if there is one.
@@ -33,6 +53,10 @@ pub fn read_words(words: &[String]) -> Result<Option<Line>, NoMemory>
     };
     match name.as_str() {
         "check" => check_line(args),
+        "compile" => compile_line(args),
+        "asm" => asm_line(args),
+        "list" => list_line(args),
+        "flip" => flip_line(args),
         "go" => go_line(args),
         _ => Ok(None),
     }
@@ -47,6 +71,58 @@ fn check_line(args: &[String]) -> Result<Option<Line>, NoMemory>
     };
     Ok(Some(Line::Check {
         file: file.clone()?,
+    }))
+}
+
+fn compile_line(args: &[String]) -> Result<Option<Line>, NoMemory>
+    ensures line { IfOk result (λ line. option_map asked line ≡ files_line_of Compile (map string_bytes args.now)) }
+    ensures numbers { IfOk result (λ line. IfSome line (λ line. HasShortNumbers (asked line))) }
+{
+    let [file, image] = args else {
+        return Ok(None);
+    };
+    Ok(Some(Line::Compile {
+        file: file.clone()?,
+        image: image.clone()?,
+    }))
+}
+
+fn asm_line(args: &[String]) -> Result<Option<Line>, NoMemory>
+    ensures line { IfOk result (λ line. option_map asked line ≡ files_line_of Asm (map string_bytes args.now)) }
+    ensures numbers { IfOk result (λ line. IfSome line (λ line. HasShortNumbers (asked line))) }
+{
+    let [text, image] = args else {
+        return Ok(None);
+    };
+    Ok(Some(Line::Asm {
+        text: text.clone()?,
+        image: image.clone()?,
+    }))
+}
+
+fn list_line(args: &[String]) -> Result<Option<Line>, NoMemory>
+    ensures line { IfOk result (λ line. option_map asked line ≡ files_line_of ListImage (map string_bytes args.now)) }
+    ensures numbers { IfOk result (λ line. IfSome line (λ line. HasShortNumbers (asked line))) }
+{
+    let [image, text] = args else {
+        return Ok(None);
+    };
+    Ok(Some(Line::List {
+        image: image.clone()?,
+        text: text.clone()?,
+    }))
+}
+
+fn flip_line(args: &[String]) -> Result<Option<Line>, NoMemory>
+    ensures line { IfOk result (λ line. option_map asked line ≡ files_line_of Flip (map string_bytes args.now)) }
+    ensures numbers { IfOk result (λ line. IfSome line (λ line. HasShortNumbers (asked line))) }
+{
+    let [image, flipped] = args else {
+        return Ok(None);
+    };
+    Ok(Some(Line::Flip {
+        image: image.clone()?,
+        flipped: flipped.clone()?,
     }))
 }
 

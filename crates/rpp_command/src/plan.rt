@@ -1,7 +1,7 @@
 // What a command has made up its mind to do, and what stops it before.
 ghost use Rattle.std.specs.Prelude.{◌≡◌, string_bytes};
 ghost use Rattle.rpp_command.specs.declared.plan.Stop.TheVariants.{NoMemory};
-ghost use Rattle.rpp_command.specs.Plans.{code_of, planned, prints};
+ghost use Rattle.rpp_command.specs.Plans.{code_of, planned, prints, writes};
 
 use std::alloc::{AllocError, AllocFailed};
 
@@ -10,6 +10,7 @@ use std::alloc::{AllocError, AllocFailed};
 pub enum Verdict {
     Done,
     SourceRefused,
+    ImageRefused,
     Trapped,
     Bound,
     InputRefused,
@@ -23,6 +24,7 @@ impl Verdict {
         match self {
             Verdict::Done => 0,
             Verdict::SourceRefused => 3,
+            Verdict::ImageRefused => 4,
             Verdict::Trapped => 5,
             Verdict::Bound => 6,
             Verdict::InputRefused => 8,
@@ -54,6 +56,17 @@ impl Plan {
             verdict,
             text,
             writing: None,
+        }
+    }
+
+    /// Writes a file, and prints a text.
+    pub fn writes(name: String, bytes: Vec<u8>, text: String) -> Plan
+        ensures { planned result ≡ writes (string_bytes name) bytes.items (string_bytes text) }
+    {
+        Plan {
+            verdict: Verdict::Done,
+            text,
+            writing: Some(Writing { name, bytes }),
         }
     }
 }

@@ -7,8 +7,10 @@ ghost use Rattle.rpp_command.specs.Causes.{OnlyReads, Unreadable, LacksOne, Keep
 ghost use Rattle.rpp_command.specs.Answers.{CarriesOut, Answers, EndsEarly};
 
 use crate::check::check;
+use crate::compiling::compile;
 use crate::finish::{Broken, finish, say};
 use crate::go::go;
+use crate::images::{asm, flip, list};
 use crate::line::{Line, read_words};
 use crate::plan::{Plan, Stop, Verdict};
 use pisa_machine::Steps;
@@ -131,6 +133,10 @@ fn plan_line<S: Shelf, L: Ledger>(
 {
     match line {
         Line::Check { file } => check(alloc, shelf, file.as_str()),
+        Line::Compile { file, image } => compile(alloc, shelf, file.as_str(), image.as_str()),
+        Line::Asm { text, image } => asm(alloc, shelf, text.as_str(), image.as_str()),
+        Line::List { image, text } => list(alloc, shelf, image.as_str(), text.as_str()),
+        Line::Flip { image, flipped } => flip(alloc, shelf, image.as_str(), flipped.as_str()),
         Line::Go {
             file,
             heap,

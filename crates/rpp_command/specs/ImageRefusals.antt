@@ -1,0 +1,31 @@
+-- What is printed where an assembly text or the bytes of an image file are refused.
+use Rattle.std.specs.Prelude.{ℕ, List, [], ◌++◌, codes}
+use Rattle.std.specs.Fmt.{decimal}
+use Rattle.pisa_asm.specs.declared.error.AsmError.{AsmError}
+use Rattle.pisa_asm.specs.declared.error.AsmError.TheVariants as asm
+use Rattle.pisa_image.specs.declared.error.ImageError.{ImageError}
+use Rattle.pisa_image.specs.declared.error.ImageError.TheVariants as image
+use Rattle.rpp_command.specs.Words.{line_end}
+
+-- refused N NAME at L, with the number of the line, or without a place
+abbrev pub asm_line : AsmError → List ℕ
+asm_line (asm.BadLine line) = codes "refused 24 BadLine at " ++ (decimal line ++ line_end)
+asm_line (asm.UnknownMnemonic line) = codes "refused 25 UnknownMnemonic at " ++ (decimal line ++ line_end)
+asm_line (asm.DuplicateLabel line) = codes "refused 26 DuplicateLabel at " ++ (decimal line ++ line_end)
+asm_line (asm.UnknownLabel line) = codes "refused 27 UnknownLabel at " ++ (decimal line ++ line_end)
+asm_line (asm.NotOneToOne line) = codes "refused 28 NotOneToOne at " ++ (decimal line ++ line_end)
+asm_line asm.NoStart = codes "refused 29 NoStart" ++ line_end
+asm_line asm.NoFinish = codes "refused 30 NoFinish" ++ line_end
+asm_line (asm.TooManyCells line) = codes "refused 41 TooManyCells at " ++ (decimal line ++ line_end)
+asm_line asm.NoMemory = []
+
+-- refused N NAME at P, with the place in bytes, or without a place
+abbrev pub image_line : ImageError → List ℕ
+image_line (image.NotOneToOne at) = codes "refused 28 NotOneToOne at " ++ (decimal at ++ line_end)
+image_line image.NoStart = codes "refused 29 NoStart" ++ line_end
+image_line image.NoFinish = codes "refused 30 NoFinish" ++ line_end
+image_line (image.ImageTruncated at) = codes "refused 31 ImageTruncated at " ++ (decimal at ++ line_end)
+image_line (image.ImageMagic at) = codes "refused 32 ImageMagic at " ++ (decimal at ++ line_end)
+image_line (image.ImageField at) = codes "refused 33 ImageField at " ++ (decimal at ++ line_end)
+image_line (image.ImageTrailing at) = codes "refused 34 ImageTrailing at " ++ (decimal at ++ line_end)
+image_line image.NoMemory = []

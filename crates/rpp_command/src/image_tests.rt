@@ -1,0 +1,193 @@
+use super::*;
+use rpp_ports::{MemoryShelf, MemorySink, Named, Probe};
+use std::alloc::{AllocError, Global};
+use std::test::Fail;
+
+const FIRST: &str = "class P int x method main() x += 5";
+
+const SUBROUTINE: &str =
+    "START\nBRA sub\nRBRA sub\nBRA sub\nFINISH\ntop: BRA bot\nsub: SWAPBR $2\nNEG $2\nADDI $1 5\nbot: BRA top\n";
+
+const LISTED: &str =
+    "START\nBRA +5\nRBRA +4\nBRA +3\nFINISH\nBRA +4\nSWAPBR $2\nNEG $2\nADDI $1 5\nBRA -4\n";
+
+const TURNED: &str =
+    "BRA +4\nADDI $1 -5\nNEG $2\nSWAPBR $2\nBRA -4\nSTART\nBRA -3\nRBRA -4\nBRA -5\nFINISH\n";
+
+// A shelf with these files.
+fn shelf_of(
+    alloc: Global,
+    files: &[(&str, &[u8])],
+    failing: &[u64],
+) -> Result<MemoryShelf, AllocError> {
+    let mut texts = Vec::new(alloc);
+    for (name, bytes) in files {
+        texts.push(Named {
+            name: String::from_str(alloc, name)?,
+            bytes: bytes.to_vec(alloc)?,
+        })?;
+    }
+    Ok(MemoryShelf::new(alloc, texts, failing.to_vec(alloc)?))
+}
+
+// What a command answers over a shelf, with its text.
+fn answer_on(
+    alloc: Global,
+    shelf: &mut MemoryShelf,
+    words: &str,
+    failing_puts: &[u64],
+) -> Result<(u8, Vec<u8>), AllocError> {
+    let mut owned = Vec::new(alloc);
+    for word in words.split(' ') {
+        owned.push(String::from_str(alloc, word)?)?;
+    }
+    let mut out = MemorySink::new(alloc, failing_puts.to_vec(alloc)?);
+    let mut probes: Vec<Box<dyn Probe>> = Vec::new(alloc);
+    let status = rooplpp(alloc, &owned, shelf, &mut out, &mut probes);
+    Ok((status, out.bytes().to_vec(alloc)?))
+}
+
+// The image of START and FINISH, with this byte at this place.
+fn smallest(alloc: Global, at: usize, byte: u8) -> Result<Vec<u8>, AllocError> {
+    let mut bytes = b"RPPI\x01\0\0\0\x02\0\0\0\0\0\0\0\x21\0\0\0\0\0\0\0\x22\0\0\0\0\0\0\0".to_vec(
+        alloc,
+    )?;
+    if at < bytes.len() {
+        bytes[at] = byte;
+    }
+    Ok(bytes)
+}
+
+#[test]
+fn from_file_to_file(rt: HostRuntime) -> Result<(), Fail> {
+    let files: [(&str, &[u8]); 3] = [
+        ("F", FIRST.as_bytes()),
+        ("T", SUBROUTINE.as_bytes()),
+        ("U", b"START\nFINISH\n"),
+    ];
+    let mut shelf = shelf_of(rt.alloc(), &files, &[])?;
+    for (words, text) in [
+        ("compile F I", "compiled 7 cells\n"),
+        ("flip I J", "flipped 7 cells\n"),
+        ("flip J K", "flipped 7 cells\n"),
+        ("list I L", "listed 7 cells\n"),
+        ("asm L M", "assembled 7 cells\n"),
+        ("asm T A", "assembled 10 cells\n"),
+        ("list A B", "listed 10 cells\n"),
+        ("flip A C", "flipped 10 cells\n"),
+        ("list C D", "listed 10 cells\n"),
+        ("asm U S", "assembled 2 cells\n"),
+        ("list S V", "listed 2 cells\n"),
+    ] {
+        let (status, said) = answer_on(rt.alloc(), &mut shelf, words, &[])?;
+        assert_eq!(rt; status, 0, "{words}");
+        assert_eq!(rt; said.as_slice(), text.as_bytes(), "{words}");
+    }
+    assert!(rt; shelf.text("K") == shelf.text("I"));
+    assert!(rt; shelf.text("M") == shelf.text("I"));
+    assert!(rt; shelf.text("B") == Some(LISTED.as_bytes()));
+    assert!(rt; shelf.text("D") == Some(TURNED.as_bytes()));
+    let smallest = smallest(rt.alloc(), 32, 0)?;
+    assert!(rt; shelf.text("S") == Some(smallest.as_slice()));
+    assert!(rt; shelf.text("V") == Some(b"START\nFINISH\n"));
+    Ok(())
+}
+
+#[test]
+fn refused_texts(rt: HostRuntime) -> Result<(), Fail> {
+    for (words, text, status, line) in [
+        (
+            "asm F O",
+            "START\nADD $1 $1\nFINISH\n",
+            4,
+            "refused 28 NotOneToOne at 2\n",
+        ),
+        (
+            "asm F O",
+            "START\nNEG 1\nFINISH\n",
+            4,
+            "refused 24 BadLine at 2\n",
+        ),
+        (
+            "asm F O",
+            "START\nHALT\nFINISH\n",
+            4,
+            "refused 25 UnknownMnemonic at 2\n",
+        ),
+        (
+            "asm F O",
+            "a: START\na: FINISH\n",
+            4,
+            "refused 26 DuplicateLabel at 2\n",
+        ),
+        (
+            "asm F O",
+            "START\nBRA up\nFINISH\n",
+            4,
+            "refused 27 UnknownLabel at 2\n",
+        ),
+        ("asm F O", "FINISH\n", 4, "refused 29 NoStart\n"),
+        ("asm F O", "START\n", 4, "refused 30 NoFinish\n"),
+        ("asm F", "", 1, "words refused\n"),
+        ("asm G O", "", 2, "cannot read G: missing\n"),
+        (
+            "compile F O",
+            "class P int x method main() x += x",
+            3,
+            "refused 16 SelfUpdate at 28\n",
+        ),
+        ("list F O", "", 4, "refused 31 ImageTruncated at 0\n"),
+        ("flip F O P", "", 1, "words refused\n"),
+    ] {
+        let mut shelf = shelf_of(rt.alloc(), &[("F", text.as_bytes())], &[])?;
+        let (code, said) = answer_on(rt.alloc(), &mut shelf, words, &[])?;
+        assert_eq!(rt; code, status, "{words} on {text}");
+        assert_eq!(rt; said.as_slice(), line.as_bytes(), "{words} on {text}");
+        assert!(rt; shelf.text("O") == None);
+    }
+    Ok(())
+}
+
+#[test]
+fn refused_images(rt: HostRuntime) -> Result<(), Fail> {
+    for (len, at, byte, line) in [
+        (0, 32, 0, "refused 31 ImageTruncated at 0\n"),
+        (15, 32, 0, "refused 31 ImageTruncated at 15\n"),
+        (31, 32, 0, "refused 31 ImageTruncated at 31\n"),
+        (33, 32, 0, "refused 34 ImageTrailing at 32\n"),
+        (32, 0, 0, "refused 32 ImageMagic at 0\n"),
+        (32, 4, 9, "refused 33 ImageField at 4\n"),
+        (32, 8, 1, "refused 33 ImageField at 8\n"),
+        (32, 16, 36, "refused 33 ImageField at 16\n"),
+        (32, 24, 33, "refused 29 NoStart\n"),
+        (32, 16, 34, "refused 29 NoStart\n"),
+    ] {
+        let mut bytes = smallest(rt.alloc(), at, byte)?;
+        bytes.resize(len, 0)?;
+        let mut shelf = shelf_of(rt.alloc(), &[("I", bytes.as_slice())], &[])?;
+        for words in ["list I O", "flip I O"] {
+            let (status, said) = answer_on(rt.alloc(), &mut shelf, words, &[])?;
+            assert_eq!(rt; status, 4, "{words}: {line}");
+            assert_eq!(rt; said.as_slice(), line.as_bytes(), "{words}: {line}");
+            assert!(rt; shelf.text("O") == None);
+        }
+    }
+    Ok(())
+}
+
+#[test]
+fn failing_calls_of_compile(rt: HostRuntime) -> Result<(), Fail> {
+    let calls: [(&[u64], &[u64], &str, bool); 3] = [
+        (&[1], &[], "cannot read F: failed\n", false),
+        (&[2], &[], "cannot write I: failed\n", false),
+        (&[], &[1], "", true),
+    ];
+    for (failing, failing_puts, line, is_written) in calls {
+        let mut shelf = shelf_of(rt.alloc(), &[("F", FIRST.as_bytes())], failing)?;
+        let (status, said) = answer_on(rt.alloc(), &mut shelf, "compile F I", failing_puts)?;
+        assert_eq!(rt; status, 2);
+        assert_eq!(rt; said.as_slice(), line.as_bytes());
+        assert!(rt; shelf.text("I").is_some() == is_written);
+    }
+    Ok(())
+}
