@@ -15,11 +15,13 @@ use Rattle.pisa_image.specs.declared.error.ImageError.{ImageError}
 use Rattle.pisa_image.specs.Reading.{image_at}
 use Rattle.pisa_asm.specs.declared.error.AsmError.{AsmError}
 use Rattle.pisa_asm.specs.Passes.{image_of_text}
-use Rattle.rpp_command.specs.Lines.{Asked, Check, Compile, Asm, ListImage, Flip, Go}
+use Rattle.pisa_machine.specs.Position.{Position}
+use Rattle.pisa_isa.specs.Machine.{State}
+use Rattle.rpp_command.specs.Lines.{Asked, Check, Compile, Asm, ListImage, Flip, RunImage, Go}
 use Rattle.class_table.specs.Refusal.{Refusal}
 use Rattle.program_codegen.specs.declared.unbuilt.Unbuilt.{Unbuilt}
 use Rattle.program_codegen.specs.Unbuilt.{unbuilt}
-use Rattle.rpp_command.specs.Plans.{Planned, Written, IsPlan, IsPlanOf, IsBuiltPlan, IsJudgementPlan, IsLimitedPlan, IsInputPlan, IsGoPlan, IsImageOf, IsBuiltImage, IsAsmPlan, IsListPlan, IsFlipPlan, WithInput, ReportsStop}
+use Rattle.rpp_command.specs.Plans.{Planned, Written, IsPlan, IsPlanOf, IsBuiltPlan, IsJudgementPlan, IsLimitedPlan, IsInputPlan, IsGoPlan, IsImageOf, IsBuiltImage, IsAsmPlan, IsListPlan, IsFlipPlan, IsRunPlan, IsSizedPlan, IsRanPlan, WithState, first_of, saved, WithInput, ReportsStop}
 use Rattle.rpp_command.specs.Causes.{target_of, WritesOnly, KeepsButTarget}
 
 -- what holds of each text that the name may have
@@ -78,6 +80,26 @@ flip_writes : (read : Result Segments ImageError) (name : List ℕ) (p : Planned
 flip_writes (Err e) name p h = along p _ (Some name) h (inl refl)
 flip_writes (Ok image) name p h = along p _ (Some name) h (inr refl)
 
+saved_name : (save : Option (List ℕ)) (last : State) → option_map (λ w. w.name) (saved save last) ≡ save
+saved_name None last = refl
+saved_name (Some name) last = refl
+
+ran_writes : (first : Result Position LoadError) (save : Option (List ℕ)) (steps : ℕ) (p : Planned) → IsRanPlan first save steps p → WritesOnly p save
+ran_writes (Err e) save steps p h = along p _ save h (inl refl)
+ran_writes (Ok first) save steps p h = along p _ save h (inr (saved_name save _))
+
+sized_writes : (refusal : Option LoadError) (image : Segments) (limits : Limits) (state save : Option (List ℕ)) (steps : ℕ) (p : Planned) → IsSizedPlan refusal image limits state save steps p → WritesOnly p save
+sized_writes (Some e) image limits state save steps p h = along p _ save h (inl refl)
+sized_writes None image limits state save steps p h = ran_writes (first_of image limits state) save steps p h
+
+run_writes : (read : Result Segments ImageError) (heap deep steps : ℕ) (state save : Option (List ℕ)) (p : Planned) → IsRunPlan read heap deep steps state save p → WritesOnly p save
+run_writes (Err e) heap deep steps state save p h = along p _ save h (inl refl)
+run_writes (Ok image) heap deep steps state save p h = sized_writes _ image _ state save steps p h
+
+of_state : (texts : Texts) (state : Option (List ℕ)) (read : Result Segments ImageError) (heap deep steps : ℕ) (save : Option (List ℕ)) (p : Planned) → WithState texts state (λ given. IsRunPlan read heap deep steps given save p) → WritesOnly p save
+of_state texts None read heap deep steps save p g = run_writes read heap deep steps None save p g
+of_state texts (Some name) read heap deep steps save p h = of_text (texts name) _ _ (WritesOnly p save) h (λ given g. run_writes read heap deep steps (Some given) save p g)
+
 of_input : (texts : Texts) (input : Option (List ℕ)) (text : List ℕ) (heap deep steps : ℕ) (p : Planned) → WithInput texts input (λ given. IsGoPlan text given heap deep steps p) → WritesOnly p None
 of_input texts None text heap deep steps p g = go_writes g.judgement text [] heap deep steps p g.plan
 of_input texts (Some name) text heap deep steps p h = of_text (texts name) _ _ (WritesOnly p None) h (λ given g. go_writes g.judgement text given heap deep steps p g.plan)
@@ -89,6 +111,7 @@ plan_writes (Compile file image) texts p h = of_text (texts file) _ _ (WritesOnl
 plan_writes (Asm text image) texts p h = of_text (texts text) _ _ (WritesOnly p (Some image)) h (λ bytes g. asm_writes (image_of_text bytes) image p g)
 plan_writes (ListImage image text) texts p h = of_text (texts image) _ _ (WritesOnly p (Some text)) h (λ bytes g. list_writes (image_at bytes) text p g)
 plan_writes (Flip image flipped) texts p h = of_text (texts image) _ _ (WritesOnly p (Some flipped)) h (λ bytes g. flip_writes (image_at bytes) flipped p g)
+plan_writes (RunImage image heap deep steps state save) texts p h = of_text (texts image) _ _ (WritesOnly p save) h (λ bytes g. of_state texts state (image_at bytes) heap deep steps save p g)
 plan_writes (Go file heap deep steps input) texts p h = of_text (texts file) _ _ (WritesOnly p None) h (λ text g. of_input texts input text heap deep steps p g)
 
 -- where nothing is written, each name keeps its text

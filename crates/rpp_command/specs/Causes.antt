@@ -8,7 +8,8 @@ use Rattle.rpp_ports.specs.declared.shelf.ShelfFault.{ShelfFault}
 use Rattle.rpp_ports.specs.declared.shelf.ShelfFault.TheVariants as fault
 use Rattle.pisa_asm.specs.declared.assembler.TheConstants.{MOST_TEXT}
 use Rattle.rpp_command.specs.declared.images.TheConstants.{MOST_IMAGE}
-use Rattle.rpp_command.specs.Lines.{Asked, Check, Compile, Asm, ListImage, Flip, Go}
+use Rattle.rpp_command.specs.declared.reading.TheConstants.{MOST_STATE}
+use Rattle.rpp_command.specs.Lines.{Asked, Check, Compile, Asm, ListImage, Flip, RunImage, Go}
 use Rattle.rpp_command.specs.Plans.{Planned}
 use Rattle.rpp_command.specs.declared.plan.Stop.{Stop}
 use Rattle.rpp_command.specs.declared.plan.Stop.TheVariants.{NoMemory, Unread}
@@ -35,6 +36,14 @@ abbrev pub input_files : Option (List ℕ) → List Needed
 input_files None = []
 input_files (Some name) = input name ∷ []
 
+abbrev pub state_file : List ℕ → Needed
+state_file name = record { name = name; limit = MOST_STATE }
+
+-- the state, where there is one
+abbrev pub state_files : Option (List ℕ) → List Needed
+state_files None = []
+state_files (Some name) = state_file name ∷ []
+
 -- the files that a line reads, in order
 unfoldable pub files_of : Asked → List Needed
 files_of (Check file) = source file ∷ []
@@ -42,6 +51,7 @@ files_of (Compile file image) = source file ∷ []
 files_of (Asm text image) = assembly text ∷ []
 files_of (ListImage image text) = image_file image ∷ []
 files_of (Flip image flipped) = image_file image ∷ []
+files_of (RunImage image heap deep steps state save) = image_file image ∷ state_files state
 files_of (Go file heap deep steps given) = source file ∷ input_files given
 
 -- one of the files is missing or too long
@@ -105,6 +115,7 @@ target_of (Compile file image) = Some image
 target_of (Asm text image) = Some image
 target_of (ListImage image text) = Some text
 target_of (Flip image flipped) = Some flipped
+target_of (RunImage image heap deep steps state save) = save
 target_of (Go file heap deep steps given) = None
 
 -- the file that the words may have written

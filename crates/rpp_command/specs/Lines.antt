@@ -3,6 +3,7 @@ use Rattle.std.specs.Prelude.{ℕ, ◌+◌, ◌-◌, ◌*◌, ◌^◌, ◌<◌, 
 use Rattle.std.specs.Char.{is_ascii_digit}
 use Rattle.std.specs.declared.option.Option.{Option}
 use Rattle.std.specs.Str.{bytes_eq}
+use Rattle.rpp_command.specs.declared.line.StateNames.{StateNames}
 use Rattle.rpp_command.specs.declared.line.Line.{Line}
 use Rattle.rpp_command.specs.declared.line.Line.TheVariants as line
 
@@ -13,7 +14,21 @@ pub data Asked : Type 0 where
   Asm : (text image : List ℕ) → Asked
   ListImage : (image text : List ℕ) → Asked
   Flip : (image flipped : List ℕ) → Asked
+  RunImage : (image : List ℕ) (heap deep steps : ℕ) (state save : Option (List ℕ)) → Asked
   Go : (file : List ℕ) (heap deep steps : ℕ) (input : Option (List ℕ)) → Asked
+
+-- the word `-` names no state
+abbrev pub state_named : List ℕ → Option (List ℕ)
+state_named word = if bytes_eq word (codes "-") then None else Some word
+
+-- the file of the state to begin with, and that of the state to save, where there are such
+abbrev pub state_of_names : Option StateNames → Option (List ℕ)
+state_of_names None = None
+state_of_names (Some names) = state_named (string_bytes names.state)
+
+abbrev pub save_of_names : Option StateNames → Option (List ℕ)
+save_of_names None = None
+save_of_names (Some names) = Some (string_bytes names.save)
 
 abbrev pub asked : Line → Asked
 asked (line.Check file) = Check (string_bytes file)
@@ -21,6 +36,7 @@ asked (line.Compile file image) = Compile (string_bytes file) (string_bytes imag
 asked (line.Asm text image) = Asm (string_bytes text) (string_bytes image)
 asked (line.List image text) = ListImage (string_bytes image) (string_bytes text)
 asked (line.Flip image flipped) = Flip (string_bytes image) (string_bytes flipped)
+asked (line.Run image heap deep steps names) = RunImage (string_bytes image) heap deep steps (state_of_names names) (save_of_names names)
 asked (line.Go file heap deep steps input) = Go (string_bytes file) heap deep steps (option_map string_bytes input)
 
 -- the number after the digits so far, if the rest are digits
@@ -42,6 +58,17 @@ go_line_of (file ∷ heap ∷ deep ∷ steps ∷ []) = go_with file (number_of h
 go_line_of (file ∷ heap ∷ deep ∷ steps ∷ input ∷ []) = go_with file (number_of heap) (number_of deep) (number_of steps) (Some input)
 go_line_of _ = None
 
+-- an image, an order of the heap, a depth, a number of steps, and the files of two states, if there are such
+abbrev pub run_with : List ℕ → Option ℕ → Option ℕ → Option ℕ → (state save : Option (List ℕ)) → Option Asked
+run_with image (Some heap) (Some deep) (Some steps) state save = Some (RunImage image heap deep steps state save)
+run_with image _ _ _ state save = None
+
+abbrev pub run_line_of : List (List ℕ) → Option Asked
+run_line_of (image ∷ heap ∷ deep ∷ steps ∷ []) = run_with image (number_of heap) (number_of deep) (number_of steps) None None
+run_line_of (image ∷ heap ∷ deep ∷ steps ∷ state ∷ save ∷ []) =
+    run_with image (number_of heap) (number_of deep) (number_of steps) (state_named state) (Some save)
+run_line_of _ = None
+
 abbrev pub check_line_of : List (List ℕ) → Option Asked
 check_line_of (file ∷ []) = Some (Check file)
 check_line_of _ = None
@@ -60,6 +87,7 @@ line_of (name ∷ args) =
     else if bytes_eq name (codes "asm") then files_line_of Asm args
     else if bytes_eq name (codes "list") then files_line_of ListImage args
     else if bytes_eq name (codes "flip") then files_line_of Flip args
+    else if bytes_eq name (codes "run") then run_line_of args
     else if bytes_eq name (codes "go") then go_line_of args
     else None
 
@@ -70,4 +98,5 @@ HasShortNumbers (Compile file image) = Unit {0}
 HasShortNumbers (Asm text image) = Unit {0}
 HasShortNumbers (ListImage image text) = Unit {0}
 HasShortNumbers (Flip image flipped) = Unit {0}
+HasShortNumbers (RunImage image heap deep steps state save) = (heap < 10 ^ 18) × (deep < 10 ^ 18) × (steps < 10 ^ 18)
 HasShortNumbers (Go file heap deep steps input) = (heap < 10 ^ 18) × (deep < 10 ^ 18) × (steps < 10 ^ 18)

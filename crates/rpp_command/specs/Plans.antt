@@ -1,7 +1,7 @@
 -- Plans as contracts see them, and the plans of each line.
-use Rattle.std.specs.Prelude.{◌≡◌, ℕ, ◌≤◌, List, [], ◌∷◌, ◌++◌, length, None, Some, Result, Ok, Err, IsSomeAnd, option_map, string_bytes, codes}
+use Rattle.std.specs.Prelude.{◌≡◌, ℕ, suc, ◌≤◌, ℤ, Bool, true, false, nat_eq, if◌then◌else◌, List, [], ◌∷◌, ◌++◌, length, None, Some, Result, Ok, Err, IsSomeAnd, option_map, string_bytes, codes}
 use Rattle.std.specs.declared.option.Option.{Option}
-use Rattle.std.specs.Fmt.{decimal}
+use Rattle.std.specs.Fmt.{decimal, signed_decimal as int_decimal}
 use Rattle.rpp_words.specs.declared.input.FieldWord.{FieldWord}
 use Rattle.rpp_words.specs.declared.input.Limits.{Limits}
 use Rattle.rpp_tree.specs.declared.limits.TheConstants.{MOST_BYTES}
@@ -13,7 +13,7 @@ use Rattle.class_table.specs.Refusal.{Refusal}
 use Rattle.program_codegen.specs.declared.unbuilt.Unbuilt.{Unbuilt}
 use Rattle.program_codegen.specs.Unbuilt.{unbuilt}
 use Rattle.pisa_isa.specs.declared.machine.Stop.{Stop}
-use Rattle.pisa_isa.specs.declared.machine.Stop.TheVariants.{Finished, Trap, Bound as AtBound}
+use Rattle.pisa_isa.specs.declared.machine.Stop.TheVariants.{Finished, Returned, Trap, BadAddress, OffCode, Bound as AtBound}
 use Rattle.pisa_isa.specs.Image.{Segments, IsImage}
 use Rattle.pisa_isa.specs.Flipped.{flipped_image}
 use Rattle.pisa_isa.specs.declared.cell.Cell.{Cell}
@@ -24,28 +24,33 @@ use Rattle.pisa_asm.specs.declared.assembler.TheConstants.{MOST_TEXT}
 use Rattle.pisa_asm.specs.declared.error.AsmError.{AsmError}
 use Rattle.pisa_asm.specs.Listing.{listing}
 use Rattle.pisa_asm.specs.Passes.{image_of_text}
-use Rattle.pisa_isa.specs.Runs.{End}
+use Rattle.pisa_isa.specs.Machine.{State as MachineState}
+use Rattle.pisa_isa.specs.Loaded.{loaded}
+use Rattle.pisa_isa.specs.Runs.{End, run, zero_registers}
+use Rattle.pisa_machine.specs.Position.{Position, first_position}
 use Rattle.source_meaning.specs.Store.{State}
 use Rattle.source_meaning.specs.Source.{GivesDone, GivesFault}
 use Rattle.source_meaning.specs.Report.{signed_decimal}
 use Rattle.source_meaning.specs.Walk.{run_report}
 use Rattle.source_meaning.specs.StandsFor.{StandsFor, run_of}
-use Rattle.rpp_command.specs.Lines.{Asked, Check, Compile, Asm, ListImage, Flip, Go}
+use Rattle.rpp_command.specs.Lines.{Asked, Check, Compile, Asm, ListImage, Flip, RunImage, Go}
 use Rattle.rpp_command.specs.ImageRefusals.{asm_line, image_line}
 use Rattle.rpp_command.specs.declared.images.TheConstants.{MOST_IMAGE}
+use Rattle.rpp_command.specs.declared.reading.TheConstants.{MOST_STATE}
 use Rattle.rpp_command.specs.Judged.{IsJudged}
 use Rattle.rpp_command.specs.NotBuilt.{not_built}
 use Rattle.rpp_command.specs.Refusals.{refused_line}
 use Rattle.rpp_command.specs.Words.{line_end}
 use Rattle.rpp_command.specs.Faults.{fault_name}
-use Rattle.pisa_loader.specs.Limiting.{limits_refusal}
+use Rattle.pisa_loader.specs.Limiting.{limits_refusal, memory_size}
+use Rattle.pisa_loader.specs.States.{state_bytes, state_at, at_start, memory}
 use Rattle.pisa_loader.specs.declared.error.LoadError.{LoadError}
 use Rattle.pisa_loader.specs.declared.error.LoadError.TheVariants as load
 use Rattle.pisa_loader.specs.declared.input.TheConstants.{MOST_INPUT}
 use Rattle.pisa_loader.specs.declared.limits.TheConstants.{MOST_DEEP}
 use Rattle.rpp_command.specs.Inputs.{given_input}
 use Rattle.rpp_command.specs.declared.plan.Verdict.{Verdict}
-use Rattle.rpp_command.specs.declared.plan.Verdict.TheVariants.{Done, SourceRefused, ImageRefused, Trapped, Bound, InputRefused}
+use Rattle.rpp_command.specs.declared.plan.Verdict.TheVariants.{Done, SourceRefused, ImageRefused, Trapped, Bound, InputRefused, Stopped}
 use Rattle.rpp_command.specs.declared.plan.Writing.{Writing}
 use Rattle.rpp_command.specs.declared.plan.Plan.{Plan}
 
@@ -56,6 +61,7 @@ code_of ImageRefused = 4
 code_of Trapped = 5
 code_of Bound = 6
 code_of InputRefused = 8
+code_of Stopped = 9
 
 -- a file that is to be written
 pub record Written : Type 0 where
@@ -100,6 +106,72 @@ steps_line steps = codes "steps " ++ (decimal steps ++ line_end)
 
 abbrev pub fault_line : ℕ → List ℕ
 fault_line code = codes "fault " ++ (signed_decimal code ++ (fault_name code ++ line_end))
+
+-- why a run of an image ended, and the status of it
+abbrev pub stop_line : Stop → List ℕ
+stop_line Finished = codes "finished" ++ line_end
+stop_line Returned = codes "returned" ++ line_end
+stop_line (Trap code) = fault_line code
+stop_line (BadAddress address) = codes "bad address " ++ (decimal address ++ line_end)
+stop_line (OffCode place) = codes "off code " ++ (int_decimal place ++ line_end)
+stop_line AtBound = codes "bound" ++ line_end
+
+abbrev pub verdict_of : Stop → Verdict
+verdict_of Finished = Done
+verdict_of (Trap code) = Trapped
+verdict_of AtBound = Bound
+verdict_of _ = Stopped
+
+abbrev pub direction : Bool → List ℕ
+direction false = codes "1"
+direction true = codes "-1"
+
+-- a register, unless it is 0
+abbrev pub register_line : ℕ → ℕ → List ℕ
+register_line number word = if nat_eq word 0 then [] else codes "$" ++ (decimal number ++ (codes " = " ++ (signed_decimal word ++ line_end)))
+
+-- the registers from this number on
+abbrev pub register_lines : ℕ → List ℕ → List ℕ
+register_lines number [] = []
+register_lines number (word ∷ words) = register_line number word ++ register_lines (suc number) words
+
+-- the place, the branch register, the direction and the registers
+abbrev pub core_lines : (pc : ℤ) (br : ℕ) (back : Bool) (regs : List ℕ) → List ℕ
+core_lines pc br back regs =
+    (codes "pc " ++ (int_decimal pc ++ (codes "\nbr " ++ (signed_decimal br ++ (codes "\ndir " ++ (direction back ++ line_end)))))) ++ register_lines 0 regs
+
+-- what is printed of a run of an image
+abbrev pub end_lines : End → List ℕ
+end_lines end = (stop_line end.why ++ steps_line end.spent) ++ core_lines end.last.pc end.last.br end.last.back end.last.regs
+
+-- the state where a run ended is written, where a file is named for it
+abbrev pub saved : Option (List ℕ) → MachineState → Option Written
+saved None last = None
+saved (Some name) last = Some (record { name = name; bytes = state_bytes (memory last.regs last.cells) })
+
+abbrev pub ran : (save : Option (List ℕ)) → End → Planned
+ran save end = record { verdict = verdict_of end.why; text = end_lines end; writing = saved save end.last }
+
+-- where a run of an image begins: at the loaded memory, or at a state
+abbrev pub first_of : Segments → Limits → Option (List ℕ) → Result Position LoadError
+first_of image limits None = Ok (first_position image zero_registers (loaded image.statics limits []))
+first_of image limits (Some bytes) = at_start image (state_at (memory_size (length image.statics) limits) bytes)
+
+-- the state is judged, and then the run is made
+abbrev pub IsRanPlan : Result Position LoadError → (save : Option (List ℕ)) (steps : ℕ) → Planned → Type 0
+IsRanPlan (Err e) save steps p = p ≡ prints ImageRefused (load_line e)
+IsRanPlan (Ok first) save steps p = p ≡ ran save (run first.image.code steps first.state)
+
+-- the size of the memory is tried before the state
+abbrev pub IsSizedPlan : Option LoadError → Segments → Limits → (state save : Option (List ℕ)) (steps : ℕ) → Planned → Type 0
+IsSizedPlan (Some e) image limits state save steps p = p ≡ prints InputRefused (load_line e)
+IsSizedPlan None image limits state save steps p = IsRanPlan (first_of image limits state) save steps p
+
+-- the image is judged first
+abbrev pub IsRunPlan : Result Segments ImageError → (heap deep steps : ℕ) (state save : Option (List ℕ)) → Planned → Type 0
+IsRunPlan (Err e) heap deep steps state save p = p ≡ prints ImageRefused (image_line e)
+IsRunPlan (Ok image) heap deep steps state save p =
+    IsSizedPlan (limits_refusal heap deep MOST_DEEP) image (record { heap = heap; deep = deep }) state save steps p
 
 -- the source gives a store, and the plan reports it, as it stands in these cells
 pub record ReportsStore (program : Source) (limits : Limits) (input : List FieldWord) (cells : List ℕ) (spent : ℕ) (p : Planned) : Type 0 where
@@ -215,6 +287,11 @@ abbrev pub WithInput : Texts → Option (List ℕ) → (List ℕ → Type 0) →
 WithInput texts None P = P []
 WithInput texts (Some name) P = WithText texts name MOST_INPUT P
 
+-- P holds of the text of the state, where there is one
+abbrev pub WithState : Texts → Option (List ℕ) → (Option (List ℕ) → Type 0) → Type 0
+WithState texts None P = P None
+WithState texts (Some name) P = WithText texts name MOST_STATE (λ text. P (Some text))
+
 -- a plan of the line, where the shelf has these texts
 unfoldable pub IsPlan : Asked → Texts → Planned → Type 0
 IsPlan (Check file) texts p = WithText texts file MOST_BYTES (λ text. IsCheckPlan text p)
@@ -222,4 +299,5 @@ IsPlan (Compile file image) texts p = WithText texts file MOST_BYTES (λ text. I
 IsPlan (Asm text image) texts p = WithText texts text MOST_TEXT (λ bytes. IsAsmPlan (image_of_text bytes) image p)
 IsPlan (ListImage image text) texts p = WithText texts image MOST_IMAGE (λ bytes. IsListPlan (image_at bytes) text p)
 IsPlan (Flip image flipped) texts p = WithText texts image MOST_IMAGE (λ bytes. IsFlipPlan (image_at bytes) flipped p)
+IsPlan (RunImage image heap deep steps state save) texts p = WithText texts image MOST_IMAGE (λ bytes. WithState texts state (λ given. IsRunPlan (image_at bytes) heap deep steps given save p))
 IsPlan (Go file heap deep steps input) texts p = WithText texts file MOST_BYTES (λ text. WithInput texts input (λ given. IsGoPlan text given heap deep steps p))

@@ -142,8 +142,8 @@ fn go_given<L: Ledger>(
     }
 }
 
-// What is printed where the limits or the input are refused.
-fn load_line(alloc: Global, e: LoadError) -> Result<String, AllocError>
+/// What is printed where the limits, the input or a state are refused.
+pub fn load_line(alloc: Global, e: LoadError) -> Result<String, AllocError>
     ensures { IfOk result (λ line. string_bytes line ≡ line_of_load e) }
 {
     match e {
@@ -247,8 +247,8 @@ fn report_bound(alloc: Global, bound: u64) -> Result<Plan, AllocError>
     Ok(Plan::prints(Verdict::Bound, format!(in alloc; "bound\nsteps {bound}\n")?))
 }
 
-// The line on a fault, with its name.
-fn fault_line(alloc: Global, code: u32) -> Result<String, AllocError>
+/// The line on a fault, with its name.
+pub fn fault_line(alloc: Global, code: u32) -> Result<String, AllocError>
     ensures { IfOk result (λ line. string_bytes line ≡ line_of_fault code) }
 {
     let name = fault_name(code);

@@ -3,9 +3,9 @@ use rpp_ports::{MemoryShelf, MemorySink, Named, Probe};
 use std::alloc::{AllocError, Global};
 use std::test::Fail;
 
-const FIRST: &str = "class P int x method main() x += 5";
+pub const FIRST: &str = "class P int x method main() x += 5";
 
-const SUBROUTINE: &str =
+pub const SUBROUTINE: &str =
     "START\nBRA sub\nRBRA sub\nBRA sub\nFINISH\ntop: BRA bot\nsub: SWAPBR $2\nNEG $2\nADDI $1 5\nbot: BRA top\n";
 
 const LISTED: &str =
@@ -15,7 +15,7 @@ const TURNED: &str =
     "BRA +4\nADDI $1 -5\nNEG $2\nSWAPBR $2\nBRA -4\nSTART\nBRA -3\nRBRA -4\nBRA -5\nFINISH\n";
 
 // A shelf with these files.
-fn shelf_of(
+pub fn shelf_of(
     alloc: Global,
     files: &[(&str, &[u8])],
     failing: &[u64],
@@ -31,7 +31,7 @@ fn shelf_of(
 }
 
 // What a command answers over a shelf, with its text.
-fn answer_on(
+pub fn answer_on(
     alloc: Global,
     shelf: &mut MemoryShelf,
     words: &str,

@@ -145,8 +145,8 @@ fn asm_line(alloc: Global, e: AsmError) -> Result<String, AllocError>
     }
 }
 
-// What is printed where the bytes of an image are refused.
-fn image_line(alloc: Global, e: ImageError) -> Result<String, AllocError>
+/// What is printed where the bytes of an image are refused.
+pub fn image_line(alloc: Global, e: ImageError) -> Result<String, AllocError>
     ensures { IfOk result (λ line. string_bytes line ≡ line_of_image e) }
 {
     match e {

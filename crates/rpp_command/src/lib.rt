@@ -14,16 +14,19 @@ mod not_built;
 mod plan;
 mod reading;
 mod refusing;
+mod running;
 mod settable;
 mod top;
 
 pub use laws::one_judgement;
-pub use line::{Line, read_words};
+pub use line::{Line, StateNames, read_words};
 pub use top::rooplpp;
 
 #[cfg(test)]
 mod check_tests;
 #[cfg(test)]
 mod image_tests;
+#[cfg(test)]
+mod run_tests;
 #[cfg(test)]
 mod tests;

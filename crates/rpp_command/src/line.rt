@@ -1,8 +1,15 @@
 // What the words ask for.
 ghost use Rattle.std.specs.Prelude.{◌≡◌, ◌<◌, ◌^◌, map, option_map, IfOk, IfSome, string_bytes};
-ghost use Rattle.rpp_command.specs.Lines.{asked, line_of, check_line_of, files_line_of, Compile, Asm, ListImage, Flip, go_line_of, go_with as go_asked, number_of, HasShortNumbers};
+ghost use Rattle.rpp_command.specs.Lines.{asked, line_of, check_line_of, files_line_of, Compile, Asm, ListImage, Flip, run_line_of, run_with as run_asked, state_of_names, save_of_names, go_line_of, go_with as go_asked, number_of, HasShortNumbers};
 
 use rpp_words::NoMemory;
+
+/// The file of the state that a run begins with, `-` for the loaded memory, and the file for the state where it ends.
+#[derive(Debug, Drop)]
+pub struct StateNames {
+    pub state: String,
+    pub save: String,
+}
 
 /// A command with its words read.
 #[derive(Debug, Drop)]
@@ -31,6 +38,15 @@ pub enum Line {
         image: String,
         flipped: String,
     },
+    /// Runs an image: its file, the order of the heap, the depth, the number of steps, and the files of two states, if
+    /// there are such.
+    Run {
+        image: String,
+        heap: u64,
+        deep: u64,
+        steps: u64,
+        states: Option<StateNames>,
+    },
     /// Compiles and runs a program: its file, the order of the heap, the depth, the number of steps,
     /// and the file of its input, if there is one.
     Go {
@@ -57,6 +73,7 @@ pub fn read_words(words: &[String]) -> Result<Option<Line>, NoMemory>
         "asm" => asm_line(args),
         "list" => list_line(args),
         "flip" => flip_line(args),
+        "run" => run_line(args),
         "go" => go_line(args),
         _ => Ok(None),
     }
@@ -123,6 +140,51 @@ fn flip_line(args: &[String]) -> Result<Option<Line>, NoMemory>
     Ok(Some(Line::Flip {
         image: image.clone()?,
         flipped: flipped.clone()?,
+    }))
+}
+
+fn run_line(args: &[String]) -> Result<Option<Line>, NoMemory>
+    ensures line { IfOk result (λ line. option_map asked line ≡ run_line_of (map string_bytes args.now)) }
+    ensures numbers { IfOk result (λ line. IfSome line (λ line. HasShortNumbers (asked line))) }
+{
+    match args {
+        [image, heap, deep, steps] => run_with(image, heap, deep, steps, None),
+        [image, heap, deep, steps, state, save] => {
+            let names = StateNames {
+                state: state.clone()?,
+                save: save.clone()?,
+            };
+            run_with(image, heap, deep, steps, Some(names))
+        }
+        _ => Ok(None),
+    }
+}
+
+fn run_with(
+    image: &String,
+    heap: &String,
+    deep: &String,
+    steps: &String,
+    states: Option<StateNames>,
+) -> Result<Option<Line>, NoMemory>
+    ensures line { IfOk result (λ line. option_map asked line ≡ run_asked (string_bytes image.now) (number_of (string_bytes heap.now)) (number_of (string_bytes deep.now)) (number_of (string_bytes steps.now)) (state_of_names states) (save_of_names states)) }
+    ensures numbers { IfOk result (λ line. IfSome line (λ line. HasShortNumbers (asked line))) }
+{
+    let Some(heap) = read_number(heap.as_str()) else {
+        return Ok(None);
+    };
+    let Some(deep) = read_number(deep.as_str()) else {
+        return Ok(None);
+    };
+    let Some(steps) = read_number(steps.as_str()) else {
+        return Ok(None);
+    };
+    Ok(Some(Line::Run {
+        image: image.clone()?,
+        heap,
+        deep,
+        steps,
+        states,
     }))
 }
 

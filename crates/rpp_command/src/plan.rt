@@ -14,6 +14,8 @@ pub enum Verdict {
     Trapped,
     Bound,
     InputRefused,
+    /// A run of an image that ended in a way in which no compiled image ends.
+    Stopped,
 }
 
 impl Verdict {
@@ -28,6 +30,7 @@ impl Verdict {
             Verdict::Trapped => 5,
             Verdict::Bound => 6,
             Verdict::InputRefused => 8,
+            Verdict::Stopped => 9,
         }
     }
 }

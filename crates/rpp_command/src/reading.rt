@@ -1,15 +1,22 @@
 // Files that a command reads.
-ghost use Rattle.std.specs.Prelude.{◌≡◌, ◌≤◌, [], ◌∷◌, length, Some, option_map, IfOk, IfSome, string_bytes};
+ghost use Rattle.std.specs.Prelude.{◌≡◌, ◌≤◌, [], ◌∷◌, length, None, Some, option_map, IfOk, IfSome, string_bytes};
 ghost use Rattle.rpp_tree.specs.declared.limits.TheConstants.{MOST_BYTES};
 ghost use Rattle.pisa_loader.specs.declared.input.TheConstants.{MOST_INPUT};
-ghost use Rattle.rpp_command.specs.Plans.{WithText, WithInput};
-ghost use Rattle.rpp_command.specs.Causes.{OnlyReads, Needed, source, input_files, why_of, unread};
+ghost use Rattle.rpp_command.specs.Plans.{WithText, WithInput, WithState};
+ghost use Rattle.rpp_command.specs.Lines.{state_of_names};
+ghost use Rattle.rpp_command.specs.declared.images.TheConstants.{MOST_IMAGE};
+ghost use Rattle.rpp_command.specs.Causes.{OnlyReads, Needed, source, input_files, image_file, state_files, why_of, unread};
 
+use crate::images::MOST_IMAGE;
+use crate::line::StateNames;
 use crate::plan::Stop;
 use pisa_loader::MOST_INPUT;
 use rpp_ports::{Shelf, ShelfFault};
 use rpp_tree::MOST_BYTES;
 use std::alloc::{AllocError, Global};
+
+/// The number of bytes that a state file may have.
+pub const MOST_STATE: usize = 33_554_432;
 
 /// The text of a file, of at most so many bytes.
 pub fn read_file<S: Shelf>(
@@ -70,6 +77,47 @@ fn read_input<S: Shelf>(
         None => Ok(Vec::new(alloc)),
         Some(name) => read_file(alloc, shelf, name.as_str(), MOST_INPUT as u64),
     }
+}
+
+/// The bytes of an image file, and of a state file where there is one.
+#[derive(Drop)]
+pub struct Images {
+    pub image: Vec<u8>,
+    pub state: Option<Vec<u8>>,
+}
+
+/// An image, and a state where one is named.
+pub fn read_images<S: Shelf>(
+    alloc: Global,
+    shelf: &mut S,
+    image: &str,
+    states: &Option<StateNames>,
+) -> Result<Images, Stop>
+    ensures text { IfOk result (λ read. IfSome (S.texts shelf.old) (λ texts. WithText texts image.now MOST_IMAGE (λ bytes. WithState texts (state_of_names states.now) (λ given. (read.image.items ≡ bytes) × (option_map (λ v. v.items) read.state ≡ given))))) }
+    ensures reads { OnlyReads (S.texts shelf.old) (S.texts shelf.new) (S.faults shelf.old) (S.faults shelf.new) (image_file image.now ∷ state_files (state_of_names states.now)) result }
+{
+    let image = read_file(alloc, shelf, image, MOST_IMAGE as u64)?;
+    let state = read_state(alloc, shelf, states)?;
+    Ok(Images { image, state })
+}
+
+// The bytes of a state, where one is named.
+fn read_state<S: Shelf>(
+    alloc: Global,
+    shelf: &mut S,
+    states: &Option<StateNames>,
+) -> Result<Option<Vec<u8>>, Stop>
+    ensures text { IfOk result (λ read. IfSome (S.texts shelf.old) (λ texts. WithState texts (state_of_names states.now) (λ given. option_map (λ v. v.items) read ≡ given))) }
+    ensures reads { OnlyReads (S.texts shelf.old) (S.texts shelf.new) (S.faults shelf.old) (S.faults shelf.new) (state_files (state_of_names states.now)) result }
+{
+    let Some(names) = states else {
+        return Ok(None);
+    };
+    if names.state.as_str() == "-" {
+        return Ok(None);
+    }
+    let bytes = read_file(alloc, shelf, names.state.as_str(), MOST_STATE as u64)?;
+    Ok(Some(bytes))
 }
 
 fn why(fault: ShelfFault) -> &'static str

@@ -13,6 +13,7 @@ use crate::go::go;
 use crate::images::{asm, flip, list};
 use crate::line::{Line, read_words};
 use crate::plan::{Plan, Stop, Verdict};
+use crate::running::run;
 use pisa_machine::Steps;
 use rpp_ports::{Probe, Shelf, Sink};
 use std::alloc::Global;
@@ -137,6 +138,22 @@ fn plan_line<S: Shelf, L: Ledger>(
         Line::Asm { text, image } => asm(alloc, shelf, text.as_str(), image.as_str()),
         Line::List { image, text } => list(alloc, shelf, image.as_str(), text.as_str()),
         Line::Flip { image, flipped } => flip(alloc, shelf, image.as_str(), flipped.as_str()),
+        Line::Run {
+            image,
+            heap,
+            deep,
+            steps,
+            states,
+        } => run(
+            alloc,
+            shelf,
+            image.as_str(),
+            states,
+            *heap,
+            *deep,
+            *steps,
+            counter,
+        ),
         Line::Go {
             file,
             heap,

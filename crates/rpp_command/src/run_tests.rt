@@ -1,0 +1,156 @@
+use super::*;
+use crate::image_tests::{FIRST, SUBROUTINE, answer_on, shelf_of};
+use std::test::Fail;
+
+#[test]
+fn ends_of_runs(rt: HostRuntime) -> Result<(), Fail> {
+    for (text, words, status, said) in [
+        (
+            "START\nFINISH\n",
+            "run I 1 1 1000",
+            0,
+            "finished\nsteps 2\npc 1\nbr 0\ndir 1\n",
+        ),
+        (
+            "START\nFINISH\n",
+            "run I 1 1 1",
+            6,
+            "bound\nsteps 1\npc 1\nbr 0\ndir 1\n",
+        ),
+        (
+            "START\nADDI $1 -1\nEXCH $2 $1\nFINISH\n",
+            "run I 1 1 1000",
+            9,
+            "bad address 4294967295\nsteps 3\npc 2\nbr 0\ndir 1\n$1 = -1\n",
+        ),
+        (
+            "START\nx: RBRA x\nFINISH\n",
+            "run I 1 1 1000",
+            9,
+            "returned\nsteps 3\npc 0\nbr 0\ndir -1\n",
+        ),
+        (
+            "START\nDATA 77\nFINISH\n",
+            "run I 1 1 1000",
+            5,
+            "fault 77\nsteps 2\npc 1\nbr 0\ndir 1\n",
+        ),
+        (
+            "START\nDATA 1\nFINISH\n",
+            "run I 1 1 1000",
+            5,
+            "fault 1 Fi\nsteps 2\npc 1\nbr 0\ndir 1\n",
+        ),
+        (
+            "START\nBRA +5\nFINISH\n",
+            "run I 1 1 1000",
+            9,
+            "off code 6\nsteps 2\npc 6\nbr 5\ndir 1\n",
+        ),
+        (
+            "START\nBRA -1\nFINISH\n",
+            "run I 1 1 1000",
+            9,
+            "off code -1\nsteps 3\npc -1\nbr -1\ndir 1\n",
+        ),
+        (
+            "START\nFINISH\n",
+            "run I 21 1 5",
+            8,
+            "refused 35 HeapOrder\n",
+        ),
+        (
+            "START\nFINISH\n",
+            "run I 1 0 5",
+            8,
+            "refused 36 DeepRange\n",
+        ),
+        (
+            "START\nFINISH\n",
+            "run T 0 0 5",
+            4,
+            "refused 32 ImageMagic at 0\n",
+        ),
+        (
+            "START\nFINISH\n",
+            "run I 1 1 5 T S",
+            4,
+            "refused 38 BadState at 0\n",
+        ),
+        (
+            "START\nFINISH\n",
+            "run I 1 0 5 T S",
+            8,
+            "refused 36 DeepRange\n",
+        ),
+        (
+            "START\nFINISH\n",
+            "run I 1 1 5 G S",
+            2,
+            "cannot read G: missing\n",
+        ),
+        ("START\nFINISH\n", "run I 1 1 5 -", 1, "words refused\n"),
+    ] {
+        let mut shelf = shelf_of(rt.alloc(), &[("T", text.as_bytes())], &[])?;
+        let (assembled, _) = answer_on(rt.alloc(), &mut shelf, "asm T I", &[])?;
+        assert_eq!(rt; assembled, 0, "{text}");
+        let (code, told) = answer_on(rt.alloc(), &mut shelf, words, &[])?;
+        assert_eq!(rt; code, status, "{words} on {text}");
+        assert_eq!(rt; told.as_slice(), said.as_bytes(), "{words} on {text}");
+        assert!(rt; shelf.text("S") == None);
+    }
+    Ok(())
+}
+
+// An image runs, is flipped, and runs back to the state that it was loaded with.
+#[test]
+fn there_and_back(rt: HostRuntime) -> Result<(), Fail> {
+    let files: [(&str, &[u8]); 2] = [("F", FIRST.as_bytes()), ("T", SUBROUTINE.as_bytes())];
+    let mut shelf = shelf_of(rt.alloc(), &files, &[])?;
+    for (words, status, text) in [
+        ("asm T A", 0, "assembled 10 cells\n"),
+        ("run A 1 1 0 - L", 6, "bound\nsteps 0\npc 0\nbr 0\ndir 1\n"),
+        (
+            "run A 1 1 1000 - S",
+            0,
+            "finished\nsteps 26\npc 4\nbr 0\ndir 1\n$1 = 5\n",
+        ),
+        ("flip A B", 0, "flipped 10 cells\n"),
+        (
+            "run B 1 1 1000 S S2",
+            0,
+            "finished\nsteps 26\npc 9\nbr 0\ndir 1\n",
+        ),
+        ("compile F I", 0, "compiled 7 cells\n"),
+        ("run I 1 1 0 - M", 6, "bound\nsteps 0\npc 0\nbr 0\ndir 1\n"),
+        (
+            "run I 1 1 1000000 - E",
+            0,
+            "finished\nsteps 7\npc 6\nbr 0\ndir 1\n",
+        ),
+        ("flip I J", 0, "flipped 7 cells\n"),
+        (
+            "run J 1 1 1000000 E E2",
+            0,
+            "finished\nsteps 7\npc 6\nbr 0\ndir 1\n",
+        ),
+        ("run I 2 1 1000000 E E3", 4, "refused 38 BadState at 136\n"),
+    ] {
+        let (code, said) = answer_on(rt.alloc(), &mut shelf, words, &[])?;
+        assert_eq!(rt; code, status, "{words}");
+        assert_eq!(rt; said.as_slice(), text.as_bytes(), "{words}");
+    }
+    assert!(rt; shelf.text("S2") == shelf.text("L"));
+    assert!(rt; shelf.text("E2") == shelf.text("M"));
+    assert!(rt; shelf.text("E3") == None);
+
+    // Of the loaded memory, the run has changed cell 42 to 5 and nothing else.
+    let mut changed = Vec::new(rt.alloc());
+    if let Some(bytes) = shelf.text("M") {
+        changed.extend_from_slice(bytes)?;
+    }
+    assert_eq!(rt; changed.len(), 140 + 4 * 560);
+    changed[140 + 4 * 42] = 5;
+    assert!(rt; shelf.text("E") == Some(changed.as_slice()));
+    Ok(())
+}
