@@ -11,6 +11,7 @@ use Rattle.rpp_tree.specs.declared.tree.Var.{Var}
 use Rattle.rpp_tree.specs.declared.tree.VarType.{VarType}
 use Rattle.rpp_tree.specs.declared.tree.VarType.TheVariants as kind
 use Rattle.rpp_tree.specs.Tree.{Source, Statement, Statements}
+use Rattle.pisa_isa.specs.Loaded.{loaded}
 use Rattle.source_meaning.specs.Alone.{told_by, values_of, IsAlone}
 use Rattle.source_meaning.specs.Layout.{layout}
 use Rattle.source_meaning.specs.Source.{main_of, main_fields, main_body, is_int_type, is_int_field, with_input, IsLimits, IsValid, GivesDone}
@@ -20,8 +21,8 @@ use Rattle.program_codegen.proofs.Values.{IsIntName, IsPlainStatement, IsPlainBl
 use Rattle.program_codegen.proofs.Accepted.{IsCompiled}
 use Rattle.program_codegen.proofs.Meaning.{last_values, last_state, only_done}
 use Rattle.program_codegen.proofs.Memory.{number_is}
-use Rattle.program_codegen.proofs.LaidOut.{shape_of, front, back, length-front, layout-program}
-use Rattle.program_codegen.proofs.Stands.{length-last, plain_last}
+use Rattle.program_codegen.proofs.LaidOut.{shape_of, front, back, length-front, loaded-program, layout-program}
+use Rattle.program_codegen.proofs.Stands.{length-first, length-last, plain_last}
 
 -- values that their words tell
 data Told : List Var → List Value → Type 0 where
@@ -123,4 +124,34 @@ module _ (program : Source) (built : IsCompiled program) (limits : Limits) (inpu
           told = told_last program input built.plain valid;
         };
         room = subst (λ xs. 42 + length (main_fields program) ≤ length xs) (sym laid) room_there;
+      }
+
+-- a memory where a run begins: the main object is alone in it, with what the input gives
+pub record BeginsAlone (program : Source) (input : List FieldWord) (cells : List ℕ) : Type 0 where
+  pub is_alone : IsAlone program cells (first_values (main_fields program) input)
+  pub room : 42 + length (main_fields program) ≤ length cells
+
+module _ (program : Source) (limits : Limits) (input : List FieldWord) (allowed : IsLimits limits) (valid : IsValid program input) where
+  abbrev first_words : List ℕ
+  first_words = words_of (first_values (main_fields program) input)
+
+  abbrev first_memory : List ℕ
+  first_memory = front limits (shape_of program) ++ (first_words ++ back limits (shape_of program))
+
+  length-first_words : length first_words ≡ length (main_fields program)
+  length-first_words = length-map (first_values (main_fields program) input) number_of ∙ length-first (main_fields program) input
+
+  first_room : 42 + length (main_fields program) ≤ length first_memory
+  first_room =
+      omega (arith, length-append {A = ℕ} (front limits (shape_of program)) (first_words ++ back limits (shape_of program)), length-append {A = ℕ} first_words (back limits (shape_of program)), length-front limits (shape_of program) allowed, length-first_words)
+
+  pub begins_alone : BeginsAlone program input (loaded (program_statics program) limits input)
+  begins_alone =
+      let there = loaded-program program limits input valid in
+      record {
+        is_alone = record {
+          words = ap (λ xs. take (length (main_fields program)) (drop 42 xs)) there ∙ words_of_cells (front limits (shape_of program)) first_words (back limits (shape_of program)) (length (main_fields program)) (length-front limits (shape_of program) allowed) length-first_words;
+          told = told_is (main_fields program) (first_values (main_fields program) input) (told_input (main_fields program) input (zero_values (main_fields program)) valid.ints (told_zeros (main_fields program)));
+        };
+        room = subst (λ xs. 42 + length (main_fields program) ≤ length xs) (sym there) first_room;
       }

@@ -1,5 +1,5 @@
 -- A plan of a line writes the line's target, or nothing.
-use Rattle.std.proofs.Common.{◌≡◌, ℕ, ◌≤◌, List, [], length, None, Some, Ok, Err, inl, inr, IsSomeAnd, option_map, IfSome, subst, sym, refl}
+use Rattle.std.proofs.Common.{◌≡◌, ℕ, ◌≤◌, Bool, true, false, List, [], length, None, Some, Ok, Err, inl, inr, IsSomeAnd, option_map, IfSome, subst, sym, refl}
 use Rattle.std.specs.declared.option.Option.{Option}
 use Rattle.std.specs.Prelude.{Result}
 use Rattle.rpp_words.specs.declared.input.Limits.{Limits}
@@ -17,11 +17,11 @@ use Rattle.pisa_asm.specs.declared.error.AsmError.{AsmError}
 use Rattle.pisa_asm.specs.Passes.{image_of_text}
 use Rattle.pisa_machine.specs.Position.{Position}
 use Rattle.pisa_isa.specs.Machine.{State}
-use Rattle.rpp_command.specs.Lines.{Asked, Check, Compile, Asm, ListImage, Flip, RunImage, Go}
+use Rattle.rpp_command.specs.Lines.{Asked, Check, Compile, Asm, ListImage, Flip, RunImage, Go, Turn}
 use Rattle.class_table.specs.Refusal.{Refusal}
 use Rattle.program_codegen.specs.declared.unbuilt.Unbuilt.{Unbuilt}
 use Rattle.program_codegen.specs.Unbuilt.{unbuilt}
-use Rattle.rpp_command.specs.Plans.{Planned, Written, IsPlan, IsPlanOf, IsBuiltPlan, IsJudgementPlan, IsLimitedPlan, IsInputPlan, IsGoPlan, IsImageOf, IsBuiltImage, IsAsmPlan, IsListPlan, IsFlipPlan, IsRunPlan, IsSizedPlan, IsRanPlan, WithState, first_of, saved, WithInput, ReportsStop}
+use Rattle.rpp_command.specs.Plans.{Planned, Written, IsPlan, IsPlanOf, IsBuiltPlan, IsJudgementPlan, IsLimitedPlan, IsInputPlan, IsGoPlan, IsImageOf, IsBuiltImage, IsAsmPlan, IsListPlan, IsFlipPlan, IsRunPlan, IsSizedPlan, IsRanPlan, WithState, first_of, saved, WithInput, ReportsStop, TurnsStop, RunsOrTurns}
 use Rattle.rpp_command.specs.Causes.{target_of, WritesOnly, KeepsButTarget}
 
 -- what holds of each text that the name may have
@@ -40,21 +40,33 @@ stop_writes Returned program limits input cells spent steps p h = absurd h
 stop_writes (BadAddress a) program limits input cells spent steps p h = absurd h
 stop_writes (OffCode a) program limits input cells spent steps p h = absurd h
 
-input_writes : (input : Result (List FieldWord) LoadError) (program : Source) (limits : Limits) (steps : ℕ) (p : Planned) → IsInputPlan input program limits steps p → WritesOnly p None
-input_writes (Err e) program limits steps p h = along p _ None h (inl refl)
-input_writes (Ok input) program limits steps p h = stop_writes _ program limits input _ _ steps p h.reports
+turn_stop_writes : (why : Stop) (program : Source) (limits : Limits) (input : List FieldWord) (cells first : List ℕ) (spent steps : ℕ) (p : Planned) → TurnsStop why program limits input cells first spent steps p → WritesOnly p None
+turn_stop_writes Finished program limits input cells first spent steps p h = along p _ None h.reported (inl refl)
+turn_stop_writes (Trap code) program limits input cells first spent steps p h = along p _ None h.reported (inl refl)
+turn_stop_writes Bound program limits input cells first spent steps p h = along p _ None h (inl refl)
+turn_stop_writes Returned program limits input cells first spent steps p h = absurd h
+turn_stop_writes (BadAddress a) program limits input cells first spent steps p h = absurd h
+turn_stop_writes (OffCode a) program limits input cells first spent steps p h = absurd h
 
-limited_writes : (refusal : Option LoadError) (given : List ℕ) (program : Source) (limits : Limits) (steps : ℕ) (p : Planned) → IsLimitedPlan refusal given program limits steps p → WritesOnly p None
-limited_writes (Some e) given program limits steps p h = along p _ None h (inl refl)
-limited_writes None given program limits steps p h = input_writes (given_input program given) program limits steps p h
+either_writes : (turns : Bool) (program : Source) (limits : Limits) (input : List FieldWord) (steps : ℕ) (p : Planned) → RunsOrTurns turns program limits input steps p → WritesOnly p None
+either_writes false program limits input steps p h = stop_writes _ program limits input _ _ steps p h.reports
+either_writes true program limits input steps p h = turn_stop_writes _ program limits input _ _ _ steps p h.reports
 
-built_writes : (found : Option Unbuilt) (text given : List ℕ) (program : Source) (heap deep steps : ℕ) (p : Planned) → IsBuiltPlan found text given program heap deep steps p → WritesOnly p None
-built_writes (Some found) text given program heap deep steps p h = along p _ None h.told (inl refl)
-built_writes None text given program heap deep steps p h = limited_writes _ given program _ steps p h
+input_writes : (turns : Bool) (input : Result (List FieldWord) LoadError) (program : Source) (limits : Limits) (steps : ℕ) (p : Planned) → IsInputPlan turns input program limits steps p → WritesOnly p None
+input_writes turns (Err e) program limits steps p h = along p _ None h (inl refl)
+input_writes turns (Ok input) program limits steps p h = either_writes turns program limits input steps p h
 
-go_writes : (judgement : Result Source Refusal) (text given : List ℕ) (heap deep steps : ℕ) (p : Planned) → IsPlanOf judgement text given heap deep steps p → WritesOnly p None
-go_writes (Err refusal) text given heap deep steps p h = along p _ None h (inl refl)
-go_writes (Ok program) text given heap deep steps p h = built_writes (unbuilt program) text given program heap deep steps p h
+limited_writes : (turns : Bool) (refusal : Option LoadError) (given : List ℕ) (program : Source) (limits : Limits) (steps : ℕ) (p : Planned) → IsLimitedPlan turns refusal given program limits steps p → WritesOnly p None
+limited_writes turns (Some e) given program limits steps p h = along p _ None h (inl refl)
+limited_writes turns None given program limits steps p h = input_writes turns (given_input program given) program limits steps p h
+
+built_writes : (turns : Bool) (found : Option Unbuilt) (text given : List ℕ) (program : Source) (heap deep steps : ℕ) (p : Planned) → IsBuiltPlan turns found text given program heap deep steps p → WritesOnly p None
+built_writes turns (Some found) text given program heap deep steps p h = along p _ None h.told (inl refl)
+built_writes turns None text given program heap deep steps p h = limited_writes turns _ given program _ steps p h
+
+go_writes : (turns : Bool) (judgement : Result Source Refusal) (text given : List ℕ) (heap deep steps : ℕ) (p : Planned) → IsPlanOf turns judgement text given heap deep steps p → WritesOnly p None
+go_writes turns (Err refusal) text given heap deep steps p h = along p _ None h (inl refl)
+go_writes turns (Ok program) text given heap deep steps p h = built_writes turns (unbuilt program) text given program heap deep steps p h
 
 check_writes : (judgement : Result Source Refusal) (p : Planned) → IsJudgementPlan judgement p → WritesOnly p None
 check_writes (Err refusal) p h = along p _ None h (inl refl)
@@ -100,9 +112,9 @@ of_state : (texts : Texts) (state : Option (List ℕ)) (read : Result Segments I
 of_state texts None read heap deep steps save p g = run_writes read heap deep steps None save p g
 of_state texts (Some name) read heap deep steps save p h = of_text (texts name) _ _ (WritesOnly p save) h (λ given g. run_writes read heap deep steps (Some given) save p g)
 
-of_input : (texts : Texts) (input : Option (List ℕ)) (text : List ℕ) (heap deep steps : ℕ) (p : Planned) → WithInput texts input (λ given. IsGoPlan text given heap deep steps p) → WritesOnly p None
-of_input texts None text heap deep steps p g = go_writes g.judgement text [] heap deep steps p g.plan
-of_input texts (Some name) text heap deep steps p h = of_text (texts name) _ _ (WritesOnly p None) h (λ given g. go_writes g.judgement text given heap deep steps p g.plan)
+of_input : (turns : Bool) (texts : Texts) (input : Option (List ℕ)) (text : List ℕ) (heap deep steps : ℕ) (p : Planned) → WithInput texts input (λ given. IsGoPlan turns text given heap deep steps p) → WritesOnly p None
+of_input turns texts None text heap deep steps p g = go_writes turns g.judgement text [] heap deep steps p g.plan
+of_input turns texts (Some name) text heap deep steps p h = of_text (texts name) _ _ (WritesOnly p None) h (λ given g. go_writes turns g.judgement text given heap deep steps p g.plan)
 
 pub plan_writes : (line : Asked) (texts : Texts) (p : Planned) → IsPlan line texts p → WritesOnly p (target_of line)
 unfolding IsPlan target_of
@@ -112,7 +124,8 @@ plan_writes (Asm text image) texts p h = of_text (texts text) _ _ (WritesOnly p 
 plan_writes (ListImage image text) texts p h = of_text (texts image) _ _ (WritesOnly p (Some text)) h (λ bytes g. list_writes (image_at bytes) text p g)
 plan_writes (Flip image flipped) texts p h = of_text (texts image) _ _ (WritesOnly p (Some flipped)) h (λ bytes g. flip_writes (image_at bytes) flipped p g)
 plan_writes (RunImage image heap deep steps state save) texts p h = of_text (texts image) _ _ (WritesOnly p save) h (λ bytes g. of_state texts state (image_at bytes) heap deep steps save p g)
-plan_writes (Go file heap deep steps input) texts p h = of_text (texts file) _ _ (WritesOnly p None) h (λ text g. of_input texts input text heap deep steps p g)
+plan_writes (Go file heap deep steps input) texts p h = of_text (texts file) _ _ (WritesOnly p None) h (λ text g. of_input false texts input text heap deep steps p g)
+plan_writes (Turn file heap deep steps input) texts p h = of_text (texts file) _ _ (WritesOnly p None) h (λ text g. of_input true texts input text heap deep steps p g)
 
 -- where nothing is written, each name keeps its text
 kept_all : (old new : Option Texts) (name : Option (List ℕ)) → KeepsButTarget old new None → KeepsButTarget old new name

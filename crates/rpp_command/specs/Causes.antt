@@ -9,7 +9,7 @@ use Rattle.rpp_ports.specs.declared.shelf.ShelfFault.TheVariants as fault
 use Rattle.pisa_asm.specs.declared.assembler.TheConstants.{MOST_TEXT}
 use Rattle.rpp_command.specs.declared.images.TheConstants.{MOST_IMAGE}
 use Rattle.rpp_command.specs.declared.reading.TheConstants.{MOST_STATE}
-use Rattle.rpp_command.specs.Lines.{Asked, Check, Compile, Asm, ListImage, Flip, RunImage, Go}
+use Rattle.rpp_command.specs.Lines.{Asked, Check, Compile, Asm, ListImage, Flip, RunImage, Go, Turn}
 use Rattle.rpp_command.specs.Plans.{Planned}
 use Rattle.rpp_command.specs.declared.plan.Stop.{Stop}
 use Rattle.rpp_command.specs.declared.plan.Stop.TheVariants.{NoMemory, Unread}
@@ -53,6 +53,7 @@ files_of (ListImage image text) = image_file image ∷ []
 files_of (Flip image flipped) = image_file image ∷ []
 files_of (RunImage image heap deep steps state save) = image_file image ∷ state_files state
 files_of (Go file heap deep steps given) = source file ∷ input_files given
+files_of (Turn file heap deep steps given) = source file ∷ input_files given
 
 -- one of the files is missing or too long
 abbrev pub LacksOne : Texts → List Needed → Type 0
@@ -117,6 +118,7 @@ target_of (ListImage image text) = Some text
 target_of (Flip image flipped) = Some flipped
 target_of (RunImage image heap deep steps state save) = save
 target_of (Go file heap deep steps given) = None
+target_of (Turn file heap deep steps given) = None
 
 -- the file that the words may have written
 abbrev pub target : Option Asked → Option (List ℕ)

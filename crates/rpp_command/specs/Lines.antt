@@ -1,5 +1,5 @@
 -- What the words ask for, with lists of bytes for texts.
-use Rattle.std.specs.Prelude.{ℕ, ◌+◌, ◌-◌, ◌*◌, ◌^◌, ◌<◌, List, [], ◌∷◌, length, None, Some, option_map, if◌then◌else◌, nat_le, nat_lt, ◌&&◌, string_bytes, codes}
+use Rattle.std.specs.Prelude.{ℕ, Bool, true, false, ◌+◌, ◌-◌, ◌*◌, ◌^◌, ◌<◌, List, [], ◌∷◌, length, None, Some, option_map, if◌then◌else◌, nat_le, nat_lt, ◌&&◌, string_bytes, codes}
 use Rattle.std.specs.Char.{is_ascii_digit}
 use Rattle.std.specs.declared.option.Option.{Option}
 use Rattle.std.specs.Str.{bytes_eq}
@@ -16,6 +16,7 @@ pub data Asked : Type 0 where
   Flip : (image flipped : List ℕ) → Asked
   RunImage : (image : List ℕ) (heap deep steps : ℕ) (state save : Option (List ℕ)) → Asked
   Go : (file : List ℕ) (heap deep steps : ℕ) (input : Option (List ℕ)) → Asked
+  Turn : (file : List ℕ) (heap deep steps : ℕ) (input : Option (List ℕ)) → Asked
 
 -- the word `-` names no state
 abbrev pub state_named : List ℕ → Option (List ℕ)
@@ -38,6 +39,7 @@ asked (line.List image text) = ListImage (string_bytes image) (string_bytes text
 asked (line.Flip image flipped) = Flip (string_bytes image) (string_bytes flipped)
 asked (line.Run image heap deep steps names) = RunImage (string_bytes image) heap deep steps (state_of_names names) (save_of_names names)
 asked (line.Go file heap deep steps input) = Go (string_bytes file) heap deep steps (option_map string_bytes input)
+asked (line.Turn file heap deep steps input) = Turn (string_bytes file) heap deep steps (option_map string_bytes input)
 
 -- the number after the digits so far, if the rest are digits
 abbrev pub digits_after : ℕ → List ℕ → Option ℕ
@@ -48,15 +50,20 @@ digits_after n (c ∷ cs) = if is_ascii_digit c then digits_after (10 * n + (c -
 abbrev pub number_of : List ℕ → Option ℕ
 number_of word = if nat_lt 0 (length word) && nat_le (length word) 18 then digits_after 0 word else None
 
--- a file, an order of the heap, a depth, a number of steps, and the file of an input, if there is one
-abbrev pub go_with : List ℕ → Option ℕ → Option ℕ → Option ℕ → Option (List ℕ) → Option Asked
-go_with file (Some heap) (Some deep) (Some steps) input = Some (Go file heap deep steps input)
-go_with file _ _ _ input = None
+-- a run of a program, and whether it turns back after a finish
+abbrev pub go_or_turn : (turns : Bool) → (file : List ℕ) (heap deep steps : ℕ) (input : Option (List ℕ)) → Asked
+go_or_turn false = Go
+go_or_turn true = Turn
 
-abbrev pub go_line_of : List (List ℕ) → Option Asked
-go_line_of (file ∷ heap ∷ deep ∷ steps ∷ []) = go_with file (number_of heap) (number_of deep) (number_of steps) None
-go_line_of (file ∷ heap ∷ deep ∷ steps ∷ input ∷ []) = go_with file (number_of heap) (number_of deep) (number_of steps) (Some input)
-go_line_of _ = None
+-- a file, an order of the heap, a depth, a number of steps, and the file of an input, if there is one
+abbrev pub go_with : (turns : Bool) → List ℕ → Option ℕ → Option ℕ → Option ℕ → Option (List ℕ) → Option Asked
+go_with turns file (Some heap) (Some deep) (Some steps) input = Some (go_or_turn turns file heap deep steps input)
+go_with turns file _ _ _ input = None
+
+abbrev pub go_line_of : (turns : Bool) → List (List ℕ) → Option Asked
+go_line_of turns (file ∷ heap ∷ deep ∷ steps ∷ []) = go_with turns file (number_of heap) (number_of deep) (number_of steps) None
+go_line_of turns (file ∷ heap ∷ deep ∷ steps ∷ input ∷ []) = go_with turns file (number_of heap) (number_of deep) (number_of steps) (Some input)
+go_line_of turns _ = None
 
 -- an image, an order of the heap, a depth, a number of steps, and the files of two states, if there are such
 abbrev pub run_with : List ℕ → Option ℕ → Option ℕ → Option ℕ → (state save : Option (List ℕ)) → Option Asked
@@ -88,7 +95,8 @@ line_of (name ∷ args) =
     else if bytes_eq name (codes "list") then files_line_of ListImage args
     else if bytes_eq name (codes "flip") then files_line_of Flip args
     else if bytes_eq name (codes "run") then run_line_of args
-    else if bytes_eq name (codes "go") then go_line_of args
+    else if bytes_eq name (codes "go") then go_line_of false args
+    else if bytes_eq name (codes "turn") then go_line_of true args
     else None
 
 -- the numbers of a line have at most 18 digits
@@ -100,3 +108,4 @@ HasShortNumbers (ListImage image text) = Unit {0}
 HasShortNumbers (Flip image flipped) = Unit {0}
 HasShortNumbers (RunImage image heap deep steps state save) = (heap < 10 ^ 18) × (deep < 10 ^ 18) × (steps < 10 ^ 18)
 HasShortNumbers (Go file heap deep steps input) = (heap < 10 ^ 18) × (deep < 10 ^ 18) × (steps < 10 ^ 18)
+HasShortNumbers (Turn file heap deep steps input) = (heap < 10 ^ 18) × (deep < 10 ^ 18) × (steps < 10 ^ 18)

@@ -15,7 +15,7 @@ use Rattle.program_codegen.specs.Unbuilt.{unbuilt}
 use Rattle.pisa_isa.specs.declared.machine.Stop.{Stop}
 use Rattle.pisa_isa.specs.declared.machine.Stop.TheVariants.{Finished, Returned, Trap, BadAddress, OffCode, Bound as AtBound}
 use Rattle.pisa_isa.specs.Image.{Segments, IsImage}
-use Rattle.pisa_isa.specs.Flipped.{flipped_image}
+use Rattle.pisa_isa.specs.Flipped.{flipped_image, Restores}
 use Rattle.pisa_isa.specs.declared.cell.Cell.{Cell}
 use Rattle.pisa_image.specs.declared.error.ImageError.{ImageError}
 use Rattle.pisa_image.specs.ImageBytes.{image_bytes}
@@ -29,11 +29,11 @@ use Rattle.pisa_isa.specs.Loaded.{loaded}
 use Rattle.pisa_isa.specs.Runs.{End, run, zero_registers}
 use Rattle.pisa_machine.specs.Position.{Position, first_position}
 use Rattle.source_meaning.specs.Store.{State}
-use Rattle.source_meaning.specs.Source.{GivesDone, GivesFault}
+use Rattle.source_meaning.specs.Source.{GivesDone, GivesFault, starting}
 use Rattle.source_meaning.specs.Report.{signed_decimal}
 use Rattle.source_meaning.specs.Walk.{run_report}
 use Rattle.source_meaning.specs.StandsFor.{StandsFor, run_of}
-use Rattle.rpp_command.specs.Lines.{Asked, Check, Compile, Asm, ListImage, Flip, RunImage, Go}
+use Rattle.rpp_command.specs.Lines.{Asked, Check, Compile, Asm, ListImage, Flip, RunImage, Go, Turn}
 use Rattle.rpp_command.specs.ImageRefusals.{asm_line, image_line}
 use Rattle.rpp_command.specs.declared.images.TheConstants.{MOST_IMAGE}
 use Rattle.rpp_command.specs.declared.reading.TheConstants.{MOST_STATE}
@@ -202,15 +202,48 @@ pub record RunsImage (program : Source) (limits : Limits) (input : List FieldWor
   pub stands : StandsFor program image
   pub reports : ReportsEnd (run_of image limits input steps) program limits input steps p
 
+-- what is printed of the way back: its steps, the report, and how many cells are as they were
+abbrev pub back_lines : (spent : ℕ) (report : List ℕ) (count : ℕ) → List ℕ
+back_lines spent report count = codes "back " ++ (decimal spent ++ (line_end ++ (report ++ (codes "restored " ++ (decimal count ++ (codes " cells" ++ line_end))))))
+
+-- the source gives a store, and the plan reports it, and behind it the store where the source began, as it stands in the first cells
+pub record ReportsTurn (program : Source) (limits : Limits) (input : List FieldWord) (cells first : List ℕ) (spent : ℕ) (p : Planned) : Type 0 where
+  pub end : State
+  pub gives : GivesDone program limits input end
+  pub reported : p ≡ prints Done ((run_report program end.store cells ++ steps_line spent) ++ back_lines spent (run_report program (starting program input).store first) (length first))
+
+-- what the plan of a run says that turns back after a finish
+abbrev pub TurnsStop : Stop → Source → Limits → List FieldWord → (cells first : List ℕ) (spent steps : ℕ) → Planned → Type 0
+TurnsStop Finished program limits input cells first spent steps p = ReportsTurn program limits input cells first spent p
+TurnsStop (Trap code) program limits input cells first spent steps p = ReportsFault program limits input code spent p
+TurnsStop AtBound program limits input cells first spent steps p = p ≡ prints Bound (codes "bound" ++ (line_end ++ steps_line steps))
+TurnsStop _ program limits input cells first spent steps p = ⊥
+
+abbrev pub TurnsEnd : End → Source → Limits → List FieldWord → (first : List ℕ) (steps : ℕ) → Planned → Type 0
+TurnsEnd end program limits input first steps p = TurnsStop end.why program limits input end.last.cells first end.spent steps p
+
+-- there is an image that stands for the program, and the plan reports its run; after a finish the flipped image restores
+-- every register and every cell, in as many steps
+pub record TurnsImage (program : Source) (limits : Limits) (input : List FieldWord) (steps : ℕ) (p : Planned) : Type 0 where
+  pub image : Segments
+  pub is_image : IsImage image
+  pub stands : StandsFor program image
+  pub restores : (run_of image limits input steps).why ≡ Finished → Restores image.code (run_of image limits input steps) steps zero_registers (loaded image.statics limits input)
+  pub reports : TurnsEnd (run_of image limits input steps) program limits input (loaded image.statics limits input) steps p
+
+abbrev pub RunsOrTurns : (turns : Bool) → Source → Limits → List FieldWord → (steps : ℕ) → Planned → Type 0
+RunsOrTurns false program limits input steps p = RunsImage program limits input steps p
+RunsOrTurns true program limits input steps p = TurnsImage program limits input steps p
+
 -- the input is judged, and then the run is made on it
-abbrev pub IsInputPlan : Result (List FieldWord) LoadError → Source → Limits → ℕ → Planned → Type 0
-IsInputPlan (Err e) program limits steps p = p ≡ prints InputRefused (load_line e)
-IsInputPlan (Ok input) program limits steps p = RunsImage program limits input steps p
+abbrev pub IsInputPlan : (turns : Bool) → Result (List FieldWord) LoadError → Source → Limits → ℕ → Planned → Type 0
+IsInputPlan turns (Err e) program limits steps p = p ≡ prints InputRefused (load_line e)
+IsInputPlan turns (Ok input) program limits steps p = RunsOrTurns turns program limits input steps p
 
 -- the size of the memory is tried before the input
-abbrev pub IsLimitedPlan : Option LoadError → (given : List ℕ) → Source → Limits → ℕ → Planned → Type 0
-IsLimitedPlan (Some e) given program limits steps p = p ≡ prints InputRefused (load_line e)
-IsLimitedPlan None given program limits steps p = IsInputPlan (given_input program given) program limits steps p
+abbrev pub IsLimitedPlan : (turns : Bool) → Option LoadError → (given : List ℕ) → Source → Limits → ℕ → Planned → Type 0
+IsLimitedPlan turns (Some e) given program limits steps p = p ≡ prints InputRefused (load_line e)
+IsLimitedPlan turns None given program limits steps p = IsInputPlan turns (given_input program given) program limits steps p
 
 -- a form that is not built yet is told before the run
 pub record TellsUnbuilt (text : List ℕ) (found : Unbuilt) (p : Planned) : Type 0 where
@@ -218,19 +251,19 @@ pub record TellsUnbuilt (text : List ℕ) (found : Unbuilt) (p : Planned) : Type
   pub cutting : IsCutting text tokens
   pub told : p ≡ prints SourceRefused (refused_line (not_built tokens found))
 
-abbrev pub IsBuiltPlan : Option Unbuilt → (text given : List ℕ) → Source → (heap deep steps : ℕ) → Planned → Type 0
-IsBuiltPlan (Some found) text given program heap deep steps p = TellsUnbuilt text found p
-IsBuiltPlan None text given program heap deep steps p = IsLimitedPlan (limits_refusal heap deep MOST_DEEP) given program (record { heap = heap; deep = deep }) steps p
+abbrev pub IsBuiltPlan : (turns : Bool) → Option Unbuilt → (text given : List ℕ) → Source → (heap deep steps : ℕ) → Planned → Type 0
+IsBuiltPlan turns (Some found) text given program heap deep steps p = TellsUnbuilt text found p
+IsBuiltPlan turns None text given program heap deep steps p = IsLimitedPlan turns (limits_refusal heap deep MOST_DEEP) given program (record { heap = heap; deep = deep }) steps p
 
-abbrev pub IsPlanOf : Result Source Refusal → (text given : List ℕ) → (heap deep steps : ℕ) → Planned → Type 0
-IsPlanOf (Err refusal) text given heap deep steps p = p ≡ prints SourceRefused (refused_line refusal)
-IsPlanOf (Ok program) text given heap deep steps p = IsBuiltPlan (unbuilt program) text given program heap deep steps p
+abbrev pub IsPlanOf : (turns : Bool) → Result Source Refusal → (text given : List ℕ) → (heap deep steps : ℕ) → Planned → Type 0
+IsPlanOf turns (Err refusal) text given heap deep steps p = p ≡ prints SourceRefused (refused_line refusal)
+IsPlanOf turns (Ok program) text given heap deep steps p = IsBuiltPlan turns (unbuilt program) text given program heap deep steps p
 
 -- the text is judged, and the plan is that of the judgement
-pub record IsGoPlan (text given : List ℕ) (heap deep steps : ℕ) (p : Planned) : Type 0 where
+pub record IsGoPlan (turns : Bool) (text given : List ℕ) (heap deep steps : ℕ) (p : Planned) : Type 0 where
   pub judgement : Result Source Refusal
   pub judged : IsJudged text judgement
-  pub plan : IsPlanOf judgement text given heap deep steps p
+  pub plan : IsPlanOf turns judgement text given heap deep steps p
 
 abbrev pub IsJudgementPlan : Result Source Refusal → Planned → Type 0
 IsJudgementPlan (Err refusal) p = p ≡ prints SourceRefused (refused_line refusal)
@@ -300,4 +333,5 @@ IsPlan (Asm text image) texts p = WithText texts text MOST_TEXT (λ bytes. IsAsm
 IsPlan (ListImage image text) texts p = WithText texts image MOST_IMAGE (λ bytes. IsListPlan (image_at bytes) text p)
 IsPlan (Flip image flipped) texts p = WithText texts image MOST_IMAGE (λ bytes. IsFlipPlan (image_at bytes) flipped p)
 IsPlan (RunImage image heap deep steps state save) texts p = WithText texts image MOST_IMAGE (λ bytes. WithState texts state (λ given. IsRunPlan (image_at bytes) heap deep steps given save p))
-IsPlan (Go file heap deep steps input) texts p = WithText texts file MOST_BYTES (λ text. WithInput texts input (λ given. IsGoPlan text given heap deep steps p))
+IsPlan (Go file heap deep steps input) texts p = WithText texts file MOST_BYTES (λ text. WithInput texts input (λ given. IsGoPlan false text given heap deep steps p))
+IsPlan (Turn file heap deep steps input) texts p = WithText texts file MOST_BYTES (λ text. WithInput texts input (λ given. IsGoPlan true text given heap deep steps p))

@@ -1,4 +1,4 @@
-// `go F H D STEPS`: compiles a program, runs its image and reports.
+// `go F H D STEPS [INPUT]` and `turn` with the same words: compiles a program, runs its image and reports.
 ghost use Rattle.std.specs.Prelude.{◌≡◌, ◌≤◌, ◌<◌, ◌^◌, ◌++◌, [], ◌∷◌, None, length, option_map, IfOk, IfSome, string_bytes, codes};
 ghost use Rattle.rpp_tree.specs.Views.{source_of};
 ghost use Rattle.rpp_tree.specs.declared.limits.TheConstants.{MOST_BYTES};
@@ -8,7 +8,7 @@ ghost use Rattle.program_codegen.specs.Unbuilt.{unbuilt};
 ghost use Rattle.pisa_loader.specs.Limiting.{limits_refusal};
 ghost use Rattle.pisa_loader.specs.declared.input.TheConstants.{MOST_INPUT};
 ghost use Rattle.rpp_command.specs.Inputs.{given_input};
-ghost use Rattle.rpp_command.specs.Plans.{planned, prints, RunsImage, ReportsStop, ReportsStore, IsGoPlan, IsBuiltPlan, IsLimitedPlan, IsInputPlan, WithText, WithInput, load_line as line_of_load, fault_line as line_of_fault, steps_line};
+ghost use Rattle.rpp_command.specs.Plans.{planned, prints, RunsImage, RunsOrTurns, ReportsStop, ReportsStore, IsGoPlan, IsBuiltPlan, IsLimitedPlan, IsInputPlan, WithText, WithInput, load_line as line_of_load, fault_line as line_of_fault, steps_line};
 ghost use Rattle.rpp_command.specs.Words.{line_end};
 ghost use Rattle.roopl_lexer.specs.Tokens.{IsCutting};
 ghost use Rattle.rpp_command.specs.GoRun.{HasRun};
@@ -22,6 +22,7 @@ use crate::plan::{Plan, Stop as Stopped, Verdict};
 use crate::reading::read_given;
 use crate::refusing::refuse_source;
 use crate::settable::input_fields;
+use crate::turning::turn_program;
 use class_table::Checked;
 use pisa_isa::Stop;
 use pisa_loader::{LoadError, MOST_DEEP, check_limits, load, read_input};
@@ -34,29 +35,41 @@ use std::alloc::{AllocError, Global};
 use std::sync::ledger::Ledger;
 use store_report::report;
 
-/// Compiles a file, runs the image for at most `bound` steps, on an input where there is one, and reports.
+/// Compiles a file, runs the image for at most `bound` steps, on an input where there is one, and reports; and turns back
+/// after a finish, where it is to.
 pub fn go<S: Shelf, L: Ledger>(
     alloc: Global,
     shelf: &mut S,
     file: &str,
     input: &Option<String>,
+    turns: bool,
     heap: u64,
     deep: u64,
     bound: u64,
     steps: &mut Steps<L>,
 ) -> Result<Plan, Stopped>
     requires { bound < 2 ^ 63 }
-    ensures plan { IfOk result (λ plan. IfSome (S.texts shelf.old) (λ texts. WithText texts file.now MOST_BYTES (λ text. WithInput texts (option_map string_bytes input.now) (λ given. IsGoPlan text given heap deep bound (planned plan))))) }
+    ensures plan { IfOk result (λ plan. IfSome (S.texts shelf.old) (λ texts. WithText texts file.now MOST_BYTES (λ text. WithInput texts (option_map string_bytes input.now) (λ given. IsGoPlan turns text given heap deep bound (planned plan))))) }
     ensures reads { OnlyReads (S.texts shelf.old) (S.texts shelf.new) (S.faults shelf.old) (S.faults shelf.new) (source file.now ∷ input_files (option_map string_bytes input.now)) result }
 {
     let given = read_given(alloc, shelf, file, input)?;
-    Ok(go_over(alloc, &given.text, &given.input, heap, deep, bound, steps)?)
+    Ok(go_over(
+        alloc,
+        &given.text,
+        &given.input,
+        turns,
+        heap,
+        deep,
+        bound,
+        steps,
+    )?)
 }
 
 fn go_over<L: Ledger>(
     alloc: Global,
     text: &[u8],
     given: &[u8],
+    turns: bool,
     heap: u64,
     deep: u64,
     bound: u64,
@@ -65,10 +78,10 @@ fn go_over<L: Ledger>(
     requires text { length text.now ≤ 1048576 }
     requires given { length given.now ≤ MOST_INPUT }
     requires bound { bound < 2 ^ 63 }
-    ensures { IfOk result (λ plan. IsGoPlan text.now given.now heap deep bound (planned plan)) }
+    ensures { IfOk result (λ plan. IsGoPlan turns text.now given.now heap deep bound (planned plan)) }
 {
     match judge(alloc, text) {
-        Ok(judged) => go_judged(alloc, text, given, &judged, heap, deep, bound, steps),
+        Ok(judged) => go_judged(alloc, text, given, &judged, turns, heap, deep, bound, steps),
         Err(SourceError::Refused { number, at }) => Ok(refuse_source(alloc, number, at)?),
         Err(SourceError::NoMemory) => Err(NoMemory),
     }
@@ -80,6 +93,7 @@ fn go_judged<L: Ledger>(
     _text: &[u8],
     given: &[u8],
     judged: &Judged,
+    turns: bool,
     heap: u64,
     deep: u64,
     bound: u64,
@@ -88,11 +102,20 @@ fn go_judged<L: Ledger>(
     requires tokens { IsCutting _text.now judged.now.tokens.items }
     requires given { length given.now ≤ MOST_INPUT }
     requires bound { bound < 2 ^ 63 }
-    ensures { IfOk result (λ plan. IsBuiltPlan (unbuilt (source_of judged.now.checked)) _text.now given.now (source_of judged.now.checked) heap deep bound (planned plan)) }
+    ensures { IfOk result (λ plan. IsBuiltPlan turns (unbuilt (source_of judged.now.checked)) _text.now given.now (source_of judged.now.checked) heap deep bound (planned plan)) }
 {
     match first_unbuilt(judged.checked.program()) {
         Some(found) => Ok(refuse_source(alloc, 42, unbuilt_place(&judged.tokens, found))?),
-        None => go_limited(alloc, &judged.checked, given, heap, deep, bound, steps),
+        None => go_limited(
+            alloc,
+            &judged.checked,
+            given,
+            turns,
+            heap,
+            deep,
+            bound,
+            steps,
+        ),
     }
 }
 
@@ -101,6 +124,7 @@ fn go_limited<L: Ledger>(
     alloc: Global,
     checked: &Checked,
     given: &[u8],
+    turns: bool,
     heap: u64,
     deep: u64,
     bound: u64,
@@ -110,10 +134,10 @@ fn go_limited<L: Ledger>(
     requires built { unbuilt (source_of checked.now) ≡ None }
     requires given { length given.now ≤ MOST_INPUT }
     requires bound { bound < 2 ^ 63 }
-    ensures { IfOk result (λ plan. IsLimitedPlan (limits_refusal heap deep MOST_DEEP) given.now (source_of checked.now) (record { heap = heap; deep = deep }) bound (planned plan)) }
+    ensures { IfOk result (λ plan. IsLimitedPlan turns (limits_refusal heap deep MOST_DEEP) given.now (source_of checked.now) (record { heap = heap; deep = deep }) bound (planned plan)) }
 {
     match check_limits(heap, deep, MOST_DEEP) {
-        Ok(limits) => go_given(alloc, checked, given, limits, bound, steps),
+        Ok(limits) => go_given(alloc, checked, given, turns, limits, bound, steps),
         Err(e) => Ok(Plan::prints(Verdict::InputRefused, load_line(alloc, e)?)),
     }
 }
@@ -123,6 +147,7 @@ fn go_given<L: Ledger>(
     alloc: Global,
     checked: &Checked,
     given: &[u8],
+    turns: bool,
     limits: Limits,
     bound: u64,
     steps: &mut Steps<L>,
@@ -132,13 +157,37 @@ fn go_given<L: Ledger>(
     requires given { length given.now ≤ MOST_INPUT }
     requires limits { IsLimits limits }
     requires bound { bound < 2 ^ 63 }
-    ensures { IfOk result (λ plan. IsInputPlan (given_input (source_of checked.now) given.now) (source_of checked.now) limits bound (planned plan)) }
+    ensures { IfOk result (λ plan. IsInputPlan turns (given_input (source_of checked.now) given.now) (source_of checked.now) limits bound (planned plan)) }
 {
     let fields = input_fields(alloc, checked)?;
     match read_input(alloc, given, &fields) {
-        Ok(input) => run_program(alloc, checked, limits, &input, bound, steps),
+        Ok(input) => run_or_turn(alloc, checked, turns, limits, &input, bound, steps),
         Err(LoadError::NoMemory) => Err(NoMemory),
         Err(e) => Ok(Plan::prints(Verdict::InputRefused, load_line(alloc, e)?)),
+    }
+}
+
+// Runs a program, and turns back after a finish where it is to.
+fn run_or_turn<L: Ledger>(
+    alloc: Global,
+    checked: &Checked,
+    turns: bool,
+    limits: Limits,
+    input: &Input,
+    bound: u64,
+    steps: &mut Steps<L>,
+) -> Result<Plan, NoMemory>
+    requires accepted { IsAccepted (source_of checked.now) }
+    requires built { unbuilt (source_of checked.now) ≡ None }
+    requires limits { IsLimits limits }
+    requires valid { IsValid (source_of checked.now) input.now.words.items }
+    requires bound { bound < 2 ^ 63 }
+    ensures { IfOk result (λ plan. RunsOrTurns turns (source_of checked.now) limits input.now.words.items bound (planned plan)) }
+{
+    if turns {
+        turn_program(alloc, checked, limits, input, bound, steps)
+    } else {
+        run_program(alloc, checked, limits, input, bound, steps)
     }
 }
 
@@ -223,8 +272,8 @@ fn report_store(
     Ok(Plan::prints(Verdict::Done, text))
 }
 
-// A text with the line on the number of steps behind it.
-fn with_steps(text: String, spent: u64) -> Result<String, AllocError>
+/// A text with the line on the number of steps behind it.
+pub fn with_steps(text: String, spent: u64) -> Result<String, AllocError>
     ensures { IfOk result (λ longer. string_bytes longer ≡ string_bytes text ++ steps_line spent) }
 {
     let mut text = text;
@@ -232,16 +281,16 @@ fn with_steps(text: String, spent: u64) -> Result<String, AllocError>
     Ok(text)
 }
 
-// The plan of a run that stopped with a fault.
-fn report_fault(alloc: Global, code: u32, spent: u64) -> Result<Plan, AllocError>
+/// The plan of a run that stopped with a fault.
+pub fn report_fault(alloc: Global, code: u32, spent: u64) -> Result<Plan, AllocError>
     ensures { IfOk result (λ plan. planned plan ≡ prints Verdict.Trapped (line_of_fault code ++ steps_line spent)) }
 {
     let text = with_steps(fault_line(alloc, code)?, spent)?;
     Ok(Plan::prints(Verdict::Trapped, text))
 }
 
-// The plan of a run that the bound ended.
-fn report_bound(alloc: Global, bound: u64) -> Result<Plan, AllocError>
+/// The plan of a run that the bound ended.
+pub fn report_bound(alloc: Global, bound: u64) -> Result<Plan, AllocError>
     ensures { IfOk result (λ plan. planned plan ≡ prints Verdict.Bound (codes "bound" ++ (line_end ++ steps_line bound))) }
 {
     Ok(Plan::prints(Verdict::Bound, format!(in alloc; "bound\nsteps {bound}\n")?))

@@ -17,6 +17,7 @@ mod refusing;
 mod running;
 mod settable;
 mod top;
+mod turning;
 
 pub use laws::one_judgement;
 pub use line::{Line, StateNames, read_words};
@@ -30,3 +31,5 @@ mod image_tests;
 mod run_tests;
 #[cfg(test)]
 mod tests;
+#[cfg(test)]
+mod turn_tests;

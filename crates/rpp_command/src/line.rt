@@ -56,6 +56,14 @@ pub enum Line {
         steps: u64,
         input: Option<String>,
     },
+    /// The same, and after a finish the run of the flipped image from where the first run ended.
+    Turn {
+        file: String,
+        heap: u64,
+        deep: u64,
+        steps: u64,
+        input: Option<String>,
+    },
 }
 
 /// The line that the words are, if they are one.
@@ -74,7 +82,8 @@ pub fn read_words(words: &[String]) -> Result<Option<Line>, NoMemory>
         "list" => list_line(args),
         "flip" => flip_line(args),
         "run" => run_line(args),
-        "go" => go_line(args),
+        "go" => go_line(args, false),
+        "turn" => go_line(args, true),
         _ => Ok(None),
     }
 }
@@ -188,27 +197,28 @@ fn run_with(
     }))
 }
 
-fn go_line(args: &[String]) -> Result<Option<Line>, NoMemory>
-    ensures line { IfOk result (λ line. option_map asked line ≡ go_line_of (map string_bytes args.now)) }
+fn go_line(args: &[String], turns: bool) -> Result<Option<Line>, NoMemory>
+    ensures line { IfOk result (λ line. option_map asked line ≡ go_line_of turns (map string_bytes args.now)) }
     ensures numbers { IfOk result (λ line. IfSome line (λ line. HasShortNumbers (asked line))) }
 {
     match args {
-        [file, heap, deep, steps] => go_with(file, heap, deep, steps, None),
+        [file, heap, deep, steps] => go_with(turns, file, heap, deep, steps, None),
         [file, heap, deep, steps, input] => {
-            go_with(file, heap, deep, steps, Some(input.clone()?))
+            go_with(turns, file, heap, deep, steps, Some(input.clone()?))
         }
         _ => Ok(None),
     }
 }
 
 fn go_with(
+    turns: bool,
     file: &String,
     heap: &String,
     deep: &String,
     steps: &String,
     input: Option<String>,
 ) -> Result<Option<Line>, NoMemory>
-    ensures line { IfOk result (λ line. option_map asked line ≡ go_asked (string_bytes file.now) (number_of (string_bytes heap.now)) (number_of (string_bytes deep.now)) (number_of (string_bytes steps.now)) (option_map string_bytes input)) }
+    ensures line { IfOk result (λ line. option_map asked line ≡ go_asked turns (string_bytes file.now) (number_of (string_bytes heap.now)) (number_of (string_bytes deep.now)) (number_of (string_bytes steps.now)) (option_map string_bytes input)) }
     ensures numbers { IfOk result (λ line. IfSome line (λ line. HasShortNumbers (asked line))) }
 {
     let Some(heap) = read_number(heap.as_str()) else {
@@ -220,8 +230,18 @@ fn go_with(
     let Some(steps) = read_number(steps.as_str()) else {
         return Ok(None);
     };
+    let file = file.clone()?;
+    if turns {
+        return Ok(Some(Line::Turn {
+            file,
+            heap,
+            deep,
+            steps,
+            input,
+        }));
+    }
     Ok(Some(Line::Go {
-        file: file.clone()?,
+        file,
         heap,
         deep,
         steps,

@@ -1,0 +1,47 @@
+use Rattle.std.proofs.Common.{◌≡◌, ◌∙◌, sym, ap, subst, ℕ, ◌+◌, ◌<◌, length}
+use Rattle.std.specs.Prelude.{All}
+use Rattle.rpp_words.specs.declared.input.FieldWord.{FieldWord}
+use Rattle.rpp_tree.specs.Views.{source_of}
+use Rattle.pisa_isa.specs.Image.{Segments, IsImage}
+use Rattle.pisa_isa.specs.Loaded.{loaded, loaded_state}
+use Rattle.pisa_isa.specs.Machine.{IsState}
+use Rattle.pisa_isa.specs.Runs.{zero_registers}
+use Rattle.pisa_machine.specs.Position.{Position, IsMachine, first_position}
+use Rattle.rpp_command.specs.Plans.{planned}
+use Rattle.rpp_command.proofs.Turned.{has_run, turns_image, weaken}
+use Rattle.rpp_command.proofs.ValidInput.{input_fits}
+use Rattle.rpp_command.proofs.turning.turn_program.Goals as goal
+
+pub load-requires-clause-input : goal.load-requires-clause-input
+load-requires-clause-input g c =
+    let program = source_of c.args.checked.now in
+    subst (λ (image : Segments). All (λ (entry : FieldWord). 2 + entry.field < length image.statics) c.args.input.now.words.items) (sym c.in_ok-image.ensures.cells)
+    (input_fits program c.args.input.now.words.items c.requires.valid)
+
+pub report_turn-requires-clause-run : goal.report_turn-requires-clause-run
+report_turn-requires-clause-run g c =
+    let image = c.in_ok-image.image in
+    let first : c.in_ok-machine.machine ≡ first_position image zero_registers (loaded image.statics c.args.limits c.args.input.now.words.items) = c.in_ok-machine.ensures.machine in
+    has_run (source_of c.args.checked.now) c.args.limits c.args.input.now.words.items c.args.bound c.run-end.new.self c.run-end.result.spent image c.in_ok-machine.machine c.run-end.result.stop
+    c.requires.accepted c.requires.built c.in_ok-image.ensures.words c.requires.limits c.requires.valid c.in_ok-image.ensures.cells c.in_ok-image.ensures.stands
+    first (c.run-end.ensures.image ∙ ap (λ (p : Position). p.image) first) c.run-end.ensures.runs
+
+pub returns : goal.returns
+returns g c =
+    let program = source_of c.args.checked.now in
+    let limits = c.args.limits in
+    let input = c.args.input.now.words.items in
+    let image = c.in_ok-image.image in
+    let end = c.run-end.new.self in
+    let first : c.in_ok-machine.machine ≡ first_position image zero_registers (loaded image.statics limits input) = c.in_ok-machine.ensures.machine in
+    let same : end.image ≡ image = c.run-end.ensures.image ∙ ap (λ (p : Position). p.image) first in
+    let has =
+    has_run program limits input c.args.bound end c.run-end.result.spent image c.in_ok-machine.machine c.run-end.result.stop
+    c.requires.accepted c.requires.built c.in_ok-image.ensures.words c.requires.limits c.requires.valid c.in_ok-image.ensures.cells c.in_ok-image.ensures.stands
+    first same c.run-end.ensures.runs in
+    let begins : IsMachine (first_position image zero_registers (loaded image.statics limits input)) = subst IsMachine first c.run-end.ensures.machine in
+    let is_image : IsImage end.image = subst IsImage (sym same) begins.is_image in
+    let begun : IsState (loaded_state end.image limits input) = subst (λ (i : Segments). IsState (loaded_state i limits input)) (sym same) begins.reached.is_state in
+    weaken c.report_turn.result _ _
+    (λ plan stop. turns_image program limits input c.args.bound end c.run-end.result.spent c.run-end.result.stop has is_image begun c.run-end.ensures.within (planned plan) stop)
+    c.report_turn.ensures
