@@ -17,7 +17,7 @@ use Rattle.source_meaning.specs.Walk.{run_report}
 use Rattle.program_codegen.proofs.Accepted.{compiled}
 use Rattle.program_codegen.proofs.Finished.{EndsAlone, ends_alone}
 use Rattle.rpp_command.specs.GoRun.{HasRun}
-use Rattle.rpp_command.specs.Plans.{Planned, ReportsStore, ReportsStop, ReportsEnd, RunsImage, prints, steps_line}
+use Rattle.rpp_command.specs.Plans.{Planned, ReportsStore, prints, steps_line}
 use Rattle.rpp_command.specs.declared.plan.Verdict.TheVariants.{Done}
 
 module _ (program : Source) (limits : Limits) (input : List FieldWord) (bound : ℕ) (end : Position) (spent : ℕ) where
@@ -58,13 +58,3 @@ module _ (program : Source) (limits : Limits) (input : List FieldWord) (bound : 
         gives = alone_there.gives;
         reported = is ∙ ap (λ text. prints Done (text ++ steps_line spent)) (shown alone_there.values alone_there.is_alone);
       }
-
--- the plan of a run from what its report says
-pub runs_image : (program : Source) (limits : Limits) (input : List FieldWord) (bound : ℕ) (end : Position) (why : Stop) (spent : ℕ) (p : Planned) → IsImage end.image → HasRun program limits input bound end why spent
-    → ReportsStop why program limits input end.state.cells spent bound p → RunsImage program limits input bound p
-runs_image program limits input bound end why spent p image has reports = record {
-  image = end.image;
-  is_image = image;
-  stands = has.stands;
-  reports = subst (λ e. ReportsEnd e program limits input bound p) (sym has.runs) reports;
-}

@@ -21,7 +21,7 @@ use Rattle.rpp_command.specs.Lines.{Asked, Check, Compile, Asm, ListImage, Flip,
 use Rattle.class_table.specs.Refusal.{Refusal}
 use Rattle.program_codegen.specs.declared.unbuilt.Unbuilt.{Unbuilt}
 use Rattle.program_codegen.specs.Unbuilt.{unbuilt}
-use Rattle.rpp_command.specs.Plans.{Planned, Written, IsPlan, IsPlanOf, IsBuiltPlan, IsJudgementPlan, IsLimitedPlan, IsInputPlan, IsGoPlan, IsImageOf, IsBuiltImage, IsAsmPlan, IsListPlan, IsFlipPlan, IsRunPlan, IsSizedPlan, IsRanPlan, WithState, first_of, saved, WithInput, ReportsStop, TurnsStop, RunsOrTurns}
+use Rattle.rpp_command.specs.Plans.{Planned, Written, IsPlan, IsPlanOf, IsBuiltPlan, IsJudgementPlan, IsLimitedPlan, IsInputPlan, IsGoPlan, IsImageOf, IsBuiltImage, IsAsmPlan, IsListPlan, IsFlipPlan, IsRunPlan, IsSizedPlan, IsRanPlan, WithState, first_of, saved, WithInput, ReportsStop}
 use Rattle.rpp_command.specs.Causes.{target_of, WritesOnly, KeepsButTarget}
 
 -- what holds of each text that the name may have
@@ -32,29 +32,18 @@ of_text (Some text) limit P Q h k = k text h.1
 along : (p q : Planned) (name : Option (List ℕ)) → p ≡ q → WritesOnly q name → WritesOnly p name
 along p q name e h = subst (λ r. WritesOnly r name) (sym e) h
 
-stop_writes : (why : Stop) (program : Source) (limits : Limits) (input : List FieldWord) (cells : List ℕ) (spent steps : ℕ) (p : Planned) → ReportsStop why program limits input cells spent steps p → WritesOnly p None
-stop_writes Finished program limits input cells spent steps p h = along p _ None h.reported (inl refl)
-stop_writes (Trap code) program limits input cells spent steps p h = along p _ None h.reported (inl refl)
-stop_writes Bound program limits input cells spent steps p h = along p _ None h (inl refl)
-stop_writes Returned program limits input cells spent steps p h = absurd h
-stop_writes (BadAddress a) program limits input cells spent steps p h = absurd h
-stop_writes (OffCode a) program limits input cells spent steps p h = absurd h
-
-turn_stop_writes : (why : Stop) (program : Source) (limits : Limits) (input : List FieldWord) (cells first : List ℕ) (spent steps : ℕ) (p : Planned) → TurnsStop why program limits input cells first spent steps p → WritesOnly p None
-turn_stop_writes Finished program limits input cells first spent steps p h = along p _ None h.reported (inl refl)
-turn_stop_writes (Trap code) program limits input cells first spent steps p h = along p _ None h.reported (inl refl)
-turn_stop_writes Bound program limits input cells first spent steps p h = along p _ None h (inl refl)
-turn_stop_writes Returned program limits input cells first spent steps p h = absurd h
-turn_stop_writes (BadAddress a) program limits input cells first spent steps p h = absurd h
-turn_stop_writes (OffCode a) program limits input cells first spent steps p h = absurd h
-
-either_writes : (turns : Bool) (program : Source) (limits : Limits) (input : List FieldWord) (steps : ℕ) (p : Planned) → RunsOrTurns turns program limits input steps p → WritesOnly p None
-either_writes false program limits input steps p h = stop_writes _ program limits input _ _ steps p h.reports
-either_writes true program limits input steps p h = turn_stop_writes _ program limits input _ _ _ steps p h.reports
+stop_writes : (turns : Bool) (why : Stop) (program : Source) (limits : Limits) (input : List FieldWord) (cells first : List ℕ) (spent steps : ℕ) (p : Planned) → ReportsStop turns why program limits input cells first spent steps p → WritesOnly p None
+stop_writes false Finished program limits input cells first spent steps p h = along p _ None h.reported (inl refl)
+stop_writes true Finished program limits input cells first spent steps p h = along p _ None h.reported (inl refl)
+stop_writes turns (Trap code) program limits input cells first spent steps p h = along p _ None h.reported (inl refl)
+stop_writes turns Bound program limits input cells first spent steps p h = along p _ None h (inl refl)
+stop_writes turns Returned program limits input cells first spent steps p h = absurd h
+stop_writes turns (BadAddress a) program limits input cells first spent steps p h = absurd h
+stop_writes turns (OffCode a) program limits input cells first spent steps p h = absurd h
 
 input_writes : (turns : Bool) (input : Result (List FieldWord) LoadError) (program : Source) (limits : Limits) (steps : ℕ) (p : Planned) → IsInputPlan turns input program limits steps p → WritesOnly p None
 input_writes turns (Err e) program limits steps p h = along p _ None h (inl refl)
-input_writes turns (Ok input) program limits steps p h = either_writes turns program limits input steps p h
+input_writes turns (Ok input) program limits steps p h = stop_writes turns _ program limits input _ _ _ steps p h.reports
 
 limited_writes : (turns : Bool) (refusal : Option LoadError) (given : List ℕ) (program : Source) (limits : Limits) (steps : ℕ) (p : Planned) → IsLimitedPlan turns refusal given program limits steps p → WritesOnly p None
 limited_writes turns (Some e) given program limits steps p h = along p _ None h (inl refl)

@@ -1,5 +1,6 @@
 -- The way back after a finished run: the flipped image restores every register and every cell.
 use Rattle.std.proofs.Common.{◌≡◌, ◌∙◌, sym, ap, refl, subst, ℕ, ◌+◌, ◌≤◌, List, ◌++◌, length, None, Ok, Err}
+use Rattle.std.specs.Prelude.{Bool}
 use Rattle.std.specs.Prelude.{Result, IfOk}
 use Rattle.rpp_words.specs.declared.input.FieldWord.{FieldWord}
 use Rattle.rpp_words.specs.declared.input.Limits.{Limits}
@@ -30,7 +31,7 @@ use Rattle.program_codegen.specs.Words.{BlockHasWords}
 use Rattle.program_codegen.proofs.Values.{first_values}
 use Rattle.rpp_command.proofs.Reported.{left_alone}
 use Rattle.rpp_command.specs.declared.plan.Verdict.TheVariants.{Done}
-use Rattle.rpp_command.specs.Plans.{Planned, ReportsTurn, TurnsStop, TurnsEnd, TurnsImage, prints, steps_line, back_lines}
+use Rattle.rpp_command.specs.Plans.{Planned, ReportsTurn, ReportsStop, ReportsEnd, RunsImage, prints, steps_line, back_lines}
 
 module _ (program : Source) (limits : Limits) (input : List FieldWord) (bound : ℕ) (end : Position) (spent : ℕ) where
   abbrev first_cells : List ℕ
@@ -90,15 +91,15 @@ module _ (program : Source) (limits : Limits) (input : List FieldWord) (bound : 
             (same_lines back spent count (length first_cells) here (run_report program (starting program input).store first_cells) same_spent here_is (same_count ∙ ap length same_cells));
       }
 
-  -- the plan of a run that turns back, from what its reports say
-  pub turns_image : (why : Stop) → HasRun program limits input bound end why spent → IsImage end.image → IsState (loaded_state end.image limits input) → spent ≤ bound
-      → (p : Planned) → TurnsStop why program limits input end.state.cells first_cells spent bound p → TurnsImage program limits input bound p
-  turns_image why has image begun within p reports = record {
+  -- the plan of a run, from what its reports say
+  pub runs_image : (turns : Bool) (why : Stop) → HasRun program limits input bound end why spent → IsImage end.image → IsState (loaded_state end.image limits input) → spent ≤ bound
+      → (p : Planned) → ReportsStop turns why program limits input end.state.cells first_cells spent bound p → RunsImage turns program limits input bound p
+  runs_image turns why has image begun within p reports = record {
     image = end.image;
     is_image = image;
     stands = has.stands;
     restores = restores why has image begun within;
-    reports = subst (λ (e : End). TurnsEnd e program limits input first_cells bound p) (sym has.runs) reports;
+    reports = subst (λ (e : End). ReportsEnd turns e program limits input first_cells bound p) (sym has.runs) reports;
   }
 
   -- what a run of the compiled image from the loaded memory has

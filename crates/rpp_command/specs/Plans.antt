@@ -184,24 +184,6 @@ pub record ReportsFault (program : Source) (limits : Limits) (input : List Field
   pub gives : GivesFault program limits input code
   pub reported : p ≡ prints Trapped (fault_line code ++ steps_line spent)
 
--- what the plan of a run says, by why the run ended; it never ends otherwise
-abbrev pub ReportsStop : Stop → Source → Limits → List FieldWord → (cells : List ℕ) (spent steps : ℕ) → Planned → Type 0
-ReportsStop Finished program limits input cells spent steps p = ReportsStore program limits input cells spent p
-ReportsStop (Trap code) program limits input cells spent steps p = ReportsFault program limits input code spent p
-ReportsStop AtBound program limits input cells spent steps p = p ≡ prints Bound (codes "bound" ++ (line_end ++ steps_line steps))
-ReportsStop _ program limits input cells spent steps p = ⊥
-
--- what the plan of a run of at most so many steps says, by its end
-abbrev pub ReportsEnd : End → Source → Limits → List FieldWord → (steps : ℕ) → Planned → Type 0
-ReportsEnd end program limits input steps p = ReportsStop end.why program limits input end.last.cells end.spent steps p
-
--- there is an image that stands for the program, and the plan reports its run
-pub record RunsImage (program : Source) (limits : Limits) (input : List FieldWord) (steps : ℕ) (p : Planned) : Type 0 where
-  pub image : Segments
-  pub is_image : IsImage image
-  pub stands : StandsFor program image
-  pub reports : ReportsEnd (run_of image limits input steps) program limits input steps p
-
 -- what is printed of the way back: its steps, the report, and how many cells are as they were
 abbrev pub back_lines : (spent : ℕ) (report : List ℕ) (count : ℕ) → List ℕ
 back_lines spent report count = codes "back " ++ (decimal spent ++ (line_end ++ (report ++ (codes "restored " ++ (decimal count ++ (codes " cells" ++ line_end))))))
@@ -212,33 +194,35 @@ pub record ReportsTurn (program : Source) (limits : Limits) (input : List FieldW
   pub gives : GivesDone program limits input end
   pub reported : p ≡ prints Done ((run_report program end.store cells ++ steps_line spent) ++ back_lines spent (run_report program (starting program input).store first) (length first))
 
--- what the plan of a run says that turns back after a finish
-abbrev pub TurnsStop : Stop → Source → Limits → List FieldWord → (cells first : List ℕ) (spent steps : ℕ) → Planned → Type 0
-TurnsStop Finished program limits input cells first spent steps p = ReportsTurn program limits input cells first spent p
-TurnsStop (Trap code) program limits input cells first spent steps p = ReportsFault program limits input code spent p
-TurnsStop AtBound program limits input cells first spent steps p = p ≡ prints Bound (codes "bound" ++ (line_end ++ steps_line steps))
-TurnsStop _ program limits input cells first spent steps p = ⊥
+-- what the plan of a finished run says, by whether it turns back
+abbrev pub ReportsFinish : (turns : Bool) → Source → Limits → List FieldWord → (cells first : List ℕ) (spent : ℕ) → Planned → Type 0
+ReportsFinish false program limits input cells first spent p = ReportsStore program limits input cells spent p
+ReportsFinish true program limits input cells first spent p = ReportsTurn program limits input cells first spent p
 
-abbrev pub TurnsEnd : End → Source → Limits → List FieldWord → (first : List ℕ) (steps : ℕ) → Planned → Type 0
-TurnsEnd end program limits input first steps p = TurnsStop end.why program limits input end.last.cells first end.spent steps p
+-- what the plan of a run says, by why the run ended; it never ends otherwise
+abbrev pub ReportsStop : (turns : Bool) → Stop → Source → Limits → List FieldWord → (cells first : List ℕ) (spent steps : ℕ) → Planned → Type 0
+ReportsStop turns Finished program limits input cells first spent steps p = ReportsFinish turns program limits input cells first spent p
+ReportsStop turns (Trap code) program limits input cells first spent steps p = ReportsFault program limits input code spent p
+ReportsStop turns AtBound program limits input cells first spent steps p = p ≡ prints Bound (codes "bound" ++ (line_end ++ steps_line steps))
+ReportsStop turns _ program limits input cells first spent steps p = ⊥
 
--- there is an image that stands for the program, and the plan reports its run; after a finish the flipped image restores
--- every register and every cell, in as many steps
-pub record TurnsImage (program : Source) (limits : Limits) (input : List FieldWord) (steps : ℕ) (p : Planned) : Type 0 where
+-- what the plan of a run of at most so many steps from these first cells says, by its end
+abbrev pub ReportsEnd : (turns : Bool) → End → Source → Limits → List FieldWord → (first : List ℕ) (steps : ℕ) → Planned → Type 0
+ReportsEnd turns end program limits input first steps p = ReportsStop turns end.why program limits input end.last.cells first end.spent steps p
+
+-- There is an image that stands for the program, and the plan reports its run. After a finish the flipped image restores
+-- every register and every cell, in as many steps.
+pub record RunsImage (turns : Bool) (program : Source) (limits : Limits) (input : List FieldWord) (steps : ℕ) (p : Planned) : Type 0 where
   pub image : Segments
   pub is_image : IsImage image
   pub stands : StandsFor program image
   pub restores : (run_of image limits input steps).why ≡ Finished → Restores image.code (run_of image limits input steps) steps zero_registers (loaded image.statics limits input)
-  pub reports : TurnsEnd (run_of image limits input steps) program limits input (loaded image.statics limits input) steps p
-
-abbrev pub RunsOrTurns : (turns : Bool) → Source → Limits → List FieldWord → (steps : ℕ) → Planned → Type 0
-RunsOrTurns false program limits input steps p = RunsImage program limits input steps p
-RunsOrTurns true program limits input steps p = TurnsImage program limits input steps p
+  pub reports : ReportsEnd turns (run_of image limits input steps) program limits input (loaded image.statics limits input) steps p
 
 -- the input is judged, and then the run is made on it
 abbrev pub IsInputPlan : (turns : Bool) → Result (List FieldWord) LoadError → Source → Limits → ℕ → Planned → Type 0
 IsInputPlan turns (Err e) program limits steps p = p ≡ prints InputRefused (load_line e)
-IsInputPlan turns (Ok input) program limits steps p = RunsOrTurns turns program limits input steps p
+IsInputPlan turns (Ok input) program limits steps p = RunsImage turns program limits input steps p
 
 -- the size of the memory is tried before the input
 abbrev pub IsLimitedPlan : (turns : Bool) → Option LoadError → (given : List ℕ) → Source → Limits → ℕ → Planned → Type 0

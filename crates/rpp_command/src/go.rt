@@ -3,12 +3,14 @@ ghost use Rattle.std.specs.Prelude.{◌≡◌, ◌≤◌, ◌<◌, ◌^◌, ◌+
 ghost use Rattle.rpp_tree.specs.Views.{source_of};
 ghost use Rattle.rpp_tree.specs.declared.limits.TheConstants.{MOST_BYTES};
 ghost use Rattle.class_table.specs.Program.{IsAccepted};
+ghost use Rattle.pisa_isa.specs.Machine.{IsState};
+ghost use Rattle.pisa_isa.specs.Loaded.{loaded, loaded_state};
 ghost use Rattle.source_meaning.specs.Source.{IsLimits, IsValid};
 ghost use Rattle.program_codegen.specs.Unbuilt.{unbuilt};
 ghost use Rattle.pisa_loader.specs.Limiting.{limits_refusal};
 ghost use Rattle.pisa_loader.specs.declared.input.TheConstants.{MOST_INPUT};
 ghost use Rattle.rpp_command.specs.Inputs.{given_input};
-ghost use Rattle.rpp_command.specs.Plans.{planned, prints, RunsImage, RunsOrTurns, ReportsStop, ReportsStore, IsGoPlan, IsBuiltPlan, IsLimitedPlan, IsInputPlan, WithText, WithInput, load_line as line_of_load, fault_line as line_of_fault, steps_line};
+ghost use Rattle.rpp_command.specs.Plans.{planned, prints, RunsImage, ReportsStop, ReportsFinish, ReportsStore, IsGoPlan, IsBuiltPlan, IsLimitedPlan, IsInputPlan, WithText, WithInput, load_line as line_of_load, fault_line as line_of_fault, steps_line};
 ghost use Rattle.rpp_command.specs.Words.{line_end};
 ghost use Rattle.roopl_lexer.specs.Tokens.{IsCutting};
 ghost use Rattle.rpp_command.specs.GoRun.{HasRun};
@@ -22,7 +24,7 @@ use crate::plan::{Plan, Stop as Stopped, Verdict};
 use crate::reading::read_given;
 use crate::refusing::refuse_source;
 use crate::settable::input_fields;
-use crate::turning::turn_program;
+use crate::turning::report_both;
 use class_table::Checked;
 use pisa_isa::Stop;
 use pisa_loader::{LoadError, MOST_DEEP, check_limits, load, read_input};
@@ -161,33 +163,9 @@ fn go_given<L: Ledger>(
 {
     let fields = input_fields(alloc, checked)?;
     match read_input(alloc, given, &fields) {
-        Ok(input) => run_or_turn(alloc, checked, turns, limits, &input, bound, steps),
+        Ok(input) => run_program(alloc, checked, turns, limits, &input, bound, steps),
         Err(LoadError::NoMemory) => Err(NoMemory),
         Err(e) => Ok(Plan::prints(Verdict::InputRefused, load_line(alloc, e)?)),
-    }
-}
-
-// Runs a program, and turns back after a finish where it is to.
-fn run_or_turn<L: Ledger>(
-    alloc: Global,
-    checked: &Checked,
-    turns: bool,
-    limits: Limits,
-    input: &Input,
-    bound: u64,
-    steps: &mut Steps<L>,
-) -> Result<Plan, NoMemory>
-    requires accepted { IsAccepted (source_of checked.now) }
-    requires built { unbuilt (source_of checked.now) ≡ None }
-    requires limits { IsLimits limits }
-    requires valid { IsValid (source_of checked.now) input.now.words.items }
-    requires bound { bound < 2 ^ 63 }
-    ensures { IfOk result (λ plan. RunsOrTurns turns (source_of checked.now) limits input.now.words.items bound (planned plan)) }
-{
-    if turns {
-        turn_program(alloc, checked, limits, input, bound, steps)
-    } else {
-        run_program(alloc, checked, limits, input, bound, steps)
     }
 }
 
@@ -213,6 +191,7 @@ pub fn load_line(alloc: Global, e: LoadError) -> Result<String, AllocError>
 fn run_program<L: Ledger>(
     alloc: Global,
     checked: &Checked,
+    turns: bool,
     limits: Limits,
     input: &Input,
     bound: u64,
@@ -223,34 +202,68 @@ fn run_program<L: Ledger>(
     requires limits { IsLimits limits }
     requires valid { IsValid (source_of checked.now) input.now.words.items }
     requires bound { bound < 2 ^ 63 }
-    ensures { IfOk result (λ plan. RunsImage (source_of checked.now) limits input.now.words.items bound (planned plan)) }
+    ensures { IfOk result (λ plan. RunsImage turns (source_of checked.now) limits input.now.words.items bound (planned plan)) }
 {
     let image = compile(alloc, checked)?;
     let mut machine = load(alloc, image, limits, input)?;
     let end = machine.run(bound, steps);
-    report_run(alloc, checked, limits, input, bound, &machine, end)
+    report_run(
+        alloc, checked, turns, limits, input, bound, machine, end, steps,
+    )
 }
 
 // The plan of a run that ended.
-fn report_run(
+fn report_run<L: Ledger>(
     alloc: Global,
     checked: &Checked,
+    turns: bool,
     limits: Limits,
     input: &Input,
     bound: u64,
-    machine: &Machine,
+    machine: Machine,
     end: RunEnd,
+    steps: &mut Steps<L>,
 ) -> Result<Plan, NoMemory>
-    requires { HasRun (source_of checked.now) limits input.now.words.items bound machine.now end.stop end.spent }
-    ensures { IfOk result (λ plan. ReportsStop end.stop (source_of checked.now) limits input.now.words.items machine.now.state.cells end.spent bound (planned plan)) }
+    requires run { HasRun (source_of checked.now) limits input.now.words.items bound machine end.stop end.spent }
+    requires begun { IsState (loaded_state machine.image limits input.now.words.items) }
+    requires within { end.spent ≤ bound }
+    requires bound { bound < 2 ^ 63 }
+    ensures { IfOk result (λ plan. ReportsStop turns end.stop (source_of checked.now) limits input.now.words.items machine.state.cells (loaded machine.image.statics limits input.now.words.items) end.spent bound (planned plan)) }
 {
     match end.stop {
-        Stop::Finished => report_store(alloc, checked, limits, input, bound, machine, end.spent),
+        Stop::Finished => report_finish(
+            alloc, checked, turns, limits, input, bound, machine, end.spent, steps,
+        ),
         Stop::Trap(code) => Ok(report_fault(alloc, code, end.spent)?),
         Stop::Bound => Ok(report_bound(alloc, bound)?),
         Stop::Returned => unreachable!(),
         Stop::BadAddress(_) => unreachable!(),
         Stop::OffCode(_) => unreachable!(),
+    }
+}
+
+// The plan of a run that finished, and of the way back where it turns.
+fn report_finish<L: Ledger>(
+    alloc: Global,
+    checked: &Checked,
+    turns: bool,
+    limits: Limits,
+    input: &Input,
+    bound: u64,
+    machine: Machine,
+    spent: u64,
+    steps: &mut Steps<L>,
+) -> Result<Plan, NoMemory>
+    requires run { HasRun (source_of checked.now) limits input.now.words.items bound machine Stop.Finished spent }
+    requires begun { IsState (loaded_state machine.image limits input.now.words.items) }
+    requires within { spent ≤ bound }
+    requires bound { bound < 2 ^ 63 }
+    ensures { IfOk result (λ plan. ReportsFinish turns (source_of checked.now) limits input.now.words.items machine.state.cells (loaded machine.image.statics limits input.now.words.items) spent (planned plan)) }
+{
+    if turns {
+        report_both(alloc, checked, limits, input, bound, machine, spent, steps)
+    } else {
+        report_store(alloc, checked, limits, input, bound, &machine, spent)
     }
 }
 
@@ -281,16 +294,16 @@ pub fn with_steps(text: String, spent: u64) -> Result<String, AllocError>
     Ok(text)
 }
 
-/// The plan of a run that stopped with a fault.
-pub fn report_fault(alloc: Global, code: u32, spent: u64) -> Result<Plan, AllocError>
+// The plan of a run that stopped with a fault.
+fn report_fault(alloc: Global, code: u32, spent: u64) -> Result<Plan, AllocError>
     ensures { IfOk result (λ plan. planned plan ≡ prints Verdict.Trapped (line_of_fault code ++ steps_line spent)) }
 {
     let text = with_steps(fault_line(alloc, code)?, spent)?;
     Ok(Plan::prints(Verdict::Trapped, text))
 }
 
-/// The plan of a run that the bound ended.
-pub fn report_bound(alloc: Global, bound: u64) -> Result<Plan, AllocError>
+// The plan of a run that the bound ended.
+fn report_bound(alloc: Global, bound: u64) -> Result<Plan, AllocError>
     ensures { IfOk result (λ plan. planned plan ≡ prints Verdict.Bound (codes "bound" ++ (line_end ++ steps_line bound))) }
 {
     Ok(Plan::prints(Verdict::Bound, format!(in alloc; "bound\nsteps {bound}\n")?))

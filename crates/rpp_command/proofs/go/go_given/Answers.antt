@@ -5,7 +5,7 @@ use Rattle.pisa_loader.specs.InputLines.{AreInput}
 use Rattle.rpp_command.proofs.ValidInput.{valid_input}
 use Rattle.rpp_command.proofs.go.go_given.Goals as goal
 
-pub run_or_turn-requires-clause-valid : goal.run_or_turn-requires-clause-valid
-run_or_turn-requires-clause-valid g c =
+pub run_program-requires-clause-valid : goal.run_program-requires-clause-valid
+run_program-requires-clause-valid g c =
     valid_input (source_of c.args.checked.now) c.in-Ok.input.words.items
     (subst (λ (fields : List InputField). AreInput fields c.in-Ok.input.words.items) (c.deref.ensures.value ∙ c.in_ok-fields.ensures) c.in-Ok.ensures.input)

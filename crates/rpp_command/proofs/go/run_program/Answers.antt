@@ -2,11 +2,13 @@ use Rattle.std.proofs.Common.{◌≡◌, ◌∙◌, sym, ap, subst, ℕ, ◌+◌
 use Rattle.std.specs.Prelude.{All}
 use Rattle.rpp_words.specs.declared.input.FieldWord.{FieldWord}
 use Rattle.rpp_tree.specs.Views.{source_of}
-use Rattle.pisa_isa.specs.Image.{Segments}
-use Rattle.pisa_isa.specs.Loaded.{loaded}
-use Rattle.pisa_isa.specs.Runs.{run, zero_registers}
-use Rattle.pisa_machine.specs.Position.{Position, first_position}
-use Rattle.source_meaning.specs.StandsFor.{StandsFor, run_of}
+use Rattle.pisa_isa.specs.Image.{Segments, IsImage}
+use Rattle.pisa_isa.specs.Loaded.{loaded, loaded_state}
+use Rattle.pisa_isa.specs.Machine.{IsState}
+use Rattle.pisa_isa.specs.Runs.{zero_registers}
+use Rattle.pisa_machine.specs.Position.{Position, IsMachine, first_position}
+use Rattle.rpp_command.specs.Plans.{planned}
+use Rattle.rpp_command.proofs.Turned.{has_run, runs_image, weaken}
 use Rattle.rpp_command.proofs.ValidInput.{input_fits}
 use Rattle.rpp_command.proofs.go.run_program.Goals as goal
 
@@ -16,23 +18,30 @@ load-requires-clause-input g c =
     subst (λ (image : Segments). All (λ (entry : FieldWord). 2 + entry.field < length image.statics) c.args.input.now.words.items) (sym c.in_ok-image.ensures.cells)
     (input_fits program c.args.input.now.words.items c.requires.valid)
 
-pub report_run-requires : goal.report_run-requires
-report_run-requires g c =
+pub report_run-requires-clause-run : goal.report_run-requires-clause-run
+report_run-requires-clause-run g c =
+    let image = c.in_ok-image.image in
+    let first : c.in_ok-machine.machine ≡ first_position image zero_registers (loaded image.statics c.args.limits c.args.input.now.words.items) = c.in_ok-machine.ensures.machine in
+    has_run (source_of c.args.checked.now) c.args.limits c.args.input.now.words.items c.args.bound c.run-end.new.self c.run-end.result.spent image c.in_ok-machine.machine c.run-end.result.stop
+    c.requires.accepted c.requires.built c.in_ok-image.ensures.words c.requires.limits c.requires.valid c.in_ok-image.ensures.cells c.in_ok-image.ensures.stands
+    first (c.run-end.ensures.image ∙ ap (λ (p : Position). p.image) first) c.run-end.ensures.runs
+
+pub returns : goal.returns
+returns g c =
     let program = source_of c.args.checked.now in
+    let limits = c.args.limits in
     let input = c.args.input.now.words.items in
     let image = c.in_ok-image.image in
-    let first : c.in_ok-machine.machine ≡ first_position image zero_registers (loaded image.statics c.args.limits input) = c.in_ok-machine.ensures.machine in
-    let same : c.run-end.new.self.image ≡ image = c.run-end.ensures.image ∙ ap (λ (p : Position). p.image) first in
-    record {
-      accepted = c.requires.accepted;
-      built = c.requires.built;
-      words = c.in_ok-image.ensures.words;
-      allowed = c.requires.limits;
-      valid = c.requires.valid;
-      image = same ∙ c.in_ok-image.ensures.cells;
-      stands = subst (StandsFor program) (sym same) c.in_ok-image.ensures.stands;
-      runs =
-          ap (λ (i : Segments). run_of i c.args.limits input c.args.bound) same
-          ∙ sym (ap (λ (p : Position). run p.image.code c.args.bound p.state) first)
-          ∙ c.run-end.ensures.runs;
-    }
+    let end = c.run-end.new.self in
+    let first : c.in_ok-machine.machine ≡ first_position image zero_registers (loaded image.statics limits input) = c.in_ok-machine.ensures.machine in
+    let same : end.image ≡ image = c.run-end.ensures.image ∙ ap (λ (p : Position). p.image) first in
+    let has =
+    has_run program limits input c.args.bound end c.run-end.result.spent image c.in_ok-machine.machine c.run-end.result.stop
+    c.requires.accepted c.requires.built c.in_ok-image.ensures.words c.requires.limits c.requires.valid c.in_ok-image.ensures.cells c.in_ok-image.ensures.stands
+    first same c.run-end.ensures.runs in
+    let begins : IsMachine (first_position image zero_registers (loaded image.statics limits input)) = subst IsMachine first c.run-end.ensures.machine in
+    let is_image : IsImage end.image = subst IsImage (sym same) begins.is_image in
+    let begun : IsState (loaded_state end.image limits input) = subst (λ (i : Segments). IsState (loaded_state i limits input)) (sym same) begins.reached.is_state in
+    weaken c.report_run.result _ _
+    (λ plan stop. runs_image program limits input c.args.bound end c.run-end.result.spent c.args.turns c.run-end.result.stop has is_image begun c.run-end.ensures.within (planned plan) stop)
+    c.report_run.ensures
