@@ -21,7 +21,7 @@ use Rattle.rpp_command.specs.Lines.{Asked, Check, Compile, Asm, ListImage, Flip,
 use Rattle.class_table.specs.Refusal.{Refusal}
 use Rattle.program_codegen.specs.declared.unbuilt.Unbuilt.{Unbuilt}
 use Rattle.program_codegen.specs.Unbuilt.{unbuilt}
-use Rattle.rpp_command.specs.Plans.{Planned, Written, IsPlan, IsPlanOf, IsBuiltPlan, IsJudgementPlan, IsLimitedPlan, IsInputPlan, IsGoPlan, IsImageOf, IsBuiltImage, IsAsmPlan, IsListPlan, IsFlipPlan, IsRunPlan, IsSizedPlan, IsRanPlan, WithState, first_of, saved, WithInput, ReportsStop}
+use Rattle.rpp_command.specs.Plans.{Planned, Written, IsPlan, IfBuilt, OfProgram, OfImage, IsBuiltPlan, IsBuiltImage, WritesImage, IsCheckPlan, IsCompilePlan, IsLimitedPlan, IsInputPlan, IsGoPlan, IsAsmPlan, IsListPlan, IsFlipPlan, IsRunPlan, IsSizedPlan, IsRanPlan, WithState, first_of, saved, WithInput, ReportsStop}
 use Rattle.rpp_command.specs.Causes.{target_of, WritesOnly, KeepsButTarget}
 
 -- what holds of each text that the name may have
@@ -49,37 +49,41 @@ limited_writes : (turns : Bool) (refusal : Option LoadError) (given : List ℕ) 
 limited_writes turns (Some e) given program limits steps p h = along p _ None h (inl refl)
 limited_writes turns None given program limits steps p h = input_writes turns (given_input program given) program limits steps p h
 
-built_writes : (turns : Bool) (found : Option Unbuilt) (text given : List ℕ) (program : Source) (heap deep steps : ℕ) (p : Planned) → IsBuiltPlan turns found text given program heap deep steps p → WritesOnly p None
-built_writes turns (Some found) text given program heap deep steps p h = along p _ None h.told (inl refl)
-built_writes turns None text given program heap deep steps p h = limited_writes turns _ given program _ steps p h
+-- what holds of the plans that P tells holds of all plans of a text: a refusal writes nothing
+told_writes : (found : Option Unbuilt) (text : List ℕ) (P : Planned → Type 0) (name : Option (List ℕ)) (p : Planned) → ((q : Planned) → P q → WritesOnly q name) → IfBuilt found text P p → WritesOnly p name
+told_writes (Some found) text P name p f h = along p _ name h.told (inl refl)
+told_writes None text P name p f h = f p h
 
-go_writes : (turns : Bool) (judgement : Result Source Refusal) (text given : List ℕ) (heap deep steps : ℕ) (p : Planned) → IsPlanOf turns judgement text given heap deep steps p → WritesOnly p None
-go_writes turns (Err refusal) text given heap deep steps p h = along p _ None h (inl refl)
-go_writes turns (Ok program) text given heap deep steps p h = built_writes turns (unbuilt program) text given program heap deep steps p h
+judged_writes : (judgement : Result Source Refusal) (P : Source → Planned → Type 0) (name : Option (List ℕ)) (p : Planned) → ((program : Source) (q : Planned) → P program q → WritesOnly q name) → OfProgram P judgement p → WritesOnly p name
+judged_writes (Err refusal) P name p f h = along p _ name h (inl refl)
+judged_writes (Ok program) P name p f h = f program p h
 
-check_writes : (judgement : Result Source Refusal) (p : Planned) → IsJudgementPlan judgement p → WritesOnly p None
-check_writes (Err refusal) p h = along p _ None h (inl refl)
-check_writes (Ok program) p h = along p _ None h (inl refl)
+go_writes : (turns : Bool) (text given : List ℕ) (heap deep steps : ℕ) (p : Planned) → IsGoPlan turns text given heap deep steps p → WritesOnly p None
+go_writes turns text given heap deep steps p g =
+    judged_writes g.judgement (λ program. IsBuiltPlan turns text given program heap deep steps) None p
+    (λ program q h. told_writes (unbuilt program) text _ None q (λ r k. limited_writes turns _ given program _ steps r k) h) g.plan
 
-image_writes : (found : Option Unbuilt) (text name : List ℕ) (program : Source) (p : Planned) → IsBuiltImage found text name program p → WritesOnly p (Some name)
-image_writes (Some found) text name program p h = along p _ (Some name) h.told (inl refl)
-image_writes None text name program p h = along p _ (Some name) h.written (inr refl)
+check_writes : (text : List ℕ) (p : Planned) → IsCheckPlan text p → WritesOnly p None
+check_writes text p g = judged_writes g.judgement _ None p (λ program q h. along q _ None h (inl refl)) g.plan
 
-compile_writes : (judgement : Result Source Refusal) (text name : List ℕ) (p : Planned) → IsImageOf judgement text name p → WritesOnly p (Some name)
-compile_writes (Err refusal) text name p h = along p _ (Some name) h (inl refl)
-compile_writes (Ok program) text name p h = image_writes (unbuilt program) text name program p h
+compile_writes : (text name : List ℕ) (p : Planned) → IsCompilePlan text name p → WritesOnly p (Some name)
+compile_writes text name p g =
+    judged_writes g.judgement (IsBuiltImage text name) (Some name) p
+    (λ program q h. told_writes (unbuilt program) text (WritesImage program name) (Some name) q (λ r k. along r _ (Some name) k.written (inr refl)) h) g.plan
+
+image_writes : (read : Result Segments ImageError) (P : Segments → Planned → Type 0) (name : Option (List ℕ)) (p : Planned) → ((image : Segments) (q : Planned) → P image q → WritesOnly q name) → OfImage P read p → WritesOnly p name
+image_writes (Err e) P name p f h = along p _ name h (inl refl)
+image_writes (Ok image) P name p f h = f image p h
 
 asm_writes : (read : Result Segments AsmError) (name : List ℕ) (p : Planned) → IsAsmPlan read name p → WritesOnly p (Some name)
 asm_writes (Err e) name p h = along p _ (Some name) h (inl refl)
 asm_writes (Ok image) name p h = along p _ (Some name) h (inr refl)
 
 list_writes : (read : Result Segments ImageError) (name : List ℕ) (p : Planned) → IsListPlan read name p → WritesOnly p (Some name)
-list_writes (Err e) name p h = along p _ (Some name) h (inl refl)
-list_writes (Ok image) name p h = along p _ (Some name) h (inr refl)
+list_writes read name p h = image_writes read _ (Some name) p (λ image q k. along q _ (Some name) k (inr refl)) h
 
 flip_writes : (read : Result Segments ImageError) (name : List ℕ) (p : Planned) → IsFlipPlan read name p → WritesOnly p (Some name)
-flip_writes (Err e) name p h = along p _ (Some name) h (inl refl)
-flip_writes (Ok image) name p h = along p _ (Some name) h (inr refl)
+flip_writes read name p h = image_writes read _ (Some name) p (λ image q k. along q _ (Some name) k (inr refl)) h
 
 saved_name : (save : Option (List ℕ)) (last : State) → option_map (λ w. w.name) (saved save last) ≡ save
 saved_name None last = refl
@@ -94,21 +98,20 @@ sized_writes (Some e) image limits state save steps p h = along p _ save h (inl 
 sized_writes None image limits state save steps p h = ran_writes (first_of image limits state) save steps p h
 
 run_writes : (read : Result Segments ImageError) (heap deep steps : ℕ) (state save : Option (List ℕ)) (p : Planned) → IsRunPlan read heap deep steps state save p → WritesOnly p save
-run_writes (Err e) heap deep steps state save p h = along p _ save h (inl refl)
-run_writes (Ok image) heap deep steps state save p h = sized_writes _ image _ state save steps p h
+run_writes read heap deep steps state save p h = image_writes read _ save p (λ image q k. sized_writes _ image _ state save steps q k) h
 
 of_state : (texts : Texts) (state : Option (List ℕ)) (read : Result Segments ImageError) (heap deep steps : ℕ) (save : Option (List ℕ)) (p : Planned) → WithState texts state (λ given. IsRunPlan read heap deep steps given save p) → WritesOnly p save
 of_state texts None read heap deep steps save p g = run_writes read heap deep steps None save p g
 of_state texts (Some name) read heap deep steps save p h = of_text (texts name) _ _ (WritesOnly p save) h (λ given g. run_writes read heap deep steps (Some given) save p g)
 
 of_input : (turns : Bool) (texts : Texts) (input : Option (List ℕ)) (text : List ℕ) (heap deep steps : ℕ) (p : Planned) → WithInput texts input (λ given. IsGoPlan turns text given heap deep steps p) → WritesOnly p None
-of_input turns texts None text heap deep steps p g = go_writes turns g.judgement text [] heap deep steps p g.plan
-of_input turns texts (Some name) text heap deep steps p h = of_text (texts name) _ _ (WritesOnly p None) h (λ given g. go_writes turns g.judgement text given heap deep steps p g.plan)
+of_input turns texts None text heap deep steps p g = go_writes turns text [] heap deep steps p g
+of_input turns texts (Some name) text heap deep steps p h = of_text (texts name) _ _ (WritesOnly p None) h (λ given g. go_writes turns text given heap deep steps p g)
 
 pub plan_writes : (line : Asked) (texts : Texts) (p : Planned) → IsPlan line texts p → WritesOnly p (target_of line)
 unfolding IsPlan target_of
-plan_writes (Check file) texts p h = of_text (texts file) _ _ (WritesOnly p None) h (λ text g. check_writes g.judgement p g.plan)
-plan_writes (Compile file image) texts p h = of_text (texts file) _ _ (WritesOnly p (Some image)) h (λ text g. compile_writes g.judgement text image p g.plan)
+plan_writes (Check file) texts p h = of_text (texts file) _ _ (WritesOnly p None) h (λ text g. check_writes text p g)
+plan_writes (Compile file image) texts p h = of_text (texts file) _ _ (WritesOnly p (Some image)) h (λ text g. compile_writes text image p g)
 plan_writes (Asm text image) texts p h = of_text (texts text) _ _ (WritesOnly p (Some image)) h (λ bytes g. asm_writes (image_of_text bytes) image p g)
 plan_writes (ListImage image text) texts p h = of_text (texts image) _ _ (WritesOnly p (Some text)) h (λ bytes g. list_writes (image_at bytes) text p g)
 plan_writes (Flip image flipped) texts p h = of_text (texts image) _ _ (WritesOnly p (Some flipped)) h (λ bytes g. flip_writes (image_at bytes) flipped p g)

@@ -152,6 +152,11 @@ saved (Some name) last = Some (record { name = name; bytes = state_bytes (memory
 abbrev pub ran : (save : Option (List ℕ)) → End → Planned
 ran save end = record { verdict = verdict_of end.why; text = end_lines end; writing = saved save end.last }
 
+-- the first refusal of an image file is told, or P holds of the image that was read
+abbrev pub OfImage : (P : Segments → Planned → Type 0) → Result Segments ImageError → Planned → Type 0
+OfImage P (Err e) p = p ≡ prints ImageRefused (image_line e)
+OfImage P (Ok image) p = P image p
+
 -- where a run of an image begins: at the loaded memory, or at a state
 abbrev pub first_of : Segments → Limits → Option (List ℕ) → Result Position LoadError
 first_of image limits None = Ok (first_position image zero_registers (loaded image.statics limits []))
@@ -167,11 +172,9 @@ abbrev pub IsSizedPlan : Option LoadError → Segments → Limits → (state sav
 IsSizedPlan (Some e) image limits state save steps p = p ≡ prints InputRefused (load_line e)
 IsSizedPlan None image limits state save steps p = IsRanPlan (first_of image limits state) save steps p
 
--- the image is judged first
 abbrev pub IsRunPlan : Result Segments ImageError → (heap deep steps : ℕ) (state save : Option (List ℕ)) → Planned → Type 0
-IsRunPlan (Err e) heap deep steps state save p = p ≡ prints ImageRefused (image_line e)
-IsRunPlan (Ok image) heap deep steps state save p =
-    IsSizedPlan (limits_refusal heap deep MOST_DEEP) image (record { heap = heap; deep = deep }) state save steps p
+IsRunPlan read heap deep steps state save p =
+    OfImage (λ image. IsSizedPlan (limits_refusal heap deep MOST_DEEP) image (record { heap = heap; deep = deep }) state save steps) read p
 
 -- the source gives a store, and the plan reports it, as it stands in these cells
 pub record ReportsStore (program : Source) (limits : Limits) (input : List FieldWord) (cells : List ℕ) (spent : ℕ) (p : Planned) : Type 0 where
@@ -229,34 +232,37 @@ abbrev pub IsLimitedPlan : (turns : Bool) → Option LoadError → (given : List
 IsLimitedPlan turns (Some e) given program limits steps p = p ≡ prints InputRefused (load_line e)
 IsLimitedPlan turns None given program limits steps p = IsInputPlan turns (given_input program given) program limits steps p
 
--- a form that is not built yet is told before the run
+-- the first form that is not built yet is told
 pub record TellsUnbuilt (text : List ℕ) (found : Unbuilt) (p : Planned) : Type 0 where
   pub tokens : List Token
   pub cutting : IsCutting text tokens
   pub told : p ≡ prints SourceRefused (refused_line (not_built tokens found))
 
-abbrev pub IsBuiltPlan : (turns : Bool) → Option Unbuilt → (text given : List ℕ) → Source → (heap deep steps : ℕ) → Planned → Type 0
-IsBuiltPlan turns (Some found) text given program heap deep steps p = TellsUnbuilt text found p
-IsBuiltPlan turns None text given program heap deep steps p = IsLimitedPlan turns (limits_refusal heap deep MOST_DEEP) given program (record { heap = heap; deep = deep }) steps p
+-- a form that is not built yet is told, or P holds of the plan
+abbrev pub IfBuilt : Option Unbuilt → (text : List ℕ) → (P : Planned → Type 0) → Planned → Type 0
+IfBuilt (Some found) text P p = TellsUnbuilt text found p
+IfBuilt None text P p = P p
 
-abbrev pub IsPlanOf : (turns : Bool) → Result Source Refusal → (text given : List ℕ) → (heap deep steps : ℕ) → Planned → Type 0
-IsPlanOf turns (Err refusal) text given heap deep steps p = p ≡ prints SourceRefused (refused_line refusal)
-IsPlanOf turns (Ok program) text given heap deep steps p = IsBuiltPlan turns (unbuilt program) text given program heap deep steps p
+-- the first refusal of a text is told, or P holds of the program that it is
+abbrev pub OfProgram : (P : Source → Planned → Type 0) → Result Source Refusal → Planned → Type 0
+OfProgram P (Err refusal) p = p ≡ prints SourceRefused (refused_line refusal)
+OfProgram P (Ok program) p = P program p
 
 -- the text is judged, and the plan is that of the judgement
-pub record IsGoPlan (turns : Bool) (text given : List ℕ) (heap deep steps : ℕ) (p : Planned) : Type 0 where
+pub record IsJudgedPlan (text : List ℕ) (P : Source → Planned → Type 0) (p : Planned) : Type 0 where
   pub judgement : Result Source Refusal
   pub judged : IsJudged text judgement
-  pub plan : IsPlanOf turns judgement text given heap deep steps p
+  pub plan : OfProgram P judgement p
 
-abbrev pub IsJudgementPlan : Result Source Refusal → Planned → Type 0
-IsJudgementPlan (Err refusal) p = p ≡ prints SourceRefused (refused_line refusal)
-IsJudgementPlan (Ok program) p = p ≡ prints Done (codes "accepted" ++ line_end)
+abbrev pub IsBuiltPlan : (turns : Bool) → (text given : List ℕ) → Source → (heap deep steps : ℕ) → Planned → Type 0
+IsBuiltPlan turns text given program heap deep steps p =
+    IfBuilt (unbuilt program) text (IsLimitedPlan turns (limits_refusal heap deep MOST_DEEP) given program (record { heap = heap; deep = deep }) steps) p
 
-pub record IsCheckPlan (text : List ℕ) (p : Planned) : Type 0 where
-  pub judgement : Result Source Refusal
-  pub judged : IsJudged text judgement
-  pub plan : IsJudgementPlan judgement p
+abbrev pub IsGoPlan : (turns : Bool) → (text given : List ℕ) → (heap deep steps : ℕ) → Planned → Type 0
+IsGoPlan turns text given heap deep steps p = IsJudgedPlan text (λ program. IsBuiltPlan turns text given program heap deep steps) p
+
+abbrev pub IsCheckPlan : (text : List ℕ) → Planned → Type 0
+IsCheckPlan text p = IsJudgedPlan text (λ program p. p ≡ prints Done (codes "accepted" ++ line_end)) p
 
 -- what was done with so many code cells
 abbrev pub cells_line : (what : List ℕ) → List Cell → List ℕ
@@ -269,20 +275,11 @@ pub record WritesImage (program : Source) (name : List ℕ) (p : Planned) : Type
   pub stands : StandsFor program image
   pub written : p ≡ writes name (image_bytes image) (cells_line (codes "compiled") image.code)
 
--- a form that is not built yet is told before the image is made
-abbrev pub IsBuiltImage : Option Unbuilt → (text name : List ℕ) → Source → Planned → Type 0
-IsBuiltImage (Some found) text name program p = TellsUnbuilt text found p
-IsBuiltImage None text name program p = WritesImage program name p
+abbrev pub IsBuiltImage : (text name : List ℕ) → Source → Planned → Type 0
+IsBuiltImage text name program p = IfBuilt (unbuilt program) text (WritesImage program name) p
 
-abbrev pub IsImageOf : Result Source Refusal → (text name : List ℕ) → Planned → Type 0
-IsImageOf (Err refusal) text name p = p ≡ prints SourceRefused (refused_line refusal)
-IsImageOf (Ok program) text name p = IsBuiltImage (unbuilt program) text name program p
-
--- the text is judged, and the plan is that of the judgement
-pub record IsCompilePlan (text name : List ℕ) (p : Planned) : Type 0 where
-  pub judgement : Result Source Refusal
-  pub judged : IsJudged text judgement
-  pub plan : IsImageOf judgement text name p
+abbrev pub IsCompilePlan : (text name : List ℕ) → Planned → Type 0
+IsCompilePlan text name p = IsJudgedPlan text (IsBuiltImage text name) p
 
 -- the image that an assembly text writes is written, or its first refusal is told
 abbrev pub IsAsmPlan : Result Segments AsmError → (name : List ℕ) → Planned → Type 0
@@ -291,13 +288,11 @@ IsAsmPlan (Ok image) name p = p ≡ writes name (image_bytes image) (cells_line 
 
 -- the listing of an image that was read is written
 abbrev pub IsListPlan : Result Segments ImageError → (name : List ℕ) → Planned → Type 0
-IsListPlan (Err e) name p = p ≡ prints ImageRefused (image_line e)
-IsListPlan (Ok image) name p = p ≡ writes name (listing image) (cells_line (codes "listed") image.code)
+IsListPlan read name p = OfImage (λ image p. p ≡ writes name (listing image) (cells_line (codes "listed") image.code)) read p
 
 -- the flipped image of an image that was read is written
 abbrev pub IsFlipPlan : Result Segments ImageError → (name : List ℕ) → Planned → Type 0
-IsFlipPlan (Err e) name p = p ≡ prints ImageRefused (image_line e)
-IsFlipPlan (Ok image) name p = p ≡ writes name (image_bytes (flipped_image image)) (cells_line (codes "flipped") image.code)
+IsFlipPlan read name p = OfImage (λ image p. p ≡ writes name (image_bytes (flipped_image image)) (cells_line (codes "flipped") image.code)) read p
 
 -- P holds of the text of the input, which is empty where there is none
 abbrev pub WithInput : Texts → Option (List ℕ) → (List ℕ → Type 0) → Type 0

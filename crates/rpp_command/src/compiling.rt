@@ -54,7 +54,7 @@ fn compile_judged(
     name: &str,
 ) -> Result<Plan, NoMemory>
     requires tokens { IsCutting _text.now judged.now.tokens.items }
-    ensures { IfOk result (λ plan. IsBuiltImage (unbuilt (source_of judged.now.checked)) _text.now name.now (source_of judged.now.checked) (planned plan)) }
+    ensures { IfOk result (λ plan. IsBuiltImage _text.now name.now (source_of judged.now.checked) (planned plan)) }
 {
     match first_unbuilt(judged.checked.program()) {
         Some(found) => Ok(refuse_source(alloc, 42, unbuilt_place(&judged.tokens, found))?),

@@ -104,7 +104,7 @@ fn go_judged<L: Ledger>(
     requires tokens { IsCutting _text.now judged.now.tokens.items }
     requires given { length given.now ≤ MOST_INPUT }
     requires bound { bound < 2 ^ 63 }
-    ensures { IfOk result (λ plan. IsBuiltPlan turns (unbuilt (source_of judged.now.checked)) _text.now given.now (source_of judged.now.checked) heap deep bound (planned plan)) }
+    ensures { IfOk result (λ plan. IsBuiltPlan turns _text.now given.now (source_of judged.now.checked) heap deep bound (planned plan)) }
 {
     match first_unbuilt(judged.checked.program()) {
         Some(found) => Ok(refuse_source(alloc, 42, unbuilt_place(&judged.tokens, found))?),
