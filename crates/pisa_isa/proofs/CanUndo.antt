@@ -1,5 +1,5 @@
 -- What stepping back needs, where a step led here.
-use Rattle.std.proofs.Common.{◌≡◌, ◌≢◌, ◌∙◌, ap, refl, ℕ, ◌^◌, ◌<◌, Bool, true, false, cond, arith, List, length, get_or, ℤ, pos, negsuc, ◌+ℤ◌, ◌≤ℤ◌, ◌<ℤ◌, Option, Some, None, length-set}
+use Rattle.std.proofs.Common.{◌≡◌, ◌≢◌, ◌∙◌, sym, ap, refl, ℕ, ◌^◌, ◌<◌, Bool, true, false, not, cond, arith, List, length, get_or, ℤ, pos, negsuc, ◌+ℤ◌, ◌≤ℤ◌, ◌<ℤ◌, Option, Some, None, length-set}
 use Rattle.std.proofs.lemmas.List.{get_or-set_other}
 use Rattle.std.proofs.lemmas.List.Elements.{All-get_or}
 use Rattle.std.proofs.lemmas.Option.{slice_get_within}
@@ -11,7 +11,7 @@ use Rattle.pisa_isa.specs.declared.cell.Op.TheVariants.{Exch, Swapbr, Bra, Rbra,
 use Rattle.pisa_isa.specs.declared.cell.Cell.{Cell}
 use Rattle.pisa_isa.specs.Table.{IsCell, b_is_source}
 use Rattle.pisa_isa.proofs.Ranges.{a_below}
-use Rattle.pisa_isa.specs.Machine.{State, IsState, IsCode, IsNext, turned, moved, place_moved, stride, effect, effect_at, row, faced, has_cell, fetch, is_taken, stop_at, next, back}
+use Rattle.pisa_isa.specs.Machine.{State, IsState, IsCode, IsNext, turned, moved, place_moved, stride, effect, effect_at, row, row_of, faced, has_cell, fetch, is_taken, stop_at, next, back}
 use Rattle.pisa_isa.proofs.Facing.{has_cell-from_none, IsCell-faced}
 use Rattle.pisa_isa.proofs.Effect.{state, cell}
 use Rattle.pisa_isa.proofs.Back.{Apart-cell, moved-twice, effect-pc, IsCell-fetch}
@@ -91,3 +91,31 @@ came_at code m s (Some c) k ok e h n =
 
 pub came_by : (code : List Cell) (m : State) → IsCode code → IsNext code m → CameBy code m
 came_by code m k n = came_at code m (back code m) (fetch code (back code m).pc) k n.is_state refl n.goes n.comes
+
+-- stepping back in one go: the effect for the other direction where the machine stands, and then the place before
+
+row-apart : (op : Op) (a b c i : ℕ) (pc p : ℤ) (br : ℕ) (back : Bool) (regs cells : List ℕ)
+    → record (row op a b c i (state pc br back regs cells)) { pc = p } ≡ turned (row op a b c i (state p br (not back) regs cells))
+row-apart Rbra a b c i pc p br true regs cells = refl
+row-apart Rbra a b c i pc p br false regs cells = refl
+row-apart _ a b c i pc p br true regs cells = refl
+row-apart _ a b c i pc p br false regs cells = refl
+
+effect-apart : (c : Cell) (m : State) → record (row_of (faced (not m.back) c) m) { pc = (moved (turned m)).pc } ≡ turned (effect c (moved (turned m)))
+effect-apart c m = let d = faced (not m.back) c in row-apart d.op d.a d.b d.c d.imm m.pc (moved (turned m)).pc m.br m.back m.regs m.cells
+
+pub stepped_back : (code : List Cell) (m : State) (c : Cell) (s : State) (p : ℤ) → fetch code (moved (turned m)).pc ≡ Some c
+    → s ≡ row_of (faced (not m.back) c) m → p ≡ (moved (turned m)).pc → record s { pc = p } ≡ back code m
+stepped_back code m c s p there acts place =
+    let u : State = moved (turned m) in
+    ap (λ s. state p s.br s.back s.regs s.cells) acts
+    ∙ ap (λ p. record (row_of (faced (not m.back) c) m) { pc = p }) place
+    ∙ effect-apart c m
+    ∙ sym (ap (λ o. turned (effect_at o u)) there)
+
+has_cell-apart : (op : Op) (s : ℕ) (m : State) → has_cell op s (moved (turned m)) ≡ has_cell op s m
+has_cell-apart Exch s m = refl
+has_cell-apart _ s m = refl
+
+pub has_cell-before : (c : Cell) (m : State) → has_cell c.op c.b (moved (turned m)) ≡ true → has_cell c.op c.b m ≡ true
+has_cell-before c m h = sym (has_cell-apart c.op c.b m) ∙ h

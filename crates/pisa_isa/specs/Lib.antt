@@ -1,5 +1,6 @@
 pub mod Table
 pub mod Machine
+pub mod Directions
 pub mod Image
 pub mod Runs
 pub mod Ends

@@ -25,9 +25,13 @@ reg m r = slice_index m.regs r
 abbrev pub with_reg : State → ℕ → ℕ → State
 with_reg m r w = record m { regs = slice_set m.regs r w }
 
--- the data cell at the address in register s, and register d, are swapped
+-- register d and the data cell at an address are swapped
+abbrev pub exchanged_at : State → (d at : ℕ) → State
+exchanged_at m d at = record m { regs = slice_set m.regs d (slice_index m.cells at); cells = slice_set m.cells at (reg m d) }
+
+-- the address is in register s
 abbrev pub exchanged : State → ℕ → ℕ → State
-exchanged m d s = record m { regs = slice_set m.regs d (slice_index m.cells (reg m s)); cells = slice_set m.cells (reg m s) (reg m d) }
+exchanged m d s = exchanged_at m d (reg m s)
 
 abbrev pub branched : Bool → ℕ → State → State
 branched taken o m = record m { br = if taken then sum_of m.br o else m.br }
@@ -103,6 +107,7 @@ abbrev pub has_cell : Op → ℕ → State → Bool
 has_cell Exch s m = nat_lt (reg m s) (length m.cells)
 has_cell _ s m = true
 
+-- why the machine stops at a cell, if it does
 abbrev pub stop_in : Op → Cell → State → Option Stop
 stop_in Finish c m = if not m.back && is_zero m.br then Some Finished else None
 stop_in Start c m = if m.back && is_zero m.br then Some Returned else None

@@ -1,10 +1,8 @@
 // The instructions.
 ghost use Rattle.std.specs.Prelude.{◌≡◌, ◌↔◌, IsTrue};
-ghost use Rattle.pisa_isa.specs.Table.{IsInRange, inverse_of, is_one_to_one, new_value, has_a, has_b, c_is_source, register_end, imm_end};
+ghost use Rattle.pisa_isa.specs.Table.{IsInRange, inverse_of, inverse_op, inverse_word, is_one_to_one, has_a, has_b, c_is_source, register_end, imm_end};
 
-use rpp_words::{
-    less, shift_left, shift_right, shift_right_signed, turn_left, turn_right, wrap_add, wrap_sub,
-};
+use rpp_words::wrap_sub;
 
 /// What an instruction does: the rows of the Pendulum instruction set PISA (Vieri; Axelsen, Glück
 /// and Yokoyama), as the thesis on ROOPL++ (Cservenka) uses it. `d` is the register in `a`, `s` the
@@ -105,27 +103,11 @@ impl Cell {
     pub fn inverse(self) -> Cell
         ensures { result ≡ inverse_of self }
     {
-        let (op, imm) = match self.op {
-            Op::Add => (Op::Sub, self.imm),
-            Op::Sub => (Op::Add, self.imm),
-            Op::Rl => (Op::Rr, self.imm),
-            Op::Rr => (Op::Rl, self.imm),
-            Op::Rlv => (Op::Rrv, self.imm),
-            Op::Rrv => (Op::Rlv, self.imm),
-            Op::Start => (Op::Finish, self.imm),
-            Op::Finish => (Op::Start, self.imm),
-            Op::Addi
-            | Op::Bra
-            | Op::Rbra
-            | Op::Beq
-            | Op::Bne
-            | Op::Bgez
-            | Op::Bgtz
-            | Op::Blez
-            | Op::Bltz => { (self.op, wrap_sub(0, self.imm)) }
-            _ => (self.op, self.imm),
-        };
-        Cell { op, imm, ..self }
+        Cell {
+            op: inverse_op(self.op),
+            imm: inverse_word(self.op, self.imm),
+            ..self
+        }
     }
 
     /// Whether its fields are in the ranges of its row.
@@ -160,6 +142,41 @@ impl Cell {
             }
             _ => true,
         }
+    }
+}
+
+/// The row that undoes a row.
+fn inverse_op(op: Op) -> Op
+    ensures { result ≡ inverse_op op }
+{
+    match op {
+        Op::Add => Op::Sub,
+        Op::Sub => Op::Add,
+        Op::Rl => Op::Rr,
+        Op::Rr => Op::Rl,
+        Op::Rlv => Op::Rrv,
+        Op::Rrv => Op::Rlv,
+        Op::Start => Op::Finish,
+        Op::Finish => Op::Start,
+        _ => op,
+    }
+}
+
+/// The word of the instruction that undoes a row's.
+fn inverse_word(op: Op, imm: u32) -> u32
+    ensures { result ≡ inverse_word op imm }
+{
+    match op {
+        Op::Addi
+        | Op::Bra
+        | Op::Rbra
+        | Op::Beq
+        | Op::Bne
+        | Op::Bgez
+        | Op::Bgtz
+        | Op::Blez
+        | Op::Bltz => wrap_sub(0, imm),
+        _ => imm,
     }
 }
 
@@ -213,36 +230,5 @@ fn imm_end(op: Op) -> u64
         | Op::Bltz
         | Op::DataWord => 1 << 32,
         _ => 1,
-    }
-}
-
-/// What the rows from ADD to SRAVX make of the target `x`, with sources `y` and `z` and a word `i`.
-pub(crate) fn new_word(op: Op, x: u32, y: u32, z: u32, i: u32) -> u32
-    ensures { result ≡ new_value op x y z i }
-{
-    match op {
-        Op::Add => wrap_add(x, y),
-        Op::Sub => wrap_sub(x, y),
-        Op::Xor => x ^ y,
-        Op::Neg => wrap_sub(0, x),
-        Op::Addi => wrap_add(x, i),
-        Op::Xori => x ^ i,
-        Op::Rl => turn_left(x, i),
-        Op::Rr => turn_right(x, i),
-        Op::Rlv => turn_left(x, y),
-        Op::Rrv => turn_right(x, y),
-        Op::Andx => x ^ (y & z),
-        Op::Orx => x ^ (y | z),
-        Op::Norx => x ^ !(y | z),
-        Op::Sltx => x ^ u32::from(less(y, z)),
-        Op::Andix => x ^ (y & i),
-        Op::Orix => x ^ (y | i),
-        Op::Sllx => x ^ shift_left(y, i),
-        Op::Srlx => x ^ shift_right(y, i),
-        Op::Srax => x ^ shift_right_signed(y, i),
-        Op::Sllvx => x ^ shift_left(y, z),
-        Op::Srlvx => x ^ shift_right(y, z),
-        Op::Sravx => x ^ shift_right_signed(y, z),
-        _ => x,
     }
 }

@@ -1,10 +1,15 @@
 // The state of the machine, and one step forward and back.
-ghost use Rattle.std.specs.Prelude.{not, ◌≡◌, ◌<◌, ◌≤◌, ◌^◌, ℕ, pos, ◌+ℤ◌, ◌≤ℤ◌, ◌<ℤ◌, length, List, slice_index, slice_set, IsSome, IsNone, IfSome, IsTrue, if◌then◌else◌, None, Some};
+ghost use Rattle.std.specs.Prelude.{not, ◌≡◌, ◌<◌, ◌≤◌, ◌^◌, ℕ, pos, ◌↔◌, ◌+ℤ◌, ◌≤ℤ◌, ◌<ℤ◌, length, List, slice_index, slice_set, nat_lt, IsSome, IsNone, IsTrue, if◌then◌else◌, None, Some};
+ghost use Rattle.rpp_words.specs.Words.{sum_of, negated};
 ghost use Rattle.pisa_isa.specs.Table.{IsCell};
-ghost use Rattle.pisa_isa.specs.Machine.{State, state_of, fetch, row_of, is_taken, stride, place_moved, faced, has_cell, stop_in, stop, effect, next, back, IsCode, IsState, IsNext};
+ghost use Rattle.pisa_isa.specs.declared.machine.Stop.TheVariants.{BadAddress};
+ghost use Rattle.pisa_isa.specs.Machine.{State, state_of, fetch, row_of, reg, below_zero, exchanged_at, stride, place_moved, faced, has_cell, stop_in, stop, effect, moved, next, back, back as before, IsCode, IsState, IsNext};
+ghost use Rattle.pisa_isa.specs.Directions.{row_by, has_cell_at, sum_by, turned_by, offset_by, stop_by};
 
-use crate::cell::{Cell, Op, new_word};
-use rpp_words::{wrap_add, wrap_sub};
+use crate::cell::{Cell, Op};
+use rpp_words::{
+    less, shift_left, shift_right, shift_right_signed, turn_left, turn_right, wrap_add, wrap_sub,
+};
 
 /// Why the machine stopped.
 #[derive(Clone, Copy, PartialEq, Eq, Debug)]
@@ -52,19 +57,25 @@ pub trait Cells {
         ensures word { word.new ≡ slice_index (words self.old) at };
 }
 
-/// The cell at a place, if there is one.
-fn cell_at(code: &[Cell], pc: i64) -> Option<Cell>
+/// Whether a place is in the code. A place below 0 is a large number when it is read without its sign, so that one test
+/// is enough.
+fn is_in_code(code: &[Cell], pc: i64) -> bool
     requires { IsCode code.now }
-    ensures found { result ≡ fetch code.now pc }
-    ensures cell { IfSome result IsCell }
-    ensures low { IsSome result → pos 0 ≤ℤ pc }
-    ensures high { IsSome result → pc <ℤ pos (length code.now) }
+    ensures answer { IsTrue result ↔ IsSome (fetch code.now pc) }
+    ensures low { IsTrue result → pos 0 ≤ℤ pc }
+    ensures high { IsTrue result → pc <ℤ pos (length code.now) }
 {
-    if pc < 0 {
-        None
-    } else {
-        code.get(pc as usize).copied()
-    }
+    pc.cast_unsigned() < code.len() as u64
+}
+
+/// The cell at a place in the code.
+fn cell_at(code: &[Cell], pc: i64) -> &Cell
+    requires code { IsCode code.now }
+    requires there { IsSome (fetch code.now pc) }
+    ensures found { fetch code.now pc ≡ Some result.now }
+    ensures cell { IsCell result.now }
+{
+    &code[pc as usize]
 }
 
 /// How far a move goes.
@@ -93,116 +104,202 @@ fn place_after(pc: i64, br: u32, back: bool) -> i64
     }
 }
 
-/// Moves by the direction.
-fn advance(core: &mut Core)
-    requires low { pos 0 ≤ℤ (core.old.pc +ℤ pos (2 ^ 32)) }
-    requires high { core.old.pc ≤ℤ pos (2 ^ 32) }
-    ensures { core.new ≡ record core.old { pc = place_moved core.old.back core.old.pc core.old.br } }
+/// Stands at a place.
+fn stand_at(core: &mut Core, pc: i64)
+    ensures { core.new ≡ record core.old { pc = pc } }
 {
-    core.pc = place_after(core.pc, core.br, core.back);
+    core.pc = pc;
 }
 
-/// Faces the other direction.
-fn turn(core: &mut Core)
-    ensures { core.new ≡ record core.old { back = not core.old.back } }
+/// Moves on from a place by the direction.
+fn advance(core: &mut Core, pc: i64)
+    requires low { pos 0 ≤ℤ (pc +ℤ pos (2 ^ 32)) }
+    requires high { pc ≤ℤ pos (2 ^ 32) }
+    ensures { core.new ≡ record core.old { pc = place_moved core.old.back pc core.old.br } }
 {
+    core.pc = place_after(pc, core.br, core.back);
+}
+
+/// The place before the last move, where `back` is the direction against it.
+fn place_before(core: &Core, back: bool) -> i64
+    requires low { pos 0 ≤ℤ (core.now.pc +ℤ pos (2 ^ 32)) }
+    requires high { core.now.pc ≤ℤ pos (2 ^ 32) }
+    ensures { result ≡ place_moved back core.now.pc core.now.br }
+{
+    place_after(core.pc, core.br, back)
+}
+
+/// A word as a signed number is below 0.
+fn is_below_zero(x: u32) -> bool
+    ensures { result ≡ below_zero x }
+{
+    x >= 1 << 31
+}
+
+/// Adds an offset to the branch register where a branch is taken.
+fn branch_if(core: &mut Core, taken: bool, offset: u32)
+    ensures { core.new ≡ record core.old { br = if taken then sum_of core.old.br offset else core.old.br } }
+{
+    if taken {
+        core.br = wrap_add(core.br, offset);
+    }
+}
+
+/// Adds an offset to the branch register, negates it and turns the direction.
+fn reverse(core: &mut Core, offset: u32)
+    ensures { core.new ≡ record core.old { br = negated (sum_of core.old.br offset); back = not core.old.back } }
+{
+    core.br = wrap_sub(0, wrap_add(core.br, offset));
     core.back = !core.back;
 }
 
-/// The instruction as it acts in a direction.
-fn facing(cell: Cell, back: bool) -> Cell
-    ensures value { result ≡ faced back cell }
-    ensures cell { IsCell cell → IsCell result }
-{
-    if back { cell.inverse() } else { cell }
-}
-
-/// Why the machine stops at a cell, if it does.
-fn stop_at_cell<C: Cells>(core: &Core, cell: Cell, cells: &C) -> Option<Stop>
-    requires { IsCell cell }
-    ensures { result ≡ stop_in cell.op cell (state_of core.now (C.words cells.now)) }
-{
-    match cell.op {
-        Op::Finish if !core.back && core.br == 0 => Some(Stop::Finished),
-        Op::Start if core.back && core.br == 0 => Some(Stop::Returned),
-        Op::DataWord => Some(Stop::Trap(cell.imm)),
-        Op::Exch => {
-            let at = core.regs[cell.b as usize];
-            if at < cells.len() {
-                None
-            } else {
-                Some(Stop::BadAddress(at))
-            }
-        }
-        _ => None,
-    }
-}
-
-/// Whether a conditional branch is taken, by what its registers hold.
-fn takes(op: Op, x: u32, y: u32) -> bool
-    ensures { result ≡ is_taken op x y }
-{
-    let negative = x >= 1 << 31;
-    match op {
-        Op::Bra => true,
-        Op::Beq => x == y,
-        Op::Bne => x != y,
-        Op::Bgez => !negative,
-        Op::Bgtz => !(negative || x == 0),
-        Op::Blez => negative || x == 0,
-        Op::Bltz => negative,
-        _ => false,
-    }
-}
-
-/// The effect of a row for direction 1.
-fn act<C: Cells>(core: &mut Core, cell: Cell, cells: &mut C)
-    requires cell { IsCell cell }
-    requires found { IsTrue (has_cell cell.op cell.b (state_of core.old (C.words cells.old))) }
-    ensures acts { state_of core.new (C.words cells.new) ≡ row_of cell (state_of core.old (C.words cells.old)) }
+/// Swaps a register with the data cell at an address, or stops where there is none.
+fn exchange<C: Cells>(core: &mut Core, a: usize, at: u32, cells: &mut C) -> Option<Stop>
+    requires { a < 32 }
+    ensures stops { result ≡ (if nat_lt at (length (C.words cells.old)) then None else Some (BadAddress at)) }
+    ensures stays { IsSome result → state_of core.new (C.words cells.new) ≡ state_of core.old (C.words cells.old) }
+    ensures swaps { IsTrue (nat_lt at (length (C.words cells.old)))
+        → state_of core.new (C.words cells.new) ≡ exchanged_at (state_of core.old (C.words cells.old)) a at }
     ensures place { core.new.pc ≡ core.old.pc }
 {
-    let a = cell.a as usize;
+    if at >= cells.len() {
+        return Some(Stop::BadAddress(at));
+    }
+    let mut word = core.regs[a];
+    cells.exchange(at, &mut word);
+    core.regs[a] = word;
+    None
+}
+
+/// The sum, or for direction -1 the difference.
+fn sum_by(back: bool, x: u32, y: u32) -> u32
+    ensures { result ≡ sum_by back x y }
+{
+    if back { wrap_sub(x, y) } else { wrap_add(x, y) }
+}
+
+/// The word turned left, or for direction -1 turned right.
+fn turn_by(back: bool, x: u32, n: u32) -> u32
+    ensures { result ≡ turned_by back x n }
+{
+    if back {
+        turn_right(x, n)
+    } else {
+        turn_left(x, n)
+    }
+}
+
+/// What a cell's word adds in a direction.
+fn offset_by(back: bool, i: u32) -> u32
+    ensures { result ≡ offset_by back i }
+{
+    if back { wrap_sub(0, i) } else { i }
+}
+
+/// The effect of a row in a direction, where its first two registers hold `x` and `y`, or why the machine stops there, and
+/// then nothing changes. It is the whole work of a step but for the move, so that one look at the row decides both.
+#[inline(always)]
+fn act<C: Cells>(
+    core: &mut Core,
+    op: Op,
+    back: bool,
+    a: usize,
+    x: u32,
+    y: u32,
+    c: usize,
+    i: u32,
+    cells: &mut C,
+) -> Option<Stop>
+    requires a { a < 32 }
+    requires c { c < 32 }
+    requires x { x ≡ slice_index core.old.regs a }
+    ensures stops { result ≡ stop_by op back y i (state_of core.old (C.words cells.old)) }
+    ensures stays { IsSome result → state_of core.new (C.words cells.new) ≡ state_of core.old (C.words cells.old) }
+    ensures acts { IsTrue (has_cell_at op y (state_of core.old (C.words cells.old)))
+        → state_of core.new (C.words cells.new) ≡ row_by op back a x y c i (state_of core.old (C.words cells.old)) }
+    ensures place { core.new.pc ≡ core.old.pc }
+{
+    let o = offset_by(back, i);
+    match op {
+        Op::Add => core.regs[a] = sum_by(back, x, y),
+        Op::Sub => core.regs[a] = sum_by(!back, x, y),
+        Op::Xor => core.regs[a] = x ^ y,
+        Op::Neg => core.regs[a] = wrap_sub(0, x),
+        Op::Addi => core.regs[a] = wrap_add(x, o),
+        Op::Xori => core.regs[a] = x ^ i,
+        Op::Rl => core.regs[a] = turn_by(back, x, i),
+        Op::Rr => core.regs[a] = turn_by(!back, x, i),
+        Op::Rlv => core.regs[a] = turn_by(back, x, y),
+        Op::Rrv => core.regs[a] = turn_by(!back, x, y),
+        Op::Andx => core.regs[a] = x ^ (y & core.regs[c]),
+        Op::Orx => core.regs[a] = x ^ (y | core.regs[c]),
+        Op::Norx => core.regs[a] = x ^ !(y | core.regs[c]),
+        Op::Sltx => core.regs[a] = x ^ u32::from(less(y, core.regs[c])),
+        Op::Andix => core.regs[a] = x ^ (y & i),
+        Op::Orix => core.regs[a] = x ^ (y | i),
+        Op::Sllx => core.regs[a] = x ^ shift_left(y, i),
+        Op::Srlx => core.regs[a] = x ^ shift_right(y, i),
+        Op::Srax => core.regs[a] = x ^ shift_right_signed(y, i),
+        Op::Sllvx => core.regs[a] = x ^ shift_left(y, core.regs[c]),
+        Op::Srlvx => core.regs[a] = x ^ shift_right(y, core.regs[c]),
+        Op::Sravx => core.regs[a] = x ^ shift_right_signed(y, core.regs[c]),
+        Op::Exch => return exchange(core, a, y, cells),
+        Op::Swapbr => (core.regs[a], core.br) = (core.br, x),
+        Op::Bra => branch_if(core, true, o),
+        Op::Rbra => reverse(core, o),
+        Op::Beq => branch_if(core, x == y, o),
+        Op::Bne => branch_if(core, x != y, o),
+        Op::Bgez => branch_if(core, !is_below_zero(x), o),
+        Op::Bgtz => branch_if(core, !(is_below_zero(x) || x == 0), o),
+        Op::Blez => branch_if(core, is_below_zero(x) || x == 0, o),
+        Op::Bltz => branch_if(core, is_below_zero(x), o),
+        Op::Start if back && core.br == 0 => return Some(Stop::Returned),
+        Op::Finish if !back && core.br == 0 => return Some(Stop::Finished),
+        Op::Start | Op::Finish => {}
+        Op::DataWord => return Some(Stop::Trap(i)),
+    }
+    None
+}
+
+/// The effect of a cell in a direction, or why the machine stops there, and then nothing changes.
+#[inline(always)]
+fn act_by<C: Cells>(core: &mut Core, cell: &Cell, back: bool, cells: &mut C) -> Option<Stop>
+    requires cell { IsCell cell.now }
+    ensures stops { result ≡ stop_by cell.now.op back (reg (state_of core.old (C.words cells.old)) cell.now.b) cell.now.imm (state_of core.old (C.words cells.old)) }
+    ensures stays { IsSome result → state_of core.new (C.words cells.new) ≡ state_of core.old (C.words cells.old) }
+    ensures acts { IsTrue (has_cell cell.now.op cell.now.b (state_of core.old (C.words cells.old)))
+        → state_of core.new (C.words cells.new) ≡ row_of (faced back cell.now) (state_of core.old (C.words cells.old)) }
+    ensures place { core.new.pc ≡ core.old.pc }
+{
+    let (a, c) = (cell.a as usize, cell.c as usize);
     let x = core.regs[a];
     let y = core.regs[cell.b as usize];
-    match cell.op {
-        Op::Exch => {
-            let mut word = x;
-            cells.exchange(y, &mut word);
-            core.regs[a] = word;
-        }
-        Op::Swapbr => {
-            core.regs[a] = core.br;
-            core.br = x;
-        }
-        Op::Rbra => {
-            core.br = wrap_sub(0, wrap_add(core.br, cell.imm));
-            core.back = !core.back;
-        }
-        Op::Bra | Op::Beq | Op::Bne | Op::Bgez | Op::Bgtz | Op::Blez | Op::Bltz => {
-            if takes(cell.op, x, y) {
-                core.br = wrap_add(core.br, cell.imm);
-            }
-        }
-        Op::Start | Op::Finish | Op::DataWord => {}
-        _ => {
-            let z = core.regs[cell.c as usize];
-            core.regs[a] = new_word(cell.op, x, y, z, cell.imm);
-        }
-    }
+    act(core, cell.op, back, a, x, y, c, cell.imm, cells)
 }
 
-/// One step in the direction that the machine faces, where it does not stop.
-fn act_facing<C: Cells>(core: &mut Core, cell: Cell, cells: &mut C)
-    requires cell { IsCell cell }
-    requires found { IsTrue (has_cell cell.op cell.b (state_of core.old (C.words cells.old))) }
-    ensures acts { state_of core.new (C.words cells.new) ≡ effect cell (state_of core.old (C.words cells.old)) }
-    ensures place { core.new.pc ≡ core.old.pc }
+/// One step at a cell, where `back` says that the machine faces direction -1, or why it stops, and then nothing changes.
+#[inline(always)]
+fn step_by<C: Cells>(core: &mut Core, cell: &Cell, back: bool, cells: &mut C) -> Option<Stop>
+    requires cell { IsCell cell.now }
+    requires back { back ≡ core.old.back }
+    requires low { pos 0 ≤ℤ core.old.pc }
+    requires high { core.old.pc ≤ℤ pos (2 ^ 32) }
+    ensures stops { result ≡ stop_in cell.now.op cell.now (state_of core.old (C.words cells.old)) }
+    ensures stays { IsSome result → state_of core.new (C.words cells.new) ≡ state_of core.old (C.words cells.old) }
+    ensures goes { IsNone result
+        → state_of core.new (C.words cells.new) ≡ moved (effect cell.now (state_of core.old (C.words cells.old))) }
 {
-    act(core, facing(cell, core.back), cells);
+    let pc = core.pc;
+    let stop = act_by(core, cell, back, cells);
+    if stop.is_some() {
+        return stop;
+    }
+    advance(core, pc);
+    None
 }
 
 /// Makes one step, or answers why the machine stops, and then changes nothing.
+#[inline(always)]
 pub fn step<C: Cells>(core: &mut Core, code: &[Cell], cells: &mut C) -> Option<Stop>
     requires { IsCode code.now }
     ensures stops { result ≡ stop code.now (state_of core.old (C.words cells.old)) }
@@ -211,26 +308,32 @@ pub fn step<C: Cells>(core: &mut Core, code: &[Cell], cells: &mut C) -> Option<S
     ensures goes { IsNone result
         → state_of core.new (C.words cells.new) ≡ next code.now (state_of core.old (C.words cells.old)) }
 {
-    let Some(cell) = cell_at(code, core.pc) else {
+    if !is_in_code(code, core.pc) {
         return Some(Stop::OffCode(core.pc));
-    };
-    let stop = stop_at_cell(core, cell, cells);
-    if stop.is_some() {
-        return stop;
     }
-    act_facing(core, cell, cells);
-    advance(core);
-    None
+    let cell = cell_at(code, core.pc);
+    if core.back {
+        step_by(core, cell, true, cells)
+    } else {
+        step_by(core, cell, false, cells)
+    }
 }
 
-/// The instruction at a place, where there is one.
-fn known_cell(code: &[Cell], pc: i64) -> Cell
+/// Undoes a step that was made, where `back` says that it was made for direction 1: the move, and then the effect, each for
+/// the other direction. At the ends of a run the effect is nothing, so that it does not matter that `act` would stop there.
+#[inline(always)]
+fn unstep_by<C: Cells>(core: &mut Core, code: &[Cell], back: bool, cells: &mut C)
     requires code { IsCode code.now }
-    requires there { IsSome (fetch code.now pc) }
-    ensures found { fetch code.now pc ≡ Some result }
-    ensures cell { IsCell result }
+    requires made { IsNext code.now (state_of core.old (C.words cells.old)) }
+    requires back { back ≡ not core.old.back }
+    ensures back { state_of core.new (C.words cells.new) ≡ before code.now (state_of core.old (C.words cells.old)) }
+    ensures undoes { (m : State) → IsState m → stop code.now m ≡ None
+        → state_of core.old (C.words cells.old) ≡ next code.now m
+        → state_of core.new (C.words cells.new) ≡ m }
 {
-    code[pc as usize]
+    let pc = place_before(core, back);
+    let _stop = act_by(core, cell_at(code, pc), back, cells);
+    stand_at(core, pc);
 }
 
 /// Undoes a step that was made.
@@ -242,9 +345,9 @@ pub fn unstep<C: Cells>(core: &mut Core, code: &[Cell], cells: &mut C)
         → state_of core.old (C.words cells.old) ≡ next code.now m
         → state_of core.new (C.words cells.new) ≡ m }
 {
-    turn(core);
-    advance(core);
-    let cell = known_cell(code, core.pc);
-    act_facing(core, cell, cells);
-    turn(core);
+    if core.back {
+        unstep_by(core, code, false, cells)
+    } else {
+        unstep_by(core, code, true, cells)
+    }
 }
