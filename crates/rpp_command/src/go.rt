@@ -170,7 +170,6 @@ fn go_given<L: Ledger>(
 }
 
 /// What is printed where the limits, the input or a state are refused.
-#[cold]
 pub fn load_line(alloc: Global, e: LoadError) -> Result<String, AllocError>
     ensures { IfOk result (λ line. string_bytes line ≡ line_of_load e) }
 {
@@ -311,7 +310,6 @@ fn report_bound(alloc: Global, bound: u64) -> Result<Plan, AllocError>
 }
 
 /// The line on a fault, with its name.
-#[cold]
 pub fn fault_line(alloc: Global, code: u32) -> Result<String, AllocError>
     ensures { IfOk result (λ line. string_bytes line ≡ line_of_fault code) }
 {
