@@ -1,6 +1,6 @@
 -- The rules of statements in their order.
 use Rattle.std.specs.Prelude.{ℕ, Bool, true, false, not, is_some, ◌&&◌, ◌||◌, nat_eq, List, [], ◌∷◌, ◌++◌, length, Option, Some, None, Result, Ok, Err, if◌then◌else◌}
-use Rattle.std.specs.Option.{ok_or, unwrap_or, is_none}
+use Rattle.std.specs.Option.{unwrap_or, is_none}
 use Rattle.std.specs.List.{list_any}
 use Rattle.std.specs.Str.{bytes_eq}
 use Rattle.rpp_tree.specs.declared.tree.Ident.{Ident}
@@ -166,23 +166,29 @@ construct_rules setting locals class name end =
     (in_turn (required (is_none (local_kind locals name.text)) (redeclared name.at))
     (required (bytes_eq name.text end.text) (type_differs end.at)))
 
-abbrev pub written_class : Table → ℕ → VarType → Result ℕ Refusal
-written_class table at type.Int = Err (not_class_type at)
-written_class table at (type.Class name) = ok_or (class_of table name.text) (unknown_name name.at)
-written_class table at type.IntArray = Err (not_class_type at)
-written_class table at (type.ClassArray name) = Err (not_class_type at)
+-- the type that copy and uncopy write: a class or an array type
+abbrev pub written_kind : Table → ℕ → VarType → Result Kind Refusal
+written_kind table at written = if is_type_int written then Err (not_class_type at) else Ok (kind_of table written)
+
+-- of a class the first place is of it, and the second of it or of an ancestor; of arrays both are
+abbrev pub takes_copy : Table → Kind → Kind → Kind → Bool
+takes_copy table kind.Int source target = false
+takes_copy table kind.Nil source target = false
+takes_copy table (kind.Class class) source target = is_class class source && takes_object table class target
+takes_copy table kind.IntArray source target = is_int_array source && is_int_array target
+takes_copy table (kind.ClassArray class) source target = is_class_array class source && is_class_array class target
 
 abbrev pub same_plain : Lvalue → Lvalue → Bool
 same_plain (Whole name) (Whole other) = bytes_eq name.text other.text
 same_plain (Whole name) (Item other index) = false
 same_plain (Item name index) other = false
 
--- copy and uncopy: the class; the parts; a class type; fitting types; two variables; the second in no index
+-- copy and uncopy: the class; the parts; a class or array type; fitting types; two variables; the second in no index
 abbrev pub copy_rules : Setting → Locals → ℕ → VarType → Lvalue → Lvalue → Verdict
 copy_rules setting locals at written source target =
     in_turn (type_known setting.table written)
-    (and_then (place_type setting locals source) (λ s. and_then (place_type setting locals target) (λ t. and_then (written_class setting.table at written) (λ class.
-    in_turn (required (is_class class s && takes_object setting.table class t) (type_differs at))
+    (and_then (place_type setting locals source) (λ s. and_then (place_type setting locals target) (λ t. and_then (written_kind setting.table at written) (λ kind.
+    in_turn (required (takes_copy setting.table kind s t) (type_differs at))
     (in_turn (required (not (same_plain source target)) (same_argument at))
     (required (not (in_either_index (place_name target).text source target)) (self_update at)))))))
 

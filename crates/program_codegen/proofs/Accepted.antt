@@ -32,12 +32,12 @@ use Rattle.class_table.specs.Expressions.{is_int, occurs, place_type, type_of}
 use Rattle.class_table.specs.Statements.{passed, required, each_passes_after, update_rules, check_statement, check_statements}
 use Rattle.class_table.specs.Program.{IsAccepted, parameter_new, with_parameters, check_method, setting_in, check_class, check_classes}
 use Rattle.class_table.proofs.Tables.{table_reads}
-use Rattle.source_meaning.specs.Source.{main_of, main_fields, main_body, is_int_type, is_int_field}
-use Rattle.source_meaning.specs.Value.{field_of}
+use Rattle.roopl_semantics.specs.Source.{main_of, main_fields, main_body, is_int_type, is_int_field}
+use Rattle.roopl_semantics.specs.Value.{field_of}
 use Rattle.program_codegen.specs.Unbuilt.{unbuilt_value, unbuilt_statement, unbuilt_block, unbuilt_method, unbuilt_class, unbuilt}
 use Rattle.program_codegen.specs.Words.{HasWord, StatementHasWords, BlockHasWords}
 use Rattle.program_codegen.specs.declared.unbuilt.Unbuilt.TheVariants.{Method, Form}
-use Rattle.source_meaning.proofs.MainPlace.{none_of, MainIn, MainFrom, first_of_mains, table_rules, class_inside}
+use Rattle.roopl_semantics.proofs.MainPlace.{none_of, MainIn, MainFrom, first_of_mains, table_rules, class_inside}
 use Rattle.program_codegen.proofs.Rules.{both_true, none_in, none_at, not_refused, not_above, both_passed, each_passed, held, handed_on, in_sum}
 use Rattle.program_codegen.proofs.Values.{IsIntName, IsPlainValue, number, variable, IsPlainStatement, update, skip, IsPlainBlock, done, next, statement_count}
 
@@ -185,7 +185,7 @@ pub record IsCompiled (program : Source) : Type 0 where
   pub few_fields : length (main_fields program) ≤ 64
   pub few_slots : (k : ℕ) → k < length program.classes → length (class_slots program k) ≤ 256
   pub few_classes : length program.classes ≤ 256
-  pub few_statements : statement_count (main_body program) ≤ 5000
+  pub few_statements : statement_count (main_body program) ≤ 20000
 
 statement_is_token : (s : Statement) → unbuilt_statement s ≡ None → 1 ≤ statement_tokens s
 statement_is_token (Update at op target value) none = omega arith
@@ -255,7 +255,7 @@ module _ (program : Source) (accepted : IsAccepted program) (none : unbuilt prog
       let inside = slice_get_within program.classes place.index place.class place.there in
       (table_reads program place.index inside).fields ∙ ap (class_fields program) (sym class_is)
 
-  few_tokens : statement_count place.found.method.body ≤ 5000
+  few_tokens : statement_count place.found.method.body ≤ 20000
   few_tokens =
       let in_class = in_sum class_tokens program.classes place.index place.class place.there in
       let in_method = in_sum procedure_tokens place.class.methods place.found.index place.found.method place.found.there in
@@ -271,5 +271,5 @@ module _ (program : Source) (accepted : IsAccepted program) (none : unbuilt prog
     few_fields = few_fields program accepted.classes (main_of program).class (class_inside program accepted);
     few_slots = few_slots program accepted.classes;
     few_classes = accepted.limits.classes_few;
-    few_statements = subst (λ b. statement_count b ≤ 5000) (sym body_is) few_tokens;
+    few_statements = subst (λ b. statement_count b ≤ 20000) (sym body_is) few_tokens;
   }

@@ -12,10 +12,10 @@ use Rattle.rpp_tree.specs.declared.tree.VarType.{VarType}
 use Rattle.rpp_tree.specs.declared.tree.VarType.TheVariants as kind
 use Rattle.rpp_tree.specs.Tree.{Source, Statement, Statements}
 use Rattle.pisa_isa.specs.Loaded.{loaded}
-use Rattle.source_meaning.specs.Alone.{told_by, values_of, IsAlone}
-use Rattle.source_meaning.specs.Layout.{layout}
-use Rattle.source_meaning.specs.Source.{main_of, main_fields, main_body, is_int_type, is_int_field, with_input, IsLimits, IsValid, GivesDone}
-use Rattle.source_meaning.specs.Store.{Value, Word, State, number_of, zero_value, zero_values}
+use Rattle.roopl_semantics.specs.Alone.{told_by, values_of, IsAlone}
+use Rattle.roopl_semantics.specs.Layout.{layout}
+use Rattle.roopl_semantics.specs.Source.{main_of, main_fields, main_body, is_int_type, is_int_field, with_input, IsLimits, IsValid, GivesDone}
+use Rattle.roopl_semantics.specs.Store.{Value, Word, State, number_of, zero_value, zero_values}
 use Rattle.program_codegen.specs.Code.{field_number, program_statics}
 use Rattle.program_codegen.proofs.Values.{IsIntName, IsPlainStatement, IsPlainBlock, update, skip, done, next, statement_values, block_values, first_values, main_state, words_of}
 use Rattle.program_codegen.proofs.Accepted.{IsCompiled}

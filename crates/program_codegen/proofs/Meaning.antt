@@ -5,11 +5,11 @@ use Rattle.rpp_words.specs.declared.input.Limits.{Limits}
 use Rattle.rpp_tree.specs.declared.tree.Var.{Var}
 use Rattle.rpp_tree.specs.Tree.{Statement, Statements, Update, End, Then, Source, nodes}
 use Rattle.class_table.specs.Classes.{class_fields}
-use Rattle.source_meaning.specs.Run.{Run, Done, Fault, More, ◌>>=◌, after_cost}
-use Rattle.source_meaning.specs.Store.{Value, State}
-use Rattle.source_meaning.specs.Execution.{Setting, Runner, statement, exec}
-use Rattle.source_meaning.specs.Source.{main_of, main_fields, main_body, starting, source, GivesDone, GivesFault}
-use Rattle.source_meaning.proofs.MoreFuel.{within_done, within_fault, done_within}
+use Rattle.roopl_semantics.specs.Run.{Run, Done, Fault, More, ◌>>=◌, after_cost}
+use Rattle.roopl_semantics.specs.Store.{Value, State}
+use Rattle.roopl_semantics.specs.Execution.{Setting, Runner, statement, exec}
+use Rattle.roopl_semantics.specs.Source.{main_of, main_fields, main_body, starting, source, GivesDone, GivesFault}
+use Rattle.roopl_semantics.proofs.MoreFuel.{within_done, within_fault, done_within}
 use Rattle.program_codegen.proofs.Values.{IsPlainStatement, IsPlainBlock, update, skip, number, variable, done as end_of_block, next, statement_count, statement_values, block_values, first_values, main_state}
 
 -- what a statement counts beside itself

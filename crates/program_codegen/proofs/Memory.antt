@@ -10,8 +10,8 @@ use Rattle.rpp_tree.specs.declared.tree.UpdateOp.{UpdateOp}
 use Rattle.rpp_tree.specs.Tree.{Number, Variable, Whole, Statement, Statements, Update, End, Then}
 use Rattle.pisa_isa.specs.declared.cell.Cell.{Cell}
 use Rattle.pisa_isa.specs.declared.cell.Op.TheVariants.{Finish}
-use Rattle.source_meaning.specs.Operators.{updated}
-use Rattle.source_meaning.specs.Store.{Value, Word, number_of}
+use Rattle.roopl_semantics.specs.Operators.{updated}
+use Rattle.roopl_semantics.specs.Store.{Value, Word, number_of}
 use Rattle.program_codegen.specs.Code.{one, field_number, statement_code, block_code}
 use Rattle.program_codegen.proofs.Values.{IsIntName, IsPlainStatement, IsPlainBlock, update, skip, number, variable, done, next, number_in, statement_values, block_values, words_of}
 use Rattle.program_codegen.proofs.Accepted.{number_below, numbers_differ}

@@ -5,7 +5,7 @@ use Rattle.std.proofs.lemmas.Bool.Decides.{nat_tests}
 use Rattle.std.proofs.lemmas.List.Sums.{sum_by-cons}
 use Rattle.class_table.specs.First.{refused_if, first_of, first_in, first_at}
 use Rattle.class_table.specs.Refusal.{Refusal}
-use Rattle.source_meaning.proofs.MainPlace.{none_of}
+use Rattle.roopl_semantics.proofs.MainPlace.{none_of}
 use Rattle.class_table.specs.Expressions.{and_then}
 use Rattle.class_table.specs.Statements.{Verdict, passed, required, in_turn, each_passes}
 

@@ -14,7 +14,7 @@ use Rattle.pisa_isa.specs.declared.cell.Cell.{Cell}
 use Rattle.pisa_isa.specs.declared.cell.Op.TheVariants.{Addi, Exch, Start, Finish}
 use Rattle.pisa_isa.specs.Table.{IsInRange, is_one_to_one}
 use Rattle.pisa_isa.specs.Image.{is_start, is_finish, refusal_by, first_seal_refusal}
-use Rattle.source_meaning.specs.Source.{main_fields, main_body}
+use Rattle.roopl_semantics.specs.Source.{main_fields, main_body}
 use Rattle.program_codegen.proofs.Values.{IsIntName, IsPlainStatement, IsPlainBlock, statement_count, update, skip, number, variable, done, next}
 use Rattle.program_codegen.specs.Code.{one, two, opened, closed, with_number, with_word, field_cell, statement_code, block_code, program_code}
 use Rattle.program_codegen.proofs.Accepted.{IsCompiled}

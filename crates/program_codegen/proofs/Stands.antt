@@ -21,10 +21,10 @@ use Rattle.pisa_isa.specs.Runs.{run, visited, after_step}
 use Rattle.pisa_isa.specs.Ends.{MeetsEndsOnce, is_at_finish}
 use Rattle.pisa_isa.proofs.Longer.{clean_of_ends}
 use Rattle.pisa_isa.specs.Loaded.{loaded_state}
-use Rattle.source_meaning.specs.Source.{main_fields, main_body, with_input, IsLimits, IsValid}
-use Rattle.source_meaning.specs.Store.{Value, Word, zero_value, zero_values}
-use Rattle.source_meaning.specs.Layout.{HasStatics}
-use Rattle.source_meaning.specs.StandsFor.{StandsFor, Follows, run_of}
+use Rattle.roopl_semantics.specs.Source.{main_fields, main_body, with_input, IsLimits, IsValid}
+use Rattle.roopl_semantics.specs.Store.{Value, Word, zero_value, zero_values}
+use Rattle.roopl_semantics.specs.Layout.{HasStatics}
+use Rattle.roopl_semantics.specs.StandsFor.{StandsFor, Follows, run_of}
 use Rattle.program_codegen.specs.Code.{one, block_code, program_code, places, program_image}
 use Rattle.program_codegen.proofs.Values.{IsPlainStatement, IsPlainBlock, update, skip, done, next, statement_values, block_values, first_values, words_of}
 use Rattle.program_codegen.proofs.Meaning.{gives_done, last_values, last_state}

@@ -10,7 +10,7 @@ use Rattle.pisa_isa.specs.declared.cell.Cell.{Cell}
 use Rattle.pisa_isa.specs.declared.cell.Op.TheVariants.{Addi, Xori, Exch}
 use Rattle.pisa_isa.specs.declared.machine.Stop.TheVariants.{BadAddress}
 use Rattle.pisa_isa.specs.Image.{is_start, is_finish}
-use Rattle.source_meaning.specs.Operators.{updated}
+use Rattle.roopl_semantics.specs.Operators.{updated}
 use Rattle.program_codegen.specs.Code.{one, two, opened, closed, with_number, with_word}
 use Rattle.program_codegen.proofs.Straight.{Memory, Goes, Straight, on}
 

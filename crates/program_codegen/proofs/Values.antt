@@ -8,11 +8,11 @@ use Rattle.rpp_tree.specs.declared.tree.Ident.{Ident}
 use Rattle.rpp_tree.specs.declared.tree.Var.{Var}
 use Rattle.rpp_tree.specs.declared.tree.UpdateOp.{UpdateOp}
 use Rattle.rpp_tree.specs.Tree.{Expression, Number, Variable, Whole, Statement, Statements, Update, Skip, End, Then}
-use Rattle.source_meaning.specs.Operators.{updated}
-use Rattle.source_meaning.specs.Source.{is_int_field, with_input}
-use Rattle.source_meaning.specs.Store.{Value, Word, Nil, State, main_name, number_of, zero_values}
-use Rattle.source_meaning.specs.Alone.{alone}
-use Rattle.source_meaning.specs.Value.{field_of}
+use Rattle.roopl_semantics.specs.Operators.{updated}
+use Rattle.roopl_semantics.specs.Source.{is_int_field, with_input}
+use Rattle.roopl_semantics.specs.Store.{Value, Word, Nil, State, main_name, number_of, zero_values}
+use Rattle.roopl_semantics.specs.Alone.{alone}
+use Rattle.roopl_semantics.specs.Value.{field_of}
 use Rattle.program_codegen.specs.Code.{lvalue_name, field_number}
 
 -- the name of an int field

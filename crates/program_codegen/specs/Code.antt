@@ -13,12 +13,12 @@ use Rattle.pisa_isa.specs.declared.cell.Op.{Op}
 use Rattle.pisa_isa.specs.declared.cell.Op.TheVariants.{Add, Sub, Xor, Addi, Xori, Exch, Start, Finish}
 use Rattle.pisa_isa.specs.declared.cell.Cell.{Cell}
 use Rattle.pisa_isa.specs.Image.{Segments}
-use Rattle.source_meaning.specs.Source.{main_fields, main_body}
-use Rattle.source_meaning.specs.Value.{field_of}
-use Rattle.source_meaning.specs.Layout.{main_statics, tables}
+use Rattle.roopl_semantics.specs.Source.{main_fields, main_body}
+use Rattle.roopl_semantics.specs.Value.{field_of}
+use Rattle.roopl_semantics.specs.Layout.{main_statics, tables}
 use Rattle.program_codegen.specs.declared.cells.TheConstants.{ADDRESS, WORD, SOURCE_ADDRESS, SOURCE}
 use Rattle.program_codegen.specs.declared.statics.TheConstants.{MAIN_AT}
-use Rattle.source_meaning.specs.declared.main_object.TheConstants.{FIRST_FIELD}
+use Rattle.roopl_semantics.specs.declared.main_object.TheConstants.{FIRST_FIELD}
 
 -- an instruction of two registers, and one of a register and a word
 abbrev pub two : Op → ℕ → ℕ → Cell

@@ -2,9 +2,9 @@
 use Rattle.std.specs.Prelude.{ℕ, zero, suc, ◌+◌, List, ◌∷◌, ◌++◌, length, replicate}
 use Rattle.class_table.specs.First.{each_below}
 use Rattle.class_table.specs.Table.{Table, fields_in, slots_in}
-use Rattle.source_meaning.specs.Layout.{tables}
+use Rattle.roopl_semantics.specs.Layout.{tables}
 use Rattle.program_codegen.specs.declared.statics.TheConstants.{MAIN_AT}
-use Rattle.source_meaning.specs.declared.main_object.TheConstants.{FIRST_FIELD}
+use Rattle.roopl_semantics.specs.declared.main_object.TheConstants.{FIRST_FIELD}
 
 -- the address of a class's table, behind so many fields and the tables before it
 abbrev pub address_in : Table → ℕ → ℕ → ℕ

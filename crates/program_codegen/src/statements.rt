@@ -10,7 +10,7 @@ use class_table::ClassTable;
 use pisa_isa::{Cell, Op};
 use rpp_tree::text::Text;
 use rpp_tree::tree::{Expr, Stmt, UpdateOp};
-use source_meaning::FIRST_FIELD;
+use roopl_semantics::FIRST_FIELD;
 use std::alloc::AllocError;
 
 // The data cell of the field of this name.

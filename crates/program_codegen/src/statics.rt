@@ -1,10 +1,10 @@
 // The static cells of a program.
 ghost use Rattle.std.specs.Prelude.{◌≡◌, ◌≤◌, ◌+◌, ◌++◌, replicate, vec_len, IfOk, OnOk};
-ghost use Rattle.source_meaning.specs.Layout.{tables};
+ghost use Rattle.roopl_semantics.specs.Layout.{tables};
 ghost use Rattle.program_codegen.specs.Statics.{address_in, places_in, statics_in};
 
 use class_table::ClassTable;
-use source_meaning::FIRST_FIELD;
+use roopl_semantics::FIRST_FIELD;
 use std::alloc::{AllocError, Global};
 
 /// The code place of `main`.

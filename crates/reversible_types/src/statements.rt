@@ -7,7 +7,7 @@ ghost use Rattle.rpp_tree.specs.Views.{procedure_of, expression_of, lvalue_of, c
 ghost use Rattle.reversible_types.specs.Verdicts.{verdict_of};
 ghost use Rattle.reversible_types.specs.ScopeView.{setting_of, locals_of};
 ghost use Rattle.class_table.specs.Table.{dispatch_in};
-ghost use Rattle.class_table.specs.Statements.{same_kind, is_class, takes_object, place_name, is_nil_word, same_plain, written_class, update_rules as of_update, swap_rules as of_swap, test_rules as of_tests, class_known, type_known, local_rules as of_local, construct_rules as of_construct, copy_rules as of_copy, made_known, length_is_int, occurs_in_length, takes as takes_made, make_rules as of_make, check_statement, check_statements};
+ghost use Rattle.class_table.specs.Statements.{same_kind, is_class, is_class_array, is_int_array as of_ints, takes_object, takes_copy, place_name, is_nil_word, same_plain, written_kind, update_rules as of_update, swap_rules as of_swap, test_rules as of_tests, class_known, type_known, local_rules as of_local, construct_rules as of_construct, copy_rules as of_copy, made_known, length_is_int, occurs_in_length, takes as takes_made, make_rules as of_make, check_statement, check_statements};
 
 use crate::calls::call_rules;
 use crate::error::TypeError;
@@ -277,15 +277,12 @@ fn construct_rules(
     Ok(())
 }
 
-fn class_written(table: &ClassTable, at: u32, kind: &VarType) -> Result<u32, TypeError>
-    ensures { verdict_of result ≡ written_class table.now at kind.now }
+fn kind_written(table: &ClassTable, at: u32, written: &VarType) -> Result<Kind, TypeError>
+    ensures { verdict_of result ≡ written_kind table.now at written.now }
 {
-    match kind {
-        VarType::Class(name) => match table.class_of(&name.text) {
-            Some(class) => Ok(class),
-            None => Err(TypeError::UnknownName { at: name.at }),
-        },
-        _ => Err(TypeError::NotClassType { at }),
+    match written {
+        VarType::Int => Err(TypeError::NotClassType { at }),
+        _ => Ok(kind_of_type(table, written)),
     }
 }
 
@@ -316,6 +313,38 @@ fn takes_class(table: &ClassTable, class: u32, kind: Kind) -> bool
     }
 }
 
+fn is_int_array(kind: Kind) -> bool
+    ensures { result ≡ of_ints kind }
+{
+    match kind {
+        Kind::IntArray => true,
+        _ => false,
+    }
+}
+
+fn is_array_of_class(class: u32, kind: Kind) -> bool
+    ensures { result ≡ is_class_array class kind }
+{
+    match kind {
+        Kind::ClassArray(own) => class == own,
+        _ => false,
+    }
+}
+
+fn takes_copies(table: &ClassTable, written: Kind, source: Kind, target: Kind) -> bool
+    ensures { result ≡ takes_copy table.now written source target }
+{
+    match written {
+        Kind::Int => false,
+        Kind::Nil => false,
+        Kind::Class(class) => is_of_class(class, source) && takes_class(table, class, target),
+        Kind::IntArray => is_int_array(source) && is_int_array(target),
+        Kind::ClassArray(class) => {
+            is_array_of_class(class, source) && is_array_of_class(class, target)
+        }
+    }
+}
+
 fn copy_rules(
     setting: &Setting,
     locals: &Locals,
@@ -329,8 +358,8 @@ fn copy_rules(
     know_type(setting.table, written)?;
     let source_kind = type_place(setting, locals, source)?;
     let target_kind = type_place(setting, locals, target)?;
-    let class = class_written(setting.table, at, written)?;
-    if !(is_of_class(class, source_kind) && takes_class(setting.table, class, target_kind)) {
+    let kind = kind_written(setting.table, at, written)?;
+    if !takes_copies(setting.table, kind, source_kind, target_kind) {
         return Err(TypeError::TypeDiffers { at });
     }
     if are_same_plain(source, target) {

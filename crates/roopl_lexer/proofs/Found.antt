@@ -5,7 +5,7 @@ use Rattle.std.specs.List.{prefix_len}
 use Rattle.std.specs.Char.{is_ascii_alphabetic, is_ascii_digit}
 use Rattle.std.proofs.lemmas.Bool.Decides.{nat_tests}
 use Rattle.rpp_tree.specs.Names.{is_name_byte, is_keyword}
-use Rattle.roopl_lexer.specs.declared.token.TheConstants.{MOST_NUMBER}
+use Rattle.rpp_tree.specs.declared.limits.TheConstants.{MOST_NUMBER}
 use Rattle.roopl_lexer.specs.declared.token.Symbol.{Symbol}
 use Rattle.roopl_lexer.specs.declared.token.Keyword.{Keyword}
 use Rattle.roopl_lexer.specs.declared.token.TokenKind.TheVariants.{Word, Name, Number, Sign}

@@ -8,7 +8,7 @@ use Rattle.roopl_lexer.specs.declared.token.TokenKind.{TokenKind}
 use Rattle.roopl_lexer.specs.declared.token.TokenKind.TheVariants.{Word, Name, Number, Sign}
 use Rattle.roopl_lexer.specs.declared.error.LexError.{LexError}
 use Rattle.roopl_lexer.specs.declared.error.LexError.TheVariants.{BadByte, NumberTooLarge}
-use Rattle.roopl_lexer.specs.declared.token.TheConstants.{MOST_NUMBER}
+use Rattle.rpp_tree.specs.declared.limits.TheConstants.{MOST_NUMBER}
 use Rattle.roopl_lexer.specs.Signs.{keyword_bytes, sign_bytes}
 
 -- space, tab, line feed and carriage return

@@ -14,4 +14,4 @@ mod word;
 pub use error::LexError;
 pub use laws::one_cutting;
 pub use lexer::lex;
-pub use token::{Keyword, MOST_NUMBER, Symbol, Token, TokenKind};
+pub use token::{Keyword, Symbol, Token, TokenKind};

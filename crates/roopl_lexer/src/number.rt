@@ -4,7 +4,7 @@ ghost use Rattle.std.specs.List.{AllPass};
 ghost use Rattle.std.specs.Char.{is_ascii_digit};
 ghost use Rattle.roopl_lexer.specs.Tokens.{decimal_from};
 
-use crate::token::MOST_NUMBER;
+use rpp_tree::MOST_NUMBER;
 
 /// The number that these digits write, where it is at most the greatest one.
 pub fn number_of(digits: &[u8]) -> Option<u32>

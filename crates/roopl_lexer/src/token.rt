@@ -1,9 +1,6 @@
 // The tokens of a source text.
 use rpp_tree::Text;
 
-/// The greatest number that a source may hold.
-pub const MOST_NUMBER: u32 = 2_147_483_647;
-
 /// A token, and where it stands in the source.
 #[derive(Drop)]
 pub struct Token {

@@ -1,6 +1,7 @@
 -- What an answer that is the reading says in the terms of the grammar.
-use Rattle.std.specs.Prelude.{◌≡◌, ◌≢◌, ℕ, List, Some, None, Result, Ok, Err, IfOk, MatchResult, refl}
-use Rattle.std.proofs.Common.{sym, ap, ◌∙◌}
+use Rattle.std.specs.Prelude.{◌≡◌, ◌≢◌, ◌<◌, ℕ, true, nat_lt, cond, List, [], ◌∷◌, length, drop, slice_index_or, Some, None, Result, Ok, Err, IfOk, MatchResult, refl}
+use Rattle.std.proofs.Common.{sym, ap, ◌∙◌, lt-ltb}
+use Rattle.std.proofs.Math.Seq.{drop-cons}
 use Rattle.rpp_tree.specs.Tree.{ClassText, Source}
 use Rattle.rpp_tree.specs.Views.{source_of}
 use Rattle.rpp_tree.specs.Limits.{IsWithinLimits}
@@ -11,9 +12,10 @@ use Rattle.roopl_lexer.specs.declared.token.Token.{Token}
 use Rattle.roopl_parser.specs.declared.error.ParseError.{ParseError}
 use Rattle.roopl_parser.specs.declared.error.ParseError.TheVariants.{Syntax, Limit, NoMemory}
 use Rattle.roopl_parser.specs.Grammar.{Derives}
-use Rattle.roopl_parser.specs.Readable.{IsReadable}
-use Rattle.roopl_parser.specs.Reader.{Value, Classes}
-use Rattle.roopl_parser.specs.Viable.{IsWrongAt, IsReached, first_limit, reading}
+use Rattle.roopl_parser.specs.Readable.{AreSmall, IsReadable}
+use Rattle.roopl_parser.specs.Reader.{Value, Classes, Program as AProgram, scan}
+use Rattle.rpp_tree.specs.declared.limits.TheConstants.{MOST_TOKENS}
+use Rattle.roopl_parser.specs.Viable.{IsWrongAt, IsReached, first_limit, place_of, unless, reading}
 use Rattle.roopl_parser.proofs.Exact.{read_tree, read_syntax, read_limit, read_all, kept, wrong_read, passed_read}
 use Rattle.roopl_parser.proofs.Parts.{within_limits}
 
@@ -25,15 +27,27 @@ pub tree : (end : ℕ) (tokens : List Token) (r : Result Program ParseError) →
 tree end tokens (Ok b) h = read_tree end tokens (source_of b) h
 tree end tokens (Err e) h = tt
 
-limits_of : (end : ℕ) (tokens : List Token) (x : Source) → IsReadable tokens end → reading end tokens ≡ Ok (Classes x.classes) → IsWithinLimits x
-limits_of end tokens x readable h =
+-- the place of a token is that of the tokens from it on
+token_place : (n : ℕ) (tokens : List Token) (token : Token) → n < length tokens → place_of 0 (drop n tokens) ≡ (slice_index_or tokens n token).at
+token_place n tokens token h = ap (place_of 0) (drop-cons tokens n token h)
+
+too_many_at : (n : ℕ) (tokens : List Token) (token : Token) → n < length tokens → cond (nat_lt n (length tokens)) (Some (Limit Tokens (place_of 0 (drop n tokens)))) None ≡ Some (Limit Tokens (slice_index_or tokens n token).at)
+too_many_at n tokens token h =
+    ap (λ b. cond b (Some (Limit Tokens (place_of 0 (drop n tokens)))) None) (lt-ltb n (length tokens) h) ∙ ap (λ at. Some (Limit Tokens at)) (token_place n tokens token h)
+
+-- more tokens than a text may have
+pub many_tokens : (end : ℕ) (tokens : List Token) (token : Token) → MOST_TOKENS < length tokens → reading end tokens ≡ Err (Limit Tokens (slice_index_or tokens MOST_TOKENS token).at)
+many_tokens end tokens token h = ap (λ o. unless o (scan true end tokens 0 (AProgram 0 ∷ []) (Classes [] ∷ []))) (too_many_at MOST_TOKENS tokens token h)
+
+limits_of : (end : ℕ) (tokens : List Token) (x : Source) → IsReadable tokens end → AreSmall tokens → reading end tokens ≡ Ok (Classes x.classes) → IsWithinLimits x
+limits_of end tokens x readable numbers h =
     let t = read_tree end tokens x h in
     let k = kept tokens x t.0 t.1 in
-    within_limits tokens x end t.0 k.1 k.0 readable
+    within_limits tokens x end t.0 k.1 k.0 readable numbers
 
-pub limits : (end : ℕ) (tokens : List Token) (r : Result Program ParseError) → IsReadable tokens end → Reads end tokens r → IfOk r (λ b. IsWithinLimits (source_of b))
-limits end tokens (Ok b) readable h = limits_of end tokens (source_of b) readable h
-limits end tokens (Err e) readable h = tt
+pub limits : (end : ℕ) (tokens : List Token) (r : Result Program ParseError) → IsReadable tokens end → Reads end tokens r → AreSmall tokens → IfOk r (λ b. IsWithinLimits (source_of b))
+limits end tokens (Ok b) readable h numbers = limits_of end tokens (source_of b) readable numbers h
+limits end tokens (Err e) readable h numbers = tt
 
 one_tree : (end : ℕ) (tokens : List Token) (x y : Source) → reading end tokens ≡ Ok (Classes y.classes) → reading end tokens ≡ Ok (Classes x.classes) → y ≡ x
 one_tree end tokens x y g h =

@@ -23,7 +23,7 @@ use Rattle.roopl_lexer.specs.declared.token.Keyword.{Keyword}
 use Rattle.roopl_lexer.specs.Readable.{IsNamed, name_length, AreReadable}
 use Rattle.roopl_lexer.specs.Tokens.{is_too_large, comment_length, IsCutting, Cut, finish, white, comment, token, bad_byte, too_large}
 use Rattle.roopl_lexer.specs.declared.error.LexError.{LexError}
-use Rattle.roopl_lexer.specs.declared.token.TheConstants.{MOST_NUMBER}
+use Rattle.rpp_tree.specs.declared.limits.TheConstants.{MOST_NUMBER}
 use Rattle.roopl_parser.specs.Operators.{Span, tok, ident, operator_at, update_operator}
 use Rattle.roopl_parser.specs.Grammar as grammar
 use Rattle.roopl_parser.specs.Grammar.{read_place, IsExpr, IsIndexed, IsPlace, IsType, IsVar, IsSized, IsMade, IsMoreNames, IsNames, IsTarget, IsAssigned, IsStatement, IsBranches, IsScope, IsBlock, IsStatements, IsMoreParams, IsParams, IsMethod, IsMethods, IsFields, IsParent, IsClass, IsClasses, Derives}
@@ -32,8 +32,8 @@ use Rattle.roopl_parser.specs.declared.error.ParseError.{ParseError}
 use Rattle.roopl_parser.specs.declared.error.ParseError.TheVariants.{Limit}
 use Rattle.roopl_parser.specs.Reader.{Classes, Program}
 use Rattle.roopl_parser.specs.Viable.{IsSmall, first_limit, or_else, passes, place_of}
-use Rattle.roopl_parser.specs.Readable.{IsReadable}
-use Rattle.roopl_parser.specs.Numbers.{expression_numbers, lvalue_numbers, creation_numbers, statement_numbers, block_numbers, procedure_numbers, class_numbers, source_numbers}
+use Rattle.roopl_parser.specs.Readable.{AreSmall, IsReadable}
+use Rattle.rpp_tree.specs.Numbers.{expression_numbers, lvalue_numbers, creation_numbers, statement_numbers, block_numbers, procedure_numbers, class_numbers, source_numbers}
 
 -- ---- the parts of tokens
 
@@ -347,27 +347,6 @@ bytes_same (t ∷ ts) =
     let rest = bytes_same ts in
     omega (arith, first, sum, rest)
 
--- ---- what is known of the tree
-
-pub within_limits : (tokens : List Token) (source : Source) (bytes : ℕ) → Derives tokens source → IsSmall source → length tokens ≤ MOST_TOKENS → IsReadable tokens bytes → IsWithinLimits source
-within_limits tokens source bytes derives small few readable =
-    let parts = source_parts (λ at. at < MOST_BYTES) tokens source derives in
-    let same = names_are tokens source derives in
-    record {
-      classes_few = small.classes_few;
-      methods_small = small.methods_small;
-      tokens_few = let size = parts.tokens in omega arith;
-      places = All-from_recursion (λ at. at < MOST_BYTES) (source_places source)
-          (parts.places (places_of (λ at. at < MOST_BYTES) tokens (recursion_from_All (λ (t : Token). t.at < MOST_BYTES) tokens readable.places))).0;
-      names = All-from_recursion (λ (name : Ident). IsName name.text) (source_names source)
-          (subst (AllByRecursion (λ (name : Ident). IsName name.text)) same (names_of tokens (recursion_from_All (λ (t : Token). IsNamed t.kind) tokens readable.names)));
-      name_bytes =
-          let all = bytes_same tokens in
-          let moved = ap bytes_of same in
-          let most = readable.name_bytes in
-          omega (arith, all, moved, most);
-    }
-
 few_where : (many : Bool) (e : ParseError) (other : Option ParseError) → or_else (cond many (Some e) None) other ≡ None → many ≡ false
 few_where true e other none = cc
 few_where false e other none = refl
@@ -400,10 +379,32 @@ small_of [] h = tt
 small_of (t ∷ ts) h = small_first t.kind (token_numbers ts) h.0 (small_of ts h.1)
 
 -- where every number token is small enough, every literal is
-pub small_numbers : (tokens : List Token) (source : Source) → Derives tokens source → All (λ (t : Token). is_too_large t.kind ≡ false) tokens → All (λ w. w ≤ MOST_NUMBER) (source_numbers source)
+pub small_numbers : (tokens : List Token) (source : Source) → Derives tokens source → AreSmall tokens → All (λ w. w ≤ MOST_NUMBER) (source_numbers source)
 small_numbers tokens source derives small =
     All-from_recursion (λ w. w ≤ MOST_NUMBER) (source_numbers source)
     (subst (AllByRecursion (λ w. w ≤ MOST_NUMBER)) (numbers_are tokens source derives) (small_of tokens (recursion_from_All (λ (t : Token). is_too_large t.kind ≡ false) tokens small)))
+
+-- ---- what is known of the tree
+
+pub within_limits : (tokens : List Token) (source : Source) (bytes : ℕ) → Derives tokens source → IsSmall source → length tokens ≤ MOST_TOKENS → IsReadable tokens bytes → AreSmall tokens → IsWithinLimits source
+within_limits tokens source bytes derives small few readable numbers =
+    let parts = source_parts (λ at. at < MOST_BYTES) tokens source derives in
+    let same = names_are tokens source derives in
+    record {
+      classes_few = small.classes_few;
+      methods_small = small.methods_small;
+      tokens_few = let size = parts.tokens in omega arith;
+      places = All-from_recursion (λ at. at < MOST_BYTES) (source_places source)
+          (parts.places (places_of (λ at. at < MOST_BYTES) tokens (recursion_from_All (λ (t : Token). t.at < MOST_BYTES) tokens readable.places))).0;
+      names = All-from_recursion (λ (name : Ident). IsName name.text) (source_names source)
+          (subst (AllByRecursion (λ (name : Ident). IsName name.text)) same (names_of tokens (recursion_from_All (λ (t : Token). IsNamed t.kind) tokens readable.names)));
+      name_bytes =
+          let all = bytes_same tokens in
+          let moved = ap bytes_of same in
+          let most = readable.name_bytes in
+          omega (arith, all, moved, most);
+      numbers = small_numbers tokens source derives numbers;
+    }
 
 small_each : (at : ℕ) (rest : List ℕ) (tokens : List Token) (refusal : Option LexError) → Cut at rest tokens refusal → AllByRecursion (λ (t : Token). is_too_large t.kind ≡ false) tokens
 small_each _ _ _ _ (finish at) = tt

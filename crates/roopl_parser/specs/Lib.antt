@@ -5,4 +5,3 @@ pub mod Viable
 pub mod Fits
 pub mod Parens
 pub mod Readable
-pub mod Numbers

@@ -6,7 +6,7 @@ ghost use Rattle.rpp_tree.specs.Limits.{IsWithinLimits};
 ghost use Rattle.rpp_tree.specs.Tree.{Source};
 ghost use Rattle.rpp_tree.specs.Views.{source_of};
 ghost use Rattle.roopl_parser.specs.Grammar.{Derives};
-ghost use Rattle.roopl_parser.specs.Readable.{IsReadable};
+ghost use Rattle.roopl_parser.specs.Readable.{AreSmall, IsReadable};
 ghost use Rattle.roopl_parser.specs.Reader.{Classes};
 ghost use Rattle.roopl_parser.specs.declared.error.ParseError.{ParseError};
 ghost use Rattle.roopl_parser.specs.Viable.{IsWrongAt, IsReached, first_limit, reading};
@@ -41,8 +41,8 @@ pub fn parse(alloc: Global, tokens: &[Token], end: u32) -> Result<Program, Parse
     requires { IsReadable tokens.now end }
     // What is read is the tree that the grammar gives, and no token passes a limit.
     ensures tree { IfOk result (λ b. Derives tokens.now (source_of b) × (first_limit tokens.now ≡ None)) }
-    // The tree keeps the limits that a tree shows.
-    ensures limits { IfOk result (λ b. IsWithinLimits (source_of b)) }
+    // The tree keeps the limits that a tree shows, where the lexer lets the numbers of the tokens through.
+    ensures limits { AreSmall tokens.now → IfOk result (λ b. IsWithinLimits (source_of b)) }
     // What the grammar derives and passes no limit is read, unless memory runs out, and as this tree alone.
     ensures only { (x : Source) → Derives tokens.now x → first_limit tokens.now ≡ None → MatchResult result (λ b. source_of b ≡ x) (λ e. e ≡ ParseError.NoMemory) }
     // A syntax error is at the first token with which no program's tokens begin so, and no token before it passes a limit;

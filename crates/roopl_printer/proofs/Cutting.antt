@@ -15,7 +15,7 @@ use Rattle.roopl_lexer.specs.declared.token.Symbol.TheVariants as sign
 use Rattle.roopl_lexer.specs.declared.token.Token.{Token}
 use Rattle.roopl_lexer.specs.declared.token.TokenKind.{TokenKind}
 use Rattle.roopl_lexer.specs.declared.token.TokenKind.TheVariants.{Word, Name, Number, Sign}
-use Rattle.roopl_lexer.specs.declared.token.TheConstants.{MOST_NUMBER}
+use Rattle.rpp_tree.specs.declared.limits.TheConstants.{MOST_NUMBER}
 use Rattle.roopl_lexer.specs.Signs.{keyword_bytes, sign_bytes}
 use Rattle.roopl_lexer.specs.Tokens.{is_white, begins_comment, decimal_from, Spells, IsLongest, is_too_large, Cut, finish, white, token, IsCutting}
 use Rattle.roopl_printer.specs.Printable.{IsPrintable}

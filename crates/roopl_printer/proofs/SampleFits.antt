@@ -4,8 +4,9 @@ use Rattle.std.specs.Fmt.{digits}
 use Rattle.std.proofs.lemmas.List.Elements.{All-from_recursion}
 use Rattle.std.proofs.lemmas.List.Sums.{AllPass-from_list_all}
 use Rattle.rpp_tree.specs.declared.tree.Ident.{Ident}
-use Rattle.rpp_tree.specs.declared.limits.TheConstants.{MOST_BYTES, MOST_TOKENS}
+use Rattle.rpp_tree.specs.declared.limits.TheConstants.{MOST_BYTES, MOST_NUMBER, MOST_TOKENS}
 use Rattle.rpp_tree.specs.Names.{IsName, is_name_byte, is_keyword, keywords}
+use Rattle.rpp_tree.specs.Numbers.{source_numbers}
 use Rattle.rpp_tree.specs.Parts.{source_names, source_places}
 use Rattle.rpp_tree.specs.Tree.{Procedure, ClassText}
 use Rattle.rpp_tree.specs.Limits.{IsWithinLimits, IsSmallMethod}
@@ -56,6 +57,7 @@ sample_limits = record {
       (lit< tt, (lit< tt, (lit< tt, (lit< tt, (lit< tt, (lit< tt, (lit< tt, (lit< tt, (lit< tt, (lit< tt, tt))))))))));
   names = All-from_recursion (λ (name : Ident). IsName name.text) (source_names sample) (p_name, (x_name, (main_name, (x_name, tt))));
   name_bytes = omega arith;
+  numbers = All-from_recursion (λ (number : ℕ). number ≤ MOST_NUMBER) (source_numbers sample) (lit≤ tt, (lit≤ tt, (lit≤ tt, tt)));
 }
 
 pub sample_bytes : length (printed sample) ≤ MOST_BYTES

@@ -4,7 +4,7 @@ use Rattle.rpp_tree.specs.Names.{IsName}
 use Rattle.rpp_tree.specs.Tree.{Statement, Statements, Update, Swap, If, From, Construct, Local, New, Delete, Copy, Uncopy, Call, Skip, End, Then, Source}
 use Rattle.roopl_lexer.specs.declared.token.TokenKind.{TokenKind}
 use Rattle.roopl_lexer.specs.declared.token.TokenKind.TheVariants.{Word, Name, Number, Sign}
-use Rattle.roopl_lexer.specs.declared.token.TheConstants.{MOST_NUMBER}
+use Rattle.rpp_tree.specs.declared.limits.TheConstants.{MOST_NUMBER}
 use Rattle.roopl_printer.specs.Spelled.{spelled}
 
 -- a name is one by the rule and no keyword, and a number is not too large

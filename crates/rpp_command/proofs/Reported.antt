@@ -8,12 +8,12 @@ use Rattle.pisa_isa.specs.declared.machine.Stop.{Stop}
 use Rattle.pisa_isa.specs.declared.machine.Stop.TheVariants.{Finished, Trap, Returned, BadAddress, OffCode}
 use Rattle.pisa_isa.specs.Image.{Segments, IsImage}
 use Rattle.pisa_machine.specs.Position.{Position}
-use Rattle.source_meaning.specs.Alone.{alone, IsAlone}
-use Rattle.source_meaning.specs.Layout.{layout}
-use Rattle.source_meaning.specs.Source.{main_of, main_fields, GivesFault}
-use Rattle.source_meaning.specs.StandsFor.{Follows, run_of}
-use Rattle.source_meaning.specs.Store.{Value}
-use Rattle.source_meaning.specs.Walk.{run_report}
+use Rattle.roopl_semantics.specs.Alone.{alone, IsAlone}
+use Rattle.roopl_semantics.specs.Layout.{layout}
+use Rattle.roopl_semantics.specs.Source.{main_of, main_fields, GivesFault}
+use Rattle.roopl_semantics.specs.StandsFor.{Follows, run_of}
+use Rattle.roopl_semantics.specs.Store.{Value}
+use Rattle.roopl_semantics.specs.Walk.{run_report}
 use Rattle.program_codegen.proofs.Accepted.{compiled}
 use Rattle.program_codegen.proofs.Finished.{EndsAlone, ends_alone}
 use Rattle.rpp_command.specs.GoRun.{HasRun}

@@ -14,17 +14,17 @@ use Rattle.pisa_isa.specs.Machine.{IsState}
 use Rattle.pisa_isa.specs.Runs.{End, run, started, zero_registers}
 use Rattle.pisa_isa.proofs.Restored.{flipped_run_restores}
 use Rattle.pisa_machine.specs.Position.{Position, first_position}
-use Rattle.source_meaning.specs.Source.{main_fields}
-use Rattle.source_meaning.specs.StandsFor.{run_of}
+use Rattle.roopl_semantics.specs.Source.{main_fields}
+use Rattle.roopl_semantics.specs.StandsFor.{run_of}
 use Rattle.program_codegen.specs.Code.{program_statics}
 use Rattle.program_codegen.proofs.Finished.{BeginsAlone, begins_alone}
 use Rattle.rpp_command.specs.GoRun.{HasRun}
 use Rattle.class_table.specs.Program.{IsAccepted}
-use Rattle.source_meaning.specs.Alone.{alone, IsAlone}
-use Rattle.source_meaning.specs.StandsFor.{StandsFor}
-use Rattle.source_meaning.specs.Source.{main_of, main_body, starting, IsLimits, IsValid}
-use Rattle.source_meaning.specs.Store.{Value}
-use Rattle.source_meaning.specs.Walk.{run_report}
+use Rattle.roopl_semantics.specs.Alone.{alone, IsAlone}
+use Rattle.roopl_semantics.specs.StandsFor.{StandsFor}
+use Rattle.roopl_semantics.specs.Source.{main_of, main_body, starting, IsLimits, IsValid}
+use Rattle.roopl_semantics.specs.Store.{Value}
+use Rattle.roopl_semantics.specs.Walk.{run_report}
 use Rattle.program_codegen.specs.Code.{program_image}
 use Rattle.program_codegen.specs.Unbuilt.{unbuilt}
 use Rattle.program_codegen.specs.Words.{BlockHasWords}

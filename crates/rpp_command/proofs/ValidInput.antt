@@ -8,8 +8,8 @@ use Rattle.rpp_words.specs.declared.input.FieldWord.{FieldWord}
 use Rattle.rpp_tree.specs.declared.tree.Var.{Var}
 use Rattle.rpp_tree.specs.Tree.{Source}
 use Rattle.pisa_loader.specs.InputLines.{is_field, AreInput}
-use Rattle.source_meaning.specs.Layout.{main_statics, tables}
-use Rattle.source_meaning.specs.Source.{main_fields, is_int_type, is_int_field, IsValid}
+use Rattle.roopl_semantics.specs.Layout.{main_statics, tables}
+use Rattle.roopl_semantics.specs.Source.{main_fields, is_int_type, is_int_field, IsValid}
 use Rattle.program_codegen.specs.Code.{places, program_statics}
 use Rattle.rpp_command.specs.Inputs.{fields_from, input_fields}
 

@@ -19,4 +19,5 @@ fault_name code =
     else if code == 13 then codes " Length"
     else if code == 14 then codes " TooDeep"
     else if code == 15 then codes " Touched"
+    else if code == 16 then codes " SharedArray"
     else []

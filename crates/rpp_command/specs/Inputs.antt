@@ -6,7 +6,7 @@ use Rattle.rpp_tree.specs.Tree.{Source}
 use Rattle.pisa_loader.specs.declared.error.LoadError.{LoadError}
 use Rattle.pisa_loader.specs.declared.input.InputField.{InputField}
 use Rattle.pisa_loader.specs.InputLines.{input_of}
-use Rattle.source_meaning.specs.Source.{main_fields, is_int_type}
+use Rattle.roopl_semantics.specs.Source.{main_fields, is_int_type}
 
 -- the int fields of these, the first of which has this number
 abbrev pub fields_from : ℕ → List Var → List InputField

@@ -28,11 +28,11 @@ use Rattle.pisa_isa.specs.Machine.{State as MachineState}
 use Rattle.pisa_isa.specs.Loaded.{loaded}
 use Rattle.pisa_isa.specs.Runs.{End, run, zero_registers}
 use Rattle.pisa_machine.specs.Position.{Position, first_position}
-use Rattle.source_meaning.specs.Store.{State}
-use Rattle.source_meaning.specs.Source.{GivesDone, GivesFault, starting}
-use Rattle.source_meaning.specs.Report.{signed_decimal}
-use Rattle.source_meaning.specs.Walk.{run_report}
-use Rattle.source_meaning.specs.StandsFor.{StandsFor, run_of}
+use Rattle.roopl_semantics.specs.Store.{State}
+use Rattle.roopl_semantics.specs.Source.{GivesDone, GivesFault, starting}
+use Rattle.roopl_semantics.specs.Report.{signed_decimal}
+use Rattle.roopl_semantics.specs.Walk.{run_report}
+use Rattle.roopl_semantics.specs.StandsFor.{StandsFor, run_of}
 use Rattle.rpp_command.specs.Lines.{Asked, Check, Compile, Asm, ListImage, Flip, RunImage, Go, Turn}
 use Rattle.rpp_command.specs.ImageRefusals.{asm_line, image_line}
 use Rattle.rpp_command.specs.declared.images.TheConstants.{MOST_IMAGE}

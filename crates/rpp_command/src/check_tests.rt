@@ -17,8 +17,8 @@ const TEXTS: &[(&str, &str)] = &[
         "refused 3 Syntax at 30\n",
     ),
     (
-        "class P int x method main() x += 1 + 1 + 1 + 1 + 1 + 1 + 1 + 1 + 1",
-        "refused 4 Limit at 65\n",
+        "class P int x method main() x += 1 + 1 + 1 + 1 + 1 + 1 + 1 + 1 + 1 + 1 + 1 + 1 + 1 + 1 + 1 + 1 + 1 + 1 + 1 + 1 + 1 + 1 + 1 + 1 + 1 + 1 + 1 + 1 + 1 + 1 + 1 + 1 + 1",
+        "refused 4 Limit at 161\n",
     ),
 ];
 

@@ -5,7 +5,7 @@ ghost use Rattle.rpp_tree.specs.declared.limits.TheConstants.{MOST_BYTES};
 ghost use Rattle.class_table.specs.Program.{IsAccepted};
 ghost use Rattle.pisa_isa.specs.Machine.{IsState};
 ghost use Rattle.pisa_isa.specs.Loaded.{loaded, loaded_state};
-ghost use Rattle.source_meaning.specs.Source.{IsLimits, IsValid};
+ghost use Rattle.roopl_semantics.specs.Source.{IsLimits, IsValid};
 ghost use Rattle.program_codegen.specs.Unbuilt.{unbuilt};
 ghost use Rattle.pisa_loader.specs.Limiting.{limits_refusal};
 ghost use Rattle.pisa_loader.specs.declared.input.TheConstants.{MOST_INPUT};
@@ -338,6 +338,7 @@ fn fault_name(code: u32) -> &'static str
         13 => " Length",
         14 => " TooDeep",
         15 => " Touched",
+        16 => " SharedArray",
         _ => "",
     }
 }

@@ -4,7 +4,7 @@ ghost use Rattle.pisa_isa.specs.Runs.{run as run_of_code};
 ghost use Rattle.pisa_image.specs.Reading.{image_at};
 ghost use Rattle.pisa_loader.specs.Limiting.{limits_refusal};
 ghost use Rattle.pisa_loader.specs.States.{Gives};
-ghost use Rattle.source_meaning.specs.Source.{IsLimits};
+ghost use Rattle.roopl_semantics.specs.Source.{IsLimits};
 ghost use Rattle.rpp_command.specs.declared.images.TheConstants.{MOST_IMAGE};
 ghost use Rattle.rpp_command.specs.Lines.{state_of_names, save_of_names};
 ghost use Rattle.rpp_command.specs.Plans.{planned, written, first_of, saved as saved_state, ran as ran_plan, stop_line as line_of_stop, verdict_of as verdict_of_stop, direction as direction_text, steps_line, register_line, register_lines, core_lines, end_lines as lines_of_end, IsRunPlan, IsSizedPlan, IsRanPlan, WithText, WithState};

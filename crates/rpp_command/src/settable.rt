@@ -1,7 +1,7 @@
 // The fields that an input may set.
 ghost use Rattle.std.specs.Prelude.{◌≡◌, ◌≤◌, length, IfOk};
 ghost use Rattle.rpp_tree.specs.Views.{source_of};
-ghost use Rattle.source_meaning.specs.Source.{is_int_type};
+ghost use Rattle.roopl_semantics.specs.Source.{is_int_type};
 ghost use Rattle.rpp_command.specs.Inputs.{fields_from, input_fields as fields_of};
 
 use class_table::Checked;

@@ -222,17 +222,17 @@ fn skips(alloc: Global, count: u32) -> Result<String, AllocError> {
 
 #[test]
 fn the_largest_text_and_one_token_more(rt: HostRuntime) -> Result<(), Fail> {
-    let largest = skips(rt.alloc(), 4992)?;
+    let largest = skips(rt.alloc(), 19992)?;
     let answer = answer_of(rt.alloc(), largest.as_bytes(), "go F 1 1 1000000", &[], &[])?;
     assert_eq!(rt;
         answer.text.as_slice(),
-        b"x = 0\nlive 0\nsteps 4994\n".as_slice()
+        b"x = 0\nlive 0\nsteps 19994\n".as_slice()
     );
-    let longer = skips(rt.alloc(), 4993)?;
+    let longer = skips(rt.alloc(), 19993)?;
     let answer = answer_of(rt.alloc(), longer.as_bytes(), "go F 1 1 1000000", &[], &[])?;
     assert_eq!(rt;
         answer.text.as_slice(),
-        b"refused 4 Limit at 24988\n".as_slice()
+        b"refused 4 Limit at 99988\n".as_slice()
     );
     Ok(())
 }

@@ -3,4 +3,5 @@ pub mod Views
 pub mod Bare
 pub mod Names
 pub mod Parts
+pub mod Numbers
 pub mod Limits

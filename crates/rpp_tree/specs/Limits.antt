@@ -1,8 +1,9 @@
 -- The limits that a program's tree shows.
 use Rattle.std.specs.Prelude.{ℕ, ◌+◌, ◌<◌, ◌≤◌, max, length, All, sum_by, Option, Some, None}
-use Rattle.rpp_tree.specs.declared.limits.TheConstants.{MOST_BYTES, MOST_TOKENS, MOST_NODES, MOST_INDEX_DEPTH, MOST_CLASSES, MOST_PARAMETERS, MOST_LOCALS, MOST_NESTING}
+use Rattle.rpp_tree.specs.declared.limits.TheConstants.{MOST_BYTES, MOST_TOKENS, MOST_NODES, MOST_NUMBER, MOST_INDEX_DEPTH, MOST_CLASSES, MOST_PARAMETERS, MOST_LOCALS, MOST_NESTING}
 use Rattle.rpp_tree.specs.Tree.{Expression, Number, Null, Variable, Element, Binary, Lvalue, Whole, Item, Creation, Object, Ints, Objects, Statement, Statements, Update, Swap, If, From, Construct, Local, New, Delete, Copy, Uncopy, Call, Skip, End, Then, Procedure, Source, statement_nodes, depth}
 use Rattle.rpp_tree.specs.Names.{IsName}
+use Rattle.rpp_tree.specs.Numbers.{source_numbers}
 use Rattle.rpp_tree.specs.Parts.{source_names, source_places, source_tokens}
 
 -- how many elements stand one in the index of the next
@@ -108,3 +109,4 @@ pub record IsWithinLimits (source : Source) : Type 0 where
   pub places : All (λ at. at < MOST_BYTES) (source_places source)
   pub names : All (λ name. IsName name.text) (source_names source)
   pub name_bytes : sum_by (λ name. length name.text) (source_names source) ≤ MOST_BYTES
+  pub numbers : All (λ number. number ≤ MOST_NUMBER) (source_numbers source)

@@ -18,7 +18,7 @@ pub use copy_program::{copy_parent, copy_vars};
 pub use count::{depth, nodes};
 pub use limits::{
     LimitKind, MOST_BYTES, MOST_CLASSES, MOST_FIELDS, MOST_INDEX_DEPTH, MOST_LOCALS, MOST_METHODS,
-    MOST_NESTING, MOST_NODES, MOST_PARAMETERS, MOST_PARENS, MOST_TOKENS,
+    MOST_NESTING, MOST_NODES, MOST_NUMBER, MOST_PARAMETERS, MOST_PARENS, MOST_TOKENS,
 };
 pub use text::Text;
 pub use tree::{

@@ -4,13 +4,16 @@
 pub const MOST_BYTES: u32 = 1_048_576;
 
 /// The most tokens of a source text.
-pub const MOST_TOKENS: u32 = 5_000;
+pub const MOST_TOKENS: u32 = 20_000;
 
 /// The most expression nodes of one statement.
-pub const MOST_NODES: u32 = 16;
+pub const MOST_NODES: u32 = 64;
 
-/// The most elements that stand one in the index of the next: with 1, no element stands in an index.
-pub const MOST_INDEX_DEPTH: u32 = 1;
+/// The most elements that stand one in the index of the next: each has a node, so this is no limit beside `MOST_NODES`.
+pub const MOST_INDEX_DEPTH: u32 = 65;
+
+/// The greatest number that a source may hold.
+pub const MOST_NUMBER: u32 = 2_147_483_647;
 
 /// The most classes of a program.
 pub const MOST_CLASSES: u32 = 256;

@@ -6,12 +6,12 @@ use Rattle.rpp_tree.specs.declared.tree.Var.{Var}
 use Rattle.rpp_tree.specs.declared.tree.VarType.{VarType}
 use Rattle.rpp_tree.specs.declared.tree.VarType.TheVariants as kind
 use Rattle.rpp_tree.specs.Tree.{Source}
-use Rattle.source_meaning.specs.Source.{main_of, main_fields}
-use Rattle.source_meaning.specs.Store.{Value, Word, Nil, number_of}
-use Rattle.source_meaning.specs.Alone.{alone, told_by, values_of, field_words, IsAlone}
-use Rattle.source_meaning.specs.Report.{newly_met, walked, numbered, field_lines, object_lines, live_line, live_count, objects_shown}
-use Rattle.source_meaning.specs.Layout.{is_plain_among}
-use Rattle.source_meaning.specs.Walk.{counted, run_report}
+use Rattle.roopl_semantics.specs.Source.{main_of, main_fields}
+use Rattle.roopl_semantics.specs.Store.{Value, Word, Nil, number_of}
+use Rattle.roopl_semantics.specs.Alone.{alone, told_by, values_of, field_words, IsAlone}
+use Rattle.roopl_semantics.specs.Report.{newly_met, walked, numbered, field_lines, object_lines, live_line, live_count, objects_shown}
+use Rattle.roopl_semantics.specs.Layout.{is_plain_among}
+use Rattle.roopl_semantics.specs.Walk.{counted, run_report}
 use Rattle.store_report.specs.Lines.{report_of}
 
 none_by : (kind : VarType) (word : ℕ) (rest : List Value) → newly_met [] (told_by kind word ∷ rest) ≡ newly_met [] rest

@@ -1,9 +1,9 @@
 -- The lines of the main object's fields.
 use Rattle.std.specs.Prelude.{ℕ, List, [], ◌++◌}
 use Rattle.rpp_tree.specs.Tree.{Source}
-use Rattle.source_meaning.specs.Source.{main_fields}
-use Rattle.source_meaning.specs.Alone.{values_of, field_words}
-use Rattle.source_meaning.specs.Report.{field_lines, live_line}
+use Rattle.roopl_semantics.specs.Source.{main_fields}
+use Rattle.roopl_semantics.specs.Alone.{values_of, field_words}
+use Rattle.roopl_semantics.specs.Report.{field_lines, live_line}
 
 -- the report of a memory in which the main object stands alone
 abbrev pub report_of : Source → List ℕ → List ℕ

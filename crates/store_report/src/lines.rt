@@ -2,11 +2,11 @@
 ghost use Rattle.std.specs.Prelude.{◌≡◌, ◌≤◌, ◌+◌, ◌++◌, ◌∷◌, [], All, List, length, string_bytes, IfOk, OnOk, codes};
 ghost use Rattle.std.specs.Str.{IsAscii};
 ghost use Rattle.rpp_tree.specs.Views.{source_of};
-ghost use Rattle.source_meaning.specs.Store.{Value};
-ghost use Rattle.source_meaning.specs.Source.{main_of, main_fields};
-ghost use Rattle.source_meaning.specs.Alone.{alone, told_by, values_of, IsAlone};
-ghost use Rattle.source_meaning.specs.Report.{field_lines, signed_decimal, value_shown, live_line};
-ghost use Rattle.source_meaning.specs.Walk.{run_report};
+ghost use Rattle.roopl_semantics.specs.Store.{Value};
+ghost use Rattle.roopl_semantics.specs.Source.{main_of, main_fields};
+ghost use Rattle.roopl_semantics.specs.Alone.{alone, told_by, values_of, IsAlone};
+ghost use Rattle.roopl_semantics.specs.Report.{field_lines, signed_decimal, value_shown, live_line};
+ghost use Rattle.roopl_semantics.specs.Walk.{run_report};
 ghost use Rattle.store_report.specs.Lines.{report_of};
 ghost use Rattle.store_report.specs.Ascii.{HasAsciiName};
 

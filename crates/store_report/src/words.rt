@@ -2,7 +2,7 @@
 ghost use Rattle.std.specs.Prelude.{◌≡◌, ◌≤◌, ◌<◌, ◌+◌, length, take, drop, slice_index, IfOk};
 
 use pisa_machine::Machine;
-use source_meaning::FIRST_FIELD;
+use roopl_semantics::FIRST_FIELD;
 use std::alloc::{AllocError, Global};
 
 /// The words of so many fields of the main object.

@@ -6,9 +6,9 @@ use Rattle.class_table.specs.declared.method.MethodId.{MethodId}
 use Rattle.class_table.specs.Classes.{procedure_at}
 use Rattle.class_table.specs.Table.{Table, table_of, fields_in}
 use Rattle.pisa_isa.specs.declared.cell.Op.TheVariants.{Start, Finish}
-use Rattle.source_meaning.specs.Source.{main_of, main_fields, main_body}
+use Rattle.roopl_semantics.specs.Source.{main_of, main_fields, main_body}
 use Rattle.program_codegen.specs.Code.{one, block_code}
-use Rattle.source_meaning.proofs.MainPlace.{fields_read}
+use Rattle.roopl_semantics.proofs.MainPlace.{fields_read}
 use Rattle.program_codegen.proofs.images.code.Goals as goal
 
 pub returns-clause-code : goal.returns-clause-code

@@ -5,11 +5,11 @@ use Rattle.class_table.specs.Table.{Table}
 use Rattle.pisa_isa.specs.declared.cell.Cell.{Cell}
 use Rattle.pisa_isa.specs.Table.{IsInRange}
 use Rattle.pisa_isa.specs.Image.{first_seal_refusal}
-use Rattle.source_meaning.specs.Source.{main_of}
-use Rattle.source_meaning.specs.StandsFor.{StandsFor}
+use Rattle.roopl_semantics.specs.Source.{main_of}
+use Rattle.roopl_semantics.specs.StandsFor.{StandsFor}
 use Rattle.program_codegen.specs.Code.{program_code}
 use Rattle.program_codegen.specs.Statics.{statics_in}
-use Rattle.source_meaning.proofs.MainPlace.{class_inside}
+use Rattle.roopl_semantics.proofs.MainPlace.{class_inside}
 use Rattle.program_codegen.proofs.Accepted.{compiled}
 use Rattle.program_codegen.proofs.Sealed.{code_in_range, code_in_limit, sealable}
 use Rattle.program_codegen.proofs.Stands.{stands_for}

@@ -1,7 +1,7 @@
 use Rattle.std.proofs.Common.{◌≡◌, ◌∙◌, sym, ap, List, [], ◌∷◌, ◌++◌, ℕ, ◌+◌, length, replicate, arith, append_assoc, add-one}
 use Rattle.class_table.specs.First.{each_below}
 use Rattle.class_table.specs.Table.{slots_in}
-use Rattle.source_meaning.specs.Layout.{tables}
+use Rattle.roopl_semantics.specs.Layout.{tables}
 use Rattle.program_codegen.specs.Statics.{places_at}
 use Rattle.program_codegen.proofs.Tables.{tables-next}
 use Rattle.program_codegen.proofs.statics.add_tables.Goals as goal

@@ -1,7 +1,7 @@
 use Rattle.std.proofs.Common.{◌≡◌, ◌≤◌, ◌+◌, ◌*◌, ◌++◌}
 use Rattle.std.specs.Prelude.{vec_len}
 use Rattle.class_table.specs.First.{each_below}
-use Rattle.source_meaning.specs.Layout.{tables}
+use Rattle.roopl_semantics.specs.Layout.{tables}
 use Rattle.program_codegen.specs.Statics.{places_at}
 use Rattle.program_codegen.proofs.statics.add_tables.Given as goal
 

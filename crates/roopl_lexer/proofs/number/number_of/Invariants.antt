@@ -1,5 +1,5 @@
 use Rattle.std.proofs.Common.{◌≡◌, ◌≤◌, drop}
-use Rattle.roopl_lexer.specs.declared.token.TheConstants.{MOST_NUMBER}
+use Rattle.rpp_tree.specs.declared.limits.TheConstants.{MOST_NUMBER}
 use Rattle.roopl_lexer.specs.Tokens.{decimal_from}
 use Rattle.roopl_lexer.proofs.number.number_of.Given as goal
 

@@ -1,4 +1,5 @@
 use Rattle.std.proofs.Common.{◌∙◌, ap, sym, subst, Err}
+use Rattle.roopl_parser.proofs.Parts.{small_tokens}
 use Rattle.rpp_command.specs.Errors.{IfRefused}
 use Rattle.rpp_command.proofs.Judging.{IsRefusal, by_parser}
 use Rattle.rpp_command.proofs.judge.tree.Goals as goal
@@ -9,3 +10,14 @@ returns-in-Err-clause-refused c =
     (by_parser c.args.text.now c.args.tokens.now c.in-Err.error c.requires.cutting
     (λ at e. c.parse.ensures.syntax at (c.in-Err.is ∙ ap (λ x. Err x) e))
     (λ which at e. c.parse.ensures.limit which at (c.in-Err.is ∙ ap (λ x. Err x) e)))
+
+pub returns-in-Ok-clause-tree : goal.returns-in-Ok-clause-tree
+returns-in-Ok-clause-tree c = record {
+  tokens = c.args.tokens.now;
+  tree = record {
+    cutting = c.requires.cutting;
+    derives = c.in-Ok.ensures.tree.0;
+    no_limit = c.in-Ok.ensures.tree.1;
+    within = c.in-Ok.ensures.limits (small_tokens c.args.text.now c.args.tokens.now c.requires.cutting);
+  };
+}

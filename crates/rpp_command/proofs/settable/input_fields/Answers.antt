@@ -2,7 +2,7 @@ use Rattle.std.proofs.Common.{◌≡◌, List, subst}
 use Rattle.std.specs.Prelude.{IfOk}
 use Rattle.rpp_tree.specs.declared.tree.Var.{Var}
 use Rattle.rpp_tree.specs.Views.{source_of}
-use Rattle.source_meaning.proofs.MainPlace.{fields_read}
+use Rattle.roopl_semantics.proofs.MainPlace.{fields_read}
 use Rattle.rpp_command.specs.Inputs.{fields_from}
 use Rattle.rpp_command.proofs.settable.input_fields.Goals as goal
 

@@ -2,7 +2,7 @@ use Rattle.std.proofs.Common.{◌≡◌, ◌∙◌, ◌+◌, ◌≤◌, ◌++◌
 use Rattle.std.specs.Prelude.{string_bytes}
 use Rattle.rpp_tree.specs.Views.{source_of}
 use Rattle.pisa_isa.specs.declared.machine.Stop.TheVariants.{Finished}
-use Rattle.source_meaning.specs.Source.{main_fields}
+use Rattle.roopl_semantics.specs.Source.{main_fields}
 use Rattle.rpp_command.specs.declared.plan.Verdict.TheVariants.{Done}
 use Rattle.rpp_command.specs.Plans.{planned, prints, steps_line, back_lines}
 use Rattle.rpp_command.proofs.Reported.{left_alone}

@@ -1,7 +1,7 @@
 use Rattle.std.proofs.Common.{◌≡◌, ◌++◌, [], drop}
 use Rattle.std.specs.Prelude.{string_bytes}
-use Rattle.source_meaning.specs.Alone.{values_of}
-use Rattle.source_meaning.specs.Report.{field_lines}
+use Rattle.roopl_semantics.specs.Alone.{values_of}
+use Rattle.roopl_semantics.specs.Report.{field_lines}
 use Rattle.store_report.proofs.lines.lines.Given as goal
 
 -- the lines so far and those of what is left are the whole

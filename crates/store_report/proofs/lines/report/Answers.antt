@@ -2,9 +2,9 @@ use Rattle.std.proofs.Common.{◌≡◌, ◌∙◌, sym, ap, subst, ℕ, ◌+◌
 use Rattle.std.specs.Prelude.{All}
 use Rattle.rpp_tree.specs.declared.tree.Var.{Var}
 use Rattle.rpp_tree.specs.Views.{source_of}
-use Rattle.source_meaning.specs.Alone.{values_of}
-use Rattle.source_meaning.specs.Report.{field_lines, live_line}
-use Rattle.source_meaning.proofs.MainPlace.{fields_read}
+use Rattle.roopl_semantics.specs.Alone.{values_of}
+use Rattle.roopl_semantics.specs.Report.{field_lines, live_line}
+use Rattle.roopl_semantics.proofs.MainPlace.{fields_read}
 use Rattle.store_report.specs.Ascii.{HasAsciiName}
 use Rattle.store_report.proofs.Names.{ascii_main_fields}
 use Rattle.store_report.proofs.Reported.{reported}

@@ -1,0 +1,11 @@
+pub mod CostBound
+pub mod MoreFuel
+pub mod Exactly
+pub mod Testing
+pub mod IntRows
+mod CallRows
+pub mod ObjectRows
+mod ArrayRows
+mod SharedRows
+mod MemoryRows
+pub mod MainPlace

@@ -1,0 +1,33 @@
+-- An image that stands for a program ends exactly as the source does.
+use Rattle.std.specs.Prelude.{◌≡◌, ℕ, List}
+use Rattle.rpp_words.specs.declared.input.FieldWord.{FieldWord}
+use Rattle.rpp_words.specs.declared.input.Limits.{Limits}
+use Rattle.rpp_tree.specs.Tree.{Source}
+use Rattle.pisa_isa.specs.declared.machine.Stop.TheVariants.{Finished, Trap}
+use Rattle.pisa_isa.specs.Image.{Segments}
+use Rattle.roopl_semantics.specs.Store.{State}
+use Rattle.roopl_semantics.specs.Source.{IsLimits, IsValid, GivesDone, GivesFault}
+use Rattle.roopl_semantics.specs.Layout.{layout}
+use Rattle.roopl_semantics.specs.StandsFor.{run_of, StandsFor, IsFinalState}
+
+-- in some number of steps the image finishes with the memory of this state
+pub record FinishesWith (program : Source) (image : Segments) (limits : Limits) (input : List FieldWord) (end : State) : Type 0 where
+  pub steps : ℕ
+  pub finishes : (run_of image limits input steps).why ≡ Finished
+  pub cells : (run_of image limits input steps).last.cells ≡ layout program limits image.statics end.store end.log
+
+-- in some number of steps the image stops with this fault
+pub record TrapsWith (image : Segments) (limits : Limits) (input : List FieldWord) (code : ℕ) : Type 0 where
+  pub steps : ℕ
+  pub traps : (run_of image limits input steps).why ≡ Trap code
+
+-- it finishes with a store exactly if the source gives that store, and stops with a fault exactly if the source does
+pub record EndsExactly (program : Source) (image : Segments) (limits : Limits) (input : List FieldWord) : Type 0 where
+  pub finishes : (end : State) → GivesDone program limits input end → FinishesWith program image limits input end
+  pub finished : (m : ℕ) → (run_of image limits input m).why ≡ Finished → IsFinalState program image limits input (run_of image limits input m).last
+  pub traps : (code : ℕ) → GivesFault program limits input code → TrapsWith image limits input code
+  pub trapped : (m code : ℕ) → (run_of image limits input m).why ≡ Trap code → GivesFault program limits input code
+
+abbrev pub ImagesAreExact : Type 0
+ImagesAreExact =
+    (program : Source) (image : Segments) → StandsFor program image → (limits : Limits) (input : List FieldWord) → IsLimits limits → IsValid program input → EndsExactly program image limits input

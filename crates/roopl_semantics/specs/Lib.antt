@@ -1,0 +1,15 @@
+pub mod Operators
+pub mod Run
+pub mod Store
+pub mod Value
+pub mod Elements
+pub mod Execution
+pub mod Source
+pub mod Alone
+pub mod Agreement
+pub mod Report
+pub mod Layout
+pub mod Walk
+pub mod StandsFor
+pub mod Exact
+pub mod Laws

@@ -1,0 +1,71 @@
+-- What it means that an image does what a program does.
+use Rattle.std.specs.Prelude.{◌≡◌, ◌≢◌, ◌≤◌, ◌+◌, ◌*◌, ℕ, ℤ, List, Option, Some, None}
+use Rattle.rpp_words.specs.declared.input.FieldWord.{FieldWord}
+use Rattle.rpp_words.specs.declared.input.Limits.{Limits}
+use Rattle.rpp_tree.specs.Tree.{Source}
+use Rattle.pisa_isa.specs.declared.machine.Stop.TheVariants.{Finished, Returned, Trap, BadAddress, OffCode, Bound}
+use Rattle.pisa_isa.specs.Image.{Segments}
+use Rattle.pisa_isa.specs.Loaded.{loaded_state}
+use Rattle.pisa_isa.specs.Machine.{State as MachineState}
+use Rattle.pisa_isa.specs.Runs.{End, run, zero_registers}
+use Rattle.pisa_isa.specs.Ends.{IsCleanFinish, MeetsEndsOnce}
+use Rattle.roopl_semantics.specs.Run.{Run, Done, Fault, More}
+use Rattle.roopl_semantics.specs.Store.{State}
+use Rattle.roopl_semantics.specs.Source.{IsLimits, IsValid, GivesDone, GivesFault, source}
+use Rattle.roopl_semantics.specs.Layout.{HasStatics, layout}
+
+-- the run of an image from START, of at most m steps
+abbrev pub run_of : Segments → Limits → List FieldWord → ℕ → End
+run_of image limits input m = run image.code m (loaded_state image limits input)
+
+-- the machine's last state is the source's final one: its memory is the layout, all registers are 0
+pub record IsFinalState (program : Source) (image : Segments) (limits : Limits) (input : List FieldWord) (last : MachineState) : Type 0 where
+  pub end : State
+  pub gives : GivesDone program limits input end
+  pub cells : last.cells ≡ layout program limits image.statics end.store end.log
+  pub registers : last.regs ≡ zero_registers
+  pub branch : last.br ≡ 0
+
+-- the cost of a run that is over
+abbrev pub cost_of : {A : Type 0} → Run A → Option ℕ
+cost_of (Done result cost) = Some cost
+cost_of (Fault code cost) = Some cost
+cost_of More = None
+
+-- the source gives a store or a fault, at this cost
+pub record EndsAt (program : Source) (limits : Limits) (input : List FieldWord) (cost : ℕ) : Type 0 where
+  pub fuel : ℕ
+  pub over : cost_of (source program limits input fuel) ≡ Some cost
+
+-- so many steps, and more, are not too few for the run
+pub record IsEnough (image : Segments) (limits : Limits) (input : List FieldWord) (enough : ℕ) : Type 0 where
+  pub ends : (m : ℕ) → enough ≤ m → (run_of image limits input m).why ≢ Bound
+
+-- some number of steps is enough
+pub record Ends (image : Segments) (limits : Limits) (input : List FieldWord) : Type 0 where
+  pub enough : ℕ
+  pub is_enough : IsEnough image limits input enough
+
+-- the steps that are enough where the source ends at this cost
+abbrev pub enough_steps : ℕ → ℕ
+enough_steps cost = 1000 * cost + 1000
+
+-- the source's cost bounds the steps of the run
+pub record EndsInTime (program : Source) (image : Segments) (limits : Limits) (input : List FieldWord) : Type 0 where
+  pub in_time : (cost : ℕ) → EndsAt program limits input cost → IsEnough image limits input (enough_steps cost)
+
+-- the runs of an image on an input do what the source does on it
+pub record Follows (program : Source) (image : Segments) (limits : Limits) (input : List FieldWord) : Type 0 where
+  pub finished : (m : ℕ) → (run_of image limits input m).why ≡ Finished → IsFinalState program image limits input (run_of image limits input m).last
+  pub clean : (m : ℕ) → (run_of image limits input m).why ≡ Finished → IsCleanFinish image.code m (loaded_state image limits input)
+  pub trapped : (m code : ℕ) → (run_of image limits input m).why ≡ Trap code → GivesFault program limits input code
+  pub not_returned : (m : ℕ) → (run_of image limits input m).why ≢ Returned
+  pub in_code : (m : ℕ) (at : ℤ) → (run_of image limits input m).why ≢ OffCode at
+  pub in_memory : (m address : ℕ) → (run_of image limits input m).why ≢ BadAddress address
+  pub ends : (cost : ℕ) → EndsAt program limits input cost → Ends image limits input
+  pub meets_ends_once : (m : ℕ) → MeetsEndsOnce image.code m (loaded_state image limits input)
+
+-- an image stands for a program: its static cells are the program's, and it follows it on every input, heap and depth
+pub record StandsFor (program : Source) (image : Segments) : Type 0 where
+  pub statics : HasStatics program image
+  pub follows : (limits : Limits) (input : List FieldWord) → IsLimits limits → IsValid program input → Follows program image limits input

@@ -1,0 +1,19 @@
+// Laws of the meaning, each the contract of a function.
+ghost use Rattle.roopl_semantics.specs.Laws.{MoreFuelKeeps, CostIsEnough};
+ghost use Rattle.roopl_semantics.specs.Exact.{ImagesAreExact};
+
+/// A program that ends with some fuel ends the same with more.
+pub fn more_fuel_keeps()
+    ensures { MoreFuelKeeps }
+{}
+
+/// A block that ends with some fuel ends the same with any fuel from its cost on.
+pub fn cost_is_enough()
+    ensures { CostIsEnough }
+{}
+
+/// An image that stands for a program finishes with a store, given steps enough, exactly if the
+/// source gives that store, and stops with a fault exactly if the source does.
+pub fn images_are_exact()
+    ensures { ImagesAreExact }
+{}

@@ -1,5 +1,0 @@
-use Rattle.source_meaning.proofs.MoreFuel.{source_done, source_fault}
-use Rattle.source_meaning.proofs.laws.more_fuel_keeps.Goals as goal
-
-pub returns : goal.returns
-returns c = record { done = source_done; fault = source_fault }
