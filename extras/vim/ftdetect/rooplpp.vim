@@ -1,0 +1,2 @@
+autocmd BufRead,BufNewFile *.rpp setfiletype rpp
+autocmd BufRead,BufNewFile *.pisa setfiletype pisa
