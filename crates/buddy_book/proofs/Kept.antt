@@ -1,13 +1,9 @@
 -- What every book keeps, at the start and through takes and gives.
-use Rattle.std.proofs.Common.{◌≡◌, ℕ, suc, ◌+◌, ◌-◌, ◌^◌, ◌%◌, ◌<◌, ◌≤◌, min, refl, arith, length, Option, Some, None}
+use Rattle.std.proofs.Common.{◌≡◌, ℕ, ◌+◌, ◌-◌, ◌^◌, ◌%◌, ◌<◌, ◌≤◌, refl, arith, length, Option, Some, None}
 use Rattle.buddy_book.specs.Book.{Book, take, give}
-use Rattle.buddy_book.specs.Shown.{Shown, order_in, with_taken, without_taken, IsAdditive, weight, size_of, taken_weight, IsKept}
+use Rattle.buddy_book.specs.Shown.{Shown, order_in, with_taken, without_taken, IsAdditive, weight, size_of, cover, taken_weight, IsKept}
 use Rattle.buddy_book.proofs.Orders.{pow_pos, order_below, take_took, give_gave}
 use Rattle.buddy_book.proofs.Table.{taken_weight-with, taken_weight-without, is_aligned-with, is_aligned-without, is_aligned-taken}
-
--- 1 where a block of this size covers a word, else 0
-abbrev pub cover : ℕ → ℕ → ℕ → ℕ
-cover x block size = min 1 (suc x - block) - min 1 (suc x - (block + size))
 
 pub cover-additive : (x : ℕ) → IsAdditive (cover x)
 cover-additive x block size = omega arith

@@ -80,6 +80,7 @@ pub record TookOrder (h k block : ℕ) (book after : Book) : Type 0 where
   pub undone : give after k block ≡ book
   pub sound : is_sound (2 ^ h) 2 after ≡ true
   pub weights : (f : ℕ → ℕ → ℕ) → IsAdditive f → weight f 2 book ≡ f block (2 ^ k) + weight f 2 after
+  pub count : length after ≡ length book
 
 abbrev TookSize : ℕ → ℕ → ℕ → ℕ → Book → Book → Type 0
 TookSize h lower size block book after =
@@ -95,13 +96,14 @@ take_took h k block book after from sound e =
     let all : TookSize h (k - 1) (doubled (k - 1) 2) block book after = (took.aligned, took.fits, took.undone, took.sound, took.weights) in
     let Q : ℕ → Type 0 = λ s. TookSize h (k - 1) s block book after in
     let done = subst Q size all in
-    record { aligned = done.0; fits = done.1; undone = done.2; sound = done.3; weights = done.4 }
+    record { aligned = done.0; fits = done.1; undone = done.2; sound = done.3; weights = done.4; count = took.count }
 
 -- what a give of order k to a sound book did
 pub record GaveOrder (h k block : ℕ) (book : Book) : Type 0 where
   pub undone : take (give book k block) k ≡ Some (block, book)
   pub sound : is_sound (2 ^ h) 2 (give book k block) ≡ true
   pub weights : (f : ℕ → ℕ → ℕ) → IsAdditive f → weight f 2 (give book k block) ≡ f block (2 ^ k) + weight f 2 book
+  pub count : length (give book k block) ≡ length book
 
 abbrev GaveSize : ℕ → ℕ → ℕ → ℕ → Book → Type 0
 GaveSize h lower size block book =
@@ -129,4 +131,4 @@ give_gave h k block book from to lists sound aligned fits =
     let all : GaveSize h (k - 1) (doubled (k - 1) 2) block book = (gave.undone, gave.sound, gave.weights) in
     let Q : ℕ → Type 0 = λ s. GaveSize h (k - 1) s block book in
     let done = subst Q size all in
-    record { undone = done.0; sound = done.1; weights = done.2 }
+    record { undone = done.0; sound = done.1; weights = done.2; count = ap (λ s. length (give_past (k - 1) s block book)) (sym size) ∙ gave.count }

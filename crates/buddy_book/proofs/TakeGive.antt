@@ -53,6 +53,7 @@ pub record Took (top size block : ℕ) (book after : Book) : Type 0 where
   pub undone : give_first size block after ≡ book
   pub sound : is_sound top size after ≡ true
   pub weights : (f : ℕ → ℕ → ℕ) → IsAdditive f → weight f size book ≡ f block size + weight f size after
+  pub count : length after ≡ length book
 
 abbrev pub TookIf : ℕ → ℕ → Book → Option (ℕ × Book) → Type 0
 TookIf top size book None = Unit {0}
@@ -72,6 +73,7 @@ after_upper top size higher (Some (low, after)) t =
       undone = ap (merged (low + size) (low ∷ []) after (λ l. give_first (2 * size) l after)) (upper_merges size low t.aligned) ∙ ap (λ b. [] ∷ b) t.undone;
       sound = both_hold (is_sound_list top size (low ∷ [])) _ (sound_list top size low [] (record { aligned = of_double size low t.aligned; fits = let h = t.fits in omega arith; unmerged = refl; rest = refl })) t.sound;
       weights = λ f additive. let w = t.weights f additive in let a = additive low size in omega arith;
+      count = ap suc t.count;
     }
 
 pub take_first_took : (top size : ℕ) (book : Book) → is_sound top size book ≡ true → TookIf top size book (take_first size book)
@@ -85,6 +87,7 @@ take_first_took top size ((block ∷ free) ∷ higher) e =
       undone = ap (merged block free higher (λ l. give_first (2 * size) l higher)) (none_is (lower_half size block free) head.unmerged);
       sound = both_hold (is_sound_list top size free) _ head.rest parts.1;
       weights = λ f additive. omega arith;
+      count = refl;
     }
 take_first_took top size ([] ∷ higher) e = after_upper top size higher (take_first (2 * size) higher) (take_first_took top (2 * size) higher e)
 
@@ -93,6 +96,7 @@ pub record Gave (top size block : ℕ) (book after : Book) : Type 0 where
   pub undone : take_first size after ≡ Some (block, book)
   pub sound : is_sound top size after ≡ true
   pub weights : (f : ℕ → ℕ → ℕ) → IsAdditive f → weight f size after ≡ f block size + weight f size book
+  pub count : length after ≡ length book
 
 abbrev upper_pair : ℕ → List ℕ → Book → Option (ℕ × Book)
 upper_pair block free higher = Some (block, free ∷ higher)
@@ -137,12 +141,14 @@ module _ (top : ℕ) (has_room : 0 < top) where
         undone = ap (upper_half size) gave.undone ∙ same_taken (low + size) block (low ∷ []) free higher (sym merge.upper) (sym merge.alone);
         sound = gave.sound;
         weights = λ f additive. let w = gave.weights f additive in let a = additive low size in let b = ap (λ x. f x size) merge.upper in let c = ap (list_weight f size) merge.alone in omega arith;
+        count = ap suc gave.count;
       }
   merged_gave size block free higher sound_free sound_higher aligned fits next None is_half =
       record {
         undone = refl;
         sound = both_hold (is_sound_list top size (block ∷ free)) _ (sound_list top size block free (record { aligned = aligned; fits = fits; unmerged = ap is_none is_half; rest = sound_free })) sound_higher;
         weights = λ f additive. omega arith;
+        count = refl;
       }
 
   pub give_first_gave : (size block : ℕ) (book : Book) → is_sound top size book ≡ true → doubled (length book) size ≡ 2 * top → block % size ≡ 0 → block + size ≤ top → Gave top size block book (give_first size block book)
@@ -158,6 +164,7 @@ pub record TookBlock (top lower size block : ℕ) (book after : Book) : Type 0 w
   pub undone : give_past lower (doubled lower size) block after ≡ book
   pub sound : is_sound top size after ≡ true
   pub weights : (f : ℕ → ℕ → ℕ) → IsAdditive f → weight f size book ≡ f block (doubled lower size) + weight f size after
+  pub count : length after ≡ length book
 
 abbrev pub TookPast : ℕ → ℕ → ℕ → Book → Option (ℕ × Book) → Type 0
 TookPast top lower size book None = Unit {0}
@@ -165,7 +172,7 @@ TookPast top lower size book (Some (block, after)) = TookBlock top lower size bl
 
 after_first : (top size : ℕ) (book : Book) (taken : Option (ℕ × Book)) → TookIf top size book taken → TookPast top 0 size book taken
 after_first top size book None t = tt
-after_first top size book (Some (block, after)) t = record { aligned = t.aligned; fits = t.fits; undone = t.undone; sound = t.sound; weights = t.weights }
+after_first top size book (Some (block, after)) t = record { aligned = t.aligned; fits = t.fits; undone = t.undone; sound = t.sound; weights = t.weights; count = t.count }
 
 after_below : (top lower size : ℕ) (free : List ℕ) (higher : Book) → is_sound_list top size free ≡ true → (taken : Option (ℕ × Book)) → TookPast top lower (2 * size) higher taken → TookPast top (suc lower) size (free ∷ higher) (below_taken free taken)
 after_below top lower size free higher e None t = tt
@@ -176,6 +183,7 @@ after_below top lower size free higher e (Some (block, after)) t =
       undone = ap (λ b. free ∷ b) t.undone;
       sound = both_hold (is_sound_list top size free) _ e t.sound;
       weights = λ f additive. let w = t.weights f additive in omega arith;
+      count = ap suc t.count;
     }
 
 -- what a give past the lists of lower orders did
@@ -183,6 +191,7 @@ pub record GavePast (top lower size block : ℕ) (book after : Book) : Type 0 wh
   pub undone : take_past lower (doubled lower size) after ≡ Some (block, book)
   pub sound : is_sound top size after ≡ true
   pub weights : (f : ℕ → ℕ → ℕ) → IsAdditive f → weight f size after ≡ f block (doubled lower size) + weight f size book
+  pub count : length after ≡ length book
 
 -- past the lists of lower orders
 pub take_past_took : (top lower size : ℕ) (book : Book) → is_sound top size book ≡ true → TookPast top lower size book (take_past lower (doubled lower size) book)
@@ -195,7 +204,7 @@ take_past_took top (suc lower) size (free ∷ higher) e =
 pub give_past_gave : (top : ℕ) → 0 < top → (lower size block : ℕ) (book : Book) → is_sound top size book ≡ true → doubled (length book) size ≡ 2 * top → lower < length book → block % doubled lower size ≡ 0 → block + doubled lower size ≤ top → GavePast top lower size block book (give_past lower (doubled lower size) block book)
 give_past_gave top room zero size block book e ends below aligned fits =
     let gave = give_first_gave top room size block book e ends aligned fits in
-    record { undone = gave.undone; sound = gave.sound; weights = gave.weights }
+    record { undone = gave.undone; sound = gave.sound; weights = gave.weights; count = gave.count }
 give_past_gave top room (suc lower) size block [] e ends below aligned fits = absurd (omega arith)
 give_past_gave top room (suc lower) size block (free ∷ higher) e ends below aligned fits =
     let parts = both (is_sound_list top size free) _ e in
@@ -204,4 +213,5 @@ give_past_gave top room (suc lower) size block (free ∷ higher) e ends below al
       undone = ap (below_taken free) gave.undone;
       sound = both_hold (is_sound_list top size free) _ parts.0 gave.sound;
       weights = λ f additive. let w = gave.weights f additive in omega arith;
+      count = ap suc gave.count;
     }

@@ -1,5 +1,5 @@
 -- What contracts see of a book, and what every book keeps.
-use Rattle.std.specs.Prelude.{◌≡◌, ◌≤◌, ℕ, zero, suc, ◌+◌, ◌-◌, ◌*◌, ◌^◌, ◌%◌, Bool, true, ◌&&◌, nat_eq, nat_lt, nat_le, is_none, IsTrue, List, [], ◌∷◌, length, Option, Some, None, slice_get, if◌then◌else◌}
+use Rattle.std.specs.Prelude.{◌≡◌, ◌≤◌, ℕ, zero, suc, ◌+◌, ◌-◌, ◌*◌, ◌^◌, ◌%◌, min, Bool, true, ◌&&◌, nat_eq, nat_lt, nat_le, is_none, IsTrue, List, [], ◌∷◌, length, Option, Some, None, slice_get, if◌then◌else◌}
 use Rattle.std.specs.Option.{option_map, unwrap_or}
 use Rattle.buddy_book.specs.Book.{Book, lower_half}
 
@@ -33,6 +33,11 @@ first_block (block ∷ free) = Some block
 -- the free list of order k
 abbrev pub list_at : Book → ℕ → List ℕ
 list_at free k = unwrap_or (slice_get free (k - 1)) []
+
+-- the address of the first block of a list, or 0
+abbrev pub first_address : ℕ → List ℕ → ℕ
+first_address base [] = 0
+first_address base (block ∷ free) = base + block
 
 -- the address of the head of the free list of order k
 abbrev pub head_address : Shown → ℕ → Option ℕ
@@ -86,6 +91,10 @@ weight f size (free ∷ higher) = list_weight f size free + weight f (2 * size) 
 -- the number of words of a block
 abbrev pub size_of : ℕ → ℕ → ℕ
 size_of block size = size
+
+-- 1 where a block of this size covers a word of the heap, else 0
+abbrev pub cover : ℕ → ℕ → ℕ → ℕ
+cover x block size = min 1 (suc x - block) - min 1 (suc x - (block + size))
 
 -- what the taken blocks weigh together
 abbrev pub taken_weight : (ℕ → ℕ → ℕ) → TakenBlocks → ℕ

@@ -316,7 +316,11 @@ apart im k w p s h g e =
     let i : Some (call_cell k w) ≡ Some (swapbr 2) = sym j ∙ g in
     not_swap k w 2 (let l : call_cell k w ≡ swapbr 2 = cc in l)
 
-pub will_enter : (im : Image) (r top : ℕ) (body : List Symbol) (b d : Bool) (m : Memory) (Q : Outcome → Type 0) → Routine im r top body → length im.code < 2 ^ 30 → 2 < length m.regs → reg m 2 ≡ 0 → ((w : ℕ) → 0 < w → Will im body (xor b d) (with_reg m 2 w) (Returns w (xor b d) Q)) → Will im (Enter r b ∷ []) d m Q
+pub between_small : (x y : ℕ) → between x y < 2 ^ 32
+between_small x y = omega arith
+
+-- the link is a word that is not 0
+pub will_enter : (im : Image) (r top : ℕ) (body : List Symbol) (b d : Bool) (m : Memory) (Q : Outcome → Type 0) → Routine im r top body → length im.code < 2 ^ 30 → 2 < length m.regs → reg m 2 ≡ 0 → ((w : ℕ) → 0 < w → w < 2 ^ 32 → Will im body (xor b d) (with_reg m 2 w) (Returns w (xor b d) Q)) → Will im (Enter r b ∷ []) d m Q
 will_enter im r top body b d m Q t small room z h = record {
   will = λ f i l st.
       let c = cell_place im.code (place f i) (resolved im f.flip (place f i) (Enter r b)) st.0 in
@@ -327,5 +331,5 @@ will_enter im r top body b d m Q t small room z h = record {
       let hp : p < 2 ^ 30 = omega (arith, c.2) in
       let hs : top + 1 < 2 ^ 30 = (let s = t.small in omega arith) in
       let sne : top + 1 ≢ p = λ e. ne (sym e) in
-      gaps im f d i m Q (called im r top body t f d (xor f.flip b) i (i + 1) i p (omega arith) (omega arith) c.1 caller ne hp m z room Q (xor b d) (way_is f.flip b d) (h (between (top + 1) p) (between_positive (top + 1) p sne hs hp)));
+      gaps im f d i m Q (called im r top body t f d (xor f.flip b) i (i + 1) i p (omega arith) (omega arith) c.1 caller ne hp m z room Q (xor b d) (way_is f.flip b d) (h (between (top + 1) p) (between_positive (top + 1) p sne hs hp) (between_small (top + 1) p)));
 }

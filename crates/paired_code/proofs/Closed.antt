@@ -141,9 +141,9 @@ module _ (im : Image) (rs : Routines) (there : Stand im rs) where
         (λ (l : (reg m r ≢ 0) × ((k : ℕ) → k ≤ 4 → Q (Trapped code k))). let k = runs_check_other im d r code m l.0 in will_of im _ d m (Trapped code k.0) _ k.2 (l.1 k.0 k.1, tt))
         h
     holds (Call r b) g d m Q h =
-        will_enter im r (rs.top r) (cells_of_shape (rs.body r)) b d m _ (there.placed r h.0) there.tidy.short h.1 h.2 (λ w pw. will_more im (cells_of_shape (rs.body r)) (xor b d) _ _ _ (λ o k. back_sure n w (xor b d) Q o k) (calls (rs.body r) (there.made r h.0) (xor b d) _ _ (h.3 w pw)))
+        will_enter im r (rs.top r) (cells_of_shape (rs.body r)) b d m _ (there.placed r h.0) there.tidy.short h.1 h.2 (λ w pw is. will_more im (cells_of_shape (rs.body r)) (xor b d) _ _ _ (λ o k. back_sure n w (xor b d) Q o k) (calls (rs.body r) (there.made r h.0) (xor b d) _ _ (h.3 w pw is)))
     holds (Call_at a b) g d m Q h =
-        will_enter_place im h.0 (rs.top h.0) (cells_of_shape (rs.body h.0)) a b d m _ there.tidy (there.placed h.0 h.1) h.2 h.3 h.4 (λ w pw. will_more im (cells_of_shape (rs.body h.0)) (xor b d) _ _ _ (λ o k. back_at_sure n a (rs.top h.0 + 1) w (xor b d) Q o k) (calls (rs.body h.0) (there.made h.0 h.1) (xor b d) _ _ (h.5 w pw)))
+        will_enter_place im h.0 (rs.top h.0) (cells_of_shape (rs.body h.0)) a b d m _ there.tidy (there.placed h.0 h.1) h.2 h.3 h.4 (λ w pw is. will_more im (cells_of_shape (rs.body h.0)) (xor b d) _ _ _ (λ o k. back_at_sure n a (rs.top h.0 + 1) w (xor b d) Q o k) (calls (rs.body h.0) (there.made h.0 h.1) (xor b d) _ _ (h.5 w pw is)))
 
   pub will_fine : (n : ℕ) (s : Shape) → IsMade s → (d : Bool) (m : Memory) (Q : Outcome → Type 0) → fine rs n s d m Q → Will im (cells_of_shape s) d m (Both Q n)
   will_fine zero s g d m Q h = will_of im (cells_of_shape s) d m (Still 0) _ (runs_still im (cells_of_shape s) d m) (h, omega arith)

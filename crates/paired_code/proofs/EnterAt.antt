@@ -22,7 +22,7 @@ use Rattle.paired_code.proofs.Paths.{append, within_call}
 use Rattle.paired_code.proofs.Steps.{oriented, Has, has_its_cell, raw_way}
 use Rattle.paired_code.proofs.Ways.{and_then, ends_wider}
 use Rattle.paired_code.proofs.Branch.{between_same}
-use Rattle.paired_code.proofs.Call.{step_to, acts_to, swap_acts, on_line, line_to, cell_place, reg_same, with_twice, there, ends_jump, negates, neg_between, between_positive}
+use Rattle.paired_code.proofs.Call.{step_to, acts_to, swap_acts, on_line, line_to, cell_place, reg_same, with_twice, there, ends_jump, negates, neg_between, between_positive, between_small}
 use Rattle.paired_code.proofs.Uturn.{turn_first, turn_last}
 
 -- ---- a plain cell of the machine, on a line either way round
@@ -423,11 +423,11 @@ module _ (im : Image) (r top : ℕ) (body : List Symbol) (t : Routine im r top b
       (append (turn_last im f i end i last apart (omega arith) (omega arith) (omega arith) (omega arith) (omega arith) (omega arith) (first_turn k) (last_turn k) m true) (swaps_in im f false a i end p top core refl sub t.known ne hp hs na m room z v))
       (λ m1 wide e1. append (swaps_out im f false a i end p top core refl sub t.known ne hp hs na m1 wide e1) (turn_last im f i end i last apart (omega arith) (omega arith) (omega arith) (omega arith) (omega arith) (omega arith) (first_turn k) (last_turn k) (with_reg m1 2 (left_in (xor f.flip false) (reg m1 a) (top + 1))) false)) h
 
-  either : (d : Bool) → ((w : ℕ) → 0 < w → Will im body (xor b d) (with_reg m 2 w) (Returns_any a (top + 1) w (xor b d) Q)) → (o : Outcome) × Ends im f d i end (near_end d i end) m (far_end d i end) o × Q o
+  either : (d : Bool) → ((w : ℕ) → 0 < w → w < 2 ^ 32 → Will im body (xor b d) (with_reg m 2 w) (Returns_any a (top + 1) w (xor b d) Q)) → (o : Outcome) × Ends im f d i end (near_end d i end) m (far_end d i end) o × Q o
   either d h = go (xor f.flip b) refl
     where
       given : Will im body (xor b d) (with_reg m 2 (between (top + 1) p)) (Returns_any a (top + 1) (between (top + 1) p) (xor b d) Q)
-      given = h (between (top + 1) p) (between_positive (top + 1) p (λ e. ne (sym e)) hs hp)
+      given = h (between (top + 1) p) (between_positive (top + 1) p (λ e. ne (sym e)) hs hp) (between_small (top + 1) p)
 
       go : (k : Bool) → xor f.flip b ≡ k → (o : Outcome) × Ends im f d i end (near_end d i end) m (far_end d i end) o × Q o
       go false k = straight d k (subst (λ y. Will im body y (with_reg m 2 (between (top + 1) p)) (Returns_any a (top + 1) (between (top + 1) p) y Q)) (sym (way_kept f.flip b d k)) given)
@@ -435,7 +435,7 @@ module _ (im : Image) (r top : ℕ) (body : List Symbol) (t : Routine im r top b
 
 -- ---- the law
 
-pub will_enter_at_any : (im : Image) (r top : ℕ) (body : List Symbol) (a : ℕ) (b d : Bool) (m : Memory) (Q : Outcome → Type 0) → Tidy im → Routine im r top body → a ≢ 2 → 2 < length m.regs → reg m 2 ≡ 0 → reg m a ≡ top + 1 → ((w : ℕ) → 0 < w → Will im body (xor b d) (with_reg m 2 w) (Returns_any a (top + 1) w (xor b d) Q)) → Will im (enter_at_cells a b) d m Q
+pub will_enter_at_any : (im : Image) (r top : ℕ) (body : List Symbol) (a : ℕ) (b d : Bool) (m : Memory) (Q : Outcome → Type 0) → Tidy im → Routine im r top body → a ≢ 2 → 2 < length m.regs → reg m 2 ≡ 0 → reg m a ≡ top + 1 → ((w : ℕ) → 0 < w → w < 2 ^ 32 → Will im body (xor b d) (with_reg m 2 w) (Returns_any a (top + 1) w (xor b d) Q)) → Will im (enter_at_cells a b) d m Q
 will_enter_at_any im r top body a b d m Q tidy t na room z v h = record {
   will = λ f i l st.
       let e : i + 1 + 1 + 1 + 1 + 1 + 1 + 1 ≡ i + length (enter_at_cells a b) = omega arith in
@@ -443,10 +443,10 @@ will_enter_at_any im r top body a b d m Q tidy t na room z v h = record {
       subst (λ n. (o : Outcome) × Ends im f d i n (near_end d i n) m (far_end d i n) o × Q o) e (either im r top body t tidy a na m room z v Q f i b l7 st d h);
 }
 
-pub will_enter_at : (im : Image) (r top : ℕ) (body : List Symbol) (a : ℕ) (b d : Bool) (m : Memory) (Q : Outcome → Type 0) → Tidy im → Routine im r top body → a ≢ 2 → 2 < length m.regs → reg m 2 ≡ 0 → reg m a ≡ top + 1 → ((w : ℕ) → 0 < w → Will im body (xor b d) (with_reg m 2 w) (Returns_at a (top + 1) w Q)) → Will im (enter_at_cells a b) d m Q
+pub will_enter_at : (im : Image) (r top : ℕ) (body : List Symbol) (a : ℕ) (b d : Bool) (m : Memory) (Q : Outcome → Type 0) → Tidy im → Routine im r top body → a ≢ 2 → 2 < length m.regs → reg m 2 ≡ 0 → reg m a ≡ top + 1 → ((w : ℕ) → 0 < w → w < 2 ^ 32 → Will im body (xor b d) (with_reg m 2 w) (Returns_at a (top + 1) w Q)) → Will im (enter_at_cells a b) d m Q
 will_enter_at im r top body a b d m Q tidy t na room z v h =
     let s = t.small in
-    will_enter_at_any im r top body a b d m Q tidy t na room z v (λ w pw. will_more im body (xor b d) (with_reg m 2 w) _ _ (λ o k. returns_any a (top + 1) w (xor b d) Q o (omega arith) k) (h w pw))
+    will_enter_at_any im r top body a b d m Q tidy t na room z v (λ w pw is. will_more im body (xor b d) (with_reg m 2 w) _ _ (λ o k. returns_any a (top + 1) w (xor b d) Q o (omega arith) k) (h w pw is))
 
 -- ---- register 2
 
@@ -457,7 +457,7 @@ pub other_register : (a : ℕ) → a ≢ 2 → a ≡ place_register a
 other_register a h = let e : nat_eq a 2 ≡ false = grind (arith, nat_tests) in sym (ap (λ t. if t then 3 else a) e)
 
 -- by the register that is asked for
-pub will_enter_place : (im : Image) (r top : ℕ) (body : List Symbol) (a : ℕ) (b d : Bool) (m : Memory) (Q : Outcome → Type 0) → Tidy im → Routine im r top body → 2 < length m.regs → reg m 2 ≡ 0 → reg m a ≡ top + 1 → ((w : ℕ) → 0 < w → Will im body (xor b d) (with_reg m 2 w) (Returns_any a (top + 1) w (xor b d) Q)) → Will im (enter_at_cells (place_register a) b) d m Q
+pub will_enter_place : (im : Image) (r top : ℕ) (body : List Symbol) (a : ℕ) (b d : Bool) (m : Memory) (Q : Outcome → Type 0) → Tidy im → Routine im r top body → 2 < length m.regs → reg m 2 ≡ 0 → reg m a ≡ top + 1 → ((w : ℕ) → 0 < w → w < 2 ^ 32 → Will im body (xor b d) (with_reg m 2 w) (Returns_any a (top + 1) w (xor b d) Q)) → Will im (enter_at_cells (place_register a) b) d m Q
 will_enter_place im r top body a b d m Q tidy t room z v h =
     let na : a ≢ 2 = not_two m a top z v in
     subst (λ x. Will im (enter_at_cells x b) d m Q) (other_register a na) (will_enter_at_any im r top body a b d m Q tidy t na room z v h)

@@ -24,3 +24,4 @@ pub mod If
 pub mod From
 pub mod Calls
 pub mod Line
+pub mod Undone

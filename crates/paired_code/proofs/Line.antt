@@ -1,17 +1,13 @@
 -- Instructions in a row.
 use Rattle.std.proofs.Common.{◌≡◌, ◌^◌, ◌<◌, Bool, true, false, List, [], ◌∷◌}
 use Rattle.pisa_isa.specs.declared.cell.Cell.{Cell}
-use Rattle.paired_code.specs.declared.part.Symbol.{Symbol}
 use Rattle.paired_code.specs.declared.part.Symbol.TheVariants.{Own}
 use Rattle.paired_code.specs.Machine.{Memory, Image, is_single}
 use Rattle.paired_code.specs.Pieces.{Outcome, Done, Runs, then_do}
 use Rattle.paired_code.specs.Laws.{outcome_of}
+use Rattle.paired_code.specs.Rows.{line}
 use Rattle.paired_code.proofs.Small.{runs_empty, runs_single}
 use Rattle.paired_code.proofs.Contract.{seq_law}
-
-abbrev pub line : List Cell → List Symbol
-line [] = []
-line (c ∷ cs) = Own c ∷ line cs
 
 abbrev pub AllSingle : List Cell → Type 0
 AllSingle [] = Unit {0}

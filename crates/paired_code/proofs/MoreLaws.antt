@@ -1,5 +1,5 @@
 -- The laws of the loop, the check and the calls, as contracts state them.
-use Rattle.std.proofs.Common.{◌≡◌, ◌≢◌, ℕ, ◌+◌, ◌<◌, ◌≤◌, inl, inr, Bool, List, [], ◌∷◌, length, refl, ap, subst}
+use Rattle.std.proofs.Common.{◌≡◌, ◌≢◌, ℕ, ◌+◌, ◌^◌, ◌<◌, ◌≤◌, inl, inr, Bool, List, [], ◌∷◌, length, refl, ap, subst}
 use Rattle.paired_code.specs.declared.part.Symbol.{Symbol}
 use Rattle.paired_code.specs.declared.part.Symbol.TheVariants.{Enter}
 use Rattle.paired_code.specs.Machine.{Memory, Image, with_reg}
@@ -51,10 +51,10 @@ returns_of w d Q (Still k) h q = q
 pub enter_law : (r : ℕ) (b : Bool) → EnterLaw r b (Enter r b ∷ [])
 enter_law r b = record {
   enters = λ im top body d m o t tidy room z h f i l st.
-      let Q : Outcome → Type 0 = λ x. (w : ℕ) × (0 < w) × (x ≡ called (xor b d) (o w)) in
-      let a = (will_enter im r top body b d m Q t tidy.short room z (λ w pw. let c = h w pw in will_of im body (xor b d) (with_reg m 2 w) (o w) _ c.0 (returns_of w (xor b d) Q (o w) c.1 (w, pw, refl)))).will f i l st in
+      let Q : Outcome → Type 0 = λ x. (w : ℕ) × (0 < w) × (w < 2 ^ 32) × (x ≡ called (xor b d) (o w)) in
+      let a = (will_enter im r top body b d m Q t tidy.short room z (λ w pw is. let c = h w pw is in will_of im body (xor b d) (with_reg m 2 w) (o w) _ c.0 (returns_of w (xor b d) Q (o w) c.1 (w, pw, is, refl)))).will f i l st in
       let q = a.2 in
-      (q.0, q.1, subst (λ x. Ends im f d i (i + 1) (near_end d i (i + 1)) m (far_end d i (i + 1)) x) q.2 a.1);
+      (q.0, q.1, q.2, subst (λ x. Ends im f d i (i + 1) (near_end d i (i + 1)) m (far_end d i (i + 1)) x) q.3 a.1);
 }
 
 returns_any_of : (a s w : ℕ) (d : Bool) (Q : Outcome → Type 0) (x : Outcome) → came_back w x → ((e : ℕ) → 6 ≤ e → e ≤ 15 → Q (called_at a s d e x)) → Returns_any a s w d Q x
@@ -71,10 +71,10 @@ at_other a a' b e law = record {
 enter_at_one : (a : ℕ) (b : Bool) → a ≢ 2 → EnterAtLaw a b (enter_at_cells a b)
 enter_at_one a b na = record {
   enters = λ im r top body d m o t tidy room z v h f i l st.
-      let Q : Outcome → Type 0 = λ x. (w : ℕ) × (e : ℕ) × (0 < w) × (6 ≤ e) × (e ≤ 15) × (x ≡ called_at a (top + 1) (xor b d) e (o w)) in
-      let c = (will_enter_at_any im r top body a b d m Q tidy t na room z v (λ w pw. let c = h w pw in will_of im body (xor b d) (with_reg m 2 w) (o w) _ c.0 (returns_any_of a (top + 1) w (xor b d) Q (o w) c.1 (λ e lo hi. (w, e, pw, lo, hi, refl))))).will f i l st in
+      let Q : Outcome → Type 0 = λ x. (w : ℕ) × (e : ℕ) × (0 < w) × (w < 2 ^ 32) × (6 ≤ e) × (e ≤ 15) × (x ≡ called_at a (top + 1) (xor b d) e (o w)) in
+      let c = (will_enter_at_any im r top body a b d m Q tidy t na room z v (λ w pw is. let c = h w pw is in will_of im body (xor b d) (with_reg m 2 w) (o w) _ c.0 (returns_any_of a (top + 1) w (xor b d) Q (o w) c.1 (λ e lo hi. (w, e, pw, is, lo, hi, refl))))).will f i l st in
       let q = c.2 in
-      (q.0, q.1, q.2, q.3, q.4, subst (λ x. Ends im f d i (i + length (enter_at_cells a b)) (near_end d i (i + length (enter_at_cells a b))) m (far_end d i (i + length (enter_at_cells a b))) x) q.5 c.1);
+      (q.0, q.1, q.2, q.3, q.4, q.5, subst (λ x. Ends im f d i (i + length (enter_at_cells a b)) (near_end d i (i + length (enter_at_cells a b))) m (far_end d i (i + length (enter_at_cells a b))) x) q.6 c.1);
 }
 
 pub enter_at_law : (a : ℕ) (b : Bool) → EnterAtLaw a b (enter_at_cells (place_register a) b)

@@ -1,5 +1,5 @@
 -- Closed pieces: the conditions on a run, and the four things that it then does.
-use Rattle.std.specs.Prelude.{◌≡◌, ◌≢◌, ℕ, zero, suc, ◌+◌, ◌<◌, ◌≤◌, ◌⊎◌, Bool, true, false, not, List, [], ◌∷◌, ◌++◌, length, ℤ}
+use Rattle.std.specs.Prelude.{◌≡◌, ◌≢◌, ℕ, zero, suc, ◌+◌, ◌^◌, ◌<◌, ◌≤◌, ◌⊎◌, Bool, true, false, not, List, [], ◌∷◌, ◌++◌, length, ℤ}
 use Rattle.pisa_isa.specs.declared.cell.Cell.{Cell}
 use Rattle.pisa_isa.specs.Table.{IsCell}
 use Rattle.paired_code.specs.declared.part.Symbol.{Symbol}
@@ -108,9 +108,9 @@ fine_with rs n calls (Choose r p q) d m Q =
 fine_with rs n calls (Loop r p q) d m Q = (reg m r ≢ 0) × rounds_fine r (fine_with rs n calls p) (fine_with rs n calls q) n d m (λ o. Q (after 3 o))
 fine_with rs n calls (Check r code) d m Q = ((reg m r ≡ 0) × Q (Done m 4)) ⊎ ((reg m r ≢ 0) × ((k : ℕ) → k ≤ 4 → Q (Trapped code k)))
 fine_with rs n calls (Call r b) d m Q =
-    (r < rs.count) × (2 < length m.regs) × (reg m 2 ≡ 0) × ((w : ℕ) → 0 < w → calls (rs.body r) (xor b d) (with_reg m 2 w) (Back w (xor b d) Q))
+    (r < rs.count) × (2 < length m.regs) × (reg m 2 ≡ 0) × ((w : ℕ) → 0 < w → w < 2 ^ 32 → calls (rs.body r) (xor b d) (with_reg m 2 w) (Back w (xor b d) Q))
 fine_with rs n calls (Call_at a b) d m Q =
-    (r : ℕ) × (r < rs.count) × (2 < length m.regs) × (reg m 2 ≡ 0) × (reg m a ≡ rs.top r + 1) × ((w : ℕ) → 0 < w → calls (rs.body r) (xor b d) (with_reg m 2 w) (Back_at a (rs.top r + 1) w (xor b d) Q))
+    (r : ℕ) × (r < rs.count) × (2 < length m.regs) × (reg m 2 ≡ 0) × (reg m a ≡ rs.top r + 1) × ((w : ℕ) → 0 < w → w < 2 ^ 32 → calls (rs.body r) (xor b d) (with_reg m 2 w) (Back_at a (rs.top r + 1) w (xor b d) Q))
 
 abbrev pub fine : Routines → ℕ → Shape → Bool → Memory → (Outcome → Type 0) → Type 0
 fine rs zero s d m Q = Q (Still 0)

@@ -57,7 +57,7 @@ called d (Still k) = Still (lead d + k)
 
 -- a call of routine r, forward or back: $2 is 0, and the body finds in it a word that is not 0, which it leaves there
 pub record EnterLaw (r : ℕ) (b : Bool) (all : List Symbol) : Type 0 where
-  pub enters : (im : Image) (top : ℕ) (body : List Symbol) (d : Bool) (m : Memory) (o : ℕ → Outcome) → Routine im r top body → Tidy im → 2 < length m.regs → reg m 2 ≡ 0 → ((w : ℕ) → 0 < w → Runs im body (xor b d) (with_reg m 2 w) (o w) × came_back w (o w)) → (f : Frame) (i : ℕ) → i + length all < 2 ^ 30 → Stands im f i all → (w : ℕ) × (0 < w) × Ends im f d i (i + length all) (near_end d i (i + length all)) m (far_end d i (i + length all)) (called (xor b d) (o w))
+  pub enters : (im : Image) (top : ℕ) (body : List Symbol) (d : Bool) (m : Memory) (o : ℕ → Outcome) → Routine im r top body → Tidy im → 2 < length m.regs → reg m 2 ≡ 0 → ((w : ℕ) → 0 < w → w < 2 ^ 32 → Runs im body (xor b d) (with_reg m 2 w) (o w) × came_back w (o w)) → (f : Frame) (i : ℕ) → i + length all < 2 ^ 30 → Stands im f i all → (w : ℕ) × (0 < w) × (w < 2 ^ 32) × Ends im f d i (i + length all) (near_end d i (i + length all)) m (far_end d i (i + length all)) (called (xor b d) (o w))
 
 -- what a call by a register leaves in $2, where the body left v in the register in place of s: 0 where they are one
 abbrev pub left_in : Bool → ℕ → ℕ → ℕ
@@ -73,7 +73,7 @@ called_at a s d e (Still k) = Still (k + e)
 
 -- the same of a call by a register
 pub record EnterAtLaw (a : ℕ) (b : Bool) (all : List Symbol) : Type 0 where
-  pub enters : (im : Image) (r top : ℕ) (body : List Symbol) (d : Bool) (m : Memory) (o : ℕ → Outcome) → Routine im r top body → Tidy im → 2 < length m.regs → reg m 2 ≡ 0 → reg m a ≡ top + 1 → ((w : ℕ) → 0 < w → Runs im body (xor b d) (with_reg m 2 w) (o w) × came_back w (o w)) → (f : Frame) (i : ℕ) → i + length all < 2 ^ 30 → Stands im f i all → (w : ℕ) × (e : ℕ) × (0 < w) × (6 ≤ e) × (e ≤ 15) × Ends im f d i (i + length all) (near_end d i (i + length all)) m (far_end d i (i + length all)) (called_at a (top + 1) (xor b d) e (o w))
+  pub enters : (im : Image) (r top : ℕ) (body : List Symbol) (d : Bool) (m : Memory) (o : ℕ → Outcome) → Routine im r top body → Tidy im → 2 < length m.regs → reg m 2 ≡ 0 → reg m a ≡ top + 1 → ((w : ℕ) → 0 < w → w < 2 ^ 32 → Runs im body (xor b d) (with_reg m 2 w) (o w) × came_back w (o w)) → (f : Frame) (i : ℕ) → i + length all < 2 ^ 30 → Stands im f i all → (w : ℕ) × (e : ℕ) × (0 < w) × (w < 2 ^ 32) × (6 ≤ e) × (e ≤ 15) × Ends im f d i (i + length all) (near_end d i (i + length all)) m (far_end d i (i + length all)) (called_at a (top + 1) (xor b d) e (o w))
 
 -- how a loop goes from the beginning of head on
 pub data Rounds (im : Image) (r : ℕ) (head tail : List Symbol) (d : Bool) : Memory → Outcome → Type 0 where

@@ -9,3 +9,4 @@ pub mod Literal
 pub mod Closed
 pub mod Link
 pub mod Does
+pub mod Rows
