@@ -1,0 +1,15 @@
+pub mod Heaps
+pub mod Memory
+pub mod Opens
+pub mod Frames
+pub mod Tells
+pub mod Addresses
+pub mod Moving
+pub mod LocalCounts
+pub mod Removed
+pub mod Making
+pub mod Books
+pub mod Entering
+pub mod ExpressionWords
+pub mod TableWords
+pub mod Stated
