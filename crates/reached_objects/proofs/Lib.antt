@@ -1,0 +1,9 @@
+pub mod Rooted
+pub mod Changes
+pub mod Creations
+pub mod Callings
+pub mod Wiring
+pub mod Reaching
+pub mod Numbering
+pub mod Final
+pub mod SameReports
