@@ -99,7 +99,7 @@ zeros-taken block zero = refl
 zeros-taken block (suc n) = zeros-taken (2 + block) n
 
 -- the book of an empty heap keeps what every book does
-start-kept : (h base : ℕ) → 1 ≤ h → h ≤ 20 → base ≤ 2 ^ 21 → IsKept (record { h = h; base = base; free = start h; taken = [] })
+pub start-kept : (h base : ℕ) → 1 ≤ h → h ≤ 20 → base ≤ 2 ^ 21 → IsKept (record { h = h; base = base; free = start h; taken = [] })
 start-kept zero base from to base_to = absurd (omega arith)
 start-kept (suc n) base from to base_to =
     let size : doubled n 2 ≡ 2 ^ suc n = ap (λ x. doubled x 2) (let s : n ≡ suc n - 1 = omega arith in s) ∙ doubled-order (suc n) from in

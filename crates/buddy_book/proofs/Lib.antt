@@ -2,6 +2,7 @@ pub mod TakeGive
 pub mod Orders
 pub mod Table
 pub mod Kept
+pub mod Requests
 pub mod StoredLaws
 pub mod BookProofs
 pub mod Beginning

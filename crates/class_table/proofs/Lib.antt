@@ -4,3 +4,8 @@ pub mod FieldNames
 pub mod ChainEnds
 pub mod FreshFields
 pub mod Tables
+pub mod FirstPlaces
+pub mod PassedRules
+pub mod SameTypes
+pub mod ClassLines
+pub mod InheritedSlots

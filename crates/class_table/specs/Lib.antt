@@ -13,3 +13,4 @@ pub mod Overrides
 pub mod Laws
 pub mod Mains
 pub mod Classes
+pub mod Inheritance

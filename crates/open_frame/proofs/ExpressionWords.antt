@@ -21,7 +21,7 @@ use Rattle.sound_execution.specs.Kept.{MeansSame}
 use Rattle.sound_execution.proofs.Cells.{typed_of}
 use Rattle.sound_execution.proofs.Classes.{KnowsClasses}
 use Rattle.sound_execution.proofs.Objects.{clash}
-use Rattle.sound_execution.proofs.Rules.{handed_on, both_true, int_kind}
+use Rattle.class_table.proofs.PassedRules.{handed_on, both_true, int_kind}
 use Rattle.sound_execution.proofs.Values.{int_value, CellIs, variable_fits, item_fits}
 use Rattle.open_frame.proofs.Tells.{IsRef, reference_cell, words_tell}
 

@@ -13,7 +13,7 @@ use Rattle.sound_execution.specs.Sound.{head_of, is_live, cell_kinds, value_of, 
 use Rattle.open_frame.specs.Open.{Setup, base_of, memory, frame_words, IsGrounded}
 use Rattle.sound_execution.proofs.Lists.{all_length}
 use Rattle.sound_execution.proofs.Stores.{live_object}
-use Rattle.sound_execution.proofs.Placing.{block_of_other}
+use Rattle.buddy_book.proofs.Requests.{block_of_other}
 use Rattle.sound_execution.proofs.Regions.{region_inside, blocks_descend, entries_are, entry_of, room_of}
 use Rattle.open_frame.proofs.Heaps.{length_words, length_heap}
 use Rattle.open_frame.proofs.Memory.{before_heap, fixed, statics, gap, stack_part, fourth}

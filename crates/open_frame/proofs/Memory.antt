@@ -13,7 +13,8 @@ use Rattle.roopl_semantics.specs.Store.{Value, Nil, Name, Head, OfClass, Object,
 use Rattle.roopl_semantics.specs.Source.{main_of, main_fields}
 use Rattle.roopl_semantics.specs.Layout.{overlaid, word_of, object_words, first_address, with_book, heap_words, static_words, placed_layout, layout, no_placing}
 use Rattle.pisa_isa.specs.Loaded.{statics_at, fixed_cells}
-use Rattle.sound_execution.specs.Sound.{head_of, is_live, kind_of_var, cell_kinds, Typed}
+use Rattle.class_table.specs.Inheritance.{kind_of_var}
+use Rattle.sound_execution.specs.Sound.{head_of, is_live, cell_kinds, Typed}
 use Rattle.open_frame.specs.Open.{Setup, base_of, stack_at, address_of, memory, frame_size, IsGrounded}
 use Rattle.sound_execution.proofs.Lists.{all_length}
 use Rattle.sound_execution.proofs.Stores.{other_number, same_number, live_object, changed_other}

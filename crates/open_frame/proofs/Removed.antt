@@ -17,7 +17,7 @@ use Rattle.roopl_semantics.specs.Laws.{one_if_name, holders_among, holders}
 use Rattle.sound_execution.specs.Sound.{head_of, head_named, is_live, cell_kinds, AllFit, IsPlaced}
 use Rattle.sound_execution.proofs.Lists.{all_length}
 use Rattle.sound_execution.proofs.Stores.{same_number, differs, live_object, without_other, holders_inside}
-use Rattle.sound_execution.proofs.Placing.{block_of_other}
+use Rattle.buddy_book.proofs.Requests.{block_of_other}
 use Rattle.sound_execution.proofs.Overlays.{overlaid_is, laid, length_overlaid, index_inside, index_outside}
 use Rattle.sound_execution.proofs.Regions.{regions_apart, BlocksDescend, EntriesAre, has_entry}
 use Rattle.open_frame.proofs.Heaps.{length_words}

@@ -219,7 +219,7 @@ module _ (setting : Setting) (classes : KnowsClasses setting.program) (run : Run
       moved_back_reaches : Reaches more_held end → Ends (Reaches extra) (moved_back (receiver ++ args) values_back caller_after)
       moved_back_reaches r =
           ends_more (Back setting extra shape class caller_after values_back) (Reaches extra) (moved_back (receiver ++ args) values_back caller_after) (λ last b. ended_reaches last r b)
-          (moves_within setting extra shape class st.self (receiver_kinds ++ map (Rattle.sound_execution.specs.Sound.kind_of_var program) params) (receiver ++ args) values_back caller_after
+          (moves_within setting extra shape class st.self (receiver_kinds ++ map (Rattle.class_table.specs.Inheritance.kind_of_var program) params) (receiver ++ args) values_back caller_after
           (after_typed setting classes run keeps extra shape class back method self own params receiver args receiver_kinds st call end kept)
           (cells_after setting classes run keeps extra shape class back method self own params receiver args receiver_kinds st call end kept)
           (returned_fit setting classes run keeps extra shape class back method self own params receiver args receiver_kinds st call end kept)

@@ -18,7 +18,7 @@ use Rattle.sound_execution.specs.Plain.{HasWords, IsNamed, HasNames, AreNamed, S
 use Rattle.sound_execution.specs.Kept.{MeansSame}
 use Rattle.sound_execution.proofs.Classes.{KnowsClasses}
 use Rattle.sound_execution.proofs.Runs.{Ends, ends_after, ends_then}
-use Rattle.sound_execution.proofs.Rules.{both_passed, in_turn_passes, required_passes, hands_on, same_as_itself}
+use Rattle.class_table.proofs.PassedRules.{both_passed, in_turn_passes, required_passes, hands_on, same_as_itself}
 use Rattle.sound_execution.proofs.Blocks.{KeepsAll}
 use Rattle.sound_execution.proofs.Locals.{local_parts, nil_end, no_int_class, type_of_under}
 use Rattle.sound_execution.proofs.Undone.{check_joined, plain_joined}

@@ -16,7 +16,7 @@ use Rattle.sound_execution.specs.Sound.{cell_kind, Typed}
 use Rattle.sound_execution.specs.Kept.{MeansSame}
 use Rattle.sound_execution.proofs.Classes.{KnowsClasses}
 use Rattle.sound_execution.proofs.Names.{IsMeant, variable, field, meant}
-use Rattle.sound_execution.proofs.Rules.{handed_on, some_of}
+use Rattle.class_table.proofs.PassedRules.{handed_on, some_of}
 use Rattle.sound_execution.proofs.Makes.{is_array}
 use Rattle.sound_execution.proofs.Values.{variable_fits}
 use Rattle.sound_execution.proofs.AfterWrites.{same_cell_is, read_other}

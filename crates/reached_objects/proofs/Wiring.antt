@@ -27,7 +27,8 @@ use Rattle.roopl_semantics.specs.Value.{Cell, Slot, read, written, own_class, ce
 use Rattle.roopl_semantics.specs.Execution.{Setting, Runner, holds, loop_fault, fi_fault, delocal_fault, not_nil_fault, count_fault, not_empty_fault, heap_full_fault, class_differs_fault, length_differs_fault, length_fault, not_same_fault, too_deep_fault, same_cell, is_of_class, all_zero, allocated, freed, counted, one_less, new_array, delete_array, order_of_cells, opened, closed, with_local, turn_end, turns, cells_named, class_of, is_too_deep, invoked, statement}
 use Rattle.roopl_semantics.specs.Elements.{shared_array_fault, elements, index_elements, own_element, share_array, read_cost}
 use Rattle.roopl_semantics.specs.Laws.{one_if_name}
-use Rattle.sound_execution.specs.Sound.{fits, kind_of_var, cell_kinds, AllFit, cell_kind, Sound, Keeps, Typed}
+use Rattle.class_table.specs.Inheritance.{kind_of_var}
+use Rattle.sound_execution.specs.Sound.{fits, cell_kinds, AllFit, cell_kind, Sound, Keeps, Typed}
 use Rattle.sound_execution.specs.Plain.{IsPlain}
 use Rattle.sound_execution.specs.Kept.{MeansSame}
 use Rattle.sound_execution.proofs.Stores.{none_above}
@@ -35,7 +36,7 @@ use Rattle.sound_execution.proofs.Cells.{typed_of, read_fits, typed_written, kin
 use Rattle.sound_execution.proofs.Classes.{KnowsClasses}
 use Rattle.sound_execution.proofs.Names.{is_object, cell_named_kind, meant}
 use Rattle.sound_execution.proofs.Runs.{Ends, ends_after, ends_then, ends_check, ends_checked, ends_given}
-use Rattle.sound_execution.proofs.Rules.{handed_on, both_passed, held as was_held, both_true, int_kind, kinds_same, some_of}
+use Rattle.class_table.proofs.PassedRules.{handed_on, both_passed, held as was_held, both_true, int_kind, kinds_same, some_of}
 use Rattle.sound_execution.proofs.Values.{int_value, cell_found, place_fits}
 use Rattle.sound_execution.proofs.Writes.{nil_is}
 use Rattle.sound_execution.proofs.Blocks.{KeepsAll}
@@ -392,7 +393,7 @@ module _ (setting : Setting) (classes : KnowsClasses setting.program) (run : Run
         found = classes.found object.own r.static p.slot method.text object.above p.slot_is;
         receiver_has = (cell_is, tt);
         args_have = args_have setting classes run keeps extra locals shape class inside means false at params args st t p.known p.fit p.as_many;
-        apart = (apart_cells setting classes run keeps extra locals shape class inside means st name cell args cell_meant mean (apart_after (name ∷ []) args name p.new (or_left (Rattle.std.specs.Str.bytes_eq name.text name.text) false (Rattle.sound_execution.proofs.Positions.equal_name name.text name.text refl))), all_apart_cells setting classes run keeps extra locals shape class inside means st args mean (all_apart_after (name ∷ []) args p.new));
+        apart = (apart_cells setting classes run keeps extra locals shape class inside means st name cell args cell_meant mean (apart_after (name ∷ []) args name p.new (or_left (Rattle.std.specs.Str.bytes_eq name.text name.text) false (Rattle.class_table.proofs.FirstPlaces.equal_name name.text name.text refl))), all_apart_cells setting classes run keeps extra locals shape class inside means st args mean (all_apart_after (name ∷ []) args p.new));
         owned = (meant_own setting classes run keeps extra locals shape class inside means st name.text cell cell_meant, all_own_cells setting classes run keeps extra locals shape class inside means st args mean);
         object = object.head;
         self_held = let a = ap (one_if_name self) is_name in let b = one_name self in omega arith;

@@ -1,5 +1,5 @@
 -- Laws of the meaning.
-use Rattle.std.specs.Prelude.{◌≡◌, ◌≢◌, ◌≤◌, ℕ, ◌+◌, IsTrue, List, [], ◌∷◌, map, nat_eq, Option, Some, None, if◌then◌else◌}
+use Rattle.std.specs.Prelude.{◌≡◌, ◌≢◌, ◌≤◌, ℕ, ◌+◌, List, [], ◌∷◌, map, nat_eq, Option, Some, None, if◌then◌else◌}
 use Rattle.rpp_words.specs.declared.input.FieldWord.{FieldWord}
 use Rattle.rpp_words.specs.declared.input.Limits.{Limits}
 use Rattle.rpp_tree.specs.Tree.{Statements, Source}
@@ -15,9 +15,7 @@ use Rattle.roopl_semantics.specs.Agreement.{Agree, renamed}
 use Rattle.roopl_semantics.specs.Report.{report}
 use Rattle.pisa_isa.specs.Image.{Segments}
 use Rattle.pisa_isa.specs.Loaded.{loaded}
-use Rattle.roopl_semantics.specs.Layout.{HasStatics, layout, is_plain}
-use Rattle.roopl_semantics.specs.Walk.{counted}
-use Rattle.roopl_semantics.specs.Report.{live_count}
+use Rattle.roopl_semantics.specs.Layout.{HasStatics, layout}
 
 -- a program that ends with some fuel ends the same with more
 pub record MoreFuelKeeps : Type 0 where
@@ -107,11 +105,3 @@ StartsLoaded =
     (program : Source) (image : Segments) (limits : Limits) (input : List FieldWord)
     → HasStatics program image → IsLimits limits → IsValid program input
     → layout program limits image.statics (starting program input).store [] ≡ loaded image.statics limits input
-
--- in a plain final store the walk of the memory counts the live objects
-abbrev pub WalkCountsLive : Type 0
-WalkCountsLive =
-    (program : Source) (image : Segments) (limits : Limits) (input : List FieldWord) (fuel : ℕ) (end : State) (cost : ℕ)
-    → HasStatics program image → IsAccepted program → IsLimits limits → IsValid program input
-    → source program limits input fuel ≡ Done end cost → IsTrue (is_plain program end.store)
-    → counted program (layout program limits image.statics end.store end.log) ≡ live_count end.store

@@ -21,13 +21,13 @@ use Rattle.class_table.specs.Program.{check_method, setting_in, check_class, che
 use Rattle.class_table.proofs.Tables.{table_reads}
 use Rattle.class_table.proofs.Numbers.{length-each_below}
 use Rattle.class_table.proofs.ChainEnds.{parent, parents_in, nothing_on}
-use Rattle.sound_execution.specs.Sound.{is_or_inherits, kind_of_var}
+use Rattle.class_table.specs.Inheritance.{is_or_inherits, kind_of_var}
 use Rattle.sound_execution.specs.Plain.{IsPlain, ProgramIsPlain}
-use Rattle.sound_execution.proofs.Positions.{position_before}
-use Rattle.sound_execution.proofs.Rules.{both_passed}
+use Rattle.class_table.proofs.FirstPlaces.{position_before}
+use Rattle.class_table.proofs.PassedRules.{both_passed}
 use Rattle.sound_execution.proofs.Classes.{IsFound, KnowsClasses}
-use Rattle.sound_execution.proofs.Lines.{on, in_range, own_line, Inherits, inherits_parts, front_fields, is_through, on_line_above}
-use Rattle.sound_execution.proofs.Found.{overrides_fit, class_there, longer, there_at, run_is, AreEntries, entries_along, extends_own, slot_name}
+use Rattle.class_table.proofs.ClassLines.{on, in_range, own_line, inherits_parts, inherits_inside, front_fields, is_through, on_line_above}
+use Rattle.class_table.proofs.InheritedSlots.{overrides_fit, class_there, longer, there_at, run_is, AreEntries, entries_along, extends_own, slot_name}
 
 -- ---- every method is checked and plain
 
@@ -160,26 +160,13 @@ dispatched_method program accepted plain own class slot name own_in above h =
     nothing : (p : ℕ) (y : List ℕ × MethodId) → slice_get [] p ≡ Some y → ⊥
     nothing p y g = cc
 
-parent_inside : (ps : List (Option ℕ)) (k number : ℕ) → parent ps k ≡ Some number → k < length ps
-parent_inside [] k number h = absurd (cc)
-parent_inside (x ∷ ps) zero number h = omega arith
-parent_inside (x ∷ ps) (suc k) number h = let r = parent_inside ps k number h in omega arith
-
 -- a class that is or inherits from one of the program's is one itself
 pub own_range : (program : Source) (own class : ℕ) → is_or_inherits program own class ≡ true → class < length program.classes → own < length program.classes
 own_range program own class h inside = by (nat_eq own class) refl h
   where
     by : (b : Bool) → nat_eq own class ≡ b → (b || inherits program own class) ≡ true → own < length program.classes
     by true e q = subst (λ c. c < length program.classes) (sym (eqb-true own class e)) inside
-    by false e q = by_parent (inherits_parts program own class q) (parent (parents program) own) refl
-      where
-        by_parent : Inherits program own class → (r : Option ℕ) → parent (parents program) own ≡ r → own < length program.classes
-        by_parent i None e =
-            let nothing = nothing_on i.last.steps (parents program) i.last.shorter (ap (chain i.last.steps (parents program)) (sym e) ∙ i.last.up) in
-            let f = ap (on class) nothing in
-            let g = i.there in
-            absurd (cc)
-        by_parent i (Some number) e = let p = parent_inside (parents program) own number e in omega (arith, length-map program.classes (λ (class : ClassText). parent_named (class_names program) class.parent))
+    by false e q = inherits_inside program own class (inherits_parts program own class q)
 
 pub knows_classes : (program : Source) → IsAccepted program → ProgramIsPlain program → KnowsClasses program
 knows_classes program accepted plain = record {

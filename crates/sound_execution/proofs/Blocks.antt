@@ -23,7 +23,7 @@ use Rattle.sound_execution.proofs.Cells.{typed_of, read_fits}
 use Rattle.sound_execution.proofs.Classes.{KnowsClasses}
 use Rattle.sound_execution.specs.Kept.{MeansSame}
 use Rattle.sound_execution.proofs.Runs.{Ends, ends_then, ends_check, ends_checked, ends_given}
-use Rattle.sound_execution.proofs.Rules.{handed_on, both_passed, held, both_true, int_kind, kinds_same}
+use Rattle.class_table.proofs.PassedRules.{handed_on, both_passed, held, both_true, int_kind, kinds_same}
 use Rattle.sound_execution.proofs.Values.{int_value, int_number, updated_word, word_fits, value_found, cell_found, value_fits, place_fits}
 use Rattle.sound_execution.proofs.Writes.{stays_itself, stays_through, write_keeps, swap_keeps}
 

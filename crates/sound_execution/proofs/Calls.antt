@@ -26,15 +26,16 @@ use Rattle.roopl_semantics.specs.Store.{State, number_of, is_nil}
 use Rattle.roopl_semantics.specs.Value.{Cell, cell_named, own_class, read, nil_fault}
 use Rattle.roopl_semantics.specs.Execution.{Setting, Runner, same_cell, cells_named, class_of, is_too_deep, too_deep_fault, invoked, statement}
 use Rattle.roopl_semantics.specs.Laws.{one_if_name}
-use Rattle.sound_execution.specs.Sound.{fits, kind_of_var, name_of, Sound, Keeps, Typed}
+use Rattle.class_table.specs.Inheritance.{kind_of_var}
+use Rattle.sound_execution.specs.Sound.{fits, name_of, Sound, Keeps, Typed}
 use Rattle.sound_execution.proofs.Stores.{other_number}
 use Rattle.sound_execution.proofs.Cells.{typed_of, read_fits}
 use Rattle.sound_execution.proofs.Classes.{KnowsClasses}
 use Rattle.sound_execution.specs.Kept.{MeansSame}
 use Rattle.sound_execution.proofs.Names.{is_object, cell_named_kind, IsMeant, variable, field, meant}
-use Rattle.sound_execution.proofs.Positions.{same_name, equal_name}
+use Rattle.class_table.proofs.FirstPlaces.{same_name, equal_name}
 use Rattle.sound_execution.proofs.Runs.{Ends, ends_after, ends_check}
-use Rattle.sound_execution.proofs.Rules.{both_passed, held as was_held, handed_on, kinds_same, some_of}
+use Rattle.class_table.proofs.PassedRules.{both_passed, held as was_held, handed_on, kinds_same, some_of}
 use Rattle.sound_execution.proofs.Blocks.{KeepsAll}
 use Rattle.sound_execution.proofs.Objects.{clash}
 use Rattle.sound_execution.proofs.Removal.{reference, one_name}

@@ -9,13 +9,8 @@ use Rattle.class_table.specs.Table.{table_of, slot_in, dispatch_in}
 use Rattle.class_table.specs.Overrides.{parameters_of}
 use Rattle.class_table.specs.Statements.{passed}
 use Rattle.class_table.specs.Program.{check_method, setting_in}
-use Rattle.sound_execution.specs.Sound.{is_or_inherits, kind_of_var}
+use Rattle.class_table.specs.Inheritance.{is_or_inherits, kind_of_var, HasFront}
 use Rattle.sound_execution.specs.Plain.{IsPlain}
-
--- the fields of a class come first in those of a class below it
-pub record HasFront (front whole : List Var) : Type 0 where
-  pub more : List Var
-  pub is : whole ≡ front ++ more
 
 -- the method that a call finds: it is checked in a class that the object's class is or inherits from, and has the types of parameters that the call was checked with
 pub record IsFound (program : Source) (own : ℕ) (method : Procedure) (params : List Var) : Type 0 where

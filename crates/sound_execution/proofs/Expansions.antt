@@ -22,9 +22,9 @@ use Rattle.sound_execution.specs.Sound.{Sound, Keeps}
 use Rattle.sound_execution.specs.Plain.{HasWords, IsNamed, HasNames, AreNamed, IsPlain}
 use Rattle.sound_execution.proofs.Classes.{KnowsClasses}
 use Rattle.sound_execution.specs.Kept.{MeansSame}
-use Rattle.sound_execution.proofs.Positions.{bytes_turned, equal_name}
+use Rattle.class_table.proofs.FirstPlaces.{bytes_turned, equal_name}
 use Rattle.sound_execution.proofs.Runs.{Ends}
-use Rattle.sound_execution.proofs.Rules.{both_passed, in_turn_passes, held as was_held, required_passes, hands_on, same_as_itself}
+use Rattle.class_table.proofs.PassedRules.{both_passed, in_turn_passes, held as was_held, required_passes, hands_on, same_as_itself}
 use Rattle.sound_execution.proofs.Blocks.{KeepsAll}
 use Rattle.sound_execution.proofs.Locals.{kind_in_under, type_of_under, nil_end, no_int_class, with_local_keeps}
 use Rattle.sound_execution.proofs.Undone.{check_joined, plain_joined}

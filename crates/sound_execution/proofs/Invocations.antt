@@ -20,15 +20,16 @@ use Rattle.roopl_semantics.specs.Store.{Value, OfClass, Store, State, main_name}
 use Rattle.roopl_semantics.specs.Value.{Cell, read}
 use Rattle.roopl_semantics.specs.Execution.{Setting, Runner, bound, moved_out, in_direction, invoked}
 use Rattle.roopl_semantics.specs.Laws.{holders_among}
-use Rattle.sound_execution.specs.Sound.{head_named, is_live, named_fits, kind_of_var, AllFit, value_of, name_of, local_name, local_type, held, Sound, Stays, Keeps, Typed}
+use Rattle.class_table.specs.Inheritance.{kind_of_var}
+use Rattle.sound_execution.specs.Sound.{head_named, is_live, named_fits, AllFit, value_of, name_of, local_name, local_type, held, Sound, Stays, Keeps, Typed}
 use Rattle.sound_execution.specs.Plain.{IsPlain}
 use Rattle.sound_execution.proofs.Lists.{all_kept}
 use Rattle.sound_execution.proofs.Cells.{typed_of, sound_of, read_fits}
 use Rattle.sound_execution.proofs.Classes.{KnowsClasses, IsFound}
 use Rattle.sound_execution.specs.Kept.{MeansSame}
-use Rattle.sound_execution.proofs.Positions.{same_name, equal_name}
+use Rattle.class_table.proofs.FirstPlaces.{same_name, equal_name}
 use Rattle.sound_execution.proofs.Runs.{Ends, ends_then, ends_more}
-use Rattle.sound_execution.proofs.Rules.{both_passed, held as was_held}
+use Rattle.class_table.proofs.PassedRules.{both_passed, held as was_held}
 use Rattle.sound_execution.proofs.Writes.{stays_through}
 use Rattle.sound_execution.proofs.Blocks.{KeepsAll}
 use Rattle.sound_execution.proofs.Objects.{all_live, clash}

@@ -12,7 +12,7 @@ use Rattle.sound_execution.specs.Plain.{StatementIsPlain, IsPlain}
 use Rattle.sound_execution.proofs.Classes.{KnowsClasses}
 use Rattle.sound_execution.specs.Kept.{MeansSame}
 use Rattle.sound_execution.proofs.Runs.{Ends, ends_after, ends_then, ends_more}
-use Rattle.sound_execution.proofs.Rules.{both_passed}
+use Rattle.class_table.proofs.PassedRules.{both_passed}
 use Rattle.sound_execution.proofs.Blocks.{KeepsAll, keeps_itself, keeps_through, update_keeps, swap_keeps_all, if_keeps, from_keeps}
 use Rattle.sound_execution.proofs.Locals.{local_parts, with_local_keeps}
 use Rattle.sound_execution.proofs.Makes.{new_object_keeps, new_ints_keeps, new_objects_keeps, delete_object_keeps, delete_ints_keeps, delete_objects_keeps, copy_keeps_all, uncopy_keeps_all}

@@ -1,11 +1,9 @@
 pub mod Lists
 pub mod Stores
 pub mod Cells
-pub mod Positions
 pub mod Classes
 pub mod Names
 pub mod Runs
-pub mod Rules
 pub mod Values
 pub mod AfterWrites
 pub mod Writes
@@ -21,8 +19,6 @@ pub mod Invocations
 pub mod Calls
 pub mod Expansions
 pub mod Keeping
-pub mod Lines
-pub mod Found
 pub mod Accepted
 pub mod Starting
 pub mod Overlays

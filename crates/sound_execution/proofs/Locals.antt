@@ -27,9 +27,9 @@ use Rattle.sound_execution.specs.Plain.{HasWords, IsPlain}
 use Rattle.sound_execution.proofs.Cells.{typed_of}
 use Rattle.sound_execution.proofs.Classes.{KnowsClasses}
 use Rattle.sound_execution.specs.Kept.{MeansSame}
-use Rattle.sound_execution.proofs.Positions.{bytes_turned}
+use Rattle.class_table.proofs.FirstPlaces.{bytes_turned}
 use Rattle.sound_execution.proofs.Runs.{Ends, ends_then, ends_check, ends_given}
-use Rattle.sound_execution.proofs.Rules.{handed_on, both_passed, held as was_held, both_true, neither_true, int_kind}
+use Rattle.class_table.proofs.PassedRules.{handed_on, both_passed, held as was_held, both_true, neither_true, int_kind}
 use Rattle.sound_execution.proofs.Values.{int_value, value_found, value_fits}
 use Rattle.sound_execution.proofs.Blocks.{KeepsAll}
 

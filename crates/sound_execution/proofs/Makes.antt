@@ -29,12 +29,13 @@ use Rattle.roopl_semantics.specs.Value.{Cell, read, written, value as value_in, 
 use Rattle.roopl_semantics.specs.Elements.{shared_array_fault, index_elements, own_element, share_array, read_cost}
 use Rattle.roopl_semantics.specs.Execution.{Setting, Runner, not_nil_fault, count_fault, not_empty_fault, class_differs_fault, length_differs_fault, length_fault, not_same_fault, same_cell, is_of_class, all_zero, allocated, freed, counted, one_less, new_array, delete_array, statement}
 use Rattle.roopl_semantics.specs.Laws.{one_if_name, holders_among}
-use Rattle.sound_execution.specs.Sound.{is_or_inherits, head_named, head_fits, named_fits, fits, kind_of_var, cell_kinds, AllFit, cell_kind, Sound, Keeps}
+use Rattle.class_table.specs.Inheritance.{is_or_inherits, kind_of_var}
+use Rattle.sound_execution.specs.Sound.{head_named, head_fits, named_fits, fits, cell_kinds, AllFit, cell_kind, Sound, Keeps}
 use Rattle.sound_execution.proofs.Cells.{typed_of, read_fits}
 use Rattle.sound_execution.proofs.Classes.{KnowsClasses}
 use Rattle.sound_execution.specs.Kept.{MeansSame}
 use Rattle.sound_execution.proofs.Runs.{Ends, ends_after, ends_then, ends_check, ends_checked, ends_given}
-use Rattle.sound_execution.proofs.Rules.{handed_on, both_passed, held as was_held, both_true}
+use Rattle.class_table.proofs.PassedRules.{handed_on, both_passed, held as was_held, both_true}
 use Rattle.sound_execution.proofs.Values.{cell_found, place_fits}
 use Rattle.sound_execution.proofs.Writes.{nil_is}
 use Rattle.sound_execution.proofs.Locals.{same_value_is}

@@ -18,10 +18,11 @@ use Rattle.class_table.proofs.Tables.{table_reads}
 use Rattle.roopl_semantics.specs.Store.{Head, OfClass, OfInts, OfObjects, Store, State, object_at, class_of_head}
 use Rattle.roopl_semantics.specs.Value.{Cell, Slot, Part, slot_of, field_of, own_class, slot_or_field, cell_named}
 use Rattle.roopl_semantics.specs.Execution.{Setting}
-use Rattle.sound_execution.specs.Sound.{is_or_inherits, named_fits, head_of, head_named, kind_of_var, name_of, local_name, local_type, part_kind, cell_kind, Typed}
+use Rattle.class_table.specs.Inheritance.{is_or_inherits, kind_of_var}
+use Rattle.sound_execution.specs.Sound.{named_fits, head_of, head_named, name_of, local_name, local_type, part_kind, cell_kind, Typed}
 use Rattle.sound_execution.specs.Kept.{MeansSame}
 use Rattle.sound_execution.proofs.Stores.{live_object}
-use Rattle.sound_execution.proofs.Positions.{position_cons, position_before, bytes_turned}
+use Rattle.class_table.proofs.FirstPlaces.{position_cons, position_before, bytes_turned}
 use Rattle.sound_execution.proofs.Classes.{KnowsClasses}
 
 abbrev pub type_at : Locals → Option ℕ → Option Kind

@@ -7,105 +7,24 @@ use Rattle.buddy_book.specs.Book.{Book, order_from, upper_half, take_first, belo
 use Rattle.buddy_book.specs.Place.{Taken, Given, Log, Placing, block_of, without_name, with_block, after_request, place}
 use Rattle.buddy_book.specs.Shown.{Shown, TakenBlocks, order_in, with_taken, without_taken}
 use Rattle.buddy_book.proofs.Table.{order_in-with}
-use Rattle.buddy_book.proofs.Kept.{none_taken, take_kept, give_kept}
+use Rattle.buddy_book.proofs.Orders.{take_took, give_gave}
+use Rattle.buddy_book.proofs.Kept.{none_taken, take_kept, given_back, give_kept}
+use Rattle.buddy_book.proofs.Requests.{order_least, order_room, order_in-with_other, order_in-without_other, block_of_other}
 use Rattle.roopl_semantics.specs.Store.{Head, Object, Store, main_name, without}
 use Rattle.roopl_semantics.specs.Execution.{Setting, order_of_cells}
 use Rattle.roopl_semantics.specs.Laws.{block_in}
 use Rattle.sound_execution.specs.Sound.{head_of, head_named, is_live, cell_kinds, Descending, entry_name, IsPlaced}
 use Rattle.sound_execution.proofs.Stores.{other_number, differs, here, there, without_other, without_here}
 
--- ---- books keep their number of lists
-
-abbrev LengthIf : ℕ → Option (ℕ × Book) → Type 0
-LengthIf n None = Unit {0}
-LengthIf n (Some (block, after)) = length after ≡ n
-
-upper_length : (size n : ℕ) (r : Option (ℕ × Book)) → LengthIf n r → LengthIf (suc n) (upper_half size r)
-upper_length size n None h = tt
-upper_length size n (Some (block, higher)) h = ap suc h
-
-below_length : (free : List ℕ) (n : ℕ) (r : Option (ℕ × Book)) → LengthIf n r → LengthIf (suc n) (below_taken free r)
-below_length free n None h = tt
-below_length free n (Some (block, higher)) h = ap suc h
-
-take_first_length : (size : ℕ) (book : Book) → LengthIf (length book) (take_first size book)
-take_first_length size [] = tt
-take_first_length size ((block ∷ free) ∷ higher) = refl
-take_first_length size ([] ∷ higher) = upper_length size (length higher) (take_first (2 * size) higher) (take_first_length (2 * size) higher)
-
-take_past_length : (lower size : ℕ) (book : Book) → LengthIf (length book) (take_past lower size book)
-take_past_length zero size book = take_first_length size book
-take_past_length (suc lower) size [] = tt
-take_past_length (suc lower) size (free ∷ higher) = below_length free (length higher) (take_past lower size higher) (take_past_length lower size higher)
-
-take_length : (book after : Book) (k block : ℕ) → take book k ≡ Some (block, after) → length after ≡ length book
-take_length book after k block e = subst (LengthIf (length book)) e (take_past_length (k - 1) (2 ^ k) book)
-
-merged_length : (block : ℕ) (free : List ℕ) (higher : Book) (next : ℕ → Book) (half : Option ℕ) → ((low : ℕ) → length (next low) ≡ length higher) → length (merged block free higher next half) ≡ suc (length higher)
-merged_length block free higher next None h = refl
-merged_length block free higher next (Some low) h = ap suc (h low)
-
-give_first_length : (size block : ℕ) (book : Book) → length (give_first size block book) ≡ length book
-give_first_length size block [] = refl
-give_first_length size block (free ∷ higher) = merged_length block free higher (λ low. give_first (2 * size) low higher) (lower_half size block free) (λ low. give_first_length (2 * size) low higher)
-
-give_past_length : (lower size block : ℕ) (book : Book) → length (give_past lower size block book) ≡ length book
-give_past_length zero size block book = give_first_length size block book
-give_past_length (suc lower) size block [] = refl
-give_past_length (suc lower) size block (free ∷ higher) = ap suc (give_past_length lower size block higher)
-
 -- ---- orders begin at 1
-
-order_least : (tries k words : ℕ) → k ≤ order_from tries k words
-order_least zero k words = omega arith
-order_least (suc tries) k words = by (nat_le words (2 ^ k)) (order_least tries (suc k) words)
-  where
-    by : (b : Bool) → suc k ≤ order_from tries (suc k) words → k ≤ (if b then k else order_from tries (suc k) words)
-    by true h = omega arith
-    by false h = omega arith
 
 pub order_from_one : (cells : ℕ) → 1 ≤ order_of_cells cells
 order_from_one cells = order_least 31 1 (2 + cells)
 
--- an order that is no more than 31 has room
-order_room : (tries k words : ℕ) → order_from tries k words < k + tries → words ≤ 2 ^ order_from tries k words
-order_room zero k words h = absurd (omega arith)
-order_room (suc tries) k words h = by (nat_le words (2 ^ k)) refl h (λ q. order_room tries (suc k) words q)
-  where
-    by : (b : Bool) → nat_le words (2 ^ k) ≡ b → (if b then k else order_from tries (suc k) words) < k + suc tries → (order_from tries (suc k) words < suc k + tries → words ≤ 2 ^ order_from tries (suc k) words) → words ≤ 2 ^ (if b then k else order_from tries (suc k) words)
-    by true e q rest = Rattle.std.proofs.lemmas.Bool.leb-true words (2 ^ k) e
-    by false e q rest = rest (omega arith)
-
 pub has_room : (cells : ℕ) → order_of_cells cells ≤ 20 → 2 + cells ≤ 2 ^ order_of_cells cells
 has_room cells h = order_room 31 1 (2 + cells) (omega arith)
 
--- ---- the taken blocks
-
-pub order_in-with_other : (block order other : ℕ) (taken : TakenBlocks) → block ≢ other → order_in (with_taken block order taken) other ≡ order_in taken other
-order_in-with_other block order other [] h = ap (λ t. if t then Some order else None) (other_number block other h)
-order_in-with_other block order other ((b, o) ∷ taken) h = by (order_in-with_other block order other taken h) (nat_lt block b)
-  where
-    by : order_in (with_taken block order taken) other ≡ order_in taken other → (t : Bool) → order_in (if t then (block, order) ∷ (b, o) ∷ taken else (b, o) ∷ with_taken block order taken) other ≡ order_in ((b, o) ∷ taken) other
-    by rest true = ap (λ t. if t then Some order else order_in ((b, o) ∷ taken) other) (other_number block other h)
-    by rest false = ap (λ z. if nat_eq b other then Some o else z) rest
-
-pub order_in-without_other : (block other : ℕ) (taken : TakenBlocks) → block ≢ other → order_in (without_taken block taken) other ≡ order_in taken other
-order_in-without_other block other [] h = refl
-order_in-without_other block other ((b, o) ∷ taken) h = by (order_in-without_other block other taken h) (nat_eq b block) refl
-  where
-    by : order_in (without_taken block taken) other ≡ order_in taken other → (t : Bool) → nat_eq b block ≡ t → order_in (if t then taken else (b, o) ∷ without_taken block taken) other ≡ order_in ((b, o) ∷ taken) other
-    by rest true e = sym (ap (λ t. if t then Some o else order_in taken other) (other_number b other (λ q. h (sym (eqb-true b block e) ∙ q))))
-    by rest false e = ap (λ z. if nat_eq b other then Some o else z) rest
-
 -- ---- names
-
-pub block_of_other : (blocks : List (ℕ × ℕ)) (n m : ℕ) → n ≢ m → block_of (without_name blocks n) m ≡ block_of blocks m
-block_of_other [] n m h = refl
-block_of_other ((k, b) ∷ blocks) n m h = by (block_of_other blocks n m h) (nat_eq k n) refl
-  where
-    by : block_of (without_name blocks n) m ≡ block_of blocks m → (t : Bool) → nat_eq k n ≡ t → block_of (if t then blocks else (k, b) ∷ without_name blocks n) m ≡ block_of ((k, b) ∷ blocks) m
-    by rest true e = sym (ap (λ t. if t then b else block_of blocks m) (other_number k m (λ q. h (sym (eqb-true k n e) ∙ q))))
-    by rest false e = ap (λ z. if nat_eq k m then b else z) rest
 
 abbrev less : ℕ → List ℕ → List ℕ
 less n [] = []
@@ -190,7 +109,7 @@ module _ (setting : Setting) where
         placed = place_taken heap name k log p.at p.placed t;
         names = ap (λ z. name ∷ z) p.names;
         taken = with_taken t.block k p.taken;
-        kept = take_kept (shown p.at p.taken) k t.block t.book p.kept from t.is (take_length p.at.book t.book k t.block t.is ∙ p.kept.lists);
+        kept = take_kept (shown p.at p.taken) k t.block t.book p.kept from t.is ((take_took heap k t.block p.at.book t.book from p.kept.sound t.is).count ∙ p.kept.lists);
         orders = λ m head named no_main. order_of k t none m head named no_main (nat_eq name m) refl refl;
         apart = λ n m a b c d e. both k t none n m a b c d e (nat_eq name n) refl (nat_eq name m) refl;
       }
@@ -234,12 +153,13 @@ module _ (setting : Setting) where
       let block = block_of p.at.blocks name in
       let from = order_from_one (length (cell_kinds setting.program head)) in
       let own = p.orders name head named no_main in
+      let back = given_back (shown p.at p.taken) k block p.kept own in
       record {
         at = record { book = give p.at.book k block; blocks = without_name p.at.blocks name };
         placed = ap (after_request (Given name k)) p.placed;
         names = less_store store name ∙ ap (less name) p.names ∙ less_before name main_name (map entry_name p.at.blocks) no_main ∙ ap (λ z. z ++ main_name ∷ []) (sym (less_blocks p.at.blocks name));
         taken = without_taken block p.taken;
-        kept = give_kept (shown p.at p.taken) k block p.kept from own (give_past_length (k - 1) (2 ^ k) block p.at.book ∙ p.kept.lists);
+        kept = give_kept (shown p.at p.taken) k block p.kept from own ((give_gave heap k block p.at.book from back.order_to p.kept.lists p.kept.sound back.aligned back.fits).count ∙ p.kept.lists);
         orders = λ m hd q m_no.
             let other : name ≢ m = λ e. dead m e (ap is_some q) in
             let before : head_named store m ≡ Some hd = sym (kept_head m other) ∙ q in

@@ -12,7 +12,8 @@ use Rattle.roopl_semantics.specs.Store.{Head, Object, Store, main_name}
 use Rattle.roopl_semantics.specs.Execution.{Setting, order_of_cells}
 use Rattle.sound_execution.specs.Sound.{head_of, head_named, is_live, cell_kinds, Descending, entry_name, IsPlaced}
 use Rattle.sound_execution.proofs.Stores.{other_number, same_number, here, there}
-use Rattle.sound_execution.proofs.Placing.{order_in-without_other, has_room}
+use Rattle.buddy_book.proofs.Requests.{order_in-without_other}
+use Rattle.sound_execution.proofs.Placing.{has_room}
 
 -- ---- two taken blocks
 

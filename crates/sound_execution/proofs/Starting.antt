@@ -1,7 +1,6 @@
 -- The start of a run is sound, and so is its end: counts are references.
 use Rattle.std.proofs.Common.{◌≡◌, ◌≢◌, ◌∙◌, sym, ap, subst, refl, ℕ, zero, suc, ◌+◌, ◌-◌, ◌*◌, ◌^◌, ◌<◌, ◌≤◌, Bool, true, false, List, [], ◌∷◌, map, length, Some, None, arith, slice_get, slice_set}
 use Rattle.std.proofs.lemmas.Bool.{eqb-true}
-use Rattle.std.proofs.Math.Nat.{mod-eq_of_lt}
 use Rattle.std.specs.Prelude.{nat_eq, is_some, IsTrue, All, ◌||◌, if◌then◌else◌}
 use Rattle.std.specs.Option.{unwrap_or, option_map}
 use Rattle.rpp_words.specs.Words.{IsWord}
@@ -20,9 +19,7 @@ use Rattle.class_table.specs.Mains.{has_none, mains}
 use Rattle.class_table.specs.Statements.{passed, each_passes_after, check_statements}
 use Rattle.class_table.specs.Program.{IsAccepted, parameter_new, with_parameters, setting_in}
 use Rattle.buddy_book.specs.Book.{start}
-use Rattle.buddy_book.specs.Shown.{is_sound_list, is_sound, weight, IsKept}
-use Rattle.buddy_book.proofs.TakeGive.{both_hold, sound_list, doubled}
-use Rattle.buddy_book.proofs.Orders.{doubled-order}
+use Rattle.buddy_book.proofs.Beginning.{start-kept}
 use Rattle.roopl_semantics.specs.Run.{Done}
 use Rattle.roopl_semantics.specs.Store.{Value, Word, Head, Object, Store, Binding, State, main_name, zero_values, object_named}
 use Rattle.roopl_semantics.specs.Execution.{Setting, exec}
@@ -30,50 +27,18 @@ use Rattle.roopl_semantics.specs.Source.{main_of, main_fields, main_body, with_i
 use Rattle.roopl_semantics.specs.Laws.{holders_among, CountsReferences}
 use Rattle.roopl_semantics.proofs.MoreFuel.{within_done}
 use Rattle.roopl_semantics.proofs.MainPlace.{first_of_mains, table_rules, class_inside}
-use Rattle.sound_execution.specs.Sound.{head_of, count_of, kind_of_var, cell_kinds, AllFit, value_of, name_of, held, Sound, Keeps, main_alone}
+use Rattle.class_table.specs.Inheritance.{kind_of_var}
+use Rattle.sound_execution.specs.Sound.{head_of, count_of, cell_kinds, AllFit, value_of, name_of, held, Sound, Keeps, main_alone}
 use Rattle.sound_execution.specs.Plain.{IsPlain, ProgramIsPlain}
 use Rattle.sound_execution.proofs.Lists.{all_inside, all_set, holders_set}
 use Rattle.sound_execution.proofs.Stores.{same_number, other_number}
 use Rattle.sound_execution.specs.Kept.{MeansSame}
 use Rattle.sound_execution.proofs.Runs.{ends_done}
-use Rattle.sound_execution.proofs.Rules.{both_passed, both_true}
+use Rattle.class_table.proofs.PassedRules.{both_passed, both_true}
 use Rattle.sound_execution.proofs.Makes.{zeros_fit, zeros_hold_none}
 use Rattle.sound_execution.proofs.Values.{word_fits}
 use Rattle.sound_execution.proofs.Accepted.{method_checked, method_plain, knows_classes}
 use Rattle.sound_execution.proofs.Keeping.{exec_keeps}
-
--- ---- the book of an empty heap
-
-length-start : (h : ℕ) → length (start h) ≡ h
-length-start zero = refl
-length-start (suc zero) = refl
-length-start (suc (suc h)) = ap suc (length-start (suc h))
-
-start-sound : (n size top : ℕ) → 0 < size → doubled n size ≡ top → is_sound top size (start (suc n)) ≡ true
-start-sound zero size top pos e =
-    both_hold (is_sound_list top size (0 ∷ [])) _ (sound_list top size 0 [] (record { aligned = mod-eq_of_lt pos; fits = omega arith; unmerged = refl; rest = refl })) refl
-start-sound (suc n) size top pos e = start-sound n (2 * size) top (omega arith) e
-
-start-weight : (f : ℕ → ℕ → ℕ) (n size : ℕ) → weight f size (start (suc n)) ≡ f 0 (doubled n size)
-start-weight f zero size = omega arith
-start-weight f (suc n) size = let w = start-weight f n (2 * size) in none_more (weight f (2 * size) (start (suc n))) ∙ w
-  where
-    none_more : (a : ℕ) → 0 + a ≡ a
-    none_more a = omega arith
-
-pub start-kept : (h base : ℕ) → 1 ≤ h → h ≤ 20 → base ≤ 2 ^ 21 → IsKept (record { h = h; base = base; free = start h; taken = [] })
-start-kept zero base from to base_to = absurd (omega arith)
-start-kept (suc n) base from to base_to =
-    let size : doubled n 2 ≡ 2 ^ suc n = ap (λ x. doubled x 2) (let s : n ≡ suc n - 1 = omega arith in s) ∙ doubled-order (suc n) from in
-    record {
-      h_from = from;
-      h_to = to;
-      base_to = base_to;
-      lists = length-start (suc n);
-      sound = start-sound n 2 (2 ^ suc n) (omega arith) size;
-      aligned = refl;
-      balanced = λ f additive. let w = start-weight f n 2 in let p = ap (f 0) size in omega arith;
-    }
 
 -- ---- the main object
 

@@ -16,9 +16,10 @@ use Rattle.class_table.specs.Scope.{Setting, Locals, local_kind, kind_of, class_
 use Rattle.class_table.specs.Expressions.{is_int, type_of, occurs, first_token}
 use Rattle.class_table.specs.Statements.{passed, required, in_turn, test_rules, class_known, type_known, is_nil_word, local_rules, construct_rules, with_local, with_object, check_statement, check_statements}
 use Rattle.stmt_inverter.specs.Inverse.{inverse_statement_as, inverse_as, inverse}
+use Rattle.class_table.proofs.SameTypes.{types_same}
 use Rattle.sound_execution.specs.Plain.{StatementIsPlain, IsPlain}
-use Rattle.sound_execution.proofs.Rules.{both_passed, in_turn_passes, held, required_passes, handed_on, hands_on, both_true}
-use Rattle.sound_execution.proofs.Positions.{same_name, bytes_turned}
+use Rattle.class_table.proofs.PassedRules.{both_passed, in_turn_passes, held, required_passes, handed_on, hands_on, both_true}
+use Rattle.class_table.proofs.FirstPlaces.{same_name, bytes_turned}
 
 both_hold : (a b : Bool) → a ≡ true → b ≡ true → (a && b) ≡ true
 both_hold a b e f = ap (λ z. z && b) e ∙ f
@@ -56,37 +57,6 @@ test_turned setting locals first last h =
     let both = both_passed (required (is_int f.value) (type_differs (first_token first))) (required (is_int l.value) (type_differs (first_token last))) l.goes in
     hands_on (type_of setting locals last) _ l.value passed l.is (hands_on (type_of setting locals first) _ f.value passed f.is
     (in_turn_passes (required (is_int l.value) (type_differs (first_token last))) (required (is_int f.value) (type_differs (first_token first))) both.1 both.0))
-
-pub record TypesSame (table : Table) (a b : VarType) : Type 0 where
-  pub kinds : kind_of table b ≡ kind_of table a
-  pub turned : same_type b a ≡ true
-  pub known : type_known table a ≡ passed → type_known table b ≡ passed
-  pub ints : is_type_int b ≡ is_type_int a
-
-class_known_as : (table : Table) (a b : Ident) → a.text ≡ b.text → class_known table a ≡ passed → class_known table b ≡ passed
-class_known_as table a b e h = required_passes _ _ (ap (λ n. is_some (class_of table n)) (sym e) ∙ held _ _ h)
-
-pub types_same : (table : Table) (a b : VarType) → same_type a b ≡ true → TypesSame table a b
-types_same table type.Int type.Int h = record { kinds = refl; turned = refl; known = λ k. k; ints = refl }
-types_same table type.Int (type.Class y) h = absurd (cc)
-types_same table type.Int type.IntArray h = absurd (cc)
-types_same table type.Int (type.ClassArray y) h = absurd (cc)
-types_same table (type.Class x) type.Int h = absurd (cc)
-types_same table (type.Class x) (type.Class y) h =
-    let e = same_name x.text y.text h in
-    record { kinds = ap (λ n. class_kind (class_of table n)) (sym e); turned = bytes_turned y.text x.text ∙ h; known = class_known_as table x y e; ints = refl }
-types_same table (type.Class x) type.IntArray h = absurd (cc)
-types_same table (type.Class x) (type.ClassArray y) h = absurd (cc)
-types_same table type.IntArray type.Int h = absurd (cc)
-types_same table type.IntArray (type.Class y) h = absurd (cc)
-types_same table type.IntArray type.IntArray h = record { kinds = refl; turned = refl; known = λ k. k; ints = refl }
-types_same table type.IntArray (type.ClassArray y) h = absurd (cc)
-types_same table (type.ClassArray x) type.Int h = absurd (cc)
-types_same table (type.ClassArray x) (type.Class y) h = absurd (cc)
-types_same table (type.ClassArray x) type.IntArray h = absurd (cc)
-types_same table (type.ClassArray x) (type.ClassArray y) h =
-    let e = same_name x.text y.text h in
-    record { kinds = ap (λ n. array_kind (class_of table n)) (sym e); turned = bytes_turned y.text x.text ∙ h; known = class_known_as table x y e; ints = refl }
 
 record LocalTurned (setting : Setting) (locals : Locals) (at : ℕ) (var : Var) (value : Expression) (end_var : Var) (end_value : Expression) : Type 0 where
   pub rules : local_rules setting locals at end_var end_value var value ≡ passed

@@ -32,7 +32,7 @@ use Rattle.sound_execution.proofs.Cells.{read_fits}
 use Rattle.sound_execution.proofs.Classes.{KnowsClasses}
 use Rattle.sound_execution.specs.Kept.{MeansSame}
 use Rattle.sound_execution.proofs.Names.{cell_named_kind}
-use Rattle.sound_execution.proofs.Rules.{handed_on, some_of, both_true, int_kind}
+use Rattle.class_table.proofs.PassedRules.{handed_on, some_of, both_true, int_kind}
 
 -- ---- operators give words
 

@@ -1,13 +1,13 @@
 -- What every state of a run of an accepted program keeps: types of values, counts, names and blocks.
-use Rattle.std.specs.Prelude.{◌≡◌, ◌≢◌, ◌<◌, ◌^◌, ℕ, ◌+◌, Bool, true, false, not, ◌&&◌, ◌||◌, nat_eq, nat_lt, is_some, if◌then◌else◌, List, [], ◌∷◌, ◌++◌, map, length, replicate, slice_get, Option, Some, None}
+use Rattle.std.specs.Prelude.{◌≡◌, ◌≢◌, ◌<◌, ◌^◌, ℕ, ◌+◌, Bool, true, false, not, ◌&&◌, nat_eq, nat_lt, is_some, if◌then◌else◌, List, [], ◌∷◌, ◌++◌, map, length, replicate, slice_get, Option, Some, None}
 use Rattle.std.specs.Option.{option_map}
 use Rattle.rpp_tree.specs.declared.tree.Var.{Var}
 use Rattle.rpp_tree.specs.Tree.{Source}
 use Rattle.class_table.specs.declared.kind.Kind.{Kind}
 use Rattle.class_table.specs.declared.kind.Kind.TheVariants as kind
-use Rattle.class_table.specs.Classes.{class_fields, inherits}
-use Rattle.class_table.specs.Table.{table_of}
-use Rattle.class_table.specs.Scope.{Local, Locals, kind_of}
+use Rattle.class_table.specs.Classes.{class_fields}
+use Rattle.class_table.specs.Inheritance.{is_or_inherits, kind_of_var}
+use Rattle.class_table.specs.Scope.{Local, Locals}
 use Rattle.class_table.specs.Expressions.{is_int}
 use Rattle.buddy_book.specs.Place.{Log, Placing, count_taken, block_of, place}
 use Rattle.buddy_book.specs.Shown.{TakenBlocks, order_in, IsKept}
@@ -15,10 +15,6 @@ use Rattle.roopl_semantics.specs.Store.{Value, Word, Nil, Name, Head, OfClass, O
 use Rattle.roopl_semantics.specs.Value.{Cell, Slot, Part}
 use Rattle.roopl_semantics.specs.Execution.{Setting, order_of_cells}
 use Rattle.roopl_semantics.specs.Laws.{holders, holders_among, block_in}
-
--- whether a class is the other or inherits from it
-abbrev pub is_or_inherits : Source → ℕ → ℕ → Bool
-is_or_inherits program class from = nat_eq class from || inherits program class from
 
 -- whether an object or array with this head is of a type
 abbrev pub head_fits : Source → Kind → Head → Bool
@@ -62,9 +58,6 @@ fits program store Nil type = not (is_int type)
 fits program store (Name n) type = named_fits program type (head_named store n)
 
 -- the types of the cells behind a head
-abbrev pub kind_of_var : Source → Var → Kind
-kind_of_var program var = kind_of (table_of program) var.kind
-
 abbrev pub cell_kinds : Source → Head → List Kind
 cell_kinds program (OfClass class) = map (kind_of_var program) (class_fields program class)
 cell_kinds program (OfInts length) = replicate length kind.Int

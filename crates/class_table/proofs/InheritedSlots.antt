@@ -1,4 +1,4 @@
--- The method that a call finds in an accepted program.
+-- The slots of a class come first in those of a class below it, with parameters of the same types; each slot is a method of its name on the line.
 use Rattle.std.proofs.Common.{◌≡◌, ◌≢◌, ◌∙◌, sym, ap, subst, refl, ℕ, zero, suc, ◌+◌, ◌-◌, ◌<◌, ◌≤◌, Bool, true, false, not, List, [], ◌∷◌, ◌++◌, map, length, take, Option, Some, None, arith, slice_get, append-nil, append_assoc, length-append}
 use Rattle.std.proofs.lemmas.Bool.{eqb-true}
 use Rattle.std.proofs.lemmas.List.{length-map}
@@ -19,11 +19,11 @@ use Rattle.class_table.specs.Overrides.{same_type, same_types, parameters_of, no
 use Rattle.class_table.specs.Classes.{class_slots, method_slot, dispatch, procedure_at, method_named}
 use Rattle.class_table.specs.Table.{table_of, HasClassTable}
 use Rattle.class_table.proofs.ChainEnds.{parent, pushed_from, nothing_on, parents_in}
-use Rattle.sound_execution.specs.Sound.{is_or_inherits, kind_of_var}
-use Rattle.sound_execution.proofs.Positions.{position_cons, same_name}
-use Rattle.sound_execution.proofs.Rules.{both_true}
-use Rattle.sound_execution.proofs.Undone.{types_same}
-use Rattle.sound_execution.proofs.Lines.{on, on_last, above_of, in_range, OwnLine, own_line, line_is, front_of, Inherits, inherits_parts, front_fields, is_through, on_line_above}
+use Rattle.class_table.specs.Inheritance.{is_or_inherits, kind_of_var}
+use Rattle.class_table.proofs.FirstPlaces.{position_cons, same_name}
+use Rattle.class_table.proofs.PassedRules.{both_true}
+use Rattle.class_table.proofs.SameTypes.{types_same}
+use Rattle.class_table.proofs.ClassLines.{on, on_last, above_of, in_range, OwnLine, own_line, line_is, front_of, inherits_parts, inherits_inside, last_on}
 
 -- ---- rules that refuse nothing
 
@@ -263,7 +263,7 @@ module _ (program : Source) where
             subst (λ l. Extends (slots_of program q) (slots_along program [] l)) (sym is)
             (extends_through (slots_of program q) (slots_along program [] shorter) (slots_along program [] (shorter ++ class ∷ [])) (rest above) (step_extends class shorter inside (line_is_own ∙ is)))
         by shorter is rest false none =
-            let same : class ≡ q = Rattle.sound_execution.proofs.Lines.last_on q class shorter (ap (on q) (sym is) ∙ there) none in
+            let same : class ≡ q = last_on q class shorter (ap (on q) (sym is) ∙ there) none in
             subst (λ c. Extends (slots_of program c) (slots_along program [] line)) same
             (subst (λ l. Extends (slots_along program [] l) (slots_along program [] line)) (sym line_is_own) (extends_itself (slots_along program [] line)))
 
@@ -275,23 +275,7 @@ module _ (program : Source) where
         by false e q =
             let i = inherits_parts program own class q in
             let up = extends_up i.last.steps (parent (parents program) own) i.last.shorter class (parents_in program own) i.last.up i.there in
-            let own_in = range own i in
+            let own_in = inherits_inside program own class i in
             let step = step_extends own i.last.shorter own_in (i.line_is ∙ i.last.is) in
             subst (λ l. Extends (slots_of program class) (slots_along program [] l)) (sym (i.line_is ∙ i.last.is))
             (extends_through (slots_of program class) (slots_along program [] i.last.shorter) (slots_along program [] (i.last.shorter ++ own ∷ [])) up step)
-          where
-            parent_inside : (ps : List (Option ℕ)) (k number : ℕ) → parent ps k ≡ Some number → k < length ps
-            parent_inside [] k number h = absurd (cc)
-            parent_inside (x ∷ ps) zero number h = omega arith
-            parent_inside (x ∷ ps) (suc k) number h = let r = parent_inside ps k number h in omega arith
-
-            range : (own : ℕ) → Inherits program own class → own < length program.classes
-            range own i = by_parent (parent (parents program) own) refl
-              where
-                by_parent : (r : Option ℕ) → parent (parents program) own ≡ r → own < length program.classes
-                by_parent None e =
-                    let nothing = nothing_on i.last.steps (parents program) i.last.shorter (ap (chain i.last.steps (parents program)) (sym e) ∙ i.last.up) in
-                    let f = ap (on class) nothing in
-                    let g = i.there in
-                    absurd (cc)
-                by_parent (Some number) e = let p = parent_inside (parents program) own number e in omega (arith, length-map program.classes (λ (class : ClassText). Rattle.class_table.specs.Chains.parent_named (Rattle.class_table.specs.Rules.class_names program) class.parent))

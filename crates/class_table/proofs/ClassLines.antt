@@ -2,17 +2,18 @@
 use Rattle.std.proofs.Common.{◌≡◌, ◌≢◌, ◌∙◌, sym, ap, subst, refl, ℕ, zero, suc, ◌+◌, ◌-◌, ◌<◌, ◌≤◌, Bool, true, false, List, [], ◌∷◌, ◌++◌, map, length, take, Option, Some, None, arith, append-nil, append_assoc, length-append}
 use Rattle.std.proofs.lemmas.Bool.{eqb-true}
 use Rattle.std.proofs.lemmas.List.Folds.{list_any-append}
-use Rattle.std.proofs.lemmas.List.{take_at}
+use Rattle.std.proofs.lemmas.List.{take_at, length-map}
 use Rattle.std.specs.Prelude.{nat_eq, ◌||◌}
 use Rattle.std.specs.List.{list_any}
 use Rattle.std.specs.Option.{unwrap_or}
-use Rattle.rpp_tree.specs.Tree.{Source}
-use Rattle.class_table.specs.Chains.{parents, chain, chain_of, line_of}
+use Rattle.rpp_tree.specs.Tree.{ClassText, Source}
+use Rattle.class_table.specs.Chains.{parents, parent_named, chain, chain_of, line_of}
+use Rattle.class_table.specs.Rules.{class_names}
 use Rattle.class_table.specs.Members.{class_at, fields_along}
 use Rattle.class_table.specs.Classes.{class_fields, inherits}
 use Rattle.class_table.proofs.ChainEnds.{parent, IsPushed, pushed_from, nothing_on, parents_in, chain_ends}
-use Rattle.sound_execution.specs.Sound.{is_or_inherits}
-use Rattle.sound_execution.proofs.Classes.{HasFront}
+use Rattle.class_table.specs.Inheritance.{is_or_inherits}
+use Rattle.class_table.specs.Inheritance.{HasFront}
 
 -- whether a class stands on a line
 abbrev pub on : ℕ → List ℕ → Bool
@@ -121,6 +122,23 @@ inherits_parts program own class h = by (chain_of program own) refl
           last = l;
           there = sym (ap (λ z. on class (take (length z - 1) z)) (is ∙ l.is) ∙ ap (on class) (front_of own l.shorter)) ∙ h;
         }
+
+parent_inside : (ps : List (Option ℕ)) (k number : ℕ) → parent ps k ≡ Some number → k < length ps
+parent_inside [] k number h = absurd (cc)
+parent_inside (x ∷ ps) zero number h = omega arith
+parent_inside (x ∷ ps) (suc k) number h = let r = parent_inside ps k number h in omega arith
+
+-- a class that inherits is one of the program's
+pub inherits_inside : (program : Source) (own class : ℕ) → Inherits program own class → own < length program.classes
+inherits_inside program own class i = by (parent (parents program) own) refl
+  where
+    by : (r : Option ℕ) → parent (parents program) own ≡ r → own < length program.classes
+    by None e =
+        let nothing = nothing_on i.last.steps (parents program) i.last.shorter (ap (chain i.last.steps (parents program)) (sym e) ∙ i.last.up) in
+        let f = ap (on class) nothing in
+        let g = i.there in
+        absurd (cc)
+    by (Some number) e = let p = parent_inside (parents program) own number e in omega (arith, length-map program.classes (λ (class : ClassText). parent_named (class_names program) class.parent))
 
 pub inherits_by : (program : Source) (own class : ℕ) (shorter : List ℕ) → line_of program own ≡ shorter ++ own ∷ [] → on class shorter ≡ true → inherits program own class ≡ true
 inherits_by program own class shorter is h = ap (λ z. on class (take (length z - 1) z)) is ∙ ap (on class) (front_of own shorter) ∙ h
