@@ -1,5 +1,6 @@
 -- `main` ends with the values that its statements make of the first ones, and with no fault.
-use Rattle.std.proofs.Common.{◌≡◌, ℕ, zero, suc, ◌+◌, ◌*◌, ◌≤◌, List, refl, sym, ap, subst, ◌∙◌, arith}
+use Rattle.std.proofs.Common.{◌≡◌, Bool, true, false, nat_le, Some, ℕ, zero, suc, ◌+◌, ◌*◌, ◌≤◌, List, refl, sym, ap, subst, ◌∙◌, arith}
+use Rattle.std.specs.Prelude.{if◌then◌else◌}
 use Rattle.rpp_words.specs.declared.input.FieldWord.{FieldWord}
 use Rattle.rpp_words.specs.declared.input.Limits.{Limits}
 use Rattle.rpp_tree.specs.declared.tree.Var.{Var}
@@ -8,7 +9,8 @@ use Rattle.class_table.specs.Classes.{class_fields}
 use Rattle.roopl_semantics.specs.Run.{Run, Done, Fault, More, ◌>>=◌, after_cost}
 use Rattle.roopl_semantics.specs.Store.{Value, State}
 use Rattle.roopl_semantics.specs.Execution.{Setting, Runner, statement, exec}
-use Rattle.roopl_semantics.specs.Source.{main_of, main_fields, main_body, starting, source, GivesDone, GivesFault}
+use Rattle.roopl_semantics.specs.Source.{main_of, main_fields, main_body, starting, source, within, GivesDone, GivesFault}
+use Rattle.roopl_semantics.specs.StandsFor.{EndsAt, cost_of}
 use Rattle.roopl_semantics.proofs.MoreFuel.{within_done, within_fault, done_within}
 use Rattle.program_codegen.proofs.Values.{IsPlainStatement, IsPlainBlock, update, skip, number, variable, done as end_of_block, next, statement_count, statement_values, block_values, first_values, main_state}
 
@@ -66,6 +68,11 @@ statement_cost-le fields _ (update at op name _ named (number at' word small)) =
 statement_cost-le fields _ (update at op name _ named (variable source known other)) = omega arith
 statement_cost-le fields _ (skip at) = omega arith
 
+-- each statement counts 1 at least
+pub count-le-cost : (block : Statements) → statement_count block ≤ block_cost block
+count-le-cost End = omega arith
+count-le-cost (Then first rest) = omega (arith, count-le-cost rest)
+
 block_cost-le : (fields : List Var) (block : Statements) → IsPlainBlock fields block → block_cost block ≤ 2 * statement_count block
 block_cost-le fields _ end_of_block = omega arith
 block_cost-le fields _ (next first rest is more) = omega (arith, statement_cost-le fields first is, block_cost-le fields rest more)
@@ -82,6 +89,14 @@ last_state program input = main_state (main_of program).class (last_values progr
 done_is : (class : ℕ) (values : List Value) (cost : ℕ) (r : Run State) (end : State) (c : ℕ) → IsPlainRun class values cost r → r ≡ Done end c → end ≡ main_state class values
 done_is class values cost _ end c not_over e = absurd cc
 done_is class values cost _ end c over e = cc
+
+cost_is : (class : ℕ) (values : List Value) (cost : ℕ) (r : Run State) (fuel c : ℕ) → IsPlainRun class values cost r → cost_of (within fuel r) ≡ Some c → c ≡ cost
+cost_is class values cost _ fuel c not_over e = absurd cc
+cost_is class values cost _ fuel c over e = by_fuel (nat_le cost fuel) e
+  where
+    by_fuel : (b : Bool) → cost_of (if b then Done (main_state class values) cost else More) ≡ Some c → c ≡ cost
+    by_fuel true e = cc
+    by_fuel false e = absurd cc
 
 no_fault : (class : ℕ) (values : List Value) (cost : ℕ) (r : Run State) (code c : ℕ) → IsPlainRun class values cost r → r ≡ Fault code c → ⊥
 no_fault class values cost _ code c not_over e = cc
@@ -105,6 +120,10 @@ module _ (program : Source) (plain : IsPlainBlock (main_fields program) (main_bo
   only_done end gives =
       let ends = within_done gives.fuel (run_with gives.fuel) end gives.cost gives.done in
       done_is _ _ _ (run_with gives.fuel) end gives.cost (run_plain gives.fuel) ends.is
+
+  -- where the source ends, it is at this cost
+  pub only_cost : (cost : ℕ) → EndsAt program limits input cost → cost ≡ block_cost (main_body program)
+  only_cost cost ends = cost_is _ _ _ (run_with ends.fuel) ends.fuel cost (run_plain ends.fuel) ends.over
 
   pub never_faults : (code : ℕ) → GivesFault program limits input code → ⊥
   never_faults code gives =

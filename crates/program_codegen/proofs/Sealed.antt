@@ -123,7 +123,7 @@ statement_short fields _ (update at how name _ known (number at' word small)) = 
 statement_short fields _ (update at how name _ known (variable source known' other)) = lit≤ tt
 statement_short fields _ (skip at) = lit≤ tt
 
-block_short : (fields : List Var) (block : Statements) → IsPlainBlock fields block → length (block_code fields block) ≤ 9 * statement_count block
+pub block_short : (fields : List Var) (block : Statements) → IsPlainBlock fields block → length (block_code fields block) ≤ 9 * statement_count block
 block_short fields _ done = omega arith
 block_short fields _ (next first rest ok others) =
     let here = statement_short fields first ok in

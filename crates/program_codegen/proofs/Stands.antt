@@ -24,10 +24,11 @@ use Rattle.pisa_isa.specs.Loaded.{loaded_state}
 use Rattle.roopl_semantics.specs.Source.{main_fields, main_body, with_input, IsLimits, IsValid}
 use Rattle.roopl_semantics.specs.Store.{Value, Word, zero_value, zero_values}
 use Rattle.roopl_semantics.specs.Layout.{HasStatics}
-use Rattle.roopl_semantics.specs.StandsFor.{StandsFor, Follows, run_of}
+use Rattle.roopl_semantics.specs.StandsFor.{StandsFor, Follows, run_of, EndsAt, enough_steps}
 use Rattle.program_codegen.specs.Code.{one, block_code, program_code, places, program_image}
 use Rattle.program_codegen.proofs.Values.{IsPlainStatement, IsPlainBlock, update, skip, done, next, statement_values, block_values, first_values, words_of}
-use Rattle.program_codegen.proofs.Meaning.{gives_done, last_values, last_state}
+use Rattle.program_codegen.proofs.Meaning.{gives_done, last_values, last_state, only_cost, count-le-cost}
+use Rattle.program_codegen.proofs.Sealed.{block_short}
 use Rattle.program_codegen.proofs.Accepted.{IsCompiled}
 use Rattle.program_codegen.proofs.Memory.{with_cells, block_straight, length-block_values}
 use Rattle.program_codegen.proofs.LaidOut.{Shape, shape_of, front, back, length-front, loaded-program, layout-program, length-zero_values, IsPlain, word, nil, ArePlain, none, more}
@@ -183,6 +184,11 @@ module _ (program : Source) (built : IsCompiled program) (limits : Limits) (inpu
   met : (m : ℕ) → MeetsEndsOnce image.code m (loaded_state image limits input)
   met m = subst (MeetsEndsOnce image.code m) (sym loaded_state-here) (met_from m)
 
+  -- nine cells a statement are far fewer than a thousand steps for each unit of the cost
+  end_soon : (cost : ℕ) → EndsAt program limits input cost → end_place < enough_steps cost
+  end_soon cost ends =
+      omega (arith, only_cost program built.plain limits input cost ends, count-le-cost body, block_short fields body built.plain)
+
   follows_program : Follows program image limits input
   follows_program = record {
     finished = λ m h. elim (outcome m) [
@@ -200,7 +206,7 @@ module _ (program : Source) (built : IsCompiled program) (limits : Limits) (inpu
     not_returned = λ m h. elim (outcome m) [ over after is ↦ let e = ap (λ z. z.why) is in cc | cut before is ↦ cc ];
     in_code = λ m at h. elim (outcome m) [ over after is ↦ let e = ap (λ z. z.why) is in cc | cut before is ↦ cc ];
     in_memory = λ m address h. elim (outcome m) [ over after is ↦ let e = ap (λ z. z.why) is in cc | cut before is ↦ cc ];
-    ends = λ cost ends. record { enough = suc end_place; is_enough = record { ends = λ m h b. elim (outcome m) [ over after is ↦ let e = ap (λ z. z.why) is in cc | cut before is ↦ omega arith ] } };
+    in_time = λ cost ends. record { ends = λ m h b. elim (outcome m) [ over after is ↦ let e = ap (λ z. z.why) is in cc | cut before is ↦ let soon = end_soon cost ends in omega arith ] };
     meets_ends_once = met;
   }
 

@@ -1,5 +1,5 @@
 -- An image that stands for a program ends exactly as the source does.
-use Rattle.std.proofs.Common.{◌≡◌, ℕ, ◌+◌, refl, sym, ap, ◌∙◌, arith, List}
+use Rattle.std.proofs.Common.{◌≡◌, ℕ, ◌+◌, refl, sym, ap, ◌∙◌, arith, List, Some}
 use Rattle.rpp_words.specs.declared.input.FieldWord.{FieldWord}
 use Rattle.rpp_words.specs.declared.input.Limits.{Limits}
 use Rattle.rpp_tree.specs.Tree.{Source}
@@ -10,7 +10,7 @@ use Rattle.roopl_semantics.specs.Run.{Run, Done, Fault}
 use Rattle.roopl_semantics.specs.Store.{State}
 use Rattle.roopl_semantics.specs.Source.{GivesDone, GivesFault, source}
 use Rattle.roopl_semantics.specs.Layout.{layout}
-use Rattle.roopl_semantics.specs.StandsFor.{run_of, Follows, cost_of}
+use Rattle.roopl_semantics.specs.StandsFor.{run_of, Follows, cost_of, enough_steps}
 use Rattle.roopl_semantics.specs.Exact.{FinishesWith, TrapsWith, EndsExactly}
 use Rattle.roopl_semantics.proofs.MoreFuel.{source_done, source_fault}
 
@@ -73,13 +73,17 @@ module _ (program : Source) (limits : Limits) (input : List FieldWord) where
     traps_by code gives m (OffCode at) e unbound = absurd (follows.in_code m at e)
     traps_by code gives m Bound e unbound = absurd (unbound e)
 
+    -- the steps that the source's cost allows
+    enough : (cost fuel : ℕ) → cost_of (source program limits input fuel) ≡ Some cost → (run_of image limits input (enough_steps cost)).why ≡ Bound → ⊥
+    enough cost fuel over = (follows.in_time cost (record { fuel = fuel; over = over })).ends (enough_steps cost) (omega arith)
+
     pub exactly : EndsExactly program image limits input
     exactly =
         record {
-          finishes = λ end gives. let ends = follows.ends gives.cost (record { fuel = gives.fuel; over = ap cost_of gives.done }) in
-              finishes_by end gives ends.enough (run_of image limits input ends.enough).why refl (ends.is_enough.ends ends.enough (omega arith));
+          finishes = λ end gives.
+              finishes_by end gives (enough_steps gives.cost) (run_of image limits input (enough_steps gives.cost)).why refl (enough gives.cost gives.fuel (ap cost_of gives.done));
           finished = follows.finished;
-          traps = λ code gives. let ends = follows.ends gives.cost (record { fuel = gives.fuel; over = ap cost_of gives.faults }) in
-              traps_by code gives ends.enough (run_of image limits input ends.enough).why refl (ends.is_enough.ends ends.enough (omega arith));
+          traps = λ code gives.
+              traps_by code gives (enough_steps gives.cost) (run_of image limits input (enough_steps gives.cost)).why refl (enough gives.cost gives.fuel (ap cost_of gives.faults));
           trapped = follows.trapped;
         }

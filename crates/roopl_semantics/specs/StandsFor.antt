@@ -41,18 +41,9 @@ pub record EndsAt (program : Source) (limits : Limits) (input : List FieldWord) 
 pub record IsEnough (image : Segments) (limits : Limits) (input : List FieldWord) (enough : ℕ) : Type 0 where
   pub ends : (m : ℕ) → enough ≤ m → (run_of image limits input m).why ≢ Bound
 
--- some number of steps is enough
-pub record Ends (image : Segments) (limits : Limits) (input : List FieldWord) : Type 0 where
-  pub enough : ℕ
-  pub is_enough : IsEnough image limits input enough
-
 -- the steps that are enough where the source ends at this cost
 abbrev pub enough_steps : ℕ → ℕ
 enough_steps cost = 1000 * cost + 1000
-
--- the source's cost bounds the steps of the run
-pub record EndsInTime (program : Source) (image : Segments) (limits : Limits) (input : List FieldWord) : Type 0 where
-  pub in_time : (cost : ℕ) → EndsAt program limits input cost → IsEnough image limits input (enough_steps cost)
 
 -- the runs of an image on an input do what the source does on it
 pub record Follows (program : Source) (image : Segments) (limits : Limits) (input : List FieldWord) : Type 0 where
@@ -62,7 +53,7 @@ pub record Follows (program : Source) (image : Segments) (limits : Limits) (inpu
   pub not_returned : (m : ℕ) → (run_of image limits input m).why ≢ Returned
   pub in_code : (m : ℕ) (at : ℤ) → (run_of image limits input m).why ≢ OffCode at
   pub in_memory : (m address : ℕ) → (run_of image limits input m).why ≢ BadAddress address
-  pub ends : (cost : ℕ) → EndsAt program limits input cost → Ends image limits input
+  pub in_time : (cost : ℕ) → EndsAt program limits input cost → IsEnough image limits input (enough_steps cost)
   pub meets_ends_once : (m : ℕ) → MeetsEndsOnce image.code m (loaded_state image limits input)
 
 -- an image stands for a program: its static cells are the program's, and it follows it on every input, heap and depth
