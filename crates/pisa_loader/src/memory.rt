@@ -27,7 +27,7 @@ pub fn load(alloc: Global, image: Image, limits: Limits, input: &Input) -> Resul
     ensures image { IfOk result (λ machine. IsImage machine.image) }
 {
     let cells = memory(alloc, image.statics(), limits, &input.words)?;
-    Machine::start_with(image, [0; 32], cells)
+    Machine::start_with(alloc, image, [0; 32], cells)
 }
 
 /// The number of cells of a run's memory, for an image with so many static cells.

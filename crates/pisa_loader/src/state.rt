@@ -54,7 +54,7 @@ fn machine_of(
 {
     let count = memory_size(image.statics().len() as u32, limits);
     let (regs, cells) = state_at(alloc, count, bytes)?;
-    Ok(Machine::start_with(image, regs, cells)?)
+    Ok(Machine::start_with(alloc, image, regs, cells)?)
 }
 
 /// The registers and the data cells of a state with so many cells.

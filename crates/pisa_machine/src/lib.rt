@@ -3,8 +3,9 @@
 //! Every step, forward or back, is counted by the caller's counter.
 #![tactic(auto)]
 
-mod cells;
 mod machine;
+mod page;
+mod pages;
 mod run;
 mod steps;
 #[cfg(test)]

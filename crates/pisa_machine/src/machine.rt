@@ -6,11 +6,12 @@ ghost use Rattle.pisa_isa.specs.Image.{IsImage, start_of};
 ghost use Rattle.pisa_isa.specs.Runs.{run, counted};
 ghost use Rattle.pisa_machine.specs.Position.{Position, IsMachine, first_position};
 
-use crate::cells::VecCells;
+use crate::page::Pages;
 use crate::run::{RunEnd, run_from, steps_of};
 use crate::steps::Steps;
-use pisa_isa::{Core, Image, unstep};
+use pisa_isa::{Cells, Core, Image, unstep};
 use rpp_words::NoMemory;
+use std::alloc::Global;
 use std::marker::Model;
 use std::sync::ledger::Ledger;
 
@@ -20,19 +21,20 @@ use std::sync::ledger::Ledger;
 pub struct Machine {
     image: Image,
     core: Core,
-    cells: VecCells,
+    cells: Pages,
     made: u64,
 }
 
 impl Model for Machine {
     ghost use Rattle.pisa_isa.specs.Machine.{state_of};
+    ghost use Rattle.pisa_machine.specs.Paged.{words_of};
     ghost use Rattle.pisa_machine.specs.Position.{Position, IsMachine};
 
     ghost Value = { Position };
 
-    ghost view = { λ m. record { image = m.image; state = state_of m.core m.cells.words.items; made = m.made } };
+    ghost view = { λ m. record { image = m.image; state = state_of m.core (words_of m.cells.pages.items m.cells.count); made = m.made } };
 
-    ghost invariant = { λ m. IsMachine (record { image = m.image; state = state_of m.core m.cells.words.items; made = m.made }) };
+    ghost invariant = { λ m. IsMachine (record { image = m.image; state = state_of m.core (words_of m.cells.pages.items m.cells.count); made = m.made }) };
 }
 
 /// A slice holds words.
@@ -62,8 +64,14 @@ fn start_core(image: &Image, regs: [u32; 32]) -> Core
 }
 
 impl Machine {
-    /// A machine at the start of a run of an image, with these registers and data cells.
-    pub fn start_with(image: Image, regs: [u32; 32], cells: Vec<u32>) -> Result<Machine, NoMemory>
+    /// A machine at the start of a run of an image, with these registers and data cells. The cells stand in pages of 4,096
+    /// words, which are reserved whole here, so that no call that runs the machine takes memory.
+    pub fn start_with(
+        alloc: Global,
+        image: Image,
+        regs: [u32; 32],
+        cells: Vec<u32>,
+    ) -> Result<Machine, NoMemory>
         requires { vec_len cells < 2 ^ 32 }
         ensures { IfOk result (λ machine. machine ≡ first_position image regs cells.items) }
     {
@@ -72,7 +80,7 @@ impl Machine {
         Ok(Machine {
             core: start_core(&image, regs),
             image,
-            cells: VecCells { words: cells },
+            cells: Pages::of(alloc, &cells)?,
             made: 0,
         })
     }
@@ -137,14 +145,14 @@ impl Machine {
     pub fn cell(&self, at: u32) -> Option<u32>
         ensures { result ≡ slice_get self.now.state.cells at }
     {
-        self.cells.words.get(at as usize).copied()
+        self.cells.get(at)
     }
 
     /// How many data cells there are.
     pub fn cells(&self) -> u32
         ensures { result ≡ length self.now.state.cells }
     {
-        self.cells.words.len() as u32
+        self.cells.len()
     }
 
     /// The image.
@@ -166,7 +174,6 @@ impl Machine {
             made: _,
         } = self;
         are_registers(&core.regs);
-        are_words(&cells.words);
         Machine {
             core: start_core(&image, core.regs),
             image,

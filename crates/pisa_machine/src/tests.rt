@@ -69,7 +69,7 @@ fn walk<L: Ledger, R: Abort>(rt: &R, alloc: Global, blank: Blank) -> Result<(), 
 {
     let mut steps = Steps::<L>::new(blank);
     let cells = vec![in alloc; 7, 8]?;
-    let mut machine = Machine::start_with(subroutine(rt, alloc)?, [0; 32], cells)?;
+    let mut machine = Machine::start_with(alloc, subroutine(rt, alloc)?, [0; 32], cells)?;
     let ten = machine.run(10, &mut steps);
     assert_eq!(rt;
         ten,
@@ -122,4 +122,19 @@ fn walk<L: Ledger, R: Abort>(rt: &R, alloc: Global, blank: Blank) -> Result<(), 
 #[test]
 fn runs_and_steps_back(rt: HostRuntime) -> Result<(), Fail> {
     walk::<Brand, HostRuntime>(&rt, rt.alloc(), Blank::new(1))
+}
+
+/// A whole page has a last word, and nothing behind it.
+#[test]
+fn a_page_ends_where_the_memory_ends(rt: HostRuntime) -> Result<(), Fail> {
+    let alloc = rt.alloc();
+    let mut cells = Vec::new(alloc);
+    cells.resize(4095, 0)?;
+    cells.push(9)?;
+    let machine = Machine::start_with(alloc, subroutine(&rt, alloc)?, [0; 32], cells)?;
+    assert_eq!(rt; machine.cells(), 4096);
+    assert_eq!(rt; machine.cell(0), Some(0));
+    assert_eq!(rt; machine.cell(4095), Some(9));
+    assert_eq!(rt; machine.cell(4096), None);
+    Ok(())
 }
