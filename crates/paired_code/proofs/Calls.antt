@@ -10,6 +10,7 @@ use Rattle.paired_code.specs.Link.{Whole, Linked}
 use Rattle.paired_code.specs.Does.{Rates, Told, plus, Meets, fine, faults, more}
 use Rattle.paired_code.proofs.Laws.{will_more}
 use Rattle.paired_code.proofs.Call.{Returns, will_enter}
+use Rattle.paired_code.proofs.Whole.{whole_will}
 use Rattle.paired_code.proofs.EnterAt.{Returns_at, will_enter_at}
 use Rattle.paired_code.proofs.Does.{product}
 
@@ -39,6 +40,4 @@ meets_enter_at im r top body g kind d m R R' b n x t tidy rt ng room z v hb hx f
 
 -- the image does what main does
 pub image_does : {A : Type 0} (main : List Symbol) (bodies : List (List Symbol)) (image : Image) (m : Memory) (R : A → Memory → Type 0) (b : Rates) (n x : ℕ) (t : Told A) → Linked main bodies image → 1 + length main < 2 ^ 30 → Will image main false m (Meets R b n x t) → (o : Outcome) × Whole image.code (1 + length main) m o × Meets R b n x t o
-image_does main bodies image m R b n x t l h w =
-    let a = w.will code_line 1 h l.main_there in
-    (a.0, l.runs m a.0 a.1, a.2)
+image_does main bodies image m R b n x t l h w = whole_will main bodies image m (Meets R b n x t) l h w

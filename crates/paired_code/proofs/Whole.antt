@@ -1,6 +1,6 @@
 -- The image that is linked: its cells, and its run from START on.
-use Rattle.std.proofs.Common.{◌≡◌, ℕ, zero, suc, ◌+◌, ◌^◌, ◌<◌, List, [], ◌∷◌, ◌++◌, length, Option, Some, None, refl, sym, ap, ◌∙◌, subst, arith, Bool, true, false}
-use Rattle.std.specs.Prelude.{ℤ, pos, negsuc, slice_index, cond, count_by, IsTrue, IsFalse}
+use Rattle.std.proofs.Common.{◌≡◌, ℕ, zero, suc, ◌+◌, ◌^◌, ◌<◌, ◌≤◌, List, [], ◌∷◌, ◌++◌, length, Option, Some, None, refl, sym, ap, ◌∙◌, subst, arith, Bool, true, false}
+use Rattle.std.specs.Prelude.{ℤ, pos, negsuc, slice_index, cond, count_by, IsTrue, IsFalse, not, ◌&&◌, if◌then◌else◌}
 use Rattle.std.specs.List.{All}
 use Rattle.std.proofs.lemmas.List.Elements.{All-cons, All-nil}
 use Rattle.std.proofs.lemmas.List.Sums.{sum_by-append}
@@ -8,9 +8,9 @@ use Rattle.pisa_isa.specs.declared.cell.Op.{Op}
 use Rattle.pisa_isa.specs.declared.cell.Op.TheVariants.{Start, Finish}
 use Rattle.pisa_isa.specs.declared.cell.Cell.{Cell}
 use Rattle.pisa_isa.specs.declared.machine.Stop.{Stop}
-use Rattle.pisa_isa.specs.declared.machine.Stop.TheVariants.{Finished, Trap, BadAddress}
+use Rattle.pisa_isa.specs.declared.machine.Stop.TheVariants.{Finished, Returned, Trap, BadAddress, OffCode, Bound}
 use Rattle.pisa_isa.specs.Table.{IsCell}
-use Rattle.pisa_isa.specs.Machine.{State, fetch, stop, stop_at, next, moved, effect_at}
+use Rattle.pisa_isa.specs.Machine.{State, fetch, stop, stop_in, stop_at, is_zero, next, moved, effect_at}
 use Rattle.pisa_isa.specs.Image.{is_start, is_finish, is_start_op, is_finish_op}
 use Rattle.pisa_isa.specs.Runs.{run, steps, started, unless_stop, visited, before_step, later, counted}
 use Rattle.pisa_isa.specs.Ends.{is_at_start, is_at_finish, cell_is, MeetsEndsOnce}
@@ -23,7 +23,7 @@ use Rattle.paired_code.specs.Machine.{Memory, state, Image, is_end_op, is_end}
 use Rattle.paired_code.specs.Layout.{base, between, offset_to, aim, six, code_line, Frame, at, Routine, Tidy}
 use Rattle.paired_code.specs.Fit.{IsInner, IsFit, AllFit, EachFit}
 use Rattle.paired_code.specs.Pieces.{Path, stay, step, Outcome, Done, Trapped, Bad, Still, Ends, finishes, traps, bad, still, Will}
-use Rattle.paired_code.specs.Link.{places, linked, routine_code, routines_code, first_top, link_code, link_image, link_size, AllPlaced, StopsAfter, Whole, Linked}
+use Rattle.paired_code.specs.Link.{places, linked, routine_code, routines_code, first_top, link_code, link_image, link_size, AllPlaced, StopsAfter, GoesSo, IsToldBy, Whole, Linked}
 use Rattle.paired_code.specs.Closed.{Shape, IsMade, AllMade, cells_of_shape, shapes_cells, shape_at, top_at, routines_of, Stand}
 use Rattle.paired_code.proofs.Fits.{inner_bra, word_between}
 use Rattle.paired_code.proofs.Literal.{in_words}
@@ -182,13 +182,49 @@ no_finish_at (Some c) h = no_finish c h
 passes_inner : (code : List Cell) (s : State) → cell_is is_end (fetch code s.pc) ≡ false → Passes code s
 passes_inner code s h = record { no_start = no_start_at (fetch code s.pc) h; finishes = λ t. let f = no_finish_at (fetch code s.pc) h in cc }
 
-clean_visits : {code : List Cell} {k : ℕ} {s s' : State} (n : ℕ) → Clean code k s s' → All (Passes code) (visited code n s') → All (Passes code) (visited code (k + n) s)
-clean_visits {code = code} {s' = s'} n none h = let z : n ≡ 0 + n = omega arith in subst (λ j. All (Passes code) (visited code j s')) z h
-clean_visits {code = code} n (more {k = k} {s = s} g v c) h =
-    let z : suc (k + n) ≡ suc k + n = omega arith in
-    subst (λ j. All (Passes code) (visited code j s)) z
-    (subst (λ o. All (Passes code) (before_step o s (visited code (k + n) (next code s)))) (sym g)
-    (All-cons (Passes code) s (visited code (k + n) (next code s)) (passes_inner code s v) (clean_visits n c h)))
+-- for any number of steps, where it is so from the last state on
+passes_on : {code : List Cell} {k : ℕ} {s s' : State} → Clean code k s s' → ((j : ℕ) → All (Passes code) (visited code j s')) → (m : ℕ) → All (Passes code) (visited code m s)
+passes_on none h m = h m
+passes_on {code = code} (more g v c) h zero = All-nil (Passes code)
+passes_on {code = code} (more {k = k} {s = s} g v c) h (suc m) =
+    subst (λ o. All (Passes code) (before_step o s (visited code m (next code s)))) (sym g)
+    (All-cons (Passes code) s (visited code m (next code s)) (passes_inner code s v) (passes_on c h m))
+
+-- and for no more steps than lead there, whatever comes behind
+passes_within : {code : List Cell} {k : ℕ} {s s' : State} → Clean code k s s' → (m : ℕ) → m ≤ k → All (Passes code) (visited code m s)
+passes_within {code = code} none zero h = All-nil (Passes code)
+passes_within none (suc m) h = absurd (omega arith)
+passes_within {code = code} (more g v c) zero h = All-nil (Passes code)
+passes_within {code = code} (more {k = k} {s = s} g v c) (suc m) h =
+    subst (λ o. All (Passes code) (before_step o s (visited code m (next code s)))) (sym g)
+    (All-cons (Passes code) s (visited code m (next code s)) (passes_inner code s v) (passes_within c m (omega arith)))
+
+-- a state at which the run stops
+passes_stop : (code : List Cell) (s : State) (why : Stop) → stop code s ≡ Some why → Passes code s → (j : ℕ) → All (Passes code) (visited code j s)
+passes_stop code s why e p zero = All-nil (Passes code)
+passes_stop code s why e p (suc j) = subst (λ o. All (Passes code) (before_step o s (visited code j (next code s)))) (sym e) (by why)
+  where
+    by : (why : Stop) → All (Passes code) (before_step (Some why) s (visited code j (next code s)))
+    by (OffCode z) = All-nil (Passes code)
+    by Bound = All-nil (Passes code)
+    by Finished = All-cons (Passes code) s [] p (All-nil (Passes code))
+    by Returned = All-cons (Passes code) s [] p (All-nil (Passes code))
+    by (Trap w) = All-cons (Passes code) s [] p (All-nil (Passes code))
+    by (BadAddress a) = All-cons (Passes code) s [] p (All-nil (Passes code))
+
+-- a trap, or a bad address, stands at no end
+chosen_none : (b : Bool) (x why : Stop) → (x ≡ why → ⊥) → (if b then Some x else None) ≡ Some why → ⊥
+chosen_none true x why n e = n (let k : x ≡ why = cc in k)
+chosen_none false x why n e = absurd (cc)
+
+trap_op : (op : Op) (why : Stop) (c : Cell) (s : State) → (Finished ≡ why → ⊥) → (Returned ≡ why → ⊥) → stop_in op c s ≡ Some why → is_end_op op ≡ false
+trap_op Finish why c s nf nr e = absurd (chosen_none (not s.back && is_zero s.br) Finished why nf e)
+trap_op Start why c s nf nr e = absurd (chosen_none (s.back && is_zero s.br) Returned why nr e)
+trap_op _ why c s nf nr e = refl
+
+trap_at : (o : Option Cell) (why : Stop) (s : State) → (Finished ≡ why → ⊥) → (Returned ≡ why → ⊥) → stop_at o s ≡ Some why → cell_is is_end o ≡ false
+trap_at None why s nf nr e = refl
+trap_at (Some c) why s nf nr e = trap_op c.op why c s nf nr e
 
 module _ (main : List Symbol) (bodies : List (List Symbol)) (small : link_size main bodies < 2 ^ 30) where
   abbrev im : Image
@@ -218,31 +254,40 @@ module _ (main : List Symbol) (bodies : List (List Symbol)) (small : link_size m
   at_last : (m' : Memory) → stop im.code (state (pos (1 + length main)) 0 false m') ≡ Some Finished
   at_last m' = ap (λ o. stop_at o (state (pos (1 + length main)) 0 false m')) (finish_there main bodies small)
 
-  passes_last : (m' : Memory) (j : ℕ) → All (Passes im.code) (visited im.code (suc j) (state (pos (1 + length main)) 0 false m'))
-  passes_last m' j =
-      let s = state (pos (1 + length main)) 0 false m' in
-      subst (λ o. All (Passes im.code) (before_step o s (visited im.code j (next im.code s)))) (sym (at_last m'))
-      (All-cons (Passes im.code) s [] (record { no_start = ap (cell_is is_start) (finish_there main bodies small); finishes = λ t. at_last m' }) (All-nil (Passes im.code)))
+  passes_last : (m' : Memory) → Passes im.code (state (pos (1 + length main)) 0 false m')
+  passes_last m' = record { no_start = ap (cell_is is_start) (finish_there main bodies small); finishes = λ t. at_last m' }
 
-  passed : (m m' : Memory) (k j : ℕ) → Clean im.code k (at code_line false 1 m) (state (pos (1 + length main)) 0 false m') → All (Passes im.code) (visited im.code (k + suc j) (at code_line false 1 m))
-  passed m m' k j c = clean_visits (suc j) c (passes_last m' j)
+  once : (m : Memory) (j : ℕ) → All (Passes im.code) (visited im.code j (at code_line false 1 m)) → MeetsEndsOnce im.code (suc j) (begin m)
+  once m j p = record {
+    start_is_first = λ i d h. (p i d h).no_start;
+    finish_is_last = All-cons (λ s. IsTrue (is_at_finish im.code s) → stop im.code s ≡ Some Finished) (begin m) (visited im.code j (at code_line false 1 m)) (λ t. let f : is_at_finish im.code (begin m) ≡ false = refl in cc) (λ i d h. (p i d h).finishes);
+  }
 
-  ends_once : (m m' : Memory) (k j : ℕ) → Clean im.code k (at code_line false 1 m) (state (pos (1 + length main)) 0 false m') → MeetsEndsOnce im.code (k + 2 + j) (begin m)
-  ends_once m m' k j c =
-      let z : suc (k + suc j) ≡ k + 2 + j = omega arith in
-      let p = passed m m' k j c in
-      subst (λ i. MeetsEndsOnce im.code i (begin m)) z (record {
-        start_is_first = λ i d h. (p i d h).no_start;
-        finish_is_last = All-cons (λ s. IsTrue (is_at_finish im.code s) → stop im.code s ≡ Some Finished) (begin m) (visited im.code (k + suc j) (at code_line false 1 m)) (λ t. let f : is_at_finish im.code (begin m) ≡ false = refl in cc) (λ i d h. (p i d h).finishes);
-      })
+  once_none : (m : Memory) → MeetsEndsOnce im.code 0 (begin m)
+  once_none m = record { start_is_first = λ k d h. absurd (omega arith); finish_is_last = All-nil (λ s. IsTrue (is_at_finish im.code s) → stop im.code s ≡ Some Finished) }
+
+  once_stopped : (m : Memory) (j k : ℕ) (why : Stop) (s : State) → (Finished ≡ why → ⊥) → (Returned ≡ why → ⊥) → Clean im.code k (at code_line false 1 m) s → stop im.code s ≡ Some why → MeetsEndsOnce im.code (suc j) (begin m)
+  once_stopped m j k why s nf nr c h = once m j (passes_on c (passes_stop im.code s why h (passes_inner im.code s (trap_at (fetch im.code s.pc) why s nf nr h))) j)
+
+  done : (m m' : Memory) (k : ℕ) → Path im code_line 1 (1 + length main) k 0 (at code_line false 1 m) 0 (at code_line false (1 + length main) m') → Clean im.code k (at code_line false 1 m) (state (pos (1 + length main)) 0 false m')
+  done m m' k p = subst (λ z. Clean im.code k (at code_line false 1 m) (state z 0 false m')) (on_line (1 + length main)) (clean_of p)
+
+  ends_once : (m : Memory) (o : Outcome) → Ends im code_line false 1 (1 + length main) 1 m (1 + length main) o → (n : ℕ) → IsToldBy o n → MeetsEndsOnce im.code n (begin m)
+  ends_once m o e zero h = once_none m
+  ends_once m (Done m' k) (finishes w) (suc j) h =
+      once m j (passes_on (done m m' k w.path) (passes_stop im.code _ Finished (at_last m') (passes_last m')) j)
+  ends_once m (Trapped w k) (traps e) (suc j) h = once_stopped m j k (Trap w) e.last (λ e. cc) (λ e. cc) (clean_of e.path) e.stops
+  ends_once m (Bad a k) (bad e) (suc j) h = once_stopped m j k (BadAddress a) e.last (λ e. cc) (λ e. cc) (clean_of e.path) e.stops
+  ends_once m (Still k) (still e) (suc j) h = once m j (passes_within (clean_of e.path) j (omega arith))
+
+  goes : (m : Memory) (o : Outcome) → Ends im code_line false 1 (1 + length main) 1 m (1 + length main) o → GoesSo im.code (1 + length main) m o
+  goes m (Done m' k) (finishes w) = stops_after m k Finished _ refl (done m m' k w.path) (at_last m')
+  goes m (Trapped w k) (traps h) = (h.last, stops_after m k (Trap w) h.last refl (clean_of h.path) h.stops)
+  goes m (Bad a k) (bad h) = (h.last, stops_after m k (BadAddress a) h.last refl (clean_of h.path) h.stops)
+  goes m (Still k) (still g) = (g.last, all_steps m k g.last (clean_of g.path))
 
   pub whole : (m : Memory) (o : Outcome) → Ends im code_line false 1 (1 + length main) 1 m (1 + length main) o → Whole im.code (1 + length main) m o
-  whole m (Done m' k) (finishes w) =
-      let c : Clean im.code k (at code_line false 1 m) (state (pos (1 + length main)) 0 false m') = subst (λ z. Clean im.code k (at code_line false 1 m) (state z 0 false m')) (on_line (1 + length main)) (clean_of w.path) in
-      record { stops = stops_after m k Finished _ refl c (at_last m'); ends_once = λ j. ends_once m m' k j c }
-  whole m (Trapped w k) (traps h) = (h.last, stops_after m k (Trap w) h.last refl (clean_of h.path) h.stops)
-  whole m (Bad a k) (bad h) = (h.last, stops_after m k (BadAddress a) h.last refl (clean_of h.path) h.stops)
-  whole m (Still k) (still g) = (g.last, all_steps m k g.last (clean_of g.path))
+  whole m o e = record { goes = goes m o e; ends_once = ends_once m o e }
 
 -- the routines of these shapes stand there
 shapes_placed : (im : Image) (n t : ℕ) (ss : List Shape) → AllPlaced im n t (shapes_cells ss) → (r : ℕ) → r < length ss → Routine im (n + r) (top_at t ss r) (cells_of_shape (shape_at ss r))

@@ -1,5 +1,5 @@
 -- What `link` writes, and what is known of it.
-use Rattle.std.specs.Prelude.{◌≡◌, ℕ, ◌+◌, ◌^◌, ◌<◌, Bool, List, [], ◌∷◌, ◌++◌, length, Some, false, pos, slice_index}
+use Rattle.std.specs.Prelude.{◌≡◌, ℕ, ◌+◌, ◌^◌, ◌<◌, ◌≤◌, Bool, List, [], ◌∷◌, ◌++◌, length, Some, false, pos, slice_index}
 use Rattle.pisa_isa.specs.declared.cell.Cell.{Cell}
 use Rattle.pisa_isa.specs.declared.machine.Stop.{Stop}
 use Rattle.pisa_isa.specs.declared.machine.Stop.TheVariants.{Finished, Trap, BadAddress}
@@ -75,17 +75,22 @@ AllPlaced im n t (b ∷ bs) = Routine im n t b × AllPlaced im (n + 1) (t + 1 + 
 abbrev pub StopsAfter : List Cell → Memory → ℕ → Stop → State → Type 0
 StopsAfter code m k why s = (j : ℕ) → run code (k + j) (started code m.regs m.cells) ≡ record { why = why; spent = k; last = s }
 
--- and it meets START only as its first step, and FINISH only as its last one
-pub record Finishes (code : List Cell) (m : Memory) (k : ℕ) (s : State) : Type 0 where
-  pub stops : StopsAfter code m k Finished s
-  pub ends_once : (j : ℕ) → MeetsEndsOnce code (k + j) (started code m.regs m.cells)
-
 -- the run of the image, where main's piece goes so: the step at START and the stop are counted too
-abbrev pub Whole : List Cell → ℕ → Memory → Outcome → Type 0
-Whole code last m (Done m' k) = Finishes code m (k + 2) (state (pos last) 0 false m')
-Whole code last m (Trapped w k) = (s : State) × StopsAfter code m (k + 2) (Trap w) s
-Whole code last m (Bad a k) = (s : State) × StopsAfter code m (k + 2) (BadAddress a) s
-Whole code last m (Still k) = (s : State) × (steps code (k + 1) (started code m.regs m.cells) ≡ Some s)
+abbrev pub GoesSo : List Cell → ℕ → Memory → Outcome → Type 0
+GoesSo code last m (Done m' k) = StopsAfter code m (k + 2) Finished (state (pos last) 0 false m')
+GoesSo code last m (Trapped w k) = (s : State) × StopsAfter code m (k + 2) (Trap w) s
+GoesSo code last m (Bad a k) = (s : State) × StopsAfter code m (k + 2) (BadAddress a) s
+GoesSo code last m (Still k) = (s : State) × (steps code (k + 1) (started code m.regs m.cells) ≡ Some s)
+
+-- whether an outcome tells of so many steps: of a piece that goes on, those that it has gone
+abbrev pub IsToldBy : Outcome → ℕ → Type 0
+IsToldBy (Still k) n = n ≤ k + 1
+IsToldBy _ n = Unit {0}
+
+-- and however it goes, it meets START only as its first step, and FINISH only as its last one
+pub record Whole (code : List Cell) (last : ℕ) (m : Memory) (o : Outcome) : Type 0 where
+  pub goes : GoesSo code last m o
+  pub ends_once : (n : ℕ) → IsToldBy o n → MeetsEndsOnce code n (started code m.regs m.cells)
 
 -- all that is known of an image that is linked of these
 pub record Linked (main : List Symbol) (bodies : List (List Symbol)) (im : Image) : Type 0 where
@@ -93,5 +98,9 @@ pub record Linked (main : List Symbol) (bodies : List (List Symbol)) (im : Image
   pub routines_there : AllPlaced im 0 (first_top main) bodies
   pub tidy : Tidy im
   pub in_words : InWords im
-  pub runs : (m : Memory) (o : Outcome) → Ends im code_line false 1 (1 + length main) 1 m (1 + length main) o → Whole im.code (1 + length main) m o
-  pub closed : (shapes : List Shape) → shapes_cells shapes ≡ bodies → AllMade shapes → (s : Shape) → IsMade s → (a : ℕ) (d : Bool) (m : Memory) (n : ℕ) → Stands im code_line a (cells_of_shape s) → a + length (cells_of_shape s) < 2 ^ 30 → fine (routines_of (first_top main) shapes) n s d m any → Closed im s a d m n
+  pub runs : (m : Memory) (o : Outcome)
+      → Ends im code_line false 1 (1 + length main) 1 m (1 + length main) o → Whole im.code (1 + length main) m o
+  pub closed : (shapes : List Shape) → shapes_cells shapes ≡ bodies → AllMade shapes
+      → (s : Shape) → IsMade s → (a : ℕ) (d : Bool) (m : Memory) (n : ℕ)
+      → Stands im code_line a (cells_of_shape s) → a + length (cells_of_shape s) < 2 ^ 30
+      → fine (routines_of (first_top main) shapes) n s d m any → Closed im s a d m n
