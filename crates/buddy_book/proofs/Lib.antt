@@ -1,5 +1,6 @@
 pub mod TakeGive
 pub mod Orders
+pub mod LeastOrder
 pub mod Table
 pub mod Kept
 pub mod Requests
