@@ -4,7 +4,7 @@ ghost use Rattle.buddy_book.specs.Book.{start, take, give};
 ghost use Rattle.buddy_book.specs.Shown.{IsTaken, with_taken, without_taken, head_address};
 
 use crate::lists::{empty_lists, give_block, head_of, take_block, zeros};
-use rpp_words::NoMemory;
+use rpp_words::{FIXED_CELLS, NoMemory};
 use std::alloc::Global;
 use std::marker::Model;
 
@@ -38,7 +38,7 @@ impl Book {
         requires from { 1 ≤ h }
         requires to { h ≤ 20 }
         requires multiple { base % 2 ^ h ≡ 0 }
-        requires base_from { 40 ≤ base }
+        requires base_from { FIXED_CELLS ≤ base }
         requires base_to { base ≤ 2 ^ 21 }
         ensures { IfOk result (λ book. book ≡ record { h = h; base = base; free = start h; taken = [] }) }
     {
@@ -118,7 +118,9 @@ mod tests {
     #[test]
     fn a_block_given_back_merges(rt: HostRuntime) -> Result<(), Fail> {
         let mut book = Book::new(rt.alloc(), 2, 40)?;
-        if let Some(block) = book.take(1) {
+        let taken = book.take(1);
+        assert_eq!(rt; taken, Some(42), "the upper half is taken");
+        if let Some(block) = taken {
             assert_eq!(rt; book.head(1), Some(40), "the lower half is free");
             book.give(1, block);
         }

@@ -8,7 +8,7 @@ use Rattle.rpp_tree.specs.Tree.{Procedure, Source}
 use Rattle.class_table.specs.declared.method.MethodId.{MethodId}
 use Rattle.class_table.specs.Rules.{class_names}
 use Rattle.class_table.specs.Chains.{class_named, line_of}
-use Rattle.class_table.specs.Members.{Slots, class_at, no_procedure, field_name, fields_of, slots_of}
+use Rattle.class_table.specs.Members.{Slots, class_at, no_procedure, field_of, fields_of, slots_of}
 use Rattle.class_table.specs.Overrides.{run_at}
 use Rattle.class_table.specs.Mains.{mains, first_main}
 
@@ -22,7 +22,7 @@ class_fields program class = fields_of program class
 
 -- the number of the field of this name
 abbrev pub field_number : Source → ℕ → List ℕ → Option ℕ
-field_number program class name = position (bytes_eq name) (map field_name (class_fields program class))
+field_number program class name = field_of (class_fields program class) name
 
 -- a class's method slots: the parent's first; an overriding method keeps its slot, a new one gets the next
 abbrev pub class_slots : Source → ℕ → Slots
@@ -45,8 +45,8 @@ abbrev pub method_named : Source → ℕ → List ℕ → Procedure
 method_named program class name = procedure_at program (dispatch program class (unwrap_or (method_slot program class name) 0))
 
 -- the one method `main` without parameters
-abbrev pub main_method : Source → MethodId
-main_method program = first_main (mains program)
+abbrev pub main_of : Source → MethodId
+main_of program = first_main (mains program)
 
 -- whether a class has another above itself
 abbrev pub inherits : Source → ℕ → ℕ → Bool

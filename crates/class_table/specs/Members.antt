@@ -1,5 +1,5 @@
 -- Fields and method slots, by the chain of parents.
-use Rattle.std.specs.Prelude.{ℕ, ◌+◌, ◌-◌, Bool, nat_lt, List, [], ◌∷◌, ◌++◌, map, length, take, Option, None, slice_get}
+use Rattle.std.specs.Prelude.{ℕ, ◌+◌, ◌-◌, Bool, nat_lt, List, [], ◌∷◌, ◌++◌, map, length, take, Option, None, slice_get, position}
 use Rattle.std.specs.Option.{unwrap_or}
 use Rattle.std.specs.Str.{bytes_eq}
 use Rattle.indexmap.specs.IndexMap.{insert_entry}
@@ -40,6 +40,10 @@ fields program = each_below (fields_of program) (length program.classes)
 
 abbrev pub field_name : Var → List ℕ
 field_name var = var.name.text
+
+-- the number of the field of this name among these
+abbrev pub field_of : List Var → List ℕ → Option ℕ
+field_of vars name = position (bytes_eq name) (map field_name vars)
 
 -- whether a variable of the name is among these
 abbrev pub has_field : List Var → List ℕ → Bool

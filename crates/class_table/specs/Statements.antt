@@ -8,6 +8,7 @@ use Rattle.rpp_tree.specs.declared.tree.Var.{Var}
 use Rattle.rpp_tree.specs.declared.tree.VarType.{VarType}
 use Rattle.rpp_tree.specs.declared.tree.VarType.TheVariants as type
 use Rattle.rpp_tree.specs.Tree.{Expression, Null, Lvalue, Whole, Item, Creation, Object, Ints, Objects, Statement, Statements, Update, Swap, If, From, Construct, Local, New, Delete, Copy, Uncopy, Call, Skip, End, Then}
+use Rattle.rpp_tree.specs.Places.{place_name}
 use Rattle.class_table.specs.Overrides.{is_type_int, same_type, parameters_of}
 use Rattle.class_table.specs.Table.{Table, class_of, slot_in, dispatch_in, inherits_in}
 use Rattle.class_table.specs.Refusal.{Refusal, unknown_name, redeclared, type_differs, self_update, same_argument, field_argument, wrong_arity, local_in_own_expression, not_class_type}
@@ -63,10 +64,6 @@ same_kind kind.Nil other = is_nil other
 same_kind (kind.Class class) other = is_class class other
 same_kind kind.IntArray other = is_int_array other
 same_kind (kind.ClassArray class) other = is_class_array class other
-
-abbrev pub place_name : Lvalue → Ident
-place_name (Whole name) = name
-place_name (Item name index) = name
 
 -- a variable does not occur in the index of its own place
 abbrev pub occurs_in_own_index : Lvalue → Bool

@@ -7,13 +7,14 @@ ghost use Rattle.class_table.specs.Chains.{class_named, parent_named, parents as
 
 use crate::error::ClassError;
 use indexmap::IndexSet;
+use rpp_tree::limits::MOST_CLASSES;
 use rpp_tree::text::Text;
 use rpp_tree::tree::{Ident, Program};
 use std::alloc::Global;
 
 /// The number of the class of this name.
 pub fn number_of(names: &IndexSet<Text>, name: &Text) -> Option<u32>
-    requires { length names.now.keys ≤ 256 }
+    requires { length names.now.keys ≤ MOST_CLASSES }
     ensures number { result ≡ class_named names.now.keys name.now }
     ensures within { IfSome result (λ n. n < length names.now.keys) }
 {
@@ -24,7 +25,7 @@ pub fn number_of(names: &IndexSet<Text>, name: &Text) -> Option<u32>
 }
 
 fn parent_number(names: &IndexSet<Text>, parent: &Option<Ident>) -> Option<u32>
-    requires { length names.now.keys ≤ 256 }
+    requires { length names.now.keys ≤ MOST_CLASSES }
     ensures { result ≡ parent_named names.now.keys parent.now }
 {
     match parent {
@@ -39,7 +40,7 @@ pub fn parents(
     names: &IndexSet<Text>,
     program: &Program,
 ) -> Result<Vec<Option<u32>>, ClassError>
-    requires few { length program.now.classes.items ≤ 256 }
+    requires few { length program.now.classes.items ≤ MOST_CLASSES }
     requires named { names.now.keys ≡ class_names (source_of program.now) }
     ensures { MatchResult result (λ list. list.items ≡ parents_of (source_of program.now)) (λ error. error ≡ ClassError.NoMemory) }
 {
@@ -91,7 +92,7 @@ pub fn lines(
     parents: &[Option<u32>],
     program: &Program,
 ) -> Result<Vec<Vec<u32>>, ClassError>
-    requires few { length program.now.classes.items ≤ 256 }
+    requires few { length program.now.classes.items ≤ MOST_CLASSES }
     requires known { parents.now ≡ parents_of (source_of program.now) }
     ensures { MatchResult result (λ list. (map (λ line. line.items) list.items ≡ lines_of (source_of program.now)) × (inheritance_cycle (source_of program.now) ≡ None)) (IsFirst (inheritance_cycle (source_of program.now))) }
 {

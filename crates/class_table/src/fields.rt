@@ -92,7 +92,7 @@ fn names_along(alloc: Global, program: &Program, line: &[u32]) -> Result<IndexSe
 }
 
 /// Whether each new field has a name that is neither among these nor that of an earlier one.
-fn new_fields(alloc: Global, mut names: IndexSet<Text>, own: &[Var]) -> Result<(), ClassError>
+fn check_own_fields(alloc: Global, mut names: IndexSet<Text>, own: &[Var]) -> Result<(), ClassError>
     ensures { MatchResult result (λ _. taken_field names.keys own.now ≡ None) (IsFirst (taken_field names.keys own.now)) }
 {
     for var in own {
@@ -105,7 +105,7 @@ fn new_fields(alloc: Global, mut names: IndexSet<Text>, own: &[Var]) -> Result<(
 
 /// Whether each field of a class has a name of its own.
 #[tactic(auto, using(crate::proofs::Numbers::by_number, crate::proofs::FieldNames::taken_field_inherited))]
-fn new_fields_of(
+fn check_fields_of(
     alloc: Global,
     program: &Program,
     lines: &[Vec<u32>],
@@ -118,7 +118,7 @@ fn new_fields_of(
 {
     let line = line_at(lines, number);
     let names = names_along(alloc, program, &line[..line.len().saturating_sub(1)])?;
-    new_fields(alloc, names, &class.fields)
+    check_own_fields(alloc, names, &class.fields)
 }
 
 /// Whether the fields of each class have names of their own.
@@ -127,7 +127,7 @@ pub fn check_fields(alloc: Global, program: &Program, lines: &[Vec<u32>]) -> Res
     ensures { MatchResult result (λ _. duplicate_field (source_of program.now) ≡ None) (IsFirst (duplicate_field (source_of program.now))) }
 {
     for (number, class) in program.classes.iter().enumerate() {
-        new_fields_of(alloc, program, lines, number, class)?;
+        check_fields_of(alloc, program, lines, number, class)?;
     }
     Ok(())
 }

@@ -4,20 +4,20 @@ ghost use Rattle.rpp_tree.specs.Views.{source_of, class_text_of, procedure_of};
 ghost use Rattle.class_table.specs.Rules.{IsFirst};
 ghost use Rattle.class_table.specs.First.{first_in, first_after};
 ghost use Rattle.class_table.specs.Chains.{lines as lines_of};
-ghost use Rattle.class_table.specs.Overrides.{method_name, method_taken, duplicate_method_in, duplicate_method, same_type, same_types as equal_types, parameters_of, run_at, override_differs, inherited_slots, override_differs_at, differing_override};
+ghost use Rattle.class_table.specs.Overrides.{method_name, method_taken, duplicate_method_in, duplicate_method, same_type, same_types as equal_types, parameters_of, override_differs, inherited_slots, override_differs_at, differing_override};
 
 use crate::chains::line_at;
 use crate::error::ClassError;
 use crate::method::MethodId;
 use crate::names::add_name;
-use crate::slots::{methods_at, slots_along};
+use crate::slots::{methods_at, runs_at, slots_along};
 use indexmap::{IndexMap, IndexSet};
 use rpp_tree::text::Text;
 use rpp_tree::tree::{Class, Method, Program, Var, VarType};
 use std::alloc::Global;
 
 /// Whether each method of a class has a name of its own.
-fn new_methods(alloc: Global, methods: &[Method]) -> Result<(), ClassError>
+fn check_own_methods(alloc: Global, methods: &[Method]) -> Result<(), ClassError>
     ensures { MatchResult result (λ _. first_after method_taken [] (map procedure_of methods.now) ≡ None) (IsFirst (first_after method_taken [] (map procedure_of methods.now))) }
 {
     let mut names = IndexSet::new(alloc);
@@ -30,11 +30,11 @@ fn new_methods(alloc: Global, methods: &[Method]) -> Result<(), ClassError>
 }
 
 /// Whether the methods of each class have names of their own.
-pub fn duplicate_methods(alloc: Global, program: &Program) -> Result<(), ClassError>
+pub fn check_methods(alloc: Global, program: &Program) -> Result<(), ClassError>
     ensures { MatchResult result (λ _. duplicate_method (source_of program.now) ≡ None) (IsFirst (duplicate_method (source_of program.now))) }
 {
     for class in &program.classes {
-        new_methods(alloc, &class.methods)?;
+        check_own_methods(alloc, &class.methods)?;
     }
     Ok(())
 }
@@ -73,18 +73,6 @@ fn parameters(program: &Program, runs: MethodId) -> &[Var]
     match methods_at(program, runs.class).get(runs.method as usize) {
         None => &[],
         Some(method) => &method.params,
-    }
-}
-
-fn runs_at(slots: &IndexMap<Text, MethodId>, slot: usize) -> MethodId
-    ensures { result ≡ run_at slots.now.entries slot }
-{
-    match slots.get_index(slot) {
-        None => MethodId {
-            class: 0,
-            method: 0,
-        },
-        Some((_, runs)) => *runs,
     }
 }
 

@@ -26,12 +26,13 @@ pub struct MethodSlots {
 impl Model for MethodSlots {
     ghost use Rattle.std.specs.Prelude.{List, ℕ, length, ◌≤◌};
     ghost use Rattle.class_table.specs.declared.method.MethodId.{MethodId};
+    ghost use Rattle.rpp_tree.specs.declared.limits.TheConstants.{MOST_METHODS};
 
     ghost Value = { List (List ℕ × MethodId) };
 
     ghost view = { λ s. s.map.entries };
 
-    ghost invariant = { λ s. length s.map.entries ≤ 256 };
+    ghost invariant = { λ s. length s.map.entries ≤ MOST_METHODS };
 }
 
 impl MethodSlots {
@@ -48,7 +49,7 @@ impl MethodSlots {
     /// The number of slots.
     pub fn count(&self) -> u32
         ensures count { result ≡ length self.now }
-        ensures few { result ≤ 256 }
+        ensures few { result ≤ MOST_METHODS }
     {
         self.map.len() as u32
     }
@@ -57,13 +58,20 @@ impl MethodSlots {
     pub fn runs(&self, slot: u32) -> MethodId
         ensures { result ≡ run_at self.now slot }
     {
-        match self.map.get_index(slot as usize) {
-            None => MethodId {
-                class: 0,
-                method: 0,
-            },
-            Some((_, runs)) => *runs,
-        }
+        runs_at(&self.map, slot as usize)
+    }
+}
+
+/// The method in a slot.
+pub fn runs_at(slots: &IndexMap<Text, MethodId>, slot: usize) -> MethodId
+    ensures { result ≡ run_at slots.now.entries slot }
+{
+    match slots.get_index(slot) {
+        None => MethodId {
+            class: 0,
+            method: 0,
+        },
+        Some((_, runs)) => *runs,
     }
 }
 

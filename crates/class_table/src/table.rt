@@ -9,10 +9,11 @@ use crate::error::ClassError;
 use crate::fields::{ClassFields, check_fields, fields};
 use crate::mains::the_main;
 use crate::method::MethodId;
-use crate::overrides::{check_overrides, duplicate_methods};
+use crate::overrides::{check_methods, check_overrides};
 use crate::phases::{know_classes, name_classes};
 use crate::slots::{MethodSlots, slots};
 use indexmap::IndexSet;
+use rpp_tree::limits::{MOST_CLASSES, MOST_METHODS};
 use rpp_tree::text::Text;
 use rpp_tree::tree::{Program, Var};
 use std::alloc::Global;
@@ -36,16 +37,17 @@ impl Model for ClassTable {
     ghost Value = { Table };
 
     ghost use Rattle.std.specs.Prelude.{map, ◌≤◌, length};
+    ghost use Rattle.rpp_tree.specs.declared.limits.TheConstants.{MOST_CLASSES};
 
     ghost view = { λ t. record { names = t.names.keys; lines = map (λ line. line.items) t.lines.items; fields = t.fields.items; slots = t.slots.items; main = t.main } };
 
-    ghost invariant = { λ t. length t.names.keys ≤ 256 };
+    ghost invariant = { λ t. length t.names.keys ≤ MOST_CLASSES };
 }
 
 impl ClassTable {
     /// The table of a program, or the first refusal. `end` is the length of the text in bytes, the place of a missing `main`.
     pub fn build(alloc: Global, program: &Program, end: u32) -> Result<ClassTable, ClassError>
-        requires { length program.now.classes.items ≤ 256 }
+        requires { length program.now.classes.items ≤ MOST_CLASSES }
         ensures built { IfOk result (λ table. table ≡ table_of (source_of program.now)) }
         ensures accepted { OnOk result (HasClassTable (source_of program.now)) }
         ensures refused { IfErr result (IsFirst (first_class_refusal (source_of program.now) end)) }
@@ -57,7 +59,7 @@ impl ClassTable {
         let parents = parents(alloc, &names, program)?;
         let lines = lines(alloc, &parents, program)?;
         check_fields(alloc, program, &lines)?;
-        duplicate_methods(alloc, program)?;
+        check_methods(alloc, program)?;
         check_overrides(alloc, program, &lines)?;
         let fields = fields(alloc, program, &lines)?;
         let slots = slots(alloc, program, &lines)?;
@@ -74,7 +76,7 @@ impl ClassTable {
     /// The number of classes.
     pub fn class_count(&self) -> u32
         ensures count { result ≡ length self.now.names }
-        ensures few { result ≤ 256 }
+        ensures few { result ≤ MOST_CLASSES }
     {
         self.names.len() as u32
     }
@@ -124,7 +126,7 @@ impl ClassTable {
     /// The number of a class's method slots.
     pub fn slot_count(&self, class: u32) -> u32
         ensures count { result ≡ length (slots_in self.now class) }
-        ensures few { result ≤ 256 }
+        ensures few { result ≤ MOST_METHODS }
     {
         match self.slots.get(class as usize) {
             None => 0,

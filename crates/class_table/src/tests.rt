@@ -103,7 +103,7 @@ fn refusal(built: Result<ClassTable, ClassError>) -> (u32, u32) {
 
 fn refusal_of(alloc: Global, rows: &[Row]) -> Result<(u32, u32), Fail> {
     let program = program_of(alloc, rows)?;
-    if program.classes.len() > 256 {
+    if program.classes.len() > MOST_CLASSES as usize {
         return Ok((99, 0));
     }
     Ok(refusal(ClassTable::build(alloc, &program, 1000)))
@@ -268,7 +268,7 @@ const REFUSALS: [Case; 10] = [
 fn reads_the_table(rt: HostRuntime) -> Result<(), Fail> {
     let alloc = rt.alloc();
     let program = program_of(alloc, &TWO_CLASSES)?;
-    assert!(rt; program.classes.len() <= 256);
+    assert!(rt; program.classes.len() <= MOST_CLASSES as usize);
     let table = ClassTable::build(alloc, &program, 1000)?;
     let step = Text::of(alloc, b"step")?;
     assert_eq!(rt; table.class_of(&Text::of(alloc, b"Sub")?), Some(1));

@@ -10,7 +10,8 @@ use Rattle.buddy_book.specs.Place.{Placing}
 use Rattle.buddy_book.specs.Shown.{TakenBlocks, list_at, list_weight, weight, taken_weight, IsKept, cover}
 use Rattle.buddy_book.proofs.Kept.{cover-additive}
 use Rattle.roopl_semantics.specs.Store.{State}
-use Rattle.roopl_semantics.specs.Layout.{overlaid, first_address, with_links, with_book, heap_words}
+use Rattle.roopl_semantics.specs.Layout.{overlaid, with_links, with_book, heap_words}
+use Rattle.buddy_book.specs.Shown.{first_address}
 use Rattle.pisa_isa.specs.Loaded.{fixed_cells}
 use Rattle.sound_execution.specs.Sound.{Typed}
 use Rattle.open_frame.specs.Open.{Setup, base_of, memory, IsGrounded}

@@ -7,7 +7,8 @@ use Rattle.rpp_words.specs.declared.input.Limits.{Limits}
 use Rattle.rpp_tree.specs.Tree.{Source}
 use Rattle.buddy_book.specs.Book.{start}
 use Rattle.roopl_semantics.specs.Store.{State, main_name}
-use Rattle.roopl_semantics.specs.Source.{IsLimits, IsValid, main_fields, starting}
+use Rattle.roopl_semantics.specs.Source.{IsValid, main_fields, starting}
+use Rattle.rpp_words.specs.Limits.{IsLimits}
 use Rattle.roopl_semantics.specs.Layout.{HasStatics, main_statics, tables}
 use Rattle.pisa_isa.specs.Image.{Segments}
 use Rattle.pisa_isa.specs.Loaded.{statics_at, loaded}

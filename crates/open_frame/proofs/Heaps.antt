@@ -9,7 +9,8 @@ use Rattle.buddy_book.specs.Book.{Book}
 use Rattle.buddy_book.specs.Place.{block_of}
 use Rattle.roopl_semantics.specs.Store.{Value, Nil, Object, Store, main_name, no_object, object_named, object_at, changed_at}
 use Rattle.roopl_semantics.specs.Execution.{Setting}
-use Rattle.roopl_semantics.specs.Layout.{overlaid, word_of, head_word, object_words, first_address, with_links, with_book, with_objects, heap_words}
+use Rattle.roopl_semantics.specs.Layout.{overlaid, word_of, head_word, object_words, with_links, with_book, with_objects, heap_words}
+use Rattle.buddy_book.specs.Shown.{first_address}
 use Rattle.sound_execution.specs.Sound.{head_of, head_named, is_live, cell_kinds, AllFit, IsPlaced}
 use Rattle.sound_execution.proofs.Lists.{all_length}
 use Rattle.sound_execution.proofs.Stores.{differs, live_object, changed_here, changed_other}

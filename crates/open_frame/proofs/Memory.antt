@@ -10,8 +10,10 @@ use Rattle.class_table.specs.Scope.{Locals}
 use Rattle.buddy_book.specs.Place.{Log, Placing, block_of, place}
 use Rattle.buddy_book.proofs.Orders.{pow_pos}
 use Rattle.roopl_semantics.specs.Store.{Value, Nil, Name, Head, OfClass, Object, Store, Binding, State, main_name, object_named, object_at, changed_at}
-use Rattle.roopl_semantics.specs.Source.{main_of, main_fields}
-use Rattle.roopl_semantics.specs.Layout.{overlaid, word_of, object_words, first_address, with_book, heap_words, static_words, placed_layout, layout, no_placing}
+use Rattle.roopl_semantics.specs.Source.{main_fields}
+use Rattle.class_table.specs.Classes.{main_of}
+use Rattle.roopl_semantics.specs.Layout.{overlaid, word_of, object_words, with_book, heap_words, static_words, placed_layout, layout, no_placing}
+use Rattle.buddy_book.specs.Shown.{first_address}
 use Rattle.pisa_isa.specs.Loaded.{statics_at, fixed_cells}
 use Rattle.class_table.specs.Inheritance.{kind_of_var}
 use Rattle.sound_execution.specs.Sound.{head_of, is_live, cell_kinds, Typed}

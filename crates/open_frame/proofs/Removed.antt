@@ -12,7 +12,8 @@ use Rattle.buddy_book.proofs.Table.{taken_weight-without}
 use Rattle.buddy_book.proofs.Kept.{cover-additive}
 use Rattle.roopl_semantics.specs.Store.{Value, Word, Nil, Name, Object, Store, main_name, no_object, object_named, object_at, without}
 use Rattle.roopl_semantics.specs.Execution.{Setting, order_of_cells}
-use Rattle.roopl_semantics.specs.Layout.{overlaid, word_of, head_word, object_words, first_address, with_links, with_book, with_objects}
+use Rattle.roopl_semantics.specs.Layout.{overlaid, word_of, head_word, object_words, with_links, with_book, with_objects}
+use Rattle.buddy_book.specs.Shown.{first_address}
 use Rattle.roopl_semantics.specs.Laws.{one_if_name, holders_among, holders}
 use Rattle.sound_execution.specs.Sound.{head_of, head_named, is_live, cell_kinds, AllFit, IsPlaced}
 use Rattle.sound_execution.proofs.Lists.{all_length}

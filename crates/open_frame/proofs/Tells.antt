@@ -13,7 +13,7 @@ use Rattle.buddy_book.proofs.Orders.{pow_pos}
 use Rattle.buddy_book.proofs.StoredLaws.{two_power}
 use Rattle.roopl_semantics.specs.Store.{Value, Word, Nil, Name, State, main_name, number_of, object_at}
 use Rattle.roopl_semantics.specs.Value.{Cell, read}
-use Rattle.roopl_semantics.specs.Source.{IsLimits}
+use Rattle.rpp_words.specs.Limits.{IsLimits}
 use Rattle.roopl_semantics.specs.Layout.{word_of, head_word, object_words, with_book}
 use Rattle.roopl_semantics.specs.Laws.{one_if_name}
 use Rattle.pisa_isa.specs.Loaded.{statics_at}

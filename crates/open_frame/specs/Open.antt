@@ -4,8 +4,11 @@ use Rattle.buddy_book.specs.Place.{Placing, block_of, place}
 use Rattle.roopl_semantics.specs.Store.{OfClass, Binding, Store, State, main_name}
 use Rattle.roopl_semantics.specs.Value.{Cell, Slot, Part}
 use Rattle.roopl_semantics.specs.Execution.{Setting}
-use Rattle.roopl_semantics.specs.Source.{IsLimits, main_of, main_fields}
-use Rattle.roopl_semantics.specs.Layout.{overlaid, word_of, first_address, static_words, heap_words}
+use Rattle.roopl_semantics.specs.Source.{main_fields}
+use Rattle.class_table.specs.Classes.{main_of}
+use Rattle.rpp_words.specs.Limits.{IsLimits}
+use Rattle.roopl_semantics.specs.Layout.{overlaid, word_of, static_words, heap_words}
+use Rattle.buddy_book.specs.Shown.{first_address}
 use Rattle.pisa_isa.specs.Loaded.{statics_at, heap_base, fixed_cells}
 use Rattle.pisa_isa.specs.Machine.{State as Machine, reg}
 use Rattle.sound_execution.specs.Sound.{head_named}

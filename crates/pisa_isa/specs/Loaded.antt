@@ -2,13 +2,14 @@
 use Rattle.std.specs.Prelude.{ℕ, ◌+◌, ◌-◌, ◌*◌, ◌/◌, ◌^◌, List, [], ◌∷◌, ◌++◌, length, replicate, slice_set}
 use Rattle.rpp_words.specs.declared.input.FieldWord.{FieldWord}
 use Rattle.rpp_words.specs.declared.input.Limits.{Limits}
+use Rattle.rpp_words.specs.declared.input.TheConstants.{FIXED_CELLS, FRAME_WORDS}
 use Rattle.pisa_isa.specs.Machine.{State}
 use Rattle.pisa_isa.specs.Image.{Segments}
 use Rattle.pisa_isa.specs.Runs.{started, zero_registers}
 
 -- the first cell after the fixed ones: the static cells begin here
 abbrev pub statics_at : ℕ
-statics_at = 40
+statics_at = FIXED_CELLS
 
 -- the least multiple of the heap's size not below the end of the static cells
 abbrev pub heap_base : (heap statics : ℕ) → ℕ
@@ -17,7 +18,7 @@ heap_base heap statics = (statics_at + statics + 2 ^ heap - 1) / 2 ^ heap * 2 ^ 
 -- the fixed cells: the order, the heap base, the stack base, the stack end, and the heads of the free lists from order 1 on
 abbrev pub fixed_cells : (heap deep base : ℕ) → List ℕ → List ℕ
 fixed_cells heap deep base heads =
-    0 ∷ heap ∷ base ∷ (base + 2 ^ heap) ∷ (base + 2 ^ heap + 512 * deep) ∷ 0 ∷ 0 ∷ 0 ∷ 0 ∷ (heads ++ replicate (31 - length heads) 0)
+    0 ∷ heap ∷ base ∷ (base + 2 ^ heap) ∷ (base + 2 ^ heap + FRAME_WORDS * deep) ∷ 0 ∷ 0 ∷ 0 ∷ 0 ∷ (heads ++ replicate (31 - length heads) 0)
 
 -- the heads of an empty heap: the whole heap is the one free block
 abbrev pub empty_heads : (heap base : ℕ) → List ℕ
@@ -36,7 +37,7 @@ loaded statics limits input =
     ++ with_words input statics
     ++ replicate (base - statics_at - length statics) 0
     ++ replicate (2 ^ limits.heap) 0
-    ++ replicate (512 * limits.deep) 0
+    ++ replicate (FRAME_WORDS * limits.deep) 0
 
 -- where the run of an image begins with these limits and this input
 abbrev pub loaded_state : Segments → Limits → List FieldWord → State

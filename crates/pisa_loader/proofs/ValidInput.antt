@@ -16,7 +16,8 @@ use Rattle.pisa_loader.specs.declared.error.LoadError.TheVariants.{UnknownField}
 use Rattle.pisa_loader.specs.declared.input.InputField.{InputField}
 use Rattle.pisa_loader.specs.declared.lines.Kind.TheVariants.{Blank}
 use Rattle.pisa_loader.specs.States.{Gives}
-use Rattle.pisa_loader.specs.InputLines.{is_of, word_up_to, decimal_from, entry_in, Entry, field_named, is_set, new_word, entry_word, line_word, with_word, words_from, input_of, is_field, set_none_twice, AreInput}
+use Rattle.pisa_loader.specs.InputLines.{is_of, word_up_to, entry_in, Entry, field_named, is_set, new_word, entry_word, line_word, with_word, words_from, input_of, is_field, set_none_twice, AreInput}
+use Rattle.rpp_words.specs.Texts.{decimal_from}
 use Rattle.pisa_loader.proofs.InputForm.{line_found}
 
 or_true : (b c : Bool) → c ≡ true → (b || c) ≡ true

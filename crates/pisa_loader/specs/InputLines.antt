@@ -6,6 +6,7 @@ use Rattle.std.specs.Char.{is_ascii_alphabetic, is_ascii_digit}
 use Rattle.std.specs.Str.{bytes_eq}
 use Rattle.rpp_words.specs.declared.input.FieldWord.{FieldWord}
 use Rattle.rpp_words.specs.Words.{IsWord, negated}
+use Rattle.rpp_words.specs.Texts.{decimal_from}
 use Rattle.rpp_tree.specs.Names.{is_name_byte}
 use Rattle.pisa_image.specs.Numbers.{◌>>=◌}
 use Rattle.pisa_loader.specs.declared.error.LoadError.{LoadError}
@@ -28,11 +29,6 @@ behind passes text = drop (prefix_len passes text) text
 abbrev pub after : (first : ℕ) → List ℕ → Option (List ℕ)
 after first [] = None
 after first (byte ∷ rest) = if nat_eq byte first then Some rest else None
-
--- the number that digits write behind others
-abbrev pub decimal_from : ℕ → List ℕ → ℕ
-decimal_from before [] = before
-decimal_from before (digit ∷ rest) = decimal_from (10 * before + (digit - 48)) rest
 
 -- the word of a number with or without a minus, from -2147483648 to 2147483647
 abbrev pub word_up_to : (minus : Bool) → ℕ → Option ℕ

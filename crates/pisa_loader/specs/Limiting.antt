@@ -3,7 +3,7 @@ use Rattle.std.specs.Prelude.{ℕ, ◌+◌, ◌*◌, ◌^◌, ◌<◌, ◌≤◌
 use Rattle.rpp_words.specs.declared.input.FieldWord.{FieldWord}
 use Rattle.rpp_words.specs.declared.input.Limits.{Limits}
 use Rattle.pisa_isa.specs.Loaded.{heap_base}
-use Rattle.pisa_loader.specs.declared.limits.TheConstants.{MOST_HEAP, MOST_DEEP}
+use Rattle.rpp_words.specs.declared.input.TheConstants.{MOST_HEAP, FRAME_WORDS}
 use Rattle.pisa_loader.specs.declared.error.LoadError.{LoadError}
 use Rattle.pisa_loader.specs.declared.error.LoadError.TheVariants.{HeapOrder, DeepRange}
 
@@ -16,16 +16,9 @@ abbrev pub limits_refusal : (heap deep most : ℕ) → Option LoadError
 limits_refusal heap deep most =
     if is_outside heap MOST_HEAP then Some HeapOrder else if is_outside deep most then Some DeepRange else None
 
--- limits that a run may have
-pub record IsLimits (limits : Limits) : Type 0 where
-  pub heap_from : 1 ≤ limits.heap
-  pub heap_to : limits.heap ≤ MOST_HEAP
-  pub deep_from : 1 ≤ limits.deep
-  pub deep_to : limits.deep ≤ MOST_DEEP
-
 -- the end of the stack is that of the memory
 abbrev pub memory_size : (statics : ℕ) → Limits → ℕ
-memory_size statics limits = heap_base limits.heap statics + 2 ^ limits.heap + 512 * limits.deep
+memory_size statics limits = heap_base limits.heap statics + 2 ^ limits.heap + FRAME_WORDS * limits.deep
 
 -- the cells that an input sets are static cells
 abbrev pub IsInputOf : List ℕ → List FieldWord → Type 0

@@ -16,6 +16,6 @@ mod tests;
 pub use error::LoadError;
 pub use input::{InputField, MOST_INPUT, read_input};
 pub use laws::lines_have_one_form;
-pub use limits::{MOST_DEEP, MOST_HEAP, check_limits};
+pub use limits::check_limits;
 pub use memory::load;
 pub use state::{load_state, save_state};

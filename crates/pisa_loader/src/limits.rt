@@ -3,12 +3,7 @@ ghost use Rattle.std.specs.Prelude.{◌≡◌, ◌≤◌, IfOk, MatchResult, Som
 ghost use Rattle.pisa_loader.specs.Limiting.{limits_refusal};
 
 use crate::error::LoadError;
-use rpp_words::Limits;
-
-/// The highest order of a heap.
-pub const MOST_HEAP: u64 = 20;
-/// The deepest nesting of calls in a run.
-pub const MOST_DEEP: u32 = 8192;
+use rpp_words::{Limits, MOST_HEAP};
 
 /// The limits of a run, with an order of the heap from 1 to 20 and a depth from 1 to `most`. The
 /// order is tried first.

@@ -5,15 +5,14 @@ ghost use Rattle.pisa_isa.specs.Loaded.{loaded, heap_base as base_of, fixed_cell
 ghost use Rattle.pisa_isa.specs.Image.{IsImage};
 ghost use Rattle.pisa_isa.specs.Runs.{zero_registers};
 ghost use Rattle.pisa_machine.specs.Position.{first_position};
-ghost use Rattle.pisa_loader.specs.Limiting.{IsLimits, IsInputOf, memory_size};
+ghost use Rattle.pisa_loader.specs.Limiting.{IsInputOf, memory_size};
+ghost use Rattle.rpp_words.specs.Limits.{IsLimits};
 
-use pisa_isa::Image;
+use pisa_isa::{Image, MOST_STATICS};
 use pisa_machine::Machine;
-use rpp_words::{FieldWord, Input, Limits, NoMemory};
+use rpp_words::{FIXED_CELLS, FRAME_WORDS, FieldWord, Input, Limits, NoMemory};
 use std::alloc::{AllocError, Global};
 
-/// The stack's words for each open call.
-const FRAME_WORDS: u32 = 512;
 /// The cells of the main object before its fields.
 const HEAD_WORDS: u32 = 2;
 
@@ -33,7 +32,7 @@ pub fn load(alloc: Global, image: Image, limits: Limits, input: &Input) -> Resul
 /// The number of cells of a run's memory, for an image with so many static cells.
 pub(crate) fn memory_size(statics: u32, limits: Limits) -> u32
     requires limits { IsLimits limits }
-    requires statics { statics ≤ 262144 }
+    requires statics { statics ≤ MOST_STATICS }
     ensures size { result ≡ memory_size statics limits }
     ensures high { result < 2 ^ 24 }
 {
@@ -48,7 +47,7 @@ fn memory(
     input: &[FieldWord],
 ) -> Result<Vec<u32>, AllocError>
     requires limits { IsLimits limits }
-    requires statics { length statics.now ≤ 262144 }
+    requires statics { length statics.now ≤ MOST_STATICS }
     requires input { IsInputOf statics.now input.now }
     ensures items { IfOk result (λ cells. cells.items ≡ loaded statics.now limits input.now) }
     ensures len { IfOk result (λ cells. vec_len cells < 2 ^ 32) }
@@ -59,7 +58,7 @@ fn memory(
     let mut cells = Vec::with_capacity(alloc, memory_size(count, limits) as usize)?;
     add_fixed(&mut cells, limits, base)?;
     cells.extend_from_slice(&words)?;
-    add_zeros(&mut cells, base - 40 - count)?;
+    add_zeros(&mut cells, base - FIXED_CELLS - count)?;
     add_zeros(&mut cells, heap_size(limits.heap))?;
     add_zeros(&mut cells, FRAME_WORDS * limits.deep)?;
     Ok(cells)
@@ -67,7 +66,7 @@ fn memory(
 
 /// The static cells with the input's words in the main object's fields.
 fn with_words(alloc: Global, statics: &[u32], input: &[FieldWord]) -> Result<Vec<u32>, AllocError>
-    requires statics { length statics.now ≤ 262144 }
+    requires statics { length statics.now ≤ MOST_STATICS }
     requires input { IsInputOf statics.now input.now }
     ensures items { IfOk result (λ words. words.items ≡ with_words input.now statics.now) }
     ensures len { IfOk result (λ words. vec_len words ≡ length statics.now) }
@@ -85,7 +84,7 @@ fn add_fixed(cells: &mut Vec<u32>, limits: Limits, base: u32) -> Result<(), Allo
     requires base { base < 2 ^ 22 }
     requires empty { vec_len cells.old ≡ 0 }
     ensures items { OnOk result (cells.new.items ≡ fixed_cells limits.heap limits.deep base (empty_heads limits.heap base)) }
-    ensures len { OnOk result (vec_len cells.new ≡ 40) }
+    ensures len { OnOk result (vec_len cells.new ≡ FIXED_CELLS) }
 {
     let stack = base + heap_size(limits.heap);
     let end = stack + FRAME_WORDS * limits.deep;
@@ -107,12 +106,12 @@ fn add_zeros(cells: &mut Vec<u32>, count: u32) -> Result<(), AllocError>
 /// The least multiple of the heap's size not below the end of so many static cells.
 fn heap_base(heap: u32, statics: u32) -> u32
     requires heap { heap ≤ 20 }
-    requires statics { statics ≤ 262144 }
+    requires statics { statics ≤ MOST_STATICS }
     ensures base { result ≡ base_of heap statics }
-    ensures low { 40 + statics ≤ result }
+    ensures low { FIXED_CELLS + statics ≤ result }
     ensures high { result < 2 ^ 22 }
 {
-    multiple_below(40 + statics + heap_size(heap) - 1, heap_size(heap))
+    multiple_below(FIXED_CELLS + statics + heap_size(heap) - 1, heap_size(heap))
 }
 
 /// The words of a heap.

@@ -4,7 +4,8 @@ ghost use Rattle.rpp_words.specs.Words.{IsWord};
 ghost use Rattle.pisa_machine.specs.Position.{first_position, IsMachine};
 ghost use Rattle.pisa_image.specs.Numbers.{word_at, words_at, words_bytes};
 ghost use Rattle.pisa_loader.specs.declared.error.LoadError.TheVariants.{BadState};
-ghost use Rattle.pisa_loader.specs.Limiting.{IsLimits, memory_size};
+ghost use Rattle.pisa_loader.specs.Limiting.{memory_size};
+ghost use Rattle.rpp_words.specs.Limits.{IsLimits};
 ghost use Rattle.pisa_loader.specs.States.{Gives, Memory, memory, IsMemory, state_bytes, known_word, state_at, at_start};
 
 use crate::error::LoadError;

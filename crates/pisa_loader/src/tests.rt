@@ -5,7 +5,7 @@ use super::*;
 use pisa_isa::{Cell, Image, MOST_CELLS, MOST_STATICS, Op};
 use pisa_machine::Machine;
 use rpp_tree::text::Text;
-use rpp_words::{FieldWord, Input, Limits};
+use rpp_words::{FieldWord, Input, Limits, MOST_DEEP};
 use std::alloc::Global;
 use std::process::Abort;
 use std::test::Fail;

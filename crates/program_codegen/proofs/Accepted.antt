@@ -32,8 +32,9 @@ use Rattle.class_table.specs.Expressions.{is_int, occurs, place_type, type_of}
 use Rattle.class_table.specs.Statements.{passed, required, each_passes_after, update_rules, check_statement, check_statements}
 use Rattle.class_table.specs.Program.{IsAccepted, parameter_new, with_parameters, check_method, setting_in, check_class, check_classes}
 use Rattle.class_table.proofs.Tables.{table_reads}
-use Rattle.roopl_semantics.specs.Source.{main_of, main_fields, main_body, is_int_type, is_int_field}
-use Rattle.roopl_semantics.specs.Value.{field_of}
+use Rattle.roopl_semantics.specs.Source.{main_fields, main_body, is_int_type, is_int_field}
+use Rattle.class_table.specs.Classes.{main_of}
+use Rattle.class_table.specs.Members.{field_of}
 use Rattle.program_codegen.specs.Unbuilt.{unbuilt_value, unbuilt_statement, unbuilt_block, unbuilt_method, unbuilt_class, unbuilt}
 use Rattle.program_codegen.specs.Words.{HasWord, StatementHasWords, BlockHasWords}
 use Rattle.program_codegen.specs.declared.unbuilt.Unbuilt.TheVariants.{Method, Form}

@@ -14,7 +14,9 @@ use Rattle.rpp_tree.specs.Tree.{Source, Statement, Statements}
 use Rattle.pisa_isa.specs.Loaded.{loaded}
 use Rattle.roopl_semantics.specs.Alone.{told_by, values_of, IsAlone}
 use Rattle.roopl_semantics.specs.Layout.{layout}
-use Rattle.roopl_semantics.specs.Source.{main_of, main_fields, main_body, is_int_type, is_int_field, with_input, IsLimits, IsValid, GivesDone}
+use Rattle.roopl_semantics.specs.Source.{main_fields, main_body, is_int_type, is_int_field, with_input, IsValid, GivesDone}
+use Rattle.class_table.specs.Classes.{main_of}
+use Rattle.rpp_words.specs.Limits.{IsLimits}
 use Rattle.roopl_semantics.specs.Store.{Value, Word, State, number_of, zero_value, zero_values}
 use Rattle.program_codegen.specs.Code.{field_number, program_statics}
 use Rattle.program_codegen.proofs.Values.{IsIntName, IsPlainStatement, IsPlainBlock, update, skip, done, next, statement_values, block_values, first_values, main_state, words_of}

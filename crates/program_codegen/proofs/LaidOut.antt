@@ -14,9 +14,12 @@ use Rattle.rpp_tree.specs.Tree.{Source}
 use Rattle.buddy_book.specs.Book.{start}
 use Rattle.pisa_isa.specs.Loaded.{statics_at, heap_base, fixed_cells, empty_heads, with_words, loaded}
 use Rattle.roopl_semantics.specs.Store.{Value, Word, Nil, number_of, zero_value, zero_values}
-use Rattle.roopl_semantics.specs.Source.{main_of, main_fields, is_int_field, with_input, IsValid, IsLimits}
+use Rattle.roopl_semantics.specs.Source.{main_fields, is_int_field, with_input, IsValid}
+use Rattle.class_table.specs.Classes.{main_of}
+use Rattle.rpp_words.specs.Limits.{IsLimits}
 use Rattle.roopl_semantics.specs.Alone.{alone}
-use Rattle.roopl_semantics.specs.Layout.{table_at, tables, first_address, with_book, word_of, overlaid, static_words, layout}
+use Rattle.roopl_semantics.specs.Layout.{table_at, tables, with_book, word_of, overlaid, static_words, layout}
+use Rattle.buddy_book.specs.Shown.{first_address}
 use Rattle.program_codegen.specs.Code.{places, program_statics}
 use Rattle.program_codegen.proofs.Values.{first_values, words_of}
 

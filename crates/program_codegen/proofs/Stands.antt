@@ -21,7 +21,8 @@ use Rattle.pisa_isa.specs.Runs.{run, visited, after_step}
 use Rattle.pisa_isa.specs.Ends.{MeetsEndsOnce, is_at_finish}
 use Rattle.pisa_isa.proofs.Longer.{clean_of_ends}
 use Rattle.pisa_isa.specs.Loaded.{loaded_state}
-use Rattle.roopl_semantics.specs.Source.{main_fields, main_body, with_input, IsLimits, IsValid}
+use Rattle.roopl_semantics.specs.Source.{main_fields, main_body, with_input, IsValid}
+use Rattle.rpp_words.specs.Limits.{IsLimits}
 use Rattle.roopl_semantics.specs.Store.{Value, Word, zero_value, zero_values}
 use Rattle.roopl_semantics.specs.Layout.{HasStatics}
 use Rattle.roopl_semantics.specs.StandsFor.{StandsFor, Follows, run_of, EndsAt, enough_steps}

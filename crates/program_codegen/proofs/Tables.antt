@@ -9,7 +9,8 @@ use Rattle.class_table.specs.Classes.{class_slots}
 use Rattle.class_table.specs.Table.{table_of, slots_in}
 use Rattle.class_table.proofs.Tables.{table_reads}
 use Rattle.class_table.proofs.Numbers.{length-each_below}
-use Rattle.roopl_semantics.specs.Source.{main_of, main_fields}
+use Rattle.roopl_semantics.specs.Source.{main_fields}
+use Rattle.class_table.specs.Classes.{main_of}
 use Rattle.roopl_semantics.specs.Layout.{table_at, tables}
 use Rattle.program_codegen.specs.Code.{places, program_statics}
 use Rattle.program_codegen.specs.Statics.{address_in, places_at, places_in, statics_in}

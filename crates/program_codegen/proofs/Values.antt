@@ -12,8 +12,9 @@ use Rattle.roopl_semantics.specs.Operators.{updated}
 use Rattle.roopl_semantics.specs.Source.{is_int_field, with_input}
 use Rattle.roopl_semantics.specs.Store.{Value, Word, Nil, State, main_name, number_of, zero_values}
 use Rattle.roopl_semantics.specs.Alone.{alone}
-use Rattle.roopl_semantics.specs.Value.{field_of}
-use Rattle.program_codegen.specs.Code.{lvalue_name, field_number}
+use Rattle.class_table.specs.Members.{field_of}
+use Rattle.program_codegen.specs.Code.{field_number}
+use Rattle.rpp_tree.specs.Places.{place_name}
 
 -- the name of an int field
 pub record IsIntName (fields : List Var) (name : List ℕ) : Type 0 where
@@ -52,8 +53,8 @@ value_word fields values _ = 0
 
 abbrev pub statement_values : List Var → Statement → List Value → List Value
 statement_values fields (Update at op target value) values =
-    slice_set values (field_number fields (lvalue_name target).text)
-    (Word (updated op (number_in values (field_number fields (lvalue_name target).text)) (value_word fields values value)))
+    slice_set values (field_number fields (place_name target).text)
+    (Word (updated op (number_in values (field_number fields (place_name target).text)) (value_word fields values value)))
 statement_values fields _ values = values
 
 abbrev pub block_values : List Var → Statements → List Value → List Value

@@ -7,6 +7,7 @@ use Rattle.rpp_tree.specs.declared.tree.Var.{Var}
 use Rattle.rpp_tree.specs.declared.tree.UpdateOp.{UpdateOp}
 use Rattle.rpp_tree.specs.declared.tree.UpdateOp.TheVariants as update
 use Rattle.rpp_tree.specs.Tree.{Expression, Number, Variable, Lvalue, Whole, Item, Statement, Statements, Update, Skip, End, Then, Source}
+use Rattle.rpp_tree.specs.Places.{place_name}
 use Rattle.class_table.specs.First.{each_below}
 use Rattle.class_table.specs.Classes.{class_slots}
 use Rattle.pisa_isa.specs.declared.cell.Op.{Op}
@@ -14,7 +15,7 @@ use Rattle.pisa_isa.specs.declared.cell.Op.TheVariants.{Add, Sub, Xor, Addi, Xor
 use Rattle.pisa_isa.specs.declared.cell.Cell.{Cell}
 use Rattle.pisa_isa.specs.Image.{Segments}
 use Rattle.roopl_semantics.specs.Source.{main_fields, main_body}
-use Rattle.roopl_semantics.specs.Value.{field_of}
+use Rattle.class_table.specs.Members.{field_of}
 use Rattle.roopl_semantics.specs.Layout.{main_statics, tables}
 use Rattle.program_codegen.specs.declared.cells.TheConstants.{ADDRESS, WORD, SOURCE_ADDRESS, SOURCE}
 use Rattle.program_codegen.specs.declared.statics.TheConstants.{MAIN_AT}
@@ -26,10 +27,6 @@ two op a b = record { op = op; a = a; b = b; c = 0; imm = 0 }
 
 abbrev pub one : Op → ℕ → ℕ → Cell
 one op a imm = record { op = op; a = a; b = 0; c = 0; imm = imm }
-
-abbrev pub lvalue_name : Lvalue → Ident
-lvalue_name (Whole name) = name
-lvalue_name (Item name index) = name
 
 -- the number of the field of this name
 abbrev pub field_number : List Var → List ℕ → ℕ
@@ -66,7 +63,7 @@ operation fields op _ = []
 
 abbrev pub statement_code : List Var → Statement → List Cell
 statement_code fields (Update at op target value) =
-    opened ADDRESS WORD (field_cell fields (lvalue_name target).text) ++ (operation fields op value ++ closed ADDRESS WORD (field_cell fields (lvalue_name target).text))
+    opened ADDRESS WORD (field_cell fields (place_name target).text) ++ (operation fields op value ++ closed ADDRESS WORD (field_cell fields (place_name target).text))
 statement_code fields (Skip at) = one Addi WORD 0 ∷ []
 statement_code fields _ = []
 

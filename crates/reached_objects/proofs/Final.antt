@@ -10,7 +10,9 @@ use Rattle.buddy_book.specs.Place.{count_taken}
 use Rattle.roopl_semantics.specs.Store.{Value, Nil, Head, OfClass, OfInts, OfObjects, Store, Binding, State, main_name, object_at}
 use Rattle.roopl_semantics.specs.Value.{Cell, Slot, Part, value_at, read}
 use Rattle.roopl_semantics.specs.Execution.{Setting, exec}
-use Rattle.roopl_semantics.specs.Source.{IsLimits, IsValid, main_of, main_body, starting, source}
+use Rattle.roopl_semantics.specs.Source.{IsValid, main_body, starting, source}
+use Rattle.class_table.specs.Classes.{main_of}
+use Rattle.rpp_words.specs.Limits.{IsLimits}
 use Rattle.roopl_semantics.specs.Laws.{holders}
 use Rattle.roopl_semantics.specs.Report.{numbered, live_count, live_line, objects_shown}
 use Rattle.roopl_semantics.specs.Layout.{has_plain_head, is_plain_among, is_plain}

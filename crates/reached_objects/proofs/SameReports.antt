@@ -9,7 +9,8 @@ use Rattle.class_table.specs.Classes.{class_fields}
 use Rattle.roopl_semantics.specs.Store.{Value, Word, Nil, Name, Head, OfClass, OfInts, OfObjects, Object, Store, main_name, object_named, object_at, no_object, without}
 use Rattle.roopl_semantics.specs.Source.{main_fields}
 use Rattle.roopl_semantics.specs.Agreement.{Agree, renamed, renamed_object}
-use Rattle.roopl_semantics.specs.Report.{Text, end_of_line, newly_met, walked, numbered, number_shown, value_shown, field_lines, element_lines, head_shown, cell_lines, object_lines, live_line, objects_shown, live_count, report}
+use Rattle.roopl_semantics.specs.Report.{Text, newly_met, walked, numbered, number_shown, value_shown, field_lines, element_lines, head_shown, cell_lines, object_lines, live_line, objects_shown, live_count, report}
+use Rattle.rpp_words.specs.Texts.{line_end}
 use Rattle.roopl_semantics.specs.Laws.{HasNamesOnce as IsUnique}
 use Rattle.sound_execution.specs.Sound.{Descending}
 use Rattle.sound_execution.proofs.Stores.{without_other, differs, none_above}
@@ -128,14 +129,14 @@ module _ (f back : ℕ → ℕ) (there_and_back : (n : ℕ) → back (f n) ≡ n
   fields_alike indent names [] cells = refl
   fields_alike indent names (var ∷ vars) [] = refl
   fields_alike indent names (var ∷ vars) (v ∷ cells) =
-      ap (λ t. indent ++ var.name.text ++ codes " = " ++ t ++ end_of_line ++ field_lines indent (map f names) vars (map (renamed f) cells)) (value_alike names v)
-      ∙ ap (λ t. indent ++ var.name.text ++ codes " = " ++ value_shown names v ++ end_of_line ++ t) (fields_alike indent names vars cells)
+      ap (λ t. indent ++ var.name.text ++ codes " = " ++ t ++ line_end ++ field_lines indent (map f names) vars (map (renamed f) cells)) (value_alike names v)
+      ∙ ap (λ t. indent ++ var.name.text ++ codes " = " ++ value_shown names v ++ line_end ++ t) (fields_alike indent names vars cells)
 
   elements_alike : (names : List ℕ) (index : ℕ) (cells : List Value) → element_lines (map f names) index (map (renamed f) cells) ≡ element_lines names index cells
   elements_alike names index [] = refl
   elements_alike names index (v ∷ cells) =
-      ap (λ t. codes "  [" ++ decimal index ++ codes "] = " ++ t ++ end_of_line ++ element_lines (map f names) (index + 1) (map (renamed f) cells)) (value_alike names v)
-      ∙ ap (λ t. codes "  [" ++ decimal index ++ codes "] = " ++ value_shown names v ++ end_of_line ++ t) (elements_alike names (index + 1) cells)
+      ap (λ t. codes "  [" ++ decimal index ++ codes "] = " ++ t ++ line_end ++ element_lines (map f names) (index + 1) (map (renamed f) cells)) (value_alike names v)
+      ∙ ap (λ t. codes "  [" ++ decimal index ++ codes "] = " ++ value_shown names v ++ line_end ++ t) (elements_alike names (index + 1) cells)
 
   cells_alike : (program : Source) (names : List ℕ) (head : Head) (cells : List Value) → cell_lines program (map f names) head (map (renamed f) cells) ≡ cell_lines program names head cells
   cells_alike program names (OfClass class) cells = fields_alike (codes "  ") names (class_fields program class) cells
@@ -165,10 +166,10 @@ module _ (f back : ℕ → ℕ) (there_and_back : (n : ℕ) → back (f n) ≡ n
     lines_alike program names [] = refl
     lines_alike program names (n ∷ rest) =
         let o = object_at first n in
-        ap (λ x. number_shown (map f names) (f n) ++ codes " " ++ head_shown program x.head ++ codes " count " ++ decimal x.count ++ end_of_line ++ cell_lines program (map f names) x.head x.cells ++ object_lines program second (map f names) (map f rest)) (object_alike n)
-        ∙ ap (λ t. t ++ codes " " ++ head_shown program o.head ++ codes " count " ++ decimal o.count ++ end_of_line ++ cell_lines program (map f names) o.head (map (renamed f) o.cells) ++ object_lines program second (map f names) (map f rest)) (number_alike names n)
-        ∙ ap (λ t. number_shown names n ++ codes " " ++ head_shown program o.head ++ codes " count " ++ decimal o.count ++ end_of_line ++ t ++ object_lines program second (map f names) (map f rest)) (cells_alike program names o.head o.cells)
-        ∙ ap (λ t. number_shown names n ++ codes " " ++ head_shown program o.head ++ codes " count " ++ decimal o.count ++ end_of_line ++ cell_lines program names o.head o.cells ++ t) (lines_alike program names rest)
+        ap (λ x. number_shown (map f names) (f n) ++ codes " " ++ head_shown program x.head ++ codes " count " ++ decimal x.count ++ line_end ++ cell_lines program (map f names) x.head x.cells ++ object_lines program second (map f names) (map f rest)) (object_alike n)
+        ∙ ap (λ t. t ++ codes " " ++ head_shown program o.head ++ codes " count " ++ decimal o.count ++ line_end ++ cell_lines program (map f names) o.head (map (renamed f) o.cells) ++ object_lines program second (map f names) (map f rest)) (number_alike names n)
+        ∙ ap (λ t. number_shown names n ++ codes " " ++ head_shown program o.head ++ codes " count " ++ decimal o.count ++ line_end ++ t ++ object_lines program second (map f names) (map f rest)) (cells_alike program names o.head o.cells)
+        ∙ ap (λ t. number_shown names n ++ codes " " ++ head_shown program o.head ++ codes " count " ++ decimal o.count ++ line_end ++ cell_lines program names o.head o.cells ++ t) (lines_alike program names rest)
 
     module _ (main : f main_name ≡ main_name) (same : length first ≡ length second) where
       main_alike : object_at second main_name ≡ renamed_object f (object_at first main_name)

@@ -11,7 +11,8 @@ use Rattle.class_table.specs.Program.{IsAccepted, setting_in}
 use Rattle.roopl_semantics.specs.Run.{Done}
 use Rattle.roopl_semantics.specs.Store.{Store, State, main_name}
 use Rattle.roopl_semantics.specs.Execution.{exec}
-use Rattle.roopl_semantics.specs.Source.{IsLimits, IsValid, source}
+use Rattle.roopl_semantics.specs.Source.{IsValid, source}
+use Rattle.rpp_words.specs.Limits.{IsLimits}
 use Rattle.roopl_semantics.specs.Report.{numbered, live_count, report}
 use Rattle.roopl_semantics.specs.Layout.{is_plain}
 use Rattle.roopl_semantics.specs.Walk.{run_report}

@@ -70,7 +70,7 @@ fn is_taken(receiver: &Option<Place>, before: &[Ident], name: &Text) -> bool
     }
 }
 
-fn new_argument(
+fn check_distinct_argument(
     receiver: &Option<Place>,
     before: &[Ident],
     argument: &Ident,
@@ -83,11 +83,11 @@ fn new_argument(
     Ok(())
 }
 
-fn new_arguments(receiver: &Option<Place>, arguments: &[Ident]) -> Result<(), TypeError>
+fn check_distinct_arguments(receiver: &Option<Place>, arguments: &[Ident]) -> Result<(), TypeError>
     ensures { verdict_of result ≡ each_passes_after argument_new (plain_receiver (optional_lvalue_of receiver.now)) arguments.now }
 {
     for (number, argument) in arguments.iter().enumerate() {
-        new_argument(receiver, &arguments[..number], argument)?;
+        check_distinct_argument(receiver, &arguments[..number], argument)?;
     }
     Ok(())
 }
@@ -198,7 +198,7 @@ pub fn call_rules(
         return Err(TypeError::UnknownName { at: method.at });
     };
     know_arguments(setting, locals, is_own(receiver), at, arguments)?;
-    new_arguments(receiver, arguments)?;
+    check_distinct_arguments(receiver, arguments)?;
     let parameters = parameters(setting, class, slot);
     if arguments.len() != parameters.len() {
         return Err(TypeError::WrongArity { at: method.at });

@@ -28,7 +28,7 @@ fn is_among(vars: &[Var], name: &Text) -> bool
     false
 }
 
-fn new_parameter(before: &[Var], var: &Var) -> Result<(), TypeError>
+fn check_parameter(before: &[Var], var: &Var) -> Result<(), TypeError>
     ensures { verdict_of result ≡ parameter_new before.now var.now }
 {
     if is_among(before, &var.name.text) {
@@ -37,11 +37,11 @@ fn new_parameter(before: &[Var], var: &Var) -> Result<(), TypeError>
     Ok(())
 }
 
-fn new_parameters(params: &[Var]) -> Result<(), TypeError>
+fn check_parameters(params: &[Var]) -> Result<(), TypeError>
     ensures { verdict_of result ≡ each_passes_after parameter_new [] params.now }
 {
     for (number, var) in params.iter().enumerate() {
-        new_parameter(&params[..number], var)?;
+        check_parameter(&params[..number], var)?;
     }
     Ok(())
 }
@@ -70,7 +70,7 @@ fn check_body(
 fn check_method(setting: &Setting, method: &Method) -> Result<(), TypeError>
     ensures { verdict_of result ≡ of_method (setting_of setting.now) (procedure_of method.now) }
 {
-    new_parameters(&method.params)?;
+    check_parameters(&method.params)?;
     check_body(setting, &Locals::Nothing, &method.params, &method.body)
 }
 

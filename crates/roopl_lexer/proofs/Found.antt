@@ -10,7 +10,8 @@ use Rattle.roopl_lexer.specs.declared.token.Symbol.{Symbol}
 use Rattle.roopl_lexer.specs.declared.token.Keyword.{Keyword}
 use Rattle.roopl_lexer.specs.declared.token.TokenKind.TheVariants.{Word, Name, Number, Sign}
 use Rattle.roopl_lexer.specs.Signs.{keyword_bytes, sign_bytes}
-use Rattle.roopl_lexer.specs.Tokens.{decimal_from, IsLongest, is_too_large}
+use Rattle.roopl_lexer.specs.Tokens.{IsLongest, is_too_large}
+use Rattle.rpp_words.specs.Texts.{decimal_from}
 use Rattle.roopl_lexer.specs.Begins.{IsTokenAt, IsLargeNumber, IsLongestSign}
 use Rattle.roopl_lexer.proofs.Fronts.{letter_name_byte, run_some, word_longest, numeral_longest, run_name, run_numeral, sign_longest}
 use Rattle.roopl_lexer.proofs.Signs.{sign_some}

@@ -1,6 +1,5 @@
 pub mod Words
 pub mod Signs
-pub mod Numbers
 pub mod Fronts
 pub mod Cuts
 pub mod Found

@@ -2,6 +2,7 @@
 use Rattle.std.specs.Prelude.{◌≡◌, slice_index, ℕ, ◌+◌, ◌-◌, ◌*◌, ◌<◌, ◌≤◌, Bool, true, false, List, [], ◌∷◌, length, take, drop, ◌==◌, ◌||◌, ◌&&◌, nat_lt, Option, Some, None}
 use Rattle.std.specs.List.{AllPass, position_or_len}
 use Rattle.std.specs.Char.{is_ascii_digit}
+use Rattle.rpp_words.specs.Texts.{decimal_from}
 use Rattle.rpp_tree.specs.Names.{IsName}
 use Rattle.roopl_lexer.specs.declared.token.Token.{Token}
 use Rattle.roopl_lexer.specs.declared.token.TokenKind.{TokenKind}
@@ -29,11 +30,6 @@ comment_length rest = position_or_len (λ b. b == 10) rest
 pub record IsNumeral (bytes : List ℕ) : Type 0 where
   pub some : 0 < length bytes
   pub digits : AllPass is_ascii_digit bytes
-
--- the number that decimal digits write behind those of `before`
-abbrev pub decimal_from : ℕ → List ℕ → ℕ
-decimal_from before [] = before
-decimal_from before (digit ∷ rest) = decimal_from (10 * before + (digit - 48)) rest
 
 -- these bytes, and no others, are a token of this kind
 abbrev pub Spells : TokenKind → List ℕ → Type 0

@@ -2,7 +2,7 @@
 ghost use Rattle.std.specs.Prelude.{◌≡◌, ◌<◌, ◌≤◌, MatchOption};
 ghost use Rattle.std.specs.List.{AllPass};
 ghost use Rattle.std.specs.Char.{is_ascii_digit};
-ghost use Rattle.roopl_lexer.specs.Tokens.{decimal_from};
+ghost use Rattle.rpp_words.specs.Texts.{decimal_from};
 
 use rpp_tree::MOST_NUMBER;
 

@@ -17,7 +17,8 @@ use Rattle.roopl_lexer.specs.declared.token.TokenKind.{TokenKind}
 use Rattle.roopl_lexer.specs.declared.token.TokenKind.TheVariants.{Word, Name, Number, Sign}
 use Rattle.rpp_tree.specs.declared.limits.TheConstants.{MOST_NUMBER}
 use Rattle.roopl_lexer.specs.Signs.{keyword_bytes, sign_bytes}
-use Rattle.roopl_lexer.specs.Tokens.{is_white, begins_comment, decimal_from, Spells, IsLongest, is_too_large, Cut, finish, white, token, IsCutting}
+use Rattle.roopl_lexer.specs.Tokens.{is_white, begins_comment, Spells, IsLongest, is_too_large, Cut, finish, white, token, IsCutting}
+use Rattle.rpp_words.specs.Texts.{decimal_from}
 use Rattle.roopl_printer.specs.Printable.{IsPrintable}
 use Rattle.roopl_printer.specs.Printed.{Printed, kind_bytes, gap, with_gaps, text_of}
 use Rattle.roopl_printer.specs.Spelled.{spelled, printed}

@@ -13,7 +13,8 @@ use Rattle.roopl_parser.specs.Operators.{Span, tok, ident, operator_at}
 use Rattle.roopl_parser.specs.Grammar.{IsExpr, number, null, read, parens, weaker, binary, IsIndexed, whole, item, IsPlace, place}
 use Rattle.roopl_parser.specs.Parens.{parens_of, index_parens, place_parens}
 use Rattle.roopl_printer.specs.Printed.{a_sign}
-use Rattle.roopl_printer.specs.Spelled.{operator, operand, opening, closing, in_brackets, spelled_expression, spelled_index, spelled_place, place_name}
+use Rattle.roopl_printer.specs.Spelled.{operator, operand, opening, closing, in_brackets, spelled_expression, spelled_index, spelled_place}
+use Rattle.rpp_tree.specs.Places.{place_name}
 use Rattle.roopl_printer.proofs.Looks.{Looks, none, next, parted}
 
 -- an expression of a level like this one, with parentheses fewer than a number deep

@@ -20,7 +20,8 @@ use Rattle.roopl_parser.specs.Grammar.{IsExpr, IsVar, IsStatement, IsBranches, I
 use Rattle.roopl_parser.specs.Parens.{parens_of, index_parens, statement_parens, branch_parens, block_parens, list_parens}
 use Rattle.roopl_printer.specs.Printable.{HasStatement, HasFullBlocks, AreFull}
 use Rattle.roopl_printer.specs.Printed.{a_name, a_sign, a_word}
-use Rattle.roopl_printer.specs.Spelled.{update_sign, call_word, in_parentheses, spelled_expression, spelled_index, spelled_place, place_name, spelled_type, spelled_var, spelled_creation, spelled_names, spelled_binding, spelled_statement, spelled_block}
+use Rattle.roopl_printer.specs.Spelled.{update_sign, call_word, in_parentheses, spelled_expression, spelled_index, spelled_place, spelled_type, spelled_var, spelled_creation, spelled_names, spelled_binding, spelled_statement, spelled_block}
+use Rattle.rpp_tree.specs.Places.{place_name}
 use Rattle.roopl_printer.proofs.Looks.{Looks, none, next, parted}
 use Rattle.roopl_printer.proofs.LikeExpressions.{LikeExpr, expression_like, LikeIndexed, indexed_like, place_like}
 use Rattle.roopl_printer.proofs.LikeKinds.{type_like, LikeVar, var_like, made_like, names_like}

@@ -10,6 +10,7 @@ use Rattle.rpp_tree.specs.declared.tree.BinOp.TheVariants as op
 use Rattle.rpp_tree.specs.declared.tree.UpdateOp.{UpdateOp}
 use Rattle.rpp_tree.specs.declared.tree.UpdateOp.TheVariants as update
 use Rattle.rpp_tree.specs.Tree.{Expression, Number, Null, Variable, Element, Binary, Lvalue, Whole, Item, Creation, Object, Ints, Objects, Statement, Statements, Update, Swap, If, From, Construct, Local, New, Delete, Copy, Uncopy, Call, Skip, End, Then, Procedure, ClassText, Source}
+use Rattle.rpp_tree.specs.Places.{place_name}
 use Rattle.roopl_lexer.specs.declared.token.Keyword.{Keyword}
 use Rattle.roopl_lexer.specs.declared.token.Keyword.TheVariants as word
 use Rattle.roopl_lexer.specs.declared.token.Symbol.{Symbol}
@@ -77,10 +78,6 @@ spelled_expression (Binary at op left right) = operand left (spelled_expression 
 abbrev pub spelled_index : Lvalue → List Printed
 spelled_index (Whole name) = []
 spelled_index (Item name index) = in_brackets (spelled_expression index)
-
-abbrev pub place_name : Lvalue → Ident
-place_name (Whole name) = name
-place_name (Item name index) = name
 
 abbrev pub spelled_place : Lvalue → List Printed
 spelled_place place = a_name (place_name place) ∷ spelled_index place

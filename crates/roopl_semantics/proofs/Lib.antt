@@ -8,4 +8,7 @@ pub mod ObjectRows
 mod ArrayRows
 mod SharedRows
 mod MemoryRows
+mod OperatorRows
+mod CheckRows
+mod CellRows
 pub mod MainPlace

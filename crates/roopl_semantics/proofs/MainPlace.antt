@@ -15,7 +15,8 @@ use Rattle.class_table.specs.Mains.{is_main, mains_in, mains_from, mains, main_r
 use Rattle.class_table.specs.Table.{Table, table_of, HasClassTable, fields_in}
 use Rattle.class_table.specs.Program.{IsAccepted}
 use Rattle.class_table.proofs.Tables.{table_reads}
-use Rattle.roopl_semantics.specs.Source.{main_of, main_fields}
+use Rattle.roopl_semantics.specs.Source.{main_fields}
+use Rattle.class_table.specs.Classes.{main_of}
 
 -- of two rules in turn that refuse nothing, neither does
 pub none_of : {E : Type 0} (a b : Option E) → first_of a b ≡ None → (a ≡ None) × (b ≡ None)

@@ -9,7 +9,8 @@ use Rattle.rpp_tree.specs.Views.{statements_of}
 use Rattle.roopl_semantics.specs.Run.{Run, Done, Fault, More}
 use Rattle.roopl_semantics.specs.Store.{State}
 use Rattle.roopl_semantics.specs.Source.{source}
-use Rattle.roopl_semantics.specs.Report.{Text, report, end_of_line}
+use Rattle.roopl_semantics.specs.Report.{Text, report}
+use Rattle.rpp_words.specs.Texts.{line_end}
 
 abbrev pub named : ℕ → List ℕ → Ident
 named at text = record { at = at; text = text }
@@ -40,7 +41,7 @@ pub data Ending : Type 0 where
 
 abbrev pub lines : List Text → Text
 lines [] = []
-lines (line ∷ rest) = line ++ end_of_line ++ lines rest
+lines (line ∷ rest) = line ++ line_end ++ lines rest
 
 abbrev pub ended : Source → Run State → Ending
 ended program (Done st cost) = Finished (report program st.store) cost

@@ -6,7 +6,8 @@ use Rattle.rpp_tree.specs.Tree.{Source}
 use Rattle.pisa_isa.specs.declared.machine.Stop.TheVariants.{Finished, Trap}
 use Rattle.pisa_isa.specs.Image.{Segments}
 use Rattle.roopl_semantics.specs.Store.{State}
-use Rattle.roopl_semantics.specs.Source.{IsLimits, IsValid, GivesDone, GivesFault}
+use Rattle.roopl_semantics.specs.Source.{IsValid, GivesDone, GivesFault}
+use Rattle.rpp_words.specs.Limits.{IsLimits}
 use Rattle.roopl_semantics.specs.Layout.{layout}
 use Rattle.roopl_semantics.specs.StandsFor.{run_of, StandsFor, IsFinalState}
 

@@ -10,7 +10,8 @@ use Rattle.buddy_book.specs.Place.{Placing, block_of, place}
 use Rattle.roopl_semantics.specs.Run.{Done, Fault}
 use Rattle.roopl_semantics.specs.Store.{Value, Name, Object, Store, Binding, State, main_name, object_named}
 use Rattle.roopl_semantics.specs.Execution.{Setting, exec}
-use Rattle.roopl_semantics.specs.Source.{IsLimits, IsValid, source, starting, main_body}
+use Rattle.roopl_semantics.specs.Source.{IsValid, source, starting, main_body}
+use Rattle.rpp_words.specs.Limits.{IsLimits}
 use Rattle.roopl_semantics.specs.Agreement.{Agree, renamed}
 use Rattle.roopl_semantics.specs.Report.{report}
 use Rattle.pisa_isa.specs.Image.{Segments}
@@ -19,13 +20,17 @@ use Rattle.roopl_semantics.specs.Layout.{HasStatics, layout}
 
 -- a program that ends with some fuel ends the same with more
 pub record MoreFuelKeeps : Type 0 where
-  pub done : (program : Source) (limits : Limits) (input : List FieldWord) (n m : ℕ) (end : State) (cost : ℕ) → n ≤ m → source program limits input n ≡ Done end cost → source program limits input m ≡ Done end cost
-  pub fault : (program : Source) (limits : Limits) (input : List FieldWord) (n m code cost : ℕ) → n ≤ m → source program limits input n ≡ Fault code cost → source program limits input m ≡ Fault code cost
+  pub done : (program : Source) (limits : Limits) (input : List FieldWord) (n m : ℕ) (end : State) (cost : ℕ)
+      → n ≤ m → source program limits input n ≡ Done end cost → source program limits input m ≡ Done end cost
+  pub fault : (program : Source) (limits : Limits) (input : List FieldWord) (n m code cost : ℕ)
+      → n ≤ m → source program limits input n ≡ Fault code cost → source program limits input m ≡ Fault code cost
 
 -- the cost is fuel enough: a block that ends ends the same with any fuel from its cost on
 pub record CostIsEnough : Type 0 where
-  pub done : (setting : Setting) (n m : ℕ) (body : Statements) (start end : State) (cost : ℕ) → cost ≤ m → exec setting n body start ≡ Done end cost → exec setting m body start ≡ Done end cost
-  pub fault : (setting : Setting) (n m : ℕ) (body : Statements) (start : State) (code cost : ℕ) → cost ≤ m → exec setting n body start ≡ Fault code cost → exec setting m body start ≡ Fault code cost
+  pub done : (setting : Setting) (n m : ℕ) (body : Statements) (start end : State) (cost : ℕ)
+      → cost ≤ m → exec setting n body start ≡ Done end cost → exec setting m body start ≡ Done end cost
+  pub fault : (setting : Setting) (n m : ℕ) (body : Statements) (start : State) (code cost : ℕ)
+      → cost ≤ m → exec setting n body start ≡ Fault code cost → exec setting m body start ≡ Fault code cost
 
 -- a binding with other names
 abbrev pub renamed_binding : (ℕ → ℕ) → Binding → Binding
@@ -46,7 +51,8 @@ pub record AgreeStates (h : ℕ) (first second : State) : Type 0 where
   pub stores : Agree first.store second.store
   pub frame : second.frame ≡ map (renamed_binding stores.there) first.frame
   pub book : book_of (place h second.log) ≡ book_of (place h first.log)
-  pub blocks : (name : ℕ) (object : Object) → object_named first.store name ≡ Some object → name ≢ main_name → block_in (place h second.log) (stores.there name) ≡ block_in (place h first.log) name
+  pub blocks : (name : ℕ) (object : Object) → object_named first.store name ≡ Some object → name ≢ main_name
+      → block_in (place h second.log) (stores.there name) ≡ block_in (place h first.log) name
 
 -- the inverse of a block leads back from a state, at the same cost, to one that agrees with this
 pub record LeadsBack (setting : Setting) (body : Statements) (start end : State) (cost : ℕ) : Type 0 where
@@ -81,7 +87,8 @@ holders name ((n, object) ∷ store) = holders_among name object.cells + holders
 pub record CountsReferences (store : Store) : Type 0 where
   pub main : (object : Object) → object_named store main_name ≡ Some object → object.count ≡ 1
   pub held : holders main_name store ≡ 0
-  pub others : (name : ℕ) (object : Object) → object_named store name ≡ Some object → name ≢ main_name → object.count ≡ holders name store
+  pub others : (name : ℕ) (object : Object) → object_named store name ≡ Some object → name ≢ main_name
+      → object.count ≡ holders name store
 
 -- counts are references, at the end of every accepted program
 abbrev pub CountsAreReferences : Type 0
@@ -97,7 +104,9 @@ HasNamesOnce ((name, object) ∷ store) = (object_named store name ≡ None) × 
 
 -- stores that agree have the same report
 abbrev pub SameReports : Type 0
-SameReports = (program : Source) (first second : Store) → HasNamesOnce first → HasNamesOnce second → Agree first second → report program first ≡ report program second
+SameReports =
+    (program : Source) (first second : Store)
+    → HasNamesOnce first → HasNamesOnce second → Agree first second → report program first ≡ report program second
 
 -- the memory of the starting store is the loaded memory
 abbrev pub StartsLoaded : Type 0

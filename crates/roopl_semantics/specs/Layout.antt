@@ -3,13 +3,16 @@ use Rattle.std.specs.Prelude.{◌≡◌, ◌<◌, ℕ, zero, suc, ◌+◌, ◌-�
 use Rattle.std.specs.List.{All, list_any}
 use Rattle.std.specs.Option.{unwrap_or}
 use Rattle.rpp_words.specs.declared.input.Limits.{Limits}
+use Rattle.rpp_words.specs.declared.input.TheConstants.{FRAME_WORDS}
 use Rattle.rpp_tree.specs.Tree.{Source}
 use Rattle.class_table.specs.First.{each_below}
 use Rattle.class_table.specs.Classes.{class_slots}
 use Rattle.buddy_book.specs.Book.{Book}
+use Rattle.buddy_book.specs.Shown.{first_address}
 use Rattle.buddy_book.specs.Place.{Log, Placing, block_of, place}
 use Rattle.roopl_semantics.specs.Store.{Value, Word, Nil, Name, Head, OfClass, OfInts, OfObjects, Object, Store, main_name, object_at}
-use Rattle.roopl_semantics.specs.Source.{main_of, main_fields}
+use Rattle.roopl_semantics.specs.Source.{main_fields}
+use Rattle.class_table.specs.Classes.{main_of}
 use Rattle.roopl_semantics.specs.Report.{numbered}
 use Rattle.pisa_isa.specs.Image.{Segments}
 use Rattle.pisa_isa.specs.Loaded.{statics_at, heap_base, fixed_cells}
@@ -63,11 +66,6 @@ head_word program (OfObjects class length) = length
 abbrev pub object_words : Source → ℕ → List (ℕ × ℕ) → Object → List ℕ
 object_words program base blocks object = head_word program object.head ∷ object.count ∷ map (word_of base blocks) object.cells
 
--- the address of the first block of a list, or 0
-abbrev pub first_address : ℕ → List ℕ → ℕ
-first_address base [] = 0
-first_address base (block ∷ free) = base + block
-
 -- the first word of each free block of a list is the address of the next
 abbrev pub with_links : ℕ → List ℕ → List ℕ → List ℕ
 with_links base [] words = words
@@ -103,7 +101,7 @@ placed_layout program limits statics store placing =
     ++ static_words program base placing.blocks statics store
     ++ replicate (base - statics_at - length statics) 0
     ++ heap_words program (2 ^ limits.heap) base store placing
-    ++ replicate (512 * limits.deep) 0
+    ++ replicate (FRAME_WORDS * limits.deep) 0
 
 abbrev pub no_placing : Placing
 no_placing = record { book = []; blocks = [] }

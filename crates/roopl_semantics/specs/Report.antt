@@ -3,6 +3,7 @@ use Rattle.std.specs.Prelude.{ℕ, zero, suc, ◌+◌, ◌-◌, ◌^◌, nat_eq,
 use Rattle.std.specs.List.{list_any}
 use Rattle.std.specs.Option.{unwrap_or}
 use Rattle.std.specs.Fmt.{decimal}
+use Rattle.rpp_words.specs.Texts.{line_end}
 use Rattle.rpp_tree.specs.declared.tree.Var.{Var}
 use Rattle.rpp_tree.specs.Tree.{Source}
 use Rattle.class_table.specs.Members.{class_at}
@@ -45,21 +46,18 @@ value_shown names (Word w) = signed_decimal w
 value_shown names Nil = codes "nil"
 value_shown names (Name n) = number_shown names n
 
-abbrev pub end_of_line : Text
-end_of_line = 10 ∷ []
-
 -- NAME = V for each field, after an indent
 abbrev pub field_lines : Text → List ℕ → List Var → List Value → Text
 field_lines indent names [] cells = []
 field_lines indent names (var ∷ vars) [] = []
 field_lines indent names (var ∷ vars) (v ∷ cells) =
-    indent ++ var.name.text ++ codes " = " ++ value_shown names v ++ end_of_line ++ field_lines indent names vars cells
+    indent ++ var.name.text ++ codes " = " ++ value_shown names v ++ line_end ++ field_lines indent names vars cells
 
 -- [I] = V for each element, after two spaces
 abbrev pub element_lines : List ℕ → ℕ → List Value → Text
 element_lines names index [] = []
 element_lines names index (v ∷ cells) =
-    codes "  [" ++ decimal index ++ codes "] = " ++ value_shown names v ++ end_of_line ++ element_lines names (index + 1) cells
+    codes "  [" ++ decimal index ++ codes "] = " ++ value_shown names v ++ line_end ++ element_lines names (index + 1) cells
 
 -- CLASS, int[L] or CLASS[L]
 abbrev pub head_shown : Source → Head → Text
@@ -78,12 +76,12 @@ abbrev pub object_lines : Source → Store → List ℕ → List ℕ → Text
 object_lines program store names [] = []
 object_lines program store names (name ∷ rest) =
     let object = object_at store name in
-    number_shown names name ++ codes " " ++ head_shown program object.head ++ codes " count " ++ decimal object.count ++ end_of_line
+    number_shown names name ++ codes " " ++ head_shown program object.head ++ codes " count " ++ decimal object.count ++ line_end
     ++ cell_lines program names object.head object.cells
     ++ object_lines program store names rest
 
 abbrev pub live_line : ℕ → Text
-live_line live = codes "live " ++ decimal live ++ end_of_line
+live_line live = codes "live " ++ decimal live ++ line_end
 
 -- the report but for its last line: the main object's fields, and the objects in the order of their numbers
 abbrev pub objects_shown : Source → Store → Text

@@ -1,5 +1,5 @@
 -- What a program does, from its main object on.
-use Rattle.std.specs.Prelude.{◌≡◌, ◌≤◌, ℕ, Bool, true, false, not, ◌&&◌, nat_eq, nat_le, List, [], ◌∷◌, Option, Some, None, slice_set, slice_get, if◌then◌else◌, IsTrue}
+use Rattle.std.specs.Prelude.{◌≡◌, ℕ, Bool, true, false, not, ◌&&◌, nat_eq, nat_le, List, [], ◌∷◌, Option, Some, None, slice_set, slice_get, if◌then◌else◌, IsTrue}
 use Rattle.std.specs.List.{All, list_any}
 use Rattle.rpp_words.specs.Words.{IsWord}
 use Rattle.rpp_words.specs.declared.input.FieldWord.{FieldWord}
@@ -8,16 +8,10 @@ use Rattle.rpp_tree.specs.declared.tree.Var.{Var}
 use Rattle.rpp_tree.specs.declared.tree.VarType.{VarType}
 use Rattle.rpp_tree.specs.declared.tree.VarType.TheVariants as kind
 use Rattle.rpp_tree.specs.Tree.{Statements, Source}
-use Rattle.class_table.specs.declared.method.MethodId.{MethodId}
-use Rattle.class_table.specs.Classes.{class_fields, procedure_at}
-use Rattle.class_table.specs.Mains.{mains, first_main}
+use Rattle.class_table.specs.Classes.{class_fields, main_of, procedure_at}
 use Rattle.roopl_semantics.specs.Run.{Run, Done, Fault, More}
 use Rattle.roopl_semantics.specs.Store.{Value, Word, Object, OfClass, State, main_name, zero_values}
 use Rattle.roopl_semantics.specs.Execution.{exec}
-
--- the method `main` without parameters
-abbrev pub main_of : Source → MethodId
-main_of program = first_main (mains program)
 
 -- the fields of the main object
 abbrev pub main_fields : Source → List Var
@@ -52,13 +46,6 @@ pub record IsValid (program : Source) (input : List FieldWord) : Type 0 where
   pub ints : All (λ entry. IsTrue (is_int_field (slice_get (main_fields program) entry.field))) input
   pub once : IsTrue (names_none_twice input)
   pub words : All (λ entry. IsWord entry.word) input
-
--- the sizes of heap and stack that a run can have
-pub record IsLimits (limits : Limits) : Type 0 where
-  pub heap_from : 1 ≤ limits.heap
-  pub heap_to : limits.heap ≤ 20
-  pub deep_from : 1 ≤ limits.deep
-  pub deep_to : limits.deep ≤ 8192
 
 -- the main object before a run
 abbrev pub main_object : Source → List FieldWord → Object

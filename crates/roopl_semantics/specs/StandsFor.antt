@@ -11,7 +11,8 @@ use Rattle.pisa_isa.specs.Runs.{End, run, zero_registers}
 use Rattle.pisa_isa.specs.Ends.{IsCleanFinish, MeetsEndsOnce}
 use Rattle.roopl_semantics.specs.Run.{Run, Done, Fault, More}
 use Rattle.roopl_semantics.specs.Store.{State}
-use Rattle.roopl_semantics.specs.Source.{IsLimits, IsValid, GivesDone, GivesFault, source}
+use Rattle.roopl_semantics.specs.Source.{IsValid, GivesDone, GivesFault, source}
+use Rattle.rpp_words.specs.Limits.{IsLimits}
 use Rattle.roopl_semantics.specs.Layout.{HasStatics, layout}
 
 -- the run of an image from START, of at most m steps

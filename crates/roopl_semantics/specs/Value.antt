@@ -5,6 +5,7 @@ use Rattle.std.specs.Str.{bytes_eq}
 use Rattle.rpp_tree.specs.declared.tree.Var.{Var}
 use Rattle.rpp_tree.specs.declared.tree.BinOp.{BinOp}
 use Rattle.rpp_tree.specs.Tree.{Expression, Number, Null, Variable, Element, Binary, Lvalue, Whole, Item, Source, nodes, index_nodes}
+use Rattle.class_table.specs.Members.{field_of}
 use Rattle.class_table.specs.Classes.{class_fields}
 use Rattle.roopl_semantics.specs.Operators.{operated}
 use Rattle.roopl_semantics.specs.Run.{Run, after_cost, given}
@@ -18,10 +19,6 @@ pub data Cell : Type 0 where
 -- where the innermost variable of a name stands in the frame
 abbrev pub slot_of : List Binding → List ℕ → Option ℕ
 slot_of frame name = position (bytes_eq name) (map (λ binding. binding.name) frame)
-
--- where the field of a name stands in an object
-abbrev pub field_of : List Var → List ℕ → Option ℕ
-field_of vars name = position (bytes_eq name) (map (λ var. var.name.text) vars)
 
 -- the class of the present object
 abbrev pub own_class : State → ℕ

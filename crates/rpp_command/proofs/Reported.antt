@@ -10,7 +10,8 @@ use Rattle.pisa_isa.specs.Image.{Segments, IsImage}
 use Rattle.pisa_machine.specs.Position.{Position}
 use Rattle.roopl_semantics.specs.Alone.{alone, IsAlone}
 use Rattle.roopl_semantics.specs.Layout.{layout}
-use Rattle.roopl_semantics.specs.Source.{main_of, main_fields, GivesFault}
+use Rattle.roopl_semantics.specs.Source.{main_fields, GivesFault}
+use Rattle.class_table.specs.Classes.{main_of}
 use Rattle.roopl_semantics.specs.StandsFor.{Follows, run_of}
 use Rattle.roopl_semantics.specs.Store.{Value}
 use Rattle.roopl_semantics.specs.Walk.{run_report}

@@ -22,7 +22,9 @@ use Rattle.rpp_command.specs.GoRun.{HasRun}
 use Rattle.class_table.specs.Program.{IsAccepted}
 use Rattle.roopl_semantics.specs.Alone.{alone, IsAlone}
 use Rattle.roopl_semantics.specs.StandsFor.{StandsFor}
-use Rattle.roopl_semantics.specs.Source.{main_of, main_body, starting, IsLimits, IsValid}
+use Rattle.roopl_semantics.specs.Source.{main_body, starting, IsValid}
+use Rattle.class_table.specs.Classes.{main_of}
+use Rattle.rpp_words.specs.Limits.{IsLimits}
 use Rattle.roopl_semantics.specs.Store.{Value}
 use Rattle.roopl_semantics.specs.Walk.{run_report}
 use Rattle.program_codegen.specs.Code.{program_image}

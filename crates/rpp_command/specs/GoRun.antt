@@ -6,7 +6,8 @@ use Rattle.rpp_tree.specs.Tree.{Source}
 use Rattle.pisa_isa.specs.declared.machine.Stop.{Stop}
 use Rattle.pisa_machine.specs.Position.{Position}
 use Rattle.class_table.specs.Program.{IsAccepted}
-use Rattle.roopl_semantics.specs.Source.{main_body, IsLimits, IsValid}
+use Rattle.roopl_semantics.specs.Source.{main_body, IsValid}
+use Rattle.rpp_words.specs.Limits.{IsLimits}
 use Rattle.roopl_semantics.specs.StandsFor.{StandsFor, run_of}
 use Rattle.program_codegen.specs.Code.{program_image}
 use Rattle.program_codegen.specs.Unbuilt.{unbuilt}

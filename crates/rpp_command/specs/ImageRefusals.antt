@@ -5,7 +5,7 @@ use Rattle.pisa_asm.specs.declared.error.AsmError.{AsmError}
 use Rattle.pisa_asm.specs.declared.error.AsmError.TheVariants as asm
 use Rattle.pisa_image.specs.declared.error.ImageError.{ImageError}
 use Rattle.pisa_image.specs.declared.error.ImageError.TheVariants as image
-use Rattle.rpp_command.specs.Words.{line_end}
+use Rattle.rpp_words.specs.Texts.{line_end}
 
 -- refused N NAME at L, with the number of the line, or without a place
 abbrev pub asm_line : AsmError → List ℕ

@@ -40,14 +40,14 @@ use Rattle.rpp_command.specs.declared.reading.TheConstants.{MOST_STATE}
 use Rattle.rpp_command.specs.Judged.{IsJudged}
 use Rattle.rpp_command.specs.NotBuilt.{not_built}
 use Rattle.rpp_command.specs.Refusals.{refused_line}
-use Rattle.rpp_command.specs.Words.{line_end}
+use Rattle.rpp_words.specs.Texts.{line_end}
 use Rattle.rpp_command.specs.Faults.{fault_name}
 use Rattle.pisa_loader.specs.Limiting.{limits_refusal, memory_size}
 use Rattle.pisa_loader.specs.States.{state_bytes, state_at, at_start, memory}
 use Rattle.pisa_loader.specs.declared.error.LoadError.{LoadError}
 use Rattle.pisa_loader.specs.declared.error.LoadError.TheVariants as load
 use Rattle.pisa_loader.specs.declared.input.TheConstants.{MOST_INPUT}
-use Rattle.pisa_loader.specs.declared.limits.TheConstants.{MOST_DEEP}
+use Rattle.rpp_words.specs.declared.input.TheConstants.{MOST_DEEP}
 use Rattle.rpp_command.specs.Inputs.{given_input}
 use Rattle.rpp_command.specs.declared.plan.Verdict.{Verdict}
 use Rattle.rpp_command.specs.declared.plan.Verdict.TheVariants.{Done, SourceRefused, ImageRefused, Trapped, Bound, InputRefused, Stopped}

@@ -8,7 +8,7 @@ use Rattle.roopl_parser.specs.declared.error.ParseError.TheVariants as parse
 use Rattle.class_table.specs.declared.error.ClassError.{ClassError}
 use Rattle.class_table.specs.declared.error.ClassError.TheVariants as class
 use Rattle.class_table.specs.Refusal.{Refusal}
-use Rattle.rpp_command.specs.Words.{line_end}
+use Rattle.rpp_words.specs.Texts.{line_end}
 
 abbrev pub refused : ℕ → ℕ → Refusal
 refused number at = record { number = number; at = at }

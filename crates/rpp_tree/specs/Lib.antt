@@ -2,6 +2,7 @@ pub mod Tree
 pub mod Views
 pub mod Bare
 pub mod Names
+pub mod Places
 pub mod Parts
 pub mod Numbers
 pub mod Limits

@@ -1,2 +1,4 @@
+pub mod Limits
+pub mod Texts
 pub mod Order
 pub mod Words

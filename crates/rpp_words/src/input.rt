@@ -1,6 +1,15 @@
 // What a run is given beside its image.
 
-/// The size of a run's memory: the heap has `2 ^ heap` words, the stack `512 * deep`.
+/// The highest order of a heap.
+pub const MOST_HEAP: u64 = 20;
+/// The deepest nesting of calls in a run.
+pub const MOST_DEEP: u32 = 8192;
+/// The data cells before the static ones.
+pub const FIXED_CELLS: u32 = 40;
+/// The words of one frame of the stack.
+pub const FRAME_WORDS: u32 = 512;
+
+/// The size of a run's memory: the heap has `2 ^ heap` words, the stack `FRAME_WORDS * deep`.
 #[derive(Clone, Copy, Debug, PartialEq, Eq)]
 pub struct Limits {
     /// The order of the heap.

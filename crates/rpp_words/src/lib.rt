@@ -7,7 +7,7 @@ mod memory;
 mod order;
 mod words;
 
-pub use input::{FieldWord, Input, Limits};
+pub use input::{FIXED_CELLS, FRAME_WORDS, FieldWord, Input, Limits, MOST_DEEP, MOST_HEAP};
 pub use memory::NoMemory;
 pub use order::order_for;
 pub use words::{

@@ -8,8 +8,10 @@ use Rattle.rpp_tree.specs.declared.tree.VarType.{VarType}
 use Rattle.rpp_tree.specs.declared.tree.VarType.TheVariants as type
 use Rattle.buddy_book.specs.Book.{start}
 use Rattle.roopl_semantics.specs.Store.{Value, Word, zero_value, zero_values}
-use Rattle.roopl_semantics.specs.Source.{is_int_field, main_of, main_fields, with_input}
-use Rattle.roopl_semantics.specs.Layout.{word_of, table_at, tables, first_address, with_links, with_book}
+use Rattle.roopl_semantics.specs.Source.{is_int_field, main_fields, with_input}
+use Rattle.class_table.specs.Classes.{main_of}
+use Rattle.roopl_semantics.specs.Layout.{word_of, table_at, tables, with_links, with_book}
+use Rattle.buddy_book.specs.Shown.{first_address}
 use Rattle.roopl_semantics.specs.Laws.{StartsLoaded}
 use Rattle.pisa_isa.specs.Loaded.{statics_at, heap_base, fixed_cells, empty_heads, with_words}
 use Rattle.sound_execution.proofs.Overlays.{zeros_padded, none_over_zeros}

@@ -16,7 +16,8 @@ use Rattle.class_table.specs.Scope.{Local, Locals, local_kind, kind_at, field_ki
 use Rattle.class_table.specs.Program.{setting_in}
 use Rattle.class_table.proofs.Tables.{table_reads}
 use Rattle.roopl_semantics.specs.Store.{Head, OfClass, OfInts, OfObjects, Store, State, object_at, class_of_head}
-use Rattle.roopl_semantics.specs.Value.{Cell, Slot, Part, slot_of, field_of, own_class, slot_or_field, cell_named}
+use Rattle.roopl_semantics.specs.Value.{Cell, Slot, Part, slot_of, own_class, slot_or_field, cell_named}
+use Rattle.class_table.specs.Members.{field_of}
 use Rattle.roopl_semantics.specs.Execution.{Setting}
 use Rattle.class_table.specs.Inheritance.{is_or_inherits, kind_of_var}
 use Rattle.sound_execution.specs.Sound.{named_fits, head_of, head_named, name_of, local_name, local_type, part_kind, cell_kind, Typed}

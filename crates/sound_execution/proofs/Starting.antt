@@ -23,7 +23,9 @@ use Rattle.buddy_book.proofs.Beginning.{start-kept}
 use Rattle.roopl_semantics.specs.Run.{Done}
 use Rattle.roopl_semantics.specs.Store.{Value, Word, Head, Object, Store, Binding, State, main_name, zero_values, object_named}
 use Rattle.roopl_semantics.specs.Execution.{Setting, exec}
-use Rattle.roopl_semantics.specs.Source.{main_of, main_fields, main_body, with_input, is_int_type, is_int_field, IsValid, IsLimits, main_object, starting, source}
+use Rattle.roopl_semantics.specs.Source.{main_fields, main_body, with_input, is_int_type, is_int_field, IsValid, main_object, starting, source}
+use Rattle.class_table.specs.Classes.{main_of}
+use Rattle.rpp_words.specs.Limits.{IsLimits}
 use Rattle.roopl_semantics.specs.Laws.{holders_among, CountsReferences}
 use Rattle.roopl_semantics.proofs.MoreFuel.{within_done}
 use Rattle.roopl_semantics.proofs.MainPlace.{first_of_mains, table_rules, class_inside}

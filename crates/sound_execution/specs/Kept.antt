@@ -10,7 +10,9 @@ use Rattle.class_table.specs.Program.{IsAccepted, setting_in}
 use Rattle.roopl_semantics.specs.Run.{Done}
 use Rattle.roopl_semantics.specs.Store.{State}
 use Rattle.roopl_semantics.specs.Execution.{exec}
-use Rattle.roopl_semantics.specs.Source.{IsLimits, IsValid, main_of, starting, source}
+use Rattle.roopl_semantics.specs.Source.{IsValid, starting, source}
+use Rattle.class_table.specs.Classes.{main_of}
+use Rattle.rpp_words.specs.Limits.{IsLimits}
 use Rattle.sound_execution.specs.Sound.{Sound, Keeps, main_alone}
 use Rattle.sound_execution.specs.Plain.{IsPlain, ProgramIsPlain}
 

@@ -15,7 +15,8 @@ use Rattle.rpp_tree.specs.Tree.{ClassText, Source}
 use Rattle.class_table.specs.Chains.{line_of}
 use Rattle.class_table.specs.Members.{class_at, no_class, fields_along}
 use Rattle.class_table.specs.Program.{IsAccepted}
-use Rattle.roopl_semantics.specs.Source.{main_of, main_fields}
+use Rattle.roopl_semantics.specs.Source.{main_fields}
+use Rattle.class_table.specs.Classes.{main_of}
 use Rattle.store_report.specs.Ascii.{HasAsciiName}
 
 name_byte_ascii : (b : ℕ) → is_name_byte b ≡ true → b < 128

@@ -6,7 +6,8 @@ use Rattle.rpp_tree.specs.declared.tree.Var.{Var}
 use Rattle.rpp_tree.specs.declared.tree.VarType.{VarType}
 use Rattle.rpp_tree.specs.declared.tree.VarType.TheVariants as kind
 use Rattle.rpp_tree.specs.Tree.{Source}
-use Rattle.roopl_semantics.specs.Source.{main_of, main_fields}
+use Rattle.roopl_semantics.specs.Source.{main_fields}
+use Rattle.class_table.specs.Classes.{main_of}
 use Rattle.roopl_semantics.specs.Store.{Value, Word, Nil, number_of}
 use Rattle.roopl_semantics.specs.Alone.{alone, told_by, values_of, field_words, IsAlone}
 use Rattle.roopl_semantics.specs.Report.{newly_met, walked, numbered, field_lines, object_lines, live_line, live_count, objects_shown}

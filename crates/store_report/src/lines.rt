@@ -3,7 +3,8 @@ ghost use Rattle.std.specs.Prelude.{◌≡◌, ◌≤◌, ◌+◌, ◌++◌, ◌
 ghost use Rattle.std.specs.Str.{IsAscii};
 ghost use Rattle.rpp_tree.specs.Views.{source_of};
 ghost use Rattle.roopl_semantics.specs.Store.{Value};
-ghost use Rattle.roopl_semantics.specs.Source.{main_of, main_fields};
+ghost use Rattle.roopl_semantics.specs.Source.{main_fields};
+ghost use Rattle.class_table.specs.Classes.{main_of};
 ghost use Rattle.roopl_semantics.specs.Alone.{alone, told_by, values_of, IsAlone};
 ghost use Rattle.roopl_semantics.specs.Report.{field_lines, signed_decimal, value_shown, live_line};
 ghost use Rattle.roopl_semantics.specs.Walk.{run_report};

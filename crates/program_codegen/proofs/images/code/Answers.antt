@@ -6,7 +6,8 @@ use Rattle.class_table.specs.declared.method.MethodId.{MethodId}
 use Rattle.class_table.specs.Classes.{procedure_at}
 use Rattle.class_table.specs.Table.{Table, table_of, fields_in}
 use Rattle.pisa_isa.specs.declared.cell.Op.TheVariants.{Start, Finish}
-use Rattle.roopl_semantics.specs.Source.{main_of, main_fields, main_body}
+use Rattle.roopl_semantics.specs.Source.{main_fields, main_body}
+use Rattle.class_table.specs.Classes.{main_of}
 use Rattle.program_codegen.specs.Code.{one, block_code}
 use Rattle.roopl_semantics.proofs.MainPlace.{fields_read}
 use Rattle.program_codegen.proofs.images.code.Goals as goal

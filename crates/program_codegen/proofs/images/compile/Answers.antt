@@ -5,7 +5,7 @@ use Rattle.class_table.specs.Table.{Table}
 use Rattle.pisa_isa.specs.declared.cell.Cell.{Cell}
 use Rattle.pisa_isa.specs.Table.{IsInRange}
 use Rattle.pisa_isa.specs.Image.{first_seal_refusal}
-use Rattle.roopl_semantics.specs.Source.{main_of}
+use Rattle.class_table.specs.Classes.{main_of}
 use Rattle.roopl_semantics.specs.StandsFor.{StandsFor}
 use Rattle.program_codegen.specs.Code.{program_code}
 use Rattle.program_codegen.specs.Statics.{statics_in}
