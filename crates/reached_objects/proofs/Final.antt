@@ -185,7 +185,7 @@ ends_reached program limits input fuel end cost accepted inside valid done =
     let kept = end_sound program limits input fuel end cost accepted plain inside valid done in
     let first = starting_sound program limits input inside valid in
     let reaches = ends_done (Reaches main_alone) run end cost
-        ((exec_reaches setting (knows_classes program accepted plain) fuel).by main_alone [] [] (main_of program).class (main_body program) (starting program input) (class_inside program accepted) means text.checked text.plain first (starting_reaches program input))
-        over.is in
+    ((exec_reaches setting (knows_classes program accepted plain) fuel).by main_alone [] [] (main_of program).class (main_body program) (starting program input) (class_inside program accepted) means text.checked text.plain first (starting_reaches program input))
+    over.is in
     let self_is : end.self ≡ main_name = kept.stays.self_same in
     reached_store program limits (main_of program).class end kept.sound (subst (λ k. named_fits program (Rattle.class_table.specs.declared.kind.Kind.TheVariants.Class (main_of program).class) (head_named end.store k) ≡ true) self_is kept.sound.self_is) reaches

@@ -69,9 +69,10 @@ new_covers met (Name n ∷ cells) = by (list_any (nat_eq n) met) refl (new_cover
     by : (b : Bool) → list_any (nat_eq n) met ≡ b → AllWithin (is_in (met ++ newly_met met cells)) cells → AllWithin (is_in ((n ∷ met) ++ newly_met (n ∷ met) cells)) cells
         → AllWithin (is_in (met ++ (if b then newly_met met cells else n ∷ newly_met (n ∷ met) cells))) (Name n ∷ cells)
     by true e f g = (in_first met (newly_met met cells) n e, f)
-    by false e f g =
-        (in_second met (n ∷ newly_met (n ∷ met) cells) n (or_left (nat_eq n n) (is_in (newly_met (n ∷ met) cells) n) (same_number n)),
-        within_more (is_in ((n ∷ met) ++ newly_met (n ∷ met) cells)) (is_in (met ++ n ∷ newly_met (n ∷ met) cells)) cells (λ m q. sym (in_moved met (newly_met (n ∷ met) cells) n m) ∙ q) g)
+    by false e f g = (
+      in_second met (n ∷ newly_met (n ∷ met) cells) n (or_left (nat_eq n n) (is_in (newly_met (n ∷ met) cells) n) (same_number n)),
+      within_more (is_in ((n ∷ met) ++ newly_met (n ∷ met) cells)) (is_in (met ++ n ∷ newly_met (n ∷ met) cells)) cells (λ m q. sym (in_moved met (newly_met (n ∷ met) cells) n m) ∙ q) g,
+    )
 
 pub new_held : (met : List ℕ) (cells : List Value) (m : ℕ) → is_in (newly_met met cells) m ≡ true → 0 < holders_among m cells
 new_held met [] m h = absurd (cc)

@@ -1,20 +1,16 @@
 -- The inverse of a checked block is checked, and plain where the block is.
 use Rattle.std.proofs.Common.{◌≡◌, ◌∙◌, sym, ap, subst, refl, ℕ, Bool, true, false, ◌∷◌}
-use Rattle.std.specs.Prelude.{is_some, not, ◌&&◌, ◌||◌, if◌then◌else◌}
+use Rattle.std.specs.Prelude.{not, ◌&&◌, ◌||◌, if◌then◌else◌}
 use Rattle.std.specs.Option.{is_none}
 use Rattle.std.specs.Str.{bytes_eq}
-use Rattle.rpp_tree.specs.declared.tree.Ident.{Ident}
 use Rattle.rpp_tree.specs.declared.tree.Var.{Var}
-use Rattle.rpp_tree.specs.declared.tree.VarType.{VarType}
-use Rattle.rpp_tree.specs.declared.tree.VarType.TheVariants as type
 use Rattle.rpp_tree.specs.Tree.{Expression, Statement, Statements, Update, Swap, If, From, Construct, Local, New, Delete, Copy, Uncopy, Call, Skip, End, Then, joined}
 use Rattle.class_table.specs.declared.kind.Kind.{Kind}
 use Rattle.class_table.specs.Overrides.{is_type_int, same_type}
-use Rattle.class_table.specs.Table.{Table, class_of}
 use Rattle.class_table.specs.Refusal.{type_differs, redeclared, local_in_own_expression}
-use Rattle.class_table.specs.Scope.{Setting, Locals, local_kind, kind_of, class_kind, array_kind}
+use Rattle.class_table.specs.Scope.{Setting, Locals, local_kind, kind_of}
 use Rattle.class_table.specs.Expressions.{is_int, type_of, occurs, first_token}
-use Rattle.class_table.specs.Statements.{passed, required, in_turn, test_rules, class_known, type_known, is_nil_word, local_rules, construct_rules, with_local, with_object, check_statement, check_statements}
+use Rattle.class_table.specs.Statements.{passed, required, in_turn, test_rules, type_known, is_nil_word, local_rules, construct_rules, with_local, with_object, check_statement, check_statements}
 use Rattle.stmt_inverter.specs.Inverse.{inverse_statement_as, inverse_as, inverse}
 use Rattle.class_table.proofs.SameTypes.{types_same}
 use Rattle.sound_execution.specs.Plain.{StatementIsPlain, IsPlain}
