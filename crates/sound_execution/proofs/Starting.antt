@@ -195,7 +195,7 @@ end_sound program limits input fuel end cost accepted plain inside valid e =
     ((exec_keeps setting (knows_classes program accepted plain) fuel).by main_alone [] [] (main_of program).class (main_body program) (starting program input) (class_inside program accepted) means text.checked text.plain (starting_sound program limits input inside valid))
     over.is
 
-no_frame : (frame : List Binding) → map name_of frame ≡ [] → frame ≡ []
+pub no_frame : (frame : List Binding) → map name_of frame ≡ [] → frame ≡ []
 no_frame [] h = refl
 no_frame (b ∷ frame) h = absurd (cc)
 
