@@ -13,7 +13,7 @@ use Rattle.class_table.specs.declared.method.MethodId.{MethodId}
 use Rattle.class_table.specs.declared.error.ClassError.TheVariants.{OverrideDiffers}
 use Rattle.class_table.specs.First.{refused_if, first_of, first_in, first_at}
 use Rattle.class_table.specs.Rules.{duplicate_class, unknown_class}
-use Rattle.class_table.specs.Chains.{parents, chain, chain_of, line_of, inheritance_cycle}
+use Rattle.class_table.specs.Chains.{parents, chain, line_of, inheritance_cycle}
 use Rattle.class_table.specs.Members.{Slots, class_at, no_class, no_procedure, with_methods, slots_along, slots_of, duplicate_field}
 use Rattle.class_table.specs.Overrides.{same_type, same_types, parameters_of, no_method, run_at, override_in_slot, override_differs, inherited_slots, override_differs_at, differing_override, duplicate_method}
 use Rattle.class_table.specs.Classes.{class_slots, method_slot, dispatch, procedure_at, method_named}
@@ -23,7 +23,7 @@ use Rattle.class_table.specs.Inheritance.{is_or_inherits, kind_of_var}
 use Rattle.class_table.proofs.FirstPlaces.{position_cons, same_name}
 use Rattle.class_table.proofs.PassedRules.{both_true}
 use Rattle.class_table.proofs.SameTypes.{types_same}
-use Rattle.class_table.proofs.ClassLines.{on, on_last, above_of, in_range, OwnLine, own_line, line_is, front_of, inherits_parts, inherits_inside, last_on}
+use Rattle.class_table.proofs.ClassLines.{on, line_is, front_of, inherits_parts, inherits_inside, last_on}
 
 -- ---- rules that refuse nothing
 

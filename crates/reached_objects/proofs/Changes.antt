@@ -1,7 +1,7 @@
 -- Each change of a state keeps every live object reached.
 use Rattle.std.proofs.Common.{◌≡◌, ◌∙◌, sym, ap, subst, refl, ℕ, zero, suc, Bool, true, false, List, [], ◌∷◌, Option, Some, None, slice_get}
 use Rattle.std.proofs.lemmas.Bool.{eqb-true}
-use Rattle.std.specs.Prelude.{nat_eq, is_some, ◌&&◌}
+use Rattle.std.specs.Prelude.{nat_eq, is_some, ◌&&◌, ◌||◌}
 use Rattle.std.specs.Option.{unwrap_or, option_map}
 use Rattle.rpp_tree.specs.Tree.{Source}
 use Rattle.class_table.specs.declared.kind.Kind.{Kind}
@@ -17,9 +17,24 @@ use Rattle.sound_execution.proofs.AfterWrites.{same_cell_is, read_other, read_sa
 use Rattle.reached_objects.specs.Reached.{is_within, is_rooted, IsClosed, Reaches}
 use Rattle.reached_objects.proofs.Rooted.{IsVisible, kinds_apart, visible_rooted, closed_before}
 
+pub or_either : (a b : Bool) {A : Type 0} → (a || b) ≡ true → (a ≡ true → A) → (b ≡ true → A) → A
+or_either true b h f g = f refl
+or_either false b h f g = g h
+
 pub clash : (b : Bool) → b ≡ true → b ≡ false → ⊥
 clash true h k = cc
 clash false h k = cc
+
+pub cell_turned : (a b : Cell) → same_cell a b ≡ false → same_cell b a ≡ false
+cell_turned a b e = by (same_cell b a) refl
+  where
+    itself : (c : Cell) → same_cell c c ≡ true
+    itself (Slot i) = same_number i
+    itself (Part n i) = ap (λ b. b && nat_eq i i) (same_number n) ∙ same_number i
+
+    by : (s : Bool) → same_cell b a ≡ s → same_cell b a ≡ false
+    by false q = q
+    by true q = absurd (clash (same_cell a b) (ap (λ c. same_cell a c) (same_cell_is b a q) ∙ itself a) e)
 
 -- where closed sets were closed before, and nothing new lives, what lives is reached
 pub reaches_on : (extra : ℕ → ℕ) (st end : State) → ((names : ℕ → Bool) → IsClosed names extra end → IsClosed names extra st) → ((n : ℕ) → is_live end.store n ≡ true → is_live st.store n ≡ true) → Reaches extra st → Reaches extra end
@@ -120,17 +135,6 @@ module _ (setting : Setting) (extra : ℕ → ℕ) (shape : Locals) (class : ℕ
           second : (s : Bool) → same_cell a b ≡ s → is_rooted names a ≡ true → is_within names x ≡ true → is_within names y ≡ true
           second true e ra has_x = ap (λ d. is_within names (read st d)) (sym (same_cell_is a b e)) ∙ has_x
           second false e ra has_x =
-              let turned = apart_turned a b e in
+              let turned = cell_turned a b e in
               let q : read end a ≡ y = read_other st1 b a x turned ∙ read_one a ∙ read_same setting extra shape class st a k y t ha in
               ap (is_within names) (sym q) ∙ c.cells a ra
-            where
-              apart_turned : (a b : Cell) → same_cell a b ≡ false → same_cell b a ≡ false
-              apart_turned a b e = by (same_cell b a) refl
-                where
-                  itself : (c : Cell) → same_cell c c ≡ true
-                  itself (Slot i) = same_number i
-                  itself (Part n i) = ap (λ b. b && nat_eq i i) (same_number n) ∙ same_number i
-
-                  by : (s : Bool) → same_cell b a ≡ s → same_cell b a ≡ false
-                  by false q = q
-                  by true q = absurd (clash (same_cell a b) (ap (λ c. same_cell a c) (same_cell_is b a q) ∙ itself a) e)

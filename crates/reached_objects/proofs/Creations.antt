@@ -1,6 +1,6 @@
 -- `new`, `delete`, `copy` and `uncopy` keep every live object reached.
 use Rattle.std.proofs.Common.{◌≡◌, ◌∙◌, sym, ap, refl, ℕ, zero, suc, ◌+◌, ◌<◌, Bool, true, false, List, [], ◌∷◌, Option, Some, None, slice_get}
-use Rattle.std.proofs.lemmas.Bool.{eqb-true}
+use Rattle.std.proofs.lemmas.Bool.{eqb-true, or_left, or_right}
 use Rattle.std.specs.Prelude.{nat_eq, is_some, ◌&&◌, ◌||◌}
 use Rattle.std.specs.Option.{unwrap_or, option_map}
 use Rattle.rpp_tree.specs.Tree.{Source}
@@ -19,17 +19,6 @@ use Rattle.sound_execution.proofs.Removal.{counted_heads}
 use Rattle.reached_objects.specs.Reached.{is_within, is_rooted, IsClosed, Reaches}
 use Rattle.reached_objects.proofs.Rooted.{IsVisible, visible_rooted, closed_before}
 use Rattle.reached_objects.proofs.Changes.{clash, reaches_on, stays_under, closed_uncounted}
-
-either : (a b : Bool) → (a || b) ≡ true → {A : Type 0} → (a ≡ true → A) → (b ≡ true → A) → A
-either true b h f g = f refl
-either false b h f g = g h
-
-left_holds : (a b : Bool) → a ≡ true → (a || b) ≡ true
-left_holds a b h = ap (λ z. z || b) h
-
-right_holds : (a b : Bool) → b ≡ true → (a || b) ≡ true
-right_holds true b h = refl
-right_holds false b h = h
 
 zero_within : (names : ℕ → Bool) (v : Value) → is_zero v ≡ true → is_within names v ≡ true
 zero_within names (Word w) h = refl
@@ -119,11 +108,11 @@ module _ (setting : Setting) (extra : ℕ → ℕ) (shape : Locals) (class : ℕ
     more names n = names n || nat_eq name n
 
     wider : (names : ℕ → Bool) (v : Value) → is_within names v ≡ true → is_within (more names) v ≡ true
-    wider names v h = within_more names (more names) v (λ n q. left_holds (names n) (nat_eq name n) q) h
+    wider names v h = within_more names (more names) v (λ n q. or_left (names n) (nat_eq name n) q) h
 
     -- a cell outside of what goes
     other : (names : ℕ → Bool) → IsClosed names extra without_it → (d : Cell) → read small d ≡ read st d → is_rooted names d ≡ true → (s : Bool) → same_cell cell d ≡ s → is_within (more names) (read st d) ≡ true
-    other names c d same h true e = ap (is_within (more names)) (sym (ap (read st) (same_cell_is cell d e)) ∙ reads) ∙ right_holds (names name) (nat_eq name name) (same_number name)
+    other names c d same h true e = ap (is_within (more names)) (sym (ap (read st) (same_cell_is cell d e)) ∙ reads) ∙ or_right (names name) (nat_eq name name) (same_number name)
     other names c d same h false e = ap (is_within (more names)) (sym (read_other small cell d Nil e ∙ same)) ∙ wider names (read without_it d) (c.cells d h)
 
     first : (a b : Bool) → (a || b) ≡ true → b ≡ false → a ≡ true
@@ -139,7 +128,7 @@ module _ (setting : Setting) (extra : ℕ → ℕ) (shape : Locals) (class : ℕ
         part false e = other names c (Part n i) (ap (λ (o : Option Object). unwrap_or (slice_get (unwrap_or o no_object).cells i) Nil) (without_other st.store name n (differs name n e))) (first (names n) (nat_eq name n) h e) (same_cell cell (Part n i)) refl
 
     before_gone : (names : ℕ → Bool) → IsClosed names extra without_it → IsClosed (more names) extra st
-    before_gone names c = record { extras = λ n p. left_holds (names n) (nat_eq name n) (c.extras n p); cells = cells_more names c }
+    before_gone names c = record { extras = λ n p. or_left (names n) (nat_eq name n) (c.extras n p); cells = cells_more names c }
 
     pub shrunk_reaches : Reaches extra st → Reaches extra (written (shrunk st name log) cell Nil)
     shrunk_reaches r = record { all = λ names c n l. by names c n l (nat_eq name n) refl }

@@ -1,13 +1,13 @@
 -- The laws of what is reached, proved.
 use Rattle.std.proofs.Common.{◌≡◌, ◌≢◌, ◌∙◌, sym, ap, subst, refl, ℕ, zero, suc, ◌+◌, ◌-◌, ◌<◌, Bool, true, false, List, [], ◌∷◌, ◌++◌, map, length, Option, Some, None, arith}
-use Rattle.std.proofs.lemmas.Bool.{eqb-true}
+use Rattle.std.proofs.lemmas.Bool.{eqb-true, or_left, or_right}
 use Rattle.std.specs.Prelude.{nat_eq, is_some, ◌&&◌, ◌||◌, if◌then◌else◌}
 use Rattle.std.specs.Option.{option_map}
 use Rattle.rpp_words.specs.declared.input.FieldWord.{FieldWord}
 use Rattle.rpp_words.specs.declared.input.Limits.{Limits}
 use Rattle.rpp_tree.specs.Tree.{Source}
 use Rattle.buddy_book.specs.Place.{count_taken}
-use Rattle.roopl_semantics.specs.Store.{Value, Nil, Head, OfClass, OfInts, OfObjects, Store, Binding, State, main_name, object_at}
+use Rattle.roopl_semantics.specs.Store.{Value, Nil, Head, OfClass, OfInts, OfObjects, Store, State, main_name, object_at}
 use Rattle.roopl_semantics.specs.Value.{Cell, Slot, Part, value_at, read}
 use Rattle.roopl_semantics.specs.Execution.{Setting, exec}
 use Rattle.roopl_semantics.specs.Source.{IsValid, main_body, starting, source}
@@ -19,7 +19,7 @@ use Rattle.roopl_semantics.specs.Layout.{has_plain_head, is_plain_among, is_plai
 use Rattle.roopl_semantics.specs.Walk.{counted}
 use Rattle.roopl_semantics.proofs.MoreFuel.{within_done}
 use Rattle.roopl_semantics.proofs.MainPlace.{class_inside}
-use Rattle.sound_execution.specs.Sound.{head_of, head_named, is_live, name_of, named_fits, Descending, Sound, main_alone}
+use Rattle.sound_execution.specs.Sound.{head_of, head_named, is_live, named_fits, Descending, Sound, main_alone}
 use Rattle.sound_execution.specs.Kept.{MeansSame}
 use Rattle.sound_execution.proofs.Stores.{same_number, here, there}
 use Rattle.sound_execution.proofs.Cells.{typed_of}
@@ -27,9 +27,10 @@ use Rattle.sound_execution.proofs.Runs.{ends_done}
 use Rattle.sound_execution.proofs.Objects.{unheld}
 use Rattle.sound_execution.proofs.Accepted.{knows_classes}
 use Rattle.sound_execution.proofs.Plainness.{program_plain}
-use Rattle.sound_execution.proofs.Starting.{starting_sound, main_text, end_sound}
+use Rattle.sound_execution.proofs.Starting.{starting_sound, main_text, end_sound, no_frame}
 use Rattle.reached_objects.specs.Reached.{is_within, is_rooted, IsClosed, Reaches}
 use Rattle.reached_objects.specs.Ending.{ExecutionReaches, IsReached, EndsReached}
+use Rattle.reached_objects.proofs.Changes.{or_either}
 use Rattle.reached_objects.proofs.Callings.{AllWithin}
 use Rattle.reached_objects.proofs.Reaching.{exec_reaches}
 use Rattle.reached_objects.proofs.Numbering.{is_in, within_more, Numbered, numbers, unmet_one}
@@ -47,21 +48,6 @@ starting_reaches program input = record { all = λ names c n l. by names c n (na
     by : (names : ℕ → Bool) → IsClosed names main_alone (starting program input) → (n : ℕ) → (b : Bool) → nat_eq main_name n ≡ b → is_some (option_map head_of (if b then Some (Rattle.roopl_semantics.specs.Source.main_object program input) else None)) ≡ true → names n ≡ true
     by names c n true e l = ap names (sym (eqb-true main_name n e)) ∙ c.extras main_name (omega arith)
     by names c n false e l = absurd (cc)
-
-no_frame : (frame : List Binding) → map name_of frame ≡ [] → frame ≡ []
-no_frame [] h = refl
-no_frame (b ∷ frame) h = absurd (cc)
-
-or_left : (a b : Bool) → a ≡ true → (a || b) ≡ true
-or_left a b h = ap (λ z. z || b) h
-
-or_right : (a b : Bool) → b ≡ true → (a || b) ≡ true
-or_right true b h = refl
-or_right false b h = h
-
-or_either : (a b : Bool) {A : Type 0} → (a || b) ≡ true → (a ≡ true → A) → (b ≡ true → A) → A
-or_either true b h f g = f refl
-or_either false b h f g = g h
 
 get_within : (names : ℕ → Bool) (vs : List Value) (i : ℕ) → AllWithin names vs → is_within names (Rattle.std.specs.Option.unwrap_or (Rattle.std.proofs.Common.slice_get vs i) Nil) ≡ true
 get_within names [] i h = refl
@@ -187,7 +173,7 @@ ends_reached program limits input fuel end cost accepted inside valid done =
     let kept = end_sound program limits input fuel end cost accepted plain inside valid done in
     let first = starting_sound program limits input inside valid in
     let reaches = ends_done (Reaches main_alone) run end cost
-        ((exec_reaches setting (knows_classes program accepted plain) fuel).by main_alone [] [] (main_of program).class (main_body program) (starting program input) (class_inside program accepted) means text.checked text.plain first (starting_reaches program input))
-        over.is in
+    ((exec_reaches setting (knows_classes program accepted plain) fuel).by main_alone [] [] (main_of program).class (main_body program) (starting program input) (class_inside program accepted) means text.checked text.plain first (starting_reaches program input))
+    over.is in
     let self_is : end.self ≡ main_name = kept.stays.self_same in
     reached_store program limits (main_of program).class end kept.sound (subst (λ k. named_fits program (Rattle.class_table.specs.declared.kind.Kind.TheVariants.Class (main_of program).class) (head_named end.store k) ≡ true) self_is kept.sound.self_is) reaches

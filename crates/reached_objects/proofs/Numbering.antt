@@ -1,6 +1,6 @@
 -- The names that a report numbers are exactly the live ones but for the main object's, where every live object is reached.
 use Rattle.std.proofs.Common.{◌≡◌, ◌≢◌, ◌∙◌, sym, ap, subst, refl, ℕ, zero, suc, ◌+◌, ◌<◌, ◌≤◌, Bool, true, false, List, [], ◌∷◌, ◌++◌, length, Option, Some, None, arith}
-use Rattle.std.proofs.lemmas.Bool.{eqb-true}
+use Rattle.std.proofs.lemmas.Bool.{eqb-true, or_left, or_right, or_parts}
 use Rattle.std.proofs.lemmas.List.{length-append}
 use Rattle.std.proofs.lemmas.List.Folds.{list_any-append}
 use Rattle.std.specs.Prelude.{nat_eq, is_some, ◌||◌, if◌then◌else◌}
@@ -11,28 +11,13 @@ use Rattle.roopl_semantics.specs.Laws.{one_if_name, holders_among, holders}
 use Rattle.roopl_semantics.specs.Report.{newly_met, walked, numbered}
 use Rattle.sound_execution.specs.Sound.{head_of, is_live, Descending}
 use Rattle.sound_execution.proofs.Stores.{same_number, other_number, differs, here, there, none_above, holders_inside}
-use Rattle.reached_objects.proofs.Changes.{clash}
+use Rattle.reached_objects.proofs.Changes.{or_either, clash}
 use Rattle.reached_objects.proofs.Callings.{AllWithin}
 
 -- ---- membership
 
 abbrev pub is_in : List ℕ → ℕ → Bool
 is_in names n = list_any (nat_eq n) names
-
-or_left : (a b : Bool) → a ≡ true → (a || b) ≡ true
-or_left a b h = ap (λ z. z || b) h
-
-or_right : (a b : Bool) → b ≡ true → (a || b) ≡ true
-or_right true b h = refl
-or_right false b h = h
-
-or_none : (a b : Bool) → (a || b) ≡ false → (a ≡ false) × (b ≡ false)
-or_none false b h = (refl, h)
-or_none true b h = absurd (cc)
-
-or_either : (a b : Bool) {A : Type 0} → (a || b) ≡ true → (a ≡ true → A) → (b ≡ true → A) → A
-or_either true b h f g = f refl
-or_either false b h f g = g h
 
 pub in_append : (xs ys : List ℕ) (n : ℕ) → is_in (xs ++ ys) n ≡ (is_in xs n || is_in ys n)
 in_append xs ys n = list_any-append (nat_eq n) xs ys
@@ -69,9 +54,10 @@ new_covers met (Name n ∷ cells) = by (list_any (nat_eq n) met) refl (new_cover
     by : (b : Bool) → list_any (nat_eq n) met ≡ b → AllWithin (is_in (met ++ newly_met met cells)) cells → AllWithin (is_in ((n ∷ met) ++ newly_met (n ∷ met) cells)) cells
         → AllWithin (is_in (met ++ (if b then newly_met met cells else n ∷ newly_met (n ∷ met) cells))) (Name n ∷ cells)
     by true e f g = (in_first met (newly_met met cells) n e, f)
-    by false e f g =
-        (in_second met (n ∷ newly_met (n ∷ met) cells) n (or_left (nat_eq n n) (is_in (newly_met (n ∷ met) cells) n) (same_number n)),
-        within_more (is_in ((n ∷ met) ++ newly_met (n ∷ met) cells)) (is_in (met ++ n ∷ newly_met (n ∷ met) cells)) cells (λ m q. sym (in_moved met (newly_met (n ∷ met) cells) n m) ∙ q) g)
+    by false e f g = (
+      in_second met (n ∷ newly_met (n ∷ met) cells) n (or_left (nat_eq n n) (is_in (newly_met (n ∷ met) cells) n) (same_number n)),
+      within_more (is_in ((n ∷ met) ++ newly_met (n ∷ met) cells)) (is_in (met ++ n ∷ newly_met (n ∷ met) cells)) cells (λ m q. sym (in_moved met (newly_met (n ∷ met) cells) n m) ∙ q) g,
+    )
 
 pub new_held : (met : List ℕ) (cells : List Value) (m : ℕ) → is_in (newly_met met cells) m ≡ true → 0 < holders_among m cells
 new_held met [] m h = absurd (cc)
@@ -191,7 +177,7 @@ walks bound store d live (suc steps) met (name ∷ pending) w h =
     done n a b true e = subst (λ k. AllWithin (is_in (met ++ newly_met met (object_at store name).cells)) (object_at store k).cells) (sym (eqb-true n name e)) (new_covers met (object_at store name).cells)
     done n a b false e =
         let new = newly_met met (object_at store name).cells in
-        let outside = or_none (is_in pending n) (is_in new n) (sym (in_append pending new n) ∙ b) in
+        let outside = or_parts (is_in pending n) (is_in new n) (sym (in_append pending new n) ∙ b) in
         let in_met = or_either (is_in met n) (is_in new n) (sym (in_append met new n) ∙ a) (λ q. q) (λ q. absurd (clash (is_in new n) q outside.1)) in
         within_more (is_in met) (is_in (met ++ new)) (object_at store n).cells (λ m q. in_first met new m q) (w.done n in_met (ap (λ z. z || is_in pending n) e ∙ outside.0))
 

@@ -1,5 +1,6 @@
 -- Each form of statement keeps every live object reached, where the blocks inside it do.
 use Rattle.std.proofs.Common.{◌≡◌, ◌∙◌, sym, ap, subst, refl, ℕ, zero, suc, ◌+◌, ◌<◌, Bool, true, false, List, [], ◌∷◌, map, length, Some, None, arith}
+use Rattle.std.proofs.lemmas.Bool.{or_left}
 use Rattle.std.proofs.lemmas.List.{length-map, length-replicate}
 use Rattle.std.specs.Prelude.{nat_eq, nat_lt, is_none, not, ◌&&◌, ◌||◌, ◌++◌, if◌then◌else◌, replicate, Ok}
 use Rattle.std.specs.Option.{unwrap_or}
@@ -40,14 +41,14 @@ use Rattle.class_table.proofs.PassedRules.{handed_on, both_passed, held as was_h
 use Rattle.sound_execution.proofs.Values.{int_value, cell_found, place_fits}
 use Rattle.sound_execution.proofs.Writes.{nil_is}
 use Rattle.sound_execution.proofs.Blocks.{KeepsAll}
-use Rattle.sound_execution.proofs.Locals.{IsLocalEnd, HoldsNone, begins, ends_with, means_under, opened_sound, same_value_is}
+use Rattle.sound_execution.proofs.Locals.{passes_not, IsLocalEnd, HoldsNone, begins, ends_with, means_under, opened_sound, same_value_is}
 use Rattle.sound_execution.proofs.Objects.{bigger, bigger_typed, cell_bigger, read_bigger}
 use Rattle.sound_execution.proofs.Removal.{reference, one_name, not_less}
 use Rattle.sound_execution.proofs.Makes.{zeros_fit, same_fit, made_place, no_int_takes, name_is, copy_parts}
 use Rattle.sound_execution.proofs.Calls.{apart_after, all_apart_after, all_mean, args_have, apart_cells, all_apart_cells, all_own_cells, meant_own, call_parts, receiver_parts}
 use Rattle.reached_objects.specs.Reached.{is_within, Reaches}
 use Rattle.reached_objects.proofs.Rooted.{IsVisible, visible}
-use Rattle.reached_objects.proofs.Changes.{opened_reaches, closed_reaches, write_reaches, swap_reaches}
+use Rattle.reached_objects.proofs.Changes.{cell_turned, opened_reaches, closed_reaches, write_reaches, swap_reaches}
 use Rattle.reached_objects.proofs.Creations.{grown_reaches, shrunk_reaches, copy_reaches, uncopy_reaches}
 use Rattle.reached_objects.proofs.Callings.{ReachesAll, ends_both, invoked_reaches}
 
@@ -55,10 +56,6 @@ none_within : (names : ℕ → Bool) (v : Value) → HoldsNone v → is_within n
 none_within names (Word w) h = refl
 none_within names Nil h = refl
 none_within names (Name n) h = absurd (let a = h n in let b = one_name n in omega arith)
-
-passes_not : (b : Bool) → not b ≡ false → b ≡ true
-passes_not true h = refl
-passes_not false h = absurd (cc)
 
 module _ (setting : Setting) (classes : KnowsClasses setting.program) (run : Runner) (keeps : KeepsAll setting run) (reaches : ReachesAll setting run) (extra : ℕ → ℕ) (locals shape : Locals) (class : ℕ) (inside : class < length setting.program.classes) (means : MeansSame locals shape) where
   abbrev program : Source
@@ -308,17 +305,6 @@ module _ (setting : Setting) (classes : KnowsClasses setting.program) (run : Run
       ends_check Good not_nil_fault (not (is_nil (read st b))) end (λ z.
       copy_reaches setting extra shape class st b (read st a) (number_of (read st a)) (nil_is (read st b) z) r)))))
 
-  cell_turned : (a b : Cell) → same_cell a b ≡ false → same_cell b a ≡ false
-  cell_turned a b e = by (same_cell b a) refl
-    where
-      itself : (c : Cell) → same_cell c c ≡ true
-      itself (Slot i) = Rattle.sound_execution.proofs.Stores.same_number i
-      itself (Rattle.roopl_semantics.specs.Value.Part n i) = ap (λ b. b && nat_eq i i) (Rattle.sound_execution.proofs.Stores.same_number n) ∙ Rattle.sound_execution.proofs.Stores.same_number i
-
-      by : (s : Bool) → same_cell b a ≡ s → same_cell b a ≡ false
-      by false q = q
-      by true q = absurd (Rattle.reached_objects.proofs.Changes.clash (same_cell a b) (ap (λ c. same_cell a c) (Rattle.sound_execution.proofs.AfterWrites.same_cell_is b a q) ∙ itself a) e)
-
   pub uncopy_reached : (n at : ℕ) (of_type : VarType) (source target : Lvalue) (st : State) → copy_rules typing locals at of_type source target ≡ passed → IsSound st → Good st → Ends Good (statement setting n run (Uncopy at of_type source target) st)
   uncopy_reached n at of_type source target st h s r =
       let p = copy_parts setting classes run extra locals shape class inside means at of_type source target h in
@@ -362,9 +348,6 @@ module _ (setting : Setting) (classes : KnowsClasses setting.program) (run : Run
         object = object.head;
         self_held = let a = s.self_held in omega arith;
       }) r)))
-
-  or_left : (a b : Bool) → a ≡ true → (a || b) ≡ true
-  or_left a b h = ap (λ z. z || b) h
 
   pub call_object_reached : (n at : ℕ) (back : Bool) (name method : Ident) (args : List Ident) (st : State) → call_rules typing locals at (Some (Whole name)) method args ≡ passed → IsSound st → Good st → Ends Good (statement setting n run (Call at back (Some (Whole name)) method args) st)
   call_object_reached n at back name method args st h s z =

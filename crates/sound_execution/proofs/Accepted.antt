@@ -10,8 +10,7 @@ use Rattle.std.specs.Str.{bytes_eq}
 use Rattle.rpp_tree.specs.Tree.{Procedure, ClassText, Source}
 use Rattle.rpp_tree.specs.Limits.{IsSmallMethod}
 use Rattle.class_table.specs.declared.method.MethodId.{MethodId}
-use Rattle.class_table.specs.Chains.{parents, parent_named, chain, chain_of, line_of}
-use Rattle.class_table.specs.Rules.{class_names}
+use Rattle.class_table.specs.Chains.{parents, chain_of, line_of}
 use Rattle.class_table.specs.Members.{Slots, class_at, no_procedure, slots_of, slots_along}
 use Rattle.class_table.specs.Overrides.{parameters_of, run_at}
 use Rattle.class_table.specs.Classes.{class_slots, method_slot, dispatch, procedure_at, method_named, inherits}
@@ -20,13 +19,13 @@ use Rattle.class_table.specs.Statements.{passed, in_turn, each_passes}
 use Rattle.class_table.specs.Program.{check_method, setting_in, check_class, check_classes, IsAccepted}
 use Rattle.class_table.proofs.Tables.{table_reads}
 use Rattle.class_table.proofs.Numbers.{length-each_below}
-use Rattle.class_table.proofs.ChainEnds.{parent, parents_in, nothing_on}
+use Rattle.class_table.proofs.ChainEnds.{parents_in}
 use Rattle.class_table.specs.Inheritance.{is_or_inherits, kind_of_var}
 use Rattle.sound_execution.specs.Plain.{IsPlain, ProgramIsPlain}
 use Rattle.class_table.proofs.FirstPlaces.{position_before}
 use Rattle.class_table.proofs.PassedRules.{both_passed}
 use Rattle.sound_execution.proofs.Classes.{IsFound, KnowsClasses}
-use Rattle.class_table.proofs.ClassLines.{on, in_range, own_line, inherits_parts, inherits_inside, front_fields, is_through, on_line_above}
+use Rattle.class_table.proofs.ClassLines.{in_range, own_line, inherits_parts, inherits_inside, front_fields, is_through, on_line_above}
 use Rattle.class_table.proofs.InheritedSlots.{overrides_fit, class_there, longer, there_at, run_is, AreEntries, entries_along, extends_own, slot_name}
 
 -- ---- every method is checked and plain

@@ -1,9 +1,9 @@
 -- Calls keep a state sound.
 use Rattle.std.proofs.Common.{◌≡◌, ◌∙◌, sym, ap, subst, refl, ℕ, ◌<◌, Bool, true, false, List, [], ◌∷◌, ◌++◌, map, length, get_or, Option, Some, None, arith}
-use Rattle.std.proofs.lemmas.Bool.{eqb-true}
+use Rattle.std.proofs.lemmas.Bool.{eqb-true, or_left, or_right}
 use Rattle.std.proofs.lemmas.List.Quantifiers.{position-Some}
 use Rattle.std.proofs.lemmas.List.Folds.{list_any-append}
-use Rattle.std.specs.Prelude.{nat_eq, is_some, not, ◌&&◌, ◌||◌, if◌then◌else◌, Ok, Err, position}
+use Rattle.std.specs.Prelude.{nat_eq, is_some, not, ◌&&◌, if◌then◌else◌, Ok, Err, position}
 use Rattle.std.specs.Option.{unwrap_or, is_none}
 use Rattle.std.specs.Str.{bytes_eq}
 use Rattle.std.specs.List.{list_any}
@@ -60,13 +60,6 @@ AllNamesApart (a ∷ args) = NamesApart a args × AllNamesApart args
 not_true : (b : Bool) → not b ≡ true → b ≡ false
 not_true true h = absurd (cc)
 not_true false h = refl
-
-pub or_left : (a b : Bool) → a ≡ true → (a || b) ≡ true
-or_left a b h = ap (λ z. z || b) h
-
-or_right : (a b : Bool) → b ≡ true → (a || b) ≡ true
-or_right true b h = refl
-or_right false b h = h
 
 still_in : (before : List Ident) (a : Ident) (name : List ℕ) → name_in before name ≡ true → name_in (before ++ a ∷ []) name ≡ true
 still_in before a name h = list_any-append (λ (other : Ident). bytes_eq other.text name) before (a ∷ []) ∙ or_left (name_in before name) _ h

@@ -1,9 +1,9 @@
 -- Blocks through the requests of a run.
-use Rattle.std.proofs.Common.{◌≡◌, ◌≢◌, ◌∙◌, sym, ap, subst, refl, ℕ, zero, suc, ◌+◌, ◌-◌, ◌*◌, ◌^◌, ◌<◌, ◌≤◌, Bool, true, false, List, [], ◌∷◌, ◌++◌, map, length, Option, Some, None, arith}
+use Rattle.std.proofs.Common.{◌≡◌, ◌≢◌, ◌∙◌, sym, ap, refl, ℕ, ◌+◌, ◌^◌, ◌<◌, ◌≤◌, Bool, true, false, List, [], ◌∷◌, ◌++◌, map, length, Option, Some, None, arith}
 use Rattle.std.proofs.lemmas.Bool.{eqb-true}
-use Rattle.std.specs.Prelude.{nat_eq, nat_lt, nat_le, is_none, is_some, if◌then◌else◌}
+use Rattle.std.specs.Prelude.{nat_eq, is_none, is_some, if◌then◌else◌}
 use Rattle.std.specs.Option.{option_map}
-use Rattle.buddy_book.specs.Book.{Book, order_from, upper_half, take_first, below_taken, take_past, take, lower_half, merged, give_first, give_past, give}
+use Rattle.buddy_book.specs.Book.{Book, take, give}
 use Rattle.buddy_book.specs.Place.{Taken, Given, Log, Placing, block_of, without_name, with_block, after_request, place}
 use Rattle.buddy_book.specs.Shown.{Shown, TakenBlocks, order_in, with_taken, without_taken}
 use Rattle.buddy_book.proofs.Table.{order_in-with}

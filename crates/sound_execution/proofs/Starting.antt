@@ -1,5 +1,5 @@
 -- The start of a run is sound, and so is its end: counts are references.
-use Rattle.std.proofs.Common.{◌≡◌, ◌≢◌, ◌∙◌, sym, ap, subst, refl, ℕ, zero, suc, ◌+◌, ◌-◌, ◌*◌, ◌^◌, ◌<◌, ◌≤◌, Bool, true, false, List, [], ◌∷◌, map, length, Some, None, arith, slice_get, slice_set}
+use Rattle.std.proofs.Common.{◌≡◌, ◌≢◌, ◌∙◌, sym, ap, subst, refl, ℕ, zero, suc, ◌+◌, ◌^◌, ◌<◌, Bool, true, false, List, [], ◌∷◌, map, length, Some, None, arith, slice_get, slice_set}
 use Rattle.std.proofs.lemmas.Bool.{eqb-true}
 use Rattle.std.specs.Prelude.{nat_eq, is_some, IsTrue, All, ◌||◌, if◌then◌else◌}
 use Rattle.std.specs.Option.{unwrap_or, option_map}
@@ -197,7 +197,7 @@ end_sound program limits input fuel end cost accepted plain inside valid e =
     ((exec_keeps setting (knows_classes program accepted plain) fuel).by main_alone [] [] (main_of program).class (main_body program) (starting program input) (class_inside program accepted) means text.checked text.plain (starting_sound program limits input inside valid))
     over.is
 
-no_frame : (frame : List Binding) → map name_of frame ≡ [] → frame ≡ []
+pub no_frame : (frame : List Binding) → map name_of frame ≡ [] → frame ≡ []
 no_frame [] h = refl
 no_frame (b ∷ frame) h = absurd (cc)
 

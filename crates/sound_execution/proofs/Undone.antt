@@ -1,28 +1,22 @@
 -- The inverse of a checked block is checked, and plain where the block is.
 use Rattle.std.proofs.Common.{◌≡◌, ◌∙◌, sym, ap, subst, refl, ℕ, Bool, true, false, ◌∷◌}
-use Rattle.std.specs.Prelude.{is_some, not, ◌&&◌, ◌||◌, if◌then◌else◌}
+use Rattle.std.proofs.lemmas.Bool.{and_from}
+use Rattle.std.specs.Prelude.{not, ◌&&◌, ◌||◌, if◌then◌else◌}
 use Rattle.std.specs.Option.{is_none}
 use Rattle.std.specs.Str.{bytes_eq}
-use Rattle.rpp_tree.specs.declared.tree.Ident.{Ident}
 use Rattle.rpp_tree.specs.declared.tree.Var.{Var}
-use Rattle.rpp_tree.specs.declared.tree.VarType.{VarType}
-use Rattle.rpp_tree.specs.declared.tree.VarType.TheVariants as type
 use Rattle.rpp_tree.specs.Tree.{Expression, Statement, Statements, Update, Swap, If, From, Construct, Local, New, Delete, Copy, Uncopy, Call, Skip, End, Then, joined}
 use Rattle.class_table.specs.declared.kind.Kind.{Kind}
 use Rattle.class_table.specs.Overrides.{is_type_int, same_type}
-use Rattle.class_table.specs.Table.{Table, class_of}
 use Rattle.class_table.specs.Refusal.{type_differs, redeclared, local_in_own_expression}
-use Rattle.class_table.specs.Scope.{Setting, Locals, local_kind, kind_of, class_kind, array_kind}
+use Rattle.class_table.specs.Scope.{Setting, Locals, local_kind, kind_of}
 use Rattle.class_table.specs.Expressions.{is_int, type_of, occurs, first_token}
-use Rattle.class_table.specs.Statements.{passed, required, in_turn, test_rules, class_known, type_known, is_nil_word, local_rules, construct_rules, with_local, with_object, check_statement, check_statements}
+use Rattle.class_table.specs.Statements.{passed, required, in_turn, test_rules, type_known, is_nil_word, local_rules, construct_rules, with_local, with_object, check_statement, check_statements}
 use Rattle.stmt_inverter.specs.Inverse.{inverse_statement_as, inverse_as, inverse}
 use Rattle.class_table.proofs.SameTypes.{types_same}
 use Rattle.sound_execution.specs.Plain.{StatementIsPlain, IsPlain}
 use Rattle.class_table.proofs.PassedRules.{both_passed, in_turn_passes, held, required_passes, handed_on, hands_on, both_true}
 use Rattle.class_table.proofs.FirstPlaces.{same_name, bytes_turned}
-
-both_hold : (a b : Bool) → a ≡ true → b ≡ true → (a && b) ≡ true
-both_hold a b e f = ap (λ z. z && b) e ∙ f
 
 or_turned : (a b : Bool) → (a || b) ≡ (b || a)
 or_turned true true = refl
@@ -77,7 +71,7 @@ local_turned setting locals at var value end_var end_value h =
       rules =
           in_turn_passes (type_known setting.table end_var.kind) _ (types.known a.0)
           (in_turn_passes (required (is_none (local_kind locals end_var.name.text)) (redeclared end_var.name.at)) _ (required_passes _ _ (ap (λ n. is_none (local_kind locals n)) (sym name) ∙ held _ _ b.0))
-          (in_turn_passes (required (same_type end_var.kind var.kind && bytes_eq end_var.name.text var.name.text) (type_differs var.name.at)) _ (required_passes _ _ (both_hold _ _ types.turned (bytes_turned end_var.name.text var.name.text ∙ sames.1)))
+          (in_turn_passes (required (same_type end_var.kind var.kind && bytes_eq end_var.name.text var.name.text) (type_differs var.name.at)) _ (required_passes _ _ (and_from _ _ types.turned (bytes_turned end_var.name.text var.name.text ∙ sames.1)))
           (in_turn_passes (required (not (occurs end_var.name.text end_value || occurs end_var.name.text value)) (local_in_own_expression at)) _
           (required_passes _ _ (ap (λ n. not (occurs n end_value || occurs n value)) (sym name) ∙ ap not (or_turned (occurs var.name.text end_value) (occurs var.name.text value)) ∙ held _ _ d.0))
           (hands_on (type_of setting locals end_value) _ e.value passed e.is (hands_on (type_of setting locals value) _ v.value passed v.is

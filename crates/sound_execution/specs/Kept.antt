@@ -49,4 +49,4 @@ EndIsSound =
     → IsAccepted program → IsLimits limits → IsValid program input
     → source program limits input fuel ≡ Done end cost
     → Keeps (record { program = program; limits = limits }) main_alone [] (main_of program).class
-        (starting program input) end
+    (starting program input) end

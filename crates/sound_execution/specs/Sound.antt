@@ -1,7 +1,6 @@
 -- What every state of a run of an accepted program keeps: types of values, counts, names and blocks.
 use Rattle.std.specs.Prelude.{◌≡◌, ◌≢◌, ◌<◌, ◌^◌, ℕ, ◌+◌, Bool, true, false, not, ◌&&◌, nat_eq, nat_lt, is_some, if◌then◌else◌, List, [], ◌∷◌, ◌++◌, map, length, replicate, slice_get, Option, Some, None}
 use Rattle.std.specs.Option.{option_map}
-use Rattle.rpp_tree.specs.declared.tree.Var.{Var}
 use Rattle.rpp_tree.specs.Tree.{Source}
 use Rattle.class_table.specs.declared.kind.Kind.{Kind}
 use Rattle.class_table.specs.declared.kind.Kind.TheVariants as kind
