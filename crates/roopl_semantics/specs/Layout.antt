@@ -7,6 +7,7 @@ use Rattle.rpp_tree.specs.Tree.{Source}
 use Rattle.class_table.specs.First.{each_below}
 use Rattle.class_table.specs.Classes.{class_slots}
 use Rattle.buddy_book.specs.Book.{Book}
+pub use Rattle.buddy_book.specs.Shown.{first_address}
 use Rattle.buddy_book.specs.Place.{Log, Placing, block_of, place}
 use Rattle.roopl_semantics.specs.Store.{Value, Word, Nil, Name, Head, OfClass, OfInts, OfObjects, Object, Store, main_name, object_at}
 use Rattle.roopl_semantics.specs.Source.{main_of, main_fields}
@@ -63,11 +64,6 @@ head_word program (OfObjects class length) = length
 abbrev pub object_words : Source → ℕ → List (ℕ × ℕ) → Object → List ℕ
 object_words program base blocks object = head_word program object.head ∷ object.count ∷ map (word_of base blocks) object.cells
 
--- the address of the first block of a list, or 0
-abbrev pub first_address : ℕ → List ℕ → ℕ
-first_address base [] = 0
-first_address base (block ∷ free) = base + block
-
 -- the first word of each free block of a list is the address of the next
 abbrev pub with_links : ℕ → List ℕ → List ℕ → List ℕ
 with_links base [] words = words
@@ -95,15 +91,19 @@ static_words program base blocks statics store =
     let main = object_words program base blocks (object_at store main_name) in
     main ++ drop (length main) statics
 
--- the memory over these static cells, with the blocks where they are placed
-abbrev pub placed_layout : Source → Limits → List ℕ → Store → Placing → List ℕ
-placed_layout program limits statics store placing =
+-- the memory over these static cells, with the blocks where they are placed and these words of the stack
+abbrev pub laid : Source → Limits → List ℕ → Store → Placing → List ℕ → List ℕ
+laid program limits statics store placing stack =
     let base = heap_base limits.heap (length statics) in
     fixed_cells limits.heap limits.deep base (map (first_address base) placing.book)
     ++ static_words program base placing.blocks statics store
     ++ replicate (base - statics_at - length statics) 0
     ++ heap_words program (2 ^ limits.heap) base store placing
-    ++ replicate (512 * limits.deep) 0
+    ++ stack
+
+-- with nothing on the stack
+abbrev pub placed_layout : Source → Limits → List ℕ → Store → Placing → List ℕ
+placed_layout program limits statics store placing = laid program limits statics store placing (replicate (512 * limits.deep) 0)
 
 abbrev pub no_placing : Placing
 no_placing = record { book = []; blocks = [] }
