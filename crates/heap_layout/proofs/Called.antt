@@ -24,7 +24,7 @@ use Rattle.buddy_pisa.specs.Promise.{Enters, Asks}
 use Rattle.buddy_pisa.specs.Called.{Took, took, Gave, gave, Lacked, lacked, CallLaw}
 use Rattle.buddy_pisa.proofs.Calling.{calls_law}
 use Rattle.heap_layout.specs.Laid.{StandApart}
-use Rattle.heap_layout.specs.Calls.{LeavesIn, leaves_in, TrapsFull, traps_full, Calls, LaidCallLaw, LaidCallsLaw}
+use Rattle.heap_layout.specs.Calls.{LeavesIn, leaves_in, TrapsFull, traps_full, Calls, LaidCallsLaw}
 use Rattle.heap_layout.proofs.Overlays.{FitLists, book_other}
 use Rattle.heap_layout.proofs.Whole.{objects_beside, counted, layout_law, laid_heap}
 use Rattle.heap_layout.proofs.Left.{taken_law, given_law}

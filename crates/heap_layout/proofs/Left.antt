@@ -1,11 +1,11 @@
 -- What the allocator leaves is laid over the book that it left.
-use Rattle.std.proofs.Common.{◌≡◌, ◌≢◌, ◌∙◌, ℕ, zero, suc, ◌+◌, ◌-◌, ◌*◌, ◌^◌, ◌<◌, ◌≤◌, ◌⊎◌, inl, inr, Bool, true, false, List, [], ◌∷◌, ◌++◌, length, refl, sym, ap, subst, arith, get_or, map, replicate, nat_lt, nat_eq, ltb-true, ltb-false, eqb-true, false-eqb, Option, Some, None}
+use Rattle.std.proofs.Common.{◌≡◌, ◌≢◌, ◌∙◌, ℕ, zero, suc, ◌+◌, ◌-◌, ◌^◌, ◌<◌, ◌≤◌, ◌⊎◌, inl, inr, Bool, true, false, List, [], ◌∷◌, ◌++◌, length, refl, sym, ap, subst, arith, get_or, map, replicate, nat_lt, nat_eq, ltb-true, ltb-false, eqb-true, false-eqb}
 use Rattle.std.proofs.lemmas.List.{get_or_append_left, length-append, length-replicate, get_or-replicate, length-map}
 use Rattle.std.proofs.Math.Seq.{get_or-append_right}
 use Rattle.rpp_words.specs.declared.input.Limits.{Limits}
 use Rattle.rpp_tree.specs.Tree.{Source}
 use Rattle.pisa_isa.specs.Loaded.{statics_at, heap_base, fixed_cells}
-use Rattle.buddy_book.specs.Book.{Book, take_past, take, lower_half, merged, give_first, give_past, give}
+use Rattle.buddy_book.specs.Book.{Book, give}
 use Rattle.buddy_book.specs.Shown.{with_taken, without_taken, weight, Shown, cover, first_address}
 use Rattle.buddy_book.specs.Place.{Placing}
 use Rattle.buddy_book.proofs.Orders.{take_took, give_gave}
@@ -14,8 +14,6 @@ use Rattle.roopl_semantics.specs.Store.{Store, object_at, main_name}
 use Rattle.roopl_semantics.specs.Layout.{overlaid, object_words, with_book, with_objects, heap_words, static_words, laid}
 use Rattle.buddy_pisa.specs.Held.{AllZero, HoldsBook, IsOther}
 use Rattle.buddy_pisa.proofs.Keeping.{one_memory}
-use Rattle.buddy_pisa.proofs.Orders.{split_at, took_above, give_above_is}
-use Rattle.buddy_pisa.proofs.Taking.{take_length}
 use Rattle.buddy_pisa.proofs.Promised.{take_low}
 use Rattle.heap_layout.specs.Laid.{StandApart, TakenLaw, GivenLaw}
 use Rattle.heap_layout.proofs.Overlays.{overlaid_length, overlaid_before, overlaid_in, overlaid_after, FitLists, book_other}

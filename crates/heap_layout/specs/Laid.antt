@@ -23,7 +23,7 @@ StandApart program size base store all [] book = Unit {0}
 StandApart program size base store all ((name, block) ∷ rest) book =
     (block + words_of program base store all name ≤ size)
     × ((x : ℕ) → block ≤ x → x < block + words_of program base store all name
-      → weight (cover x) 2 book ≡ 0)
+    → weight (cover x) 2 book ≡ 0)
     × StandApart program size base store all rest book
 
 -- the same of the blocks of a run, in the heap of these limits, with a book
@@ -67,7 +67,7 @@ TakenLaw = (program : Source) (limits : Limits) (statics : List ℕ) (store : St
     → ChangesList (heap_base limits.heap (length statics)) limits.heap k placing.book
     (laid program limits statics store placing stack) cells
     → cells ≡ laid program limits statics store
-        (record { book = after; blocks = placing.blocks }) stack
+    (record { book = after; blocks = placing.blocks }) stack
 
 -- and so it is with a give, where no object's words stand in the block
 abbrev pub GivenLaw : Type 0
