@@ -1,10 +1,9 @@
 -- The calls of pieces that make the routine.
 use Rattle.std.proofs.Common.{List, [], ◌∷◌, refl}
 use Rattle.pisa_isa.specs.declared.cell.Cell.{Cell}
-use Rattle.paired_code.specs.Closed.{Shape, Nothing, One, Then, Turned, Loop, Check, IsMade}
+use Rattle.paired_code.specs.Closed.{Shape, Nothing, One, Then, Turned, Loop, Check, IsMade, HasShape}
 use Rattle.paired_code.proofs.Undone.{AllPlain}
 use Rattle.buddy_pisa.specs.declared.rows.TheConstants.{FLAG, ZERO, HEAP_FULL}
-use Rattle.buddy_pisa.specs.Promise.{HasShape}
 use Rattle.buddy_pisa.specs.Rows.{limits_row, over_row, order_row, bottom_row, first_row, some_row, up_row, above_row, take_row, merge_row, apart_row, half_row, allocator_cells}
 use Rattle.buddy_pisa.proofs.Flags.{plain_limits, plain_over, plain_order, plain_bottom, plain_first, plain_some, plain_up, plain_above, plain_take, plain_merge, plain_apart, plain_half}
 

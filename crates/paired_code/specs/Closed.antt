@@ -48,6 +48,12 @@ abbrev pub AllMade : List Shape → Type 0
 AllMade [] = Unit {0}
 AllMade (s ∷ ss) = IsMade s × AllMade ss
 
+-- cells that the calls make
+pub record HasShape (cells : List Symbol) : Type 0 where
+  pub shape : Shape
+  pub is : cells_of_shape shape ≡ cells
+  pub made : IsMade shape
+
 -- the routines of an image: how many, where each begins, and its body
 pub record Routines : Type 0 where
   pub count : ℕ
