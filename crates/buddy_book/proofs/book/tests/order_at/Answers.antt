@@ -1,4 +1,4 @@
-use Rattle.std.proofs.Common.{◌≡◌, ◌+◌, ◌-◌, ◌*◌, ◌/◌, arith}
+use Rattle.std.proofs.Common.{arith}
 use Rattle.buddy_book.proofs.BookProofs.{taken_of_index}
 use Rattle.buddy_book.proofs.book.tests.order_at.Goals as goal
 
