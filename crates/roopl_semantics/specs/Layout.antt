@@ -8,11 +8,7 @@ use Rattle.rpp_tree.specs.Tree.{Source}
 use Rattle.class_table.specs.First.{each_below}
 use Rattle.class_table.specs.Classes.{class_slots}
 use Rattle.buddy_book.specs.Book.{Book}
-<<<<<<< HEAD
 use Rattle.buddy_book.specs.Shown.{first_address}
-=======
-pub use Rattle.buddy_book.specs.Shown.{first_address}
->>>>>>> 0ee922b5808a2bf1ed4f0306d703cfd3f4fd9ab6
 use Rattle.buddy_book.specs.Place.{Log, Placing, block_of, place}
 use Rattle.roopl_semantics.specs.Store.{Value, Word, Nil, Name, Head, OfClass, OfInts, OfObjects, Object, Store, main_name, object_at}
 use Rattle.roopl_semantics.specs.Source.{main_fields}
@@ -105,15 +101,12 @@ laid program limits statics store placing stack =
     ++ static_words program base placing.blocks statics store
     ++ replicate (base - statics_at - length statics) 0
     ++ heap_words program (2 ^ limits.heap) base store placing
-<<<<<<< HEAD
-    ++ replicate (FRAME_WORDS * limits.deep) 0
-=======
     ++ stack
 
 -- with nothing on the stack
 abbrev pub placed_layout : Source → Limits → List ℕ → Store → Placing → List ℕ
-placed_layout program limits statics store placing = laid program limits statics store placing (replicate (512 * limits.deep) 0)
->>>>>>> 0ee922b5808a2bf1ed4f0306d703cfd3f4fd9ab6
+placed_layout program limits statics store placing =
+    laid program limits statics store placing (replicate (FRAME_WORDS * limits.deep) 0)
 
 abbrev pub no_placing : Placing
 no_placing = record { book = []; blocks = [] }
