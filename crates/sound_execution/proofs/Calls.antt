@@ -1,6 +1,7 @@
 -- Calls keep a state sound.
 use Rattle.std.proofs.Common.{◌≡◌, ◌∙◌, sym, ap, subst, refl, ℕ, ◌<◌, Bool, true, false, List, [], ◌∷◌, ◌++◌, map, length, get_or, Option, Some, None, arith}
-use Rattle.std.proofs.lemmas.Bool.{eqb-true, or_left, or_right}
+use Rattle.std.proofs.lemmas.Bool.{eqb-true, or_right}
+pub use Rattle.std.proofs.lemmas.Bool.{or_left}
 use Rattle.std.proofs.lemmas.List.Quantifiers.{position-Some}
 use Rattle.std.proofs.lemmas.List.Folds.{list_any-append}
 use Rattle.std.specs.Prelude.{nat_eq, is_some, not, ◌&&◌, if◌then◌else◌, Ok, Err, position}
@@ -19,8 +20,7 @@ use Rattle.class_table.specs.Table.{table_of, slot_in, dispatch_in}
 use Rattle.class_table.specs.Refusal.{unknown_name, type_differs, same_argument, wrong_arity, self_update}
 use Rattle.class_table.specs.Scope.{Setting as Typing, Locals, kind_of, kind_in}
 use Rattle.class_table.specs.Expressions.{place_type}
-use Rattle.class_table.specs.Statements.{passed, required, each_passes, each_passes_after, occurs_in_own_index, argument_known, argument_new, argument_fits, arguments_fit, receiver_kind, place_class, receiver_class, plain_receiver, slot_rules, call_rules}
-use Rattle.rpp_tree.specs.Places.{place_name}
+use Rattle.class_table.specs.Statements.{passed, required, each_passes, each_passes_after, place_name, occurs_in_own_index, argument_known, argument_new, argument_fits, arguments_fit, receiver_kind, place_class, receiver_class, plain_receiver, slot_rules, call_rules}
 use Rattle.class_table.specs.Program.{setting_in}
 use Rattle.roopl_semantics.specs.Run.{Run, ◌>>=◌, give}
 use Rattle.roopl_semantics.specs.Store.{State, number_of, is_nil}
