@@ -19,7 +19,7 @@ use Rattle.buddy_book.proofs.Orders.{give_gave}
 use Rattle.buddy_book.proofs.Kept.{cover-additive, given_back}
 use Rattle.roopl_semantics.specs.Store.{Store}
 use Rattle.roopl_semantics.specs.Layout.{with_book, heap_words, laid}
-use Rattle.buddy_pisa.specs.Held.{AllZero, HoldsBook}
+use Rattle.buddy_pisa.specs.Held.{AllZero, HoldsBook, ChangesList}
 use Rattle.buddy_pisa.specs.Promise.{Enters, Asks}
 use Rattle.buddy_pisa.specs.Called.{Took, took, Gave, gave, Lacked, lacked, CallLaw}
 use Rattle.buddy_pisa.proofs.Calling.{calls_law}
@@ -28,6 +28,7 @@ use Rattle.heap_layout.specs.Calls.{LeavesIn, leaves_in, TrapsFull, traps_full, 
 use Rattle.heap_layout.proofs.Overlays.{FitLists, book_other}
 use Rattle.heap_layout.proofs.Whole.{objects_beside, counted, layout_law, laid_heap}
 use Rattle.heap_layout.proofs.Left.{taken_law, given_law}
+use Rattle.buddy_book.proofs.Table.{taken_weight-without}
 
 -- the book of a placing, and its taken blocks
 abbrev book_of : Limits → List ℕ → Placing → TakenBlocks → Shown
@@ -57,7 +58,7 @@ module _ (im : Image) (r top : ℕ) (body : List Symbol) (m : Memory) (program :
 
   take_ends : (block : ℕ) (later : Book) → take placing.book k ≡ Some (block, later) → (o : Outcome) → Took m book k block later o → LeavesIn (record (with_reg m 13 (base + block)) { cells = laid program limits statics store (record { book = later; blocks = placing.blocks }) stack }) h o
   take_ends block later t o (took cells steps some few held zero changes) =
-      let is = taken_law program limits statics store placing taken stack k block later cells c.placed from t held zero (subst (λ z. Rattle.buddy_pisa.specs.Held.ChangesList base h k placing.book z cells) c.cells changes) in
+      let is = taken_law program limits statics store placing taken stack k block later cells c.placed from t held zero (subst (λ z. ChangesList base h k placing.book z cells) c.cells changes) in
       subst (λ z. LeavesIn (record (with_reg m 13 (base + block)) { cells = z }) h (Done (record (with_reg m 13 (base + block)) { cells = cells }) steps)) is (leaves_in steps some few)
 
   laid_takes : (block : ℕ) (later : Book) → xor kind d ≡ false → Enters m k 0 → take placing.book k ≡ Some (block, later) → Will im (Enter r kind ∷ []) d m (LeavesIn (record (with_reg m 13 (base + block)) { cells = laid program limits statics store (record { book = later; blocks = placing.blocks }) stack }) h)
@@ -85,7 +86,7 @@ module _ (im : Image) (r top : ℕ) (body : List Symbol) (m : Memory) (program :
       let inside : x < 2 ^ h = omega arith in
       let w = gave.weights (cover x) (cover-additive x) in
       let total = kept.balanced (cover x) (cover-additive x) in
-      let without = Rattle.buddy_book.proofs.Table.taken_weight-without (cover x) block k taken t in
+      let without = taken_weight-without (cover x) block k taken t in
       let one : cover x block (2 ^ k) ≡ 1 = covered x block (2 ^ k) (omega arith) (omega arith) in
       let none : weight (cover x) 2 placing.book ≡ 0 = omega arith in
       let zeros : List ℕ = replicate (2 ^ h) 0 in
@@ -103,7 +104,7 @@ module _ (im : Image) (r top : ℕ) (body : List Symbol) (m : Memory) (program :
   give_ends block t apart o (gave cells steps some few held changes) =
       let same : base + block - base ≡ block = omega arith in
       let held2 : HoldsBook base h (give placing.book k block) cells = subst (λ z. HoldsBook base h (give placing.book k z) cells) same held in
-      let changes2 = subst (λ z. Rattle.buddy_pisa.specs.Held.ChangesList base h k (give placing.book k block) z cells) c.cells (subst (λ z. Rattle.buddy_pisa.specs.Held.ChangesList base h k (give placing.book k z) m.cells cells) same changes) in
+      let changes2 = subst (λ z. ChangesList base h k (give placing.book k block) z cells) c.cells (subst (λ z. ChangesList base h k (give placing.book k z) m.cells cells) same changes) in
       let is = given_law program limits statics store placing taken stack k block cells c.placed from t apart held2 changes2 in
       subst (λ z. LeavesIn (record (with_reg m 13 0) { cells = z }) h (Done (record (with_reg m 13 0) { cells = cells }) steps)) is (leaves_in steps some few)
 

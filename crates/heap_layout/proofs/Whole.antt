@@ -18,6 +18,7 @@ use Rattle.roopl_semantics.specs.Layout.{overlaid, object_words, with_book, with
 use Rattle.buddy_pisa.specs.Held.{HoldsList, HoldsLists, HoldsBook}
 use Rattle.heap_layout.specs.Laid.{StandApart, LayoutLaw}
 use Rattle.heap_layout.proofs.Overlays.{overlaid_length, overlaid_before, overlaid_after, LinkedList, LinkedLists, FitList, FitLists, lists_agree, book_other, book_linked}
+use Rattle.std.proofs.lemmas.Nat.{pow_pos}
 
 -- ---- the objects
 
@@ -172,7 +173,7 @@ module _ (program : Source) (limits : Limits) (statics : List ℕ) (store : Stor
   heads = map (first_address base) placing.book
 
   pub room : 40 + n ≤ base
-  room = base_room h n (let p = Rattle.std.proofs.lemmas.Nat.pow_pos h in omega arith)
+  room = base_room h n (let p = pow_pos h in omega arith)
 
   heap : Heap base (2 ^ h) placing.book words
   heap = heap_is program (2 ^ h) base store placing count.fits count.once count.within apart
