@@ -1,5 +1,6 @@
 -- A machine's memory and registers stand for an open frame of the source's execution.
-use Rattle.std.specs.Prelude.{◌≡◌, ◌≤◌, ℕ, ◌+◌, ◌-◌, ◌*◌, ◌^◌, nat_eq, if◌then◌else◌, List, [], ◌∷◌, ◌++◌, length, map, replicate, Some}
+use Rattle.std.specs.Prelude.{◌≡◌, ◌≤◌, ℕ, ◌+◌, ◌-◌, ◌*◌, ◌^◌, nat_eq, if◌then◌else◌, List, [], ◌∷◌, ◌++◌, length, replicate, Some}
+use Rattle.rpp_words.specs.declared.input.TheConstants.{FRAME_WORDS}
 use Rattle.buddy_book.specs.Place.{Placing, block_of, place}
 use Rattle.roopl_semantics.specs.Store.{OfClass, Binding, Store, State, main_name}
 use Rattle.roopl_semantics.specs.Value.{Cell, Slot, Part}
@@ -7,9 +8,8 @@ use Rattle.roopl_semantics.specs.Execution.{Setting}
 use Rattle.roopl_semantics.specs.Source.{main_fields}
 use Rattle.class_table.specs.Classes.{main_of}
 use Rattle.rpp_words.specs.Limits.{IsLimits}
-use Rattle.roopl_semantics.specs.Layout.{overlaid, word_of, static_words, heap_words}
-use Rattle.buddy_book.specs.Shown.{first_address}
-use Rattle.pisa_isa.specs.Loaded.{statics_at, heap_base, fixed_cells}
+use Rattle.roopl_semantics.specs.Layout.{overlaid, word_of, laid}
+use Rattle.pisa_isa.specs.Loaded.{statics_at, heap_base}
 use Rattle.pisa_isa.specs.Machine.{State as Machine, reg}
 use Rattle.sound_execution.specs.Sound.{head_named}
 
@@ -22,7 +22,7 @@ frame_register = 4
 
 -- the words of a frame, of what is put by at its beginning, and the most variables
 abbrev pub frame_size : ℕ
-frame_size = 512
+frame_size = FRAME_WORDS
 
 abbrev pub put_by : ℕ
 put_by = 16
@@ -48,11 +48,7 @@ address_of u blocks name = if nat_eq name main_name then statics_at else base_of
 -- all cells, with these words on the stack and zeros above them
 abbrev pub memory : Setup → Placing → Store → List ℕ → List ℕ
 memory u at store stack =
-    fixed_cells u.setting.limits.heap u.setting.limits.deep (base_of u) (map (first_address (base_of u)) at.book)
-    ++ static_words u.setting.program (base_of u) at.blocks u.statics store
-    ++ replicate (base_of u - statics_at - length u.statics) 0
-    ++ heap_words u.setting.program (2 ^ u.setting.limits.heap) (base_of u) store at
-    ++ overlaid (replicate (frame_size * u.setting.limits.deep) 0) 0 stack
+    laid u.setting.program u.setting.limits u.statics store at (overlaid (replicate (frame_size * u.setting.limits.deep) 0) 0 stack)
 
 -- the words of the variables, the outermost first
 abbrev pub frame_words : ℕ → List (ℕ × ℕ) → List Binding → List ℕ
