@@ -9,3 +9,4 @@ pub mod PassedRules
 pub mod SameTypes
 pub mod ClassLines
 pub mod InheritedSlots
+pub mod FoundMethods

@@ -1,11 +1,15 @@
--- What a class has from the classes above it, and the types of variables as kinds.
-use Rattle.std.specs.Prelude.{◌≡◌, ℕ, Bool, ◌||◌, nat_eq, List, ◌++◌}
+-- What a class has from the classes above it: fields, and methods that calls find.
+use Rattle.std.specs.Prelude.{◌≡◌, ◌<◌, ℕ, Bool, true, ◌||◌, nat_eq, List, ◌++◌, map, length, Some}
 use Rattle.rpp_tree.specs.declared.tree.Var.{Var}
-use Rattle.rpp_tree.specs.Tree.{Source}
+use Rattle.rpp_tree.specs.Tree.{Procedure, Source}
+use Rattle.rpp_tree.specs.Limits.{IsSmallMethod}
 use Rattle.class_table.specs.declared.kind.Kind.{Kind}
-use Rattle.class_table.specs.Classes.{inherits}
+use Rattle.class_table.specs.Classes.{class_fields, inherits, method_named}
+use Rattle.class_table.specs.Overrides.{parameters_of}
 use Rattle.class_table.specs.Scope.{kind_of}
-use Rattle.class_table.specs.Table.{table_of}
+use Rattle.class_table.specs.Statements.{passed}
+use Rattle.class_table.specs.Table.{table_of, slot_in, dispatch_in}
+use Rattle.class_table.specs.Program.{check_method, setting_in, IsAccepted}
 
 -- whether a class is the other or inherits from it
 abbrev pub is_or_inherits : Source → ℕ → ℕ → Bool
@@ -19,3 +23,32 @@ kind_of_var program var = kind_of (table_of program) var.kind
 pub record HasFront (front whole : List Var) : Type 0 where
   pub more : List Var
   pub is : whole ≡ front ++ more
+
+-- the fields of a class come first in those of every class below it
+abbrev pub FieldsComeFirst : Type 0
+FieldsComeFirst =
+    (program : Source) (own class : ℕ) → is_or_inherits program own class ≡ true
+    → HasFront (class_fields program class) (class_fields program own)
+
+-- what a class is or inherits from goes through the classes between
+abbrev pub InheritanceGoesThrough : Type 0
+InheritanceGoesThrough =
+    (program : Source) (low middle high : ℕ) → is_or_inherits program low middle ≡ true → is_or_inherits program middle high ≡ true
+    → is_or_inherits program low high ≡ true
+
+-- the method that a call finds for an object of a class: it is checked in a class that this one is or inherits from, and
+-- its parameters have the types of those that the call was checked with
+pub record IsDispatched (program : Source) (own : ℕ) (method : Procedure) (params : List Var) : Type 0 where
+  pub class : ℕ
+  pub inside : class < length program.classes
+  pub above : is_or_inherits program own class ≡ true
+  pub checked : check_method (setting_in program (table_of program) class) method ≡ passed
+  pub same_types : map (kind_of_var program) method.params ≡ map (kind_of_var program) params
+  pub small : IsSmallMethod method
+
+-- a call that is checked with the slot of a class finds a method for each object of a class below it
+abbrev pub CallsFindMethods : Type 0
+CallsFindMethods =
+    (program : Source) → IsAccepted program → (own class slot : ℕ) (name : List ℕ)
+    → is_or_inherits program own class ≡ true → slot_in (table_of program) class name ≡ Some slot
+    → IsDispatched program own (method_named program own name) (parameters_of program (dispatch_in (table_of program) class slot))

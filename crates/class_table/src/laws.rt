@@ -1,5 +1,6 @@
 // Laws of the definitions, each the contract of a function.
 ghost use Rattle.class_table.specs.Laws.{FirstIsFirst, ChainEndsWithin, TableReadsClasses};
+ghost use Rattle.class_table.specs.Inheritance.{FieldsComeFirst, InheritanceGoesThrough, CallsFindMethods};
 
 /// What the first refusal of a list names is refused, and nothing before it.
 pub fn first_is_first()
@@ -14,4 +15,19 @@ pub fn chain_ends_within()
 /// The readers of a program's table answer what the list of its classes alone says.
 pub fn table_reads_classes()
     ensures { TableReadsClasses }
+{}
+
+/// The fields of a class come first in those of every class below it.
+pub fn fields_come_first()
+    ensures { FieldsComeFirst }
+{}
+
+/// What a class is or inherits from goes through the classes between.
+pub fn inheritance_goes_through()
+    ensures { InheritanceGoesThrough }
+{}
+
+/// In an accepted program a checked call finds a checked method for each object, with parameters of the same types.
+pub fn calls_find_methods()
+    ensures { CallsFindMethods }
 {}

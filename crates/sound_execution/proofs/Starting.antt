@@ -39,7 +39,8 @@ use Rattle.sound_execution.proofs.Runs.{ends_done}
 use Rattle.class_table.proofs.PassedRules.{both_passed, both_true}
 use Rattle.sound_execution.proofs.Makes.{zeros_fit, zeros_hold_none}
 use Rattle.sound_execution.proofs.Values.{word_fits}
-use Rattle.sound_execution.proofs.Accepted.{method_checked, method_plain, knows_classes}
+use Rattle.class_table.proofs.FoundMethods.{method_checked}
+use Rattle.sound_execution.proofs.Accepted.{method_plain, knows_classes}
 use Rattle.sound_execution.proofs.Keeping.{exec_keeps}
 
 -- ---- the main object
