@@ -1,0 +1,23 @@
+// The inverse law, each form of it the contract of a function.
+ghost use Rattle.roopl_semantics.specs.Laws.{InverseLaw};
+ghost use Rattle.inverse_law.specs.InverseLaws.{InputComesBack, BlocksUndo, ArraysStayFine};
+
+/// What an accepted program did, the inverse of its main method undoes.
+pub fn inverses_undo()
+    ensures { InverseLaw }
+{}
+
+/// Run back, a program prints what it would have printed at its start.
+pub fn input_comes_back()
+    ensures { InputComesBack }
+{}
+
+/// The inverse of a checked block undoes what it did from a sound state.
+pub fn blocks_undo()
+    ensures { BlocksUndo }
+{}
+
+/// Arrays keep a length that a word tells.
+pub fn arrays_stay_fine()
+    ensures { ArraysStayFine }
+{}
