@@ -41,7 +41,7 @@ module _ (program : Source) (limits : Limits) (input : List FieldWord) (accepted
   plain = program_plain program accepted
 
   -- where main's body stands
-  abbrev main_context : Context setting
+  abbrev pub main_context : Context setting
   main_context = record { extra = main_alone; locals = []; shape = []; class = (main_of program).class; inside = class_inside program accepted; means = record { same = λ name. refl } }
 
   only_main : (name : ℕ) (object : Object) → object_named (starting program input).store name ≡ Some object → (name ≡ main_name) × (object ≡ main_object program input)
@@ -51,7 +51,7 @@ module _ (program : Source) (limits : Limits) (input : List FieldWord) (accepted
       by true f h = (sym (eqb-true main_name name f), (let s : main_object program input ≡ object = cc in sym s))
       by false f h = cc
 
-  starting_good : Good setting main_context (starting program input)
+  pub starting_good : Good setting main_context (starting program input)
   starting_good =
       record {
         sound = starting_sound program limits input inside valid;
@@ -61,7 +61,7 @@ module _ (program : Source) (limits : Limits) (input : List FieldWord) (accepted
         };
       }
 
-  main_checked : Checked setting main_context (main_body program)
+  pub main_checked : Checked setting main_context (main_body program)
   main_checked = let text = main_text program accepted plain in record { passes = text.checked; plain = text.plain }
 
   pub leads_back : (fuel : ℕ) (end : State) (cost : ℕ) → source program limits input fuel ≡ Done end cost → LeadsBack setting (main_body program) (starting program input) end cost

@@ -1,6 +1,11 @@
 pub mod Runs
 pub mod Cells
 pub mod Later
+pub mod SameTable
+pub mod SameLimits
+pub mod Turned
+pub mod SameTypes
+pub mod SameRuns
 pub mod Seen
 pub mod Ground
 pub mod Undone
@@ -24,4 +29,6 @@ pub mod Entries
 pub mod Fine
 pub mod Grounded
 pub mod Law
+pub mod Back
 pub mod Alike
+mod FragmentedRows

@@ -24,7 +24,7 @@ use Rattle.inverse_law.proofs.Heap.{undo_new_object, undo_delete_object}
 use Rattle.inverse_law.proofs.Arrays.{undo_new_ints, undo_new_objects, undo_delete_ints, undo_delete_objects}
 
 -- the map that keeps every name
-pub same_map : Names
+unfoldable pub same_map : Names
 same_map = record { there = λ n. n; back = λ n. n; there_and_back = λ n. refl; back_and_there = λ n. refl; zero_stays = refl; main_stays = refl }
 
 same_value_map : (v : Value) → renamed (λ n. n) v ≡ v

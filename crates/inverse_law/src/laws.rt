@@ -1,6 +1,7 @@
 // The inverse law, each form of it the contract of a function.
 ghost use Rattle.roopl_semantics.specs.Laws.{InverseLaw};
 ghost use Rattle.inverse_law.specs.InverseLaws.{InputComesBack, BlocksUndo, ArraysStayFine};
+ghost use Rattle.inverse_law.specs.InversePrograms.{InverseIsAccepted, InverseProgramUndoes};
 
 /// What an accepted program did, the inverse of its main method undoes.
 pub fn inverses_undo()
@@ -20,4 +21,15 @@ pub fn blocks_undo()
 /// Arrays keep a length that a word tells.
 pub fn arrays_stay_fine()
     ensures { ArraysStayFine }
+{}
+
+/// The inverse program of an accepted program is accepted.
+pub fn inverse_is_accepted()
+    ensures { InverseIsAccepted }
+{}
+
+/// What an accepted program did, its inverse program undoes at the same cost, run with the final fields as its input, where
+/// these are an input and the free lists are again those of an empty heap; and it prints the report of the start.
+pub fn inverse_program_undoes()
+    ensures { InverseProgramUndoes }
 {}
