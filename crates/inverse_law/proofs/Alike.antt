@@ -10,14 +10,15 @@ use Rattle.roopl_semantics.specs.Run.{Done}
 use Rattle.roopl_semantics.specs.Store.{Value, Word, Nil, Name, Object, Binding, State, main_name, object_named}
 use Rattle.roopl_semantics.specs.Execution.{Setting, exec}
 use Rattle.roopl_semantics.specs.Agreement.{renamed, renamed_object}
-use Rattle.roopl_semantics.specs.Laws.{renamed_binding, block_in}
+use Rattle.inverse_law.specs.StatesAgree.{renamed_binding}
+use Rattle.roopl_semantics.specs.Laws.{block_in}
 use Rattle.sound_execution.proofs.Classes.{KnowsClasses}
 use Rattle.sound_execution.proofs.Undone.{inverse_checks, inverse_plain}
 use Rattle.inverse_law.proofs.Runs.{Runs}
 use Rattle.inverse_law.proofs.Seen.{Names, Sees}
 use Rattle.inverse_law.proofs.Whole.{same_map, sees_itself}
 use Rattle.inverse_law.proofs.Known.{Context, Checked, Good}
-use Rattle.inverse_law.proofs.Fine.{good_after}
+use Rattle.inverse_law.proofs.ElementsKept.{good_after}
 use Rattle.inverse_law.proofs.Grounded.{undone_from}
 
 -- back by one map, and there by another

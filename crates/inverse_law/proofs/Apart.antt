@@ -29,7 +29,7 @@ use Rattle.inverse_law.proofs.Later.{frame_names}
 use Rattle.inverse_law.proofs.Cells.{named_changed, with_cell, names_with, apart_sym}
 use Rattle.inverse_law.proofs.Calls.{cells_later}
 use Rattle.inverse_law.proofs.Steady.{SameArray, SameLength, Avoids, VariablesStay}
-use Rattle.inverse_law.specs.Fine.{is_class_head}
+use Rattle.inverse_law.specs.ArrayLengths.{is_class_head}
 use Rattle.inverse_law.proofs.Known.{Context, Good, typed_in}
 
 -- ---- heads and names

@@ -22,7 +22,8 @@ use Rattle.roopl_semantics.specs.Store.{Value, Word, Nil, Name, Head, OfClass, O
 use Rattle.roopl_semantics.specs.Execution.{Setting, exec}
 use Rattle.roopl_semantics.specs.Source.{IsValid, main_fields, main_body, with_input, main_object, starting, within, source}
 use Rattle.roopl_semantics.specs.Agreement.{renamed, renamed_object}
-use Rattle.roopl_semantics.specs.Laws.{renamed_binding, book_of, CountsReferences, AgreeStates}
+use Rattle.inverse_law.specs.StatesAgree.{renamed_binding, AgreeStates}
+use Rattle.roopl_semantics.specs.Laws.{book_of, CountsReferences}
 use Rattle.roopl_semantics.specs.Report.{Text, newly_met, walked, numbered, field_lines, head_shown, cell_lines, object_lines, number_shown, live_line, live_count, report}
 use Rattle.roopl_semantics.proofs.MoreFuel.{within_done}
 use Rattle.sound_execution.proofs.Accepted.{knows_classes}
@@ -33,12 +34,12 @@ use Rattle.sound_execution.specs.Sound.{main_alone}
 use Rattle.reached_objects.specs.Ending.{IsReached}
 use Rattle.reached_objects.proofs.Final.{ends_reached}
 use Rattle.reached_objects.proofs.SameReports.{same_reports}
-use Rattle.inverse_law.specs.InversePrograms.{BeginsAnew, RunsBack}
+use Rattle.inverse_law.specs.InversePrograms.{MainLeadsBack, BeginsAnew, RunsBack}
 use Rattle.inverse_law.proofs.Later.{IsSound, Later, exec_later}
 use Rattle.inverse_law.proofs.Seen.{Sees}
 use Rattle.inverse_law.proofs.Whole.{same_map, same_object, sees_agree}
 use Rattle.inverse_law.proofs.Grounded.{undone_from}
-use Rattle.inverse_law.proofs.Law.{main_context, starting_good, main_checked}
+use Rattle.inverse_law.proofs.Law.{main_context, starting_good, main_checked, leads_back}
 use Rattle.inverse_law.proofs.SameTable.{class_kept, fields_kept, main_kept, procedure_kept}
 use Rattle.inverse_law.proofs.Turned.{turned, turned_inverse}
 use Rattle.inverse_law.proofs.SameRuns.{runs_turned}
@@ -245,3 +246,20 @@ module _ (program : Source) (limits : Limits) (input final : List FieldWord) (ac
         agrees = agrees;
         shown = report_kept program undone.back.store ∙ sym (same_reports program begin.store undone.back.store good.drawn.unique undone.sees.sound.unique agrees.stores);
       }
+
+-- so does its main method from the end of the run itself
+pub main_back : (program : Source) (limits : Limits) (input : List FieldWord) (fuel : ℕ) (end : State) (cost : ℕ) → IsAccepted program → IsLimits limits → IsValid program input → source program limits input fuel ≡ Done end cost
+    → MainLeadsBack program limits (starting program input) end cost
+main_back program limits input fuel end cost accepted inside valid done =
+    let back = leads_back program limits input accepted inside valid fuel end cost done in
+    let here : Setting = record { program = program; limits = limits } in
+    let there : Setting = record { program = inverse_program program; limits = limits } in
+    record {
+      back = back.back;
+      runs =
+          ap (λ b. exec there cost b end) (body_kept program)
+          ∙ runs_turned program limits cost (inverse_as false (main_body program)) end
+          ∙ ap (λ b. exec here cost b end) (turned_inverse (main_body program))
+          ∙ back.runs;
+      agrees = back.agrees;
+    }

@@ -12,7 +12,7 @@ use Rattle.class_table.specs.Members.{field_of}
 use Rattle.roopl_semantics.specs.Value.{Cell, Slot, Part, slot_of, slot_or_field, cell_named, own_class, value_at, read, written, nil_fault}
 use Rattle.roopl_semantics.specs.Execution.{Setting, statement, exec, bound, moved_out, moved_back, in_direction, cells_named, class_of, is_too_deep, too_deep_fault, invoked}
 use Rattle.roopl_semantics.specs.Agreement.{renamed}
-use Rattle.roopl_semantics.specs.Laws.{renamed_binding}
+use Rattle.inverse_law.specs.StatesAgree.{renamed_binding}
 use Rattle.inverse_law.proofs.Runs.{in_parts, done_then, done_cost, passed_check, passes, Runs}
 use Rattle.inverse_law.proofs.Cells.{IsCell}
 use Rattle.inverse_law.proofs.Later.{IsSound, Later, later_then, later_moved_out, later_returned, later_moved_back, exec_later, frame_names}

@@ -6,7 +6,8 @@ use Rattle.roopl_semantics.specs.Store.{Value, Word, Nil, Name, Head, Object, St
 use Rattle.roopl_semantics.specs.Value.{Cell, Slot, Part, read, written}
 use Rattle.roopl_semantics.specs.Execution.{order_of_cells, new_object}
 use Rattle.roopl_semantics.specs.Agreement.{renamed, renamed_object}
-use Rattle.roopl_semantics.specs.Laws.{renamed_binding, book_of, block_in}
+use Rattle.inverse_law.specs.StatesAgree.{renamed_binding}
+use Rattle.roopl_semantics.specs.Laws.{book_of, block_in}
 use Rattle.inverse_law.proofs.Cells.{IsCell, IsSlot, IsPart, with_cell, named_changed, written_twice, written_same, apart_sym}
 use Rattle.inverse_law.proofs.Later.{IsSound, named_without, named_without_same, undrawn, later_made}
 use Rattle.inverse_law.proofs.Seen.{Names, Sees, cell_for, one_to_one, same_names, written_seen}

@@ -31,17 +31,17 @@ use Rattle.inverse_law.proofs.Cells.{IsCell, IsSlot, IsPart}
 use Rattle.inverse_law.proofs.Later.{IsSound, Later, later_then, later_moved_out, later_returned, later_moved_back, frame_names}
 use Rattle.inverse_law.proofs.Ground.{Ground, CallFacts, Each, AreDistinct, IsLive, is_word, entered, returned, CleanIn}
 use Rattle.inverse_law.proofs.Moves.{live_moved_out}
-use Rattle.inverse_law.specs.Fine.{ArraysFine}
+use Rattle.inverse_law.specs.ArrayLengths.{ArraysHaveElements}
 use Rattle.inverse_law.proofs.Known.{Context, Checked, Good, word_of_kind, typed_in, clean_of, clean_place_of, is_cell, are_live, counts_of, placed_of}
 use Rattle.inverse_law.proofs.Facts.{first_rule, update_facts, swap_facts, copy_facts, uncopy_facts}
 use Rattle.inverse_law.proofs.Making.{make_parts}
 use Rattle.inverse_law.proofs.MakeFacts.{new_object_facts, new_ints_facts, new_objects_facts, delete_object_facts, delete_ints_facts, delete_objects_facts, length_typed}
 use Rattle.inverse_law.proofs.Entries.{Entry, local_entry, local_rules_say, local_typed, construct_entry, element_entry, IsCallIn, own_call, object_call, CallInner, call_inner}
-use Rattle.roopl_semantics.specs.Laws.{LeadsBack}
+use Rattle.inverse_law.specs.InverseLaws.{LeadsBack}
 use Rattle.inverse_law.proofs.Seen.{Names, Sees}
 use Rattle.inverse_law.proofs.Undone.{BlockUndone}
 use Rattle.inverse_law.proofs.Whole.{undo_block, block_leads_back}
-use Rattle.inverse_law.proofs.Fine.{fine_moved_out, first_checked, rest_checked, good_after}
+use Rattle.inverse_law.proofs.ElementsKept.{elements_moved_out, first_checked, rest_checked, good_after}
 
 -- a live name keeps its head
 heads_later : (a b : State) (n : ℕ) → IsSound a → Later a b → IsLive a.store n → IsLive b.store n → head_named b.store n ≡ head_named a.store n
@@ -96,7 +96,7 @@ module _ (setting : Setting) (classes : KnowsClasses setting.program) where
         there = each_typed program C.shape st.store (IsCell st) all_kinds cells have (λ c k h. is_cell setting classes C st c k t h);
         arity = many ∙ sym (length_mapped (kind_of_var program) params) ∙ ap length (sym call.found.same_types) ∙ length_mapped (kind_of_var program) method.params;
         inner = inner.inner;
-        good = record { sound = inner.sound; drawn = record { unique = out.sound.unique; drawn = out.sound.drawn; positive = out.sound.positive }; arrays = fine_moved_out cells st g.arrays };
+        good = record { sound = inner.sound; drawn = record { unique = out.sound.unique; drawn = out.sound.drawn; positive = out.sound.positive }; arrays = elements_moved_out cells st g.arrays };
         typed = inner.checked back;
         still = λ end after cost good later good_after e. each_typed program C.shape end.store (IsCell (returned cells st end)) all_kinds cells (have_end end good later) (λ c k h. still_cell end good c k h);
         sorts = λ end after cost good later good_after e. each_alike program C.shape end.store after.store (λ c. is_word (read (returned cells st end) c) ≡ is_word (read after c)) all_kinds cells (have_end end good later) (have_after end after cost good later good_after e)
@@ -222,7 +222,7 @@ module _ (setting : Setting) (classes : KnowsClasses setting.program) where
   -- an entry whose state is good
   good_entry : (C : Context setting) (body : Statements) (st inside : State) → Good setting C st → inside.store ≡ st.store → inside.log ≡ st.log → Entry setting body inside → (inner : Context setting) × Good setting inner inside × Checked setting inner body
   good_entry C body st inside g store log e =
-      let P : Store → Type 0 = λ s. ArraysFine s in
+      let P : Store → Type 0 = λ s. ArraysHaveElements s in
       let Q : Store → Log → Type 0 = λ s l. IsSound (record st { store = s; log = l }) in
       let drawn : IsSound (record st { store = inside.store; log = inside.log }) = subst (λ s. Q s inside.log) (sym store) (subst (λ l. Q st.store l) (sym log) g.drawn) in
       (e.inner, record { sound = e.sound; drawn = record { unique = drawn.unique; drawn = drawn.drawn; positive = drawn.positive }; arrays = subst P (sym store) g.arrays }, e.checked)

@@ -28,7 +28,7 @@ use Rattle.class_table.proofs.PassedRules.{handed_on, both_true}
 use Rattle.sound_execution.proofs.Values.{ValueFits, value_fits}
 use Rattle.sound_execution.proofs.Objects.{all_live}
 use Rattle.sound_execution.proofs.Removal.{one_name}
-use Rattle.inverse_law.specs.Fine.{ArraysFine}
+use Rattle.inverse_law.specs.ArrayLengths.{ArraysHaveElements}
 use Rattle.roopl_semantics.specs.Laws.{HasNamesOnce as IsUnique}
 use Rattle.inverse_law.proofs.Later.{IsSound}
 use Rattle.inverse_law.proofs.Cells.{IsCell, IsSlot, IsPart}
@@ -47,7 +47,7 @@ pub record Context (setting : Setting) : Type 0 where
 pub record Good (setting : Setting) (C : Context setting) (st : State) : Type 0 where
   pub sound : Sound setting C.extra C.shape C.class st
   pub drawn : IsSound st
-  pub arrays : ArraysFine st.store
+  pub arrays : ArraysHaveElements st.store
 
 pub record Checked (setting : Setting) (C : Context setting) (body : Statements) : Type 0 where
   pub passes : check_statements (setting_in setting.program (table_of setting.program) C.class) C.locals body ≡ passed

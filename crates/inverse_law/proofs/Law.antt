@@ -10,7 +10,7 @@ use Rattle.roopl_semantics.specs.Execution.{Setting, exec}
 use Rattle.rpp_words.specs.Limits.{IsLimits}
 use Rattle.class_table.specs.Classes.{main_of}
 use Rattle.roopl_semantics.specs.Source.{IsValid, main_body, main_object, source, starting}
-use Rattle.roopl_semantics.specs.Laws.{LeadsBack}
+use Rattle.inverse_law.specs.InverseLaws.{LeadsBack}
 use Rattle.roopl_semantics.proofs.MainPlace.{class_inside}
 use Rattle.sound_execution.specs.Plain.{ProgramIsPlain}
 use Rattle.sound_execution.proofs.Accepted.{knows_classes}
@@ -24,11 +24,11 @@ use Rattle.sound_execution.specs.Sound.{Sound, main_alone}
 use Rattle.sound_execution.specs.Plain.{IsPlain}
 use Rattle.sound_execution.specs.Kept.{MeansSame}
 use Rattle.sound_execution.proofs.Classes.{KnowsClasses}
-use Rattle.inverse_law.proofs.Fine.{good_after}
+use Rattle.inverse_law.proofs.ElementsKept.{good_after}
 use Rattle.inverse_law.proofs.Whole.{same_map, sees_itself, sees_agree}
 use Rattle.reached_objects.proofs.SameReports.{same_reports}
 use Rattle.inverse_law.specs.InverseLaws.{ShowsBack}
-use Rattle.inverse_law.specs.Fine.{ArraysFine, is_class_head}
+use Rattle.inverse_law.specs.ArrayLengths.{ArraysHaveElements, is_class_head}
 use Rattle.inverse_law.proofs.Known.{Context, Checked, Good, drawn_of}
 use Rattle.roopl_semantics.proofs.MoreFuel.{within_done}
 use Rattle.inverse_law.proofs.Grounded.{leads_back_from, undone_from}
@@ -78,16 +78,13 @@ module _ (program : Source) (limits : Limits) (input : List FieldWord) (accepted
       let undone = undone_from setting classes main_context fuel (main_body program) start end cost main_checked starting_good over.is same_map end (sees_itself limits.heap end after.drawn) in
       let agrees = sees_agree limits.heap undone.names start undone.back undone.sees in
       record {
-        fuel = cost;
-        back = undone.back;
-        runs = undone.runs.by cost (let z : cost ≤ cost = omega arith in z);
-        agrees = agrees;
+        leads = record { back = undone.back; runs = undone.runs.by cost (let z : cost ≤ cost = omega arith in z); agrees = agrees };
         shown = sym (same_reports program start.store undone.back.store starting_good.drawn.unique undone.sees.sound.unique agrees.stores);
       }
 
 -- a checked block, in a sound state
 module _ (program : Source) (limits : Limits) (extra : ℕ → ℕ) (locals shape : Locals) (class : ℕ) (body : Statements) (start : State) (accepted : IsAccepted program) (inside : class < length program.classes) (means : MeansSame locals shape)
-    (passes : check_statements (setting_in program (table_of program) class) locals body ≡ passed) (plain : IsPlain body) (sound : Sound (record { program = program; limits = limits }) extra shape class start) (arrays : ArraysFine start.store) where
+    (passes : check_statements (setting_in program (table_of program) class) locals body ≡ passed) (plain : IsPlain body) (sound : Sound (record { program = program; limits = limits }) extra shape class start) (arrays : ArraysHaveElements start.store) where
   abbrev here : Setting
   here = record { program = program; limits = limits }
 
@@ -106,5 +103,5 @@ module _ (program : Source) (limits : Limits) (extra : ℕ → ℕ) (locals shap
   pub block_undone : (fuel : ℕ) (end : State) (cost : ℕ) → exec here fuel body start ≡ Done end cost → LeadsBack here body start end cost
   block_undone fuel end cost e = leads_back_from here classes context fuel body start end cost checked good e
 
-  pub arrays_kept : (fuel : ℕ) (end : State) (cost : ℕ) → exec here fuel body start ≡ Done end cost → ArraysFine end.store
+  pub arrays_kept : (fuel : ℕ) (end : State) (cost : ℕ) → exec here fuel body start ≡ Done end cost → ArraysHaveElements end.store
   arrays_kept fuel end cost e = (good_after here classes context fuel body start end cost checked good e).arrays

@@ -26,7 +26,7 @@ pub mod Facts
 pub mod Making
 pub mod MakeFacts
 pub mod Entries
-pub mod Fine
+pub mod ElementsKept
 pub mod Grounded
 pub mod Law
 pub mod Back

@@ -25,7 +25,7 @@ use Rattle.sound_execution.proofs.Values.{int_value, value_found, value_fits}
 use Rattle.sound_execution.proofs.Removal.{reference, named_of}
 use Rattle.sound_execution.proofs.Makes.{no_int_takes, new_class}
 use Rattle.inverse_law.proofs.Ground.{NewFacts, NewArrayFacts, DeleteFacts, DeleteArrayFacts, number_named, new_cells}
-use Rattle.inverse_law.specs.Fine.{is_class_head}
+use Rattle.inverse_law.specs.ArrayLengths.{is_class_head}
 use Rattle.inverse_law.proofs.Steady.{avoids_of}
 use Rattle.inverse_law.proofs.Known.{Context, Good, Checked, typed_in, is_cell}
 use Rattle.inverse_law.proofs.Facts.{first_rule, cell_typed}

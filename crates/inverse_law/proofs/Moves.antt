@@ -6,7 +6,7 @@ use Rattle.roopl_semantics.specs.Store.{Value, Word, Nil, Name, Binding, State, 
 use Rattle.roopl_semantics.specs.Value.{Cell, Slot, Part, value_at, with_value, read, written}
 use Rattle.roopl_semantics.specs.Execution.{same_cell, bound, moved_out, moved_back, touched_fault}
 use Rattle.roopl_semantics.specs.Agreement.{renamed}
-use Rattle.roopl_semantics.specs.Laws.{renamed_binding}
+use Rattle.inverse_law.specs.StatesAgree.{renamed_binding}
 use Rattle.inverse_law.proofs.Runs.{in_parts, done_then, done_result, done_cost, passed_check, passes}
 use Rattle.inverse_law.proofs.Cells.{IsCell, written_twice, written_same, written_apart, read_written, read_apart, named_changed, with_cell}
 use Rattle.inverse_law.proofs.Later.{frame_names}

@@ -17,7 +17,8 @@ use Rattle.roopl_semantics.specs.Value.{Cell, Slot, Part, slot_of, own_class, sl
 use Rattle.roopl_semantics.specs.Elements.{same_array, is_among, share_array}
 use Rattle.roopl_semantics.specs.Execution.{holds, opened, closed, rest_of, counted}
 use Rattle.roopl_semantics.specs.Agreement.{renamed, renamed_object}
-use Rattle.roopl_semantics.specs.Laws.{renamed_binding, book_of, block_in}
+use Rattle.inverse_law.specs.StatesAgree.{renamed_binding}
+use Rattle.roopl_semantics.specs.Laws.{book_of, block_in}
 use Rattle.inverse_law.proofs.Cells.{named_changed, with_cell}
 use Rattle.inverse_law.proofs.Later.{IsSound, was_there, later_changed}
 use Rattle.inverse_law.proofs.Runs.{done_given}

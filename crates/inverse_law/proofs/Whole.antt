@@ -9,7 +9,8 @@ use Rattle.roopl_semantics.specs.Store.{Value, Word, Nil, Name, Object, Binding,
 use Rattle.roopl_semantics.specs.Execution.{Setting, statement, exec}
 use Rattle.roopl_semantics.specs.Source.{source, starting, main_body}
 use Rattle.roopl_semantics.specs.Agreement.{renamed, renamed_object}
-use Rattle.roopl_semantics.specs.Laws.{renamed_binding, AgreeStates, LeadsBack}
+use Rattle.inverse_law.specs.StatesAgree.{renamed_binding, AgreeStates}
+use Rattle.inverse_law.specs.InverseLaws.{LeadsBack}
 use Rattle.roopl_semantics.proofs.MoreFuel.{within_done}
 use Rattle.inverse_law.proofs.Runs.{Runs, split, done_result, done_cost, runs_end, runs_then, runs_joined}
 use Rattle.inverse_law.proofs.Later.{IsSound, Later, statement_later, exec_later}
@@ -55,6 +56,8 @@ sees_agree h f first second s =
     record {
       stores = record { there = f.there; back = f.back; there_and_back = f.there_and_back; back_and_there = f.back_and_there; main_object = f.main_stays; objects = s.objects };
       frame = s.frame;
+      self = s.self;
+      depth = s.depth;
       book = s.book;
       blocks = s.blocks;
     }
@@ -119,7 +122,7 @@ module _ (setting : Setting) (G : Ground setting) where
   block_leads_back C n body a b c typed good e =
       let later = exec_later setting n body a b c (G.sound C a good) e in
       let back = undo_block n C body a b c typed good e same_map b (sees_itself setting.limits.heap b later.sound) in
-      record { fuel = c; back = back.back; runs = back.runs.by c (let z : c ≤ c = omega arith in z); agrees = sees_agree setting.limits.heap back.names a back.back back.sees }
+      record { back = back.back; runs = back.runs.by c (let z : c ≤ c = omega arith in z); agrees = sees_agree setting.limits.heap back.names a back.back back.sees }
 
 -- what a program did, the inverse of its main method undoes
 pub main_leads_back : (program : Source) (limits : Limits) (input : List FieldWord) (fuel : ℕ) (end : State) (cost : ℕ)

@@ -1,7 +1,6 @@
 // The inverse law, each form of it the contract of a function.
-ghost use Rattle.roopl_semantics.specs.Laws.{InverseLaw};
-ghost use Rattle.inverse_law.specs.InverseLaws.{InputComesBack, BlocksUndo, ArraysStayFine};
-ghost use Rattle.inverse_law.specs.InversePrograms.{InverseIsAccepted, InverseProgramUndoes};
+ghost use Rattle.inverse_law.specs.InverseLaws.{InverseLaw, InputComesBack, BlocksUndo, ArraysKeepElements};
+ghost use Rattle.inverse_law.specs.InversePrograms.{InverseIsAccepted, InverseMainUndoes, InverseProgramUndoes};
 
 /// What an accepted program did, the inverse of its main method undoes.
 pub fn inverses_undo()
@@ -18,14 +17,19 @@ pub fn blocks_undo()
     ensures { BlocksUndo }
 {}
 
-/// Arrays keep a length that a word tells.
-pub fn arrays_stay_fine()
-    ensures { ArraysStayFine }
+/// What a checked block does leaves each array its elements.
+pub fn arrays_keep_elements()
+    ensures { ArraysKeepElements }
 {}
 
 /// The inverse program of an accepted program is accepted.
 pub fn inverse_is_accepted()
     ensures { InverseIsAccepted }
+{}
+
+/// What an accepted program did, the main method of its inverse program undoes from the end, at the same cost.
+pub fn inverse_main_undoes()
+    ensures { InverseMainUndoes }
 {}
 
 /// What an accepted program did, its inverse program undoes at the same cost, run with the final fields as its input, where
