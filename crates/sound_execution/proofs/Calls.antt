@@ -20,7 +20,8 @@ use Rattle.class_table.specs.Table.{table_of, slot_in, dispatch_in}
 use Rattle.class_table.specs.Refusal.{unknown_name, type_differs, same_argument, wrong_arity, self_update}
 use Rattle.class_table.specs.Scope.{Setting as Typing, Locals, kind_of, kind_in}
 use Rattle.class_table.specs.Expressions.{place_type}
-use Rattle.class_table.specs.Statements.{passed, required, each_passes, each_passes_after, place_name, occurs_in_own_index, argument_known, argument_new, argument_fits, arguments_fit, receiver_kind, place_class, receiver_class, plain_receiver, slot_rules, call_rules}
+use Rattle.class_table.specs.Statements.{passed, required, each_passes, each_passes_after, occurs_in_own_index, argument_known, argument_new, argument_fits, arguments_fit, receiver_kind, place_class, receiver_class, plain_receiver, slot_rules, call_rules}
+use Rattle.rpp_tree.specs.Places.{place_name}
 use Rattle.class_table.specs.Program.{setting_in}
 use Rattle.roopl_semantics.specs.Run.{Run, ◌>>=◌, give}
 use Rattle.roopl_semantics.specs.Store.{State, number_of, is_nil}
