@@ -1,18 +1,17 @@
 -- Laws of the meaning.
-use Rattle.std.specs.Prelude.{◌≡◌, ◌≢◌, ◌≤◌, ℕ, ◌+◌, List, [], ◌∷◌, map, nat_eq, Option, Some, None, if◌then◌else◌}
+use Rattle.std.specs.Prelude.{◌≡◌, ◌≢◌, ◌≤◌, ℕ, ◌+◌, List, [], ◌∷◌, nat_eq, Option, Some, None, if◌then◌else◌}
 use Rattle.rpp_words.specs.declared.input.FieldWord.{FieldWord}
 use Rattle.rpp_words.specs.declared.input.Limits.{Limits}
 use Rattle.rpp_tree.specs.Tree.{Statements, Source}
 use Rattle.class_table.specs.Program.{IsAccepted}
-use Rattle.stmt_inverter.specs.Inverse.{inverse}
 use Rattle.buddy_book.specs.Book.{Book}
 use Rattle.buddy_book.specs.Place.{Placing, block_of, place}
 use Rattle.roopl_semantics.specs.Run.{Done, Fault}
-use Rattle.roopl_semantics.specs.Store.{Value, Name, Object, Store, Binding, State, main_name, object_named}
+use Rattle.roopl_semantics.specs.Store.{Value, Name, Object, Store, State, main_name, object_named}
 use Rattle.roopl_semantics.specs.Execution.{Setting, exec}
-use Rattle.roopl_semantics.specs.Source.{IsValid, source, starting, main_body}
+use Rattle.roopl_semantics.specs.Source.{IsValid, source, starting}
 use Rattle.rpp_words.specs.Limits.{IsLimits}
-use Rattle.roopl_semantics.specs.Agreement.{Agree, renamed}
+use Rattle.roopl_semantics.specs.Agreement.{Agree}
 use Rattle.roopl_semantics.specs.Report.{report}
 use Rattle.pisa_isa.specs.Image.{Segments}
 use Rattle.pisa_isa.specs.Loaded.{loaded}
@@ -32,10 +31,6 @@ pub record CostIsEnough : Type 0 where
   pub fault : (setting : Setting) (n m : ℕ) (body : Statements) (start : State) (code cost : ℕ)
       → cost ≤ m → exec setting n body start ≡ Fault code cost → exec setting m body start ≡ Fault code cost
 
--- a binding with other names
-abbrev pub renamed_binding : (ℕ → ℕ) → Binding → Binding
-renamed_binding names binding = record binding { value = renamed names binding.value }
-
 -- the lists of free blocks after some requests
 abbrev pub book_of : Option Placing → Option Book
 book_of None = None
@@ -45,29 +40,6 @@ book_of (Some placing) = Some placing.book
 abbrev pub block_in : Option Placing → ℕ → Option ℕ
 block_in None name = None
 block_in (Some placing) name = Some (block_of placing.blocks name)
-
--- two states that differ in names alone: frame, store, free lists and blocks agree by one map
-pub record AgreeStates (h : ℕ) (first second : State) : Type 0 where
-  pub stores : Agree first.store second.store
-  pub frame : second.frame ≡ map (renamed_binding stores.there) first.frame
-  pub book : book_of (place h second.log) ≡ book_of (place h first.log)
-  pub blocks : (name : ℕ) (object : Object) → object_named first.store name ≡ Some object → name ≢ main_name
-      → block_in (place h second.log) (stores.there name) ≡ block_in (place h first.log) name
-
--- the inverse of a block leads back from a state, at the same cost, to one that agrees with this
-pub record LeadsBack (setting : Setting) (body : Statements) (start end : State) (cost : ℕ) : Type 0 where
-  pub fuel : ℕ
-  pub back : State
-  pub runs : exec setting fuel (inverse body) end ≡ Done back cost
-  pub agrees : AgreeStates setting.limits.heap start back
-
--- the inverse law: what an accepted program did, the inverse of its main method undoes
-abbrev pub InverseLaw : Type 0
-InverseLaw =
-    (program : Source) (limits : Limits) (input : List FieldWord) (fuel : ℕ) (end : State) (cost : ℕ)
-    → IsAccepted program → IsLimits limits → IsValid program input
-    → source program limits input fuel ≡ Done end cost
-    → LeadsBack (record { program = program; limits = limits }) (main_body program) (starting program input) end cost
 
 -- whether a value is this name
 abbrev pub one_if_name : ℕ → Value → ℕ
