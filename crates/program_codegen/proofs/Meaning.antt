@@ -12,7 +12,8 @@ use Rattle.roopl_semantics.specs.Execution.{Setting, Runner, statement, exec}
 use Rattle.roopl_semantics.specs.Source.{main_of, main_fields, main_body, starting, source, within, GivesDone, GivesFault}
 use Rattle.roopl_semantics.specs.StandsFor.{EndsAt, cost_of}
 use Rattle.roopl_semantics.proofs.MoreFuel.{within_done, within_fault, done_within}
-use Rattle.program_codegen.proofs.Values.{IsPlainStatement, IsPlainBlock, update, skip, number, variable, done as end_of_block, next, statement_count, statement_values, block_values, first_values, main_state}
+use Rattle.roopl_semantics.proofs.Starting.{first_values}
+use Rattle.program_codegen.proofs.Values.{IsPlainStatement, IsPlainBlock, update, skip, number, variable, done as end_of_block, next, statement_count, statement_values, block_values, main_state}
 
 -- what a statement counts beside itself
 abbrev pub statement_cost : Statement → ℕ

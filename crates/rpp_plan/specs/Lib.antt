@@ -1,0 +1,6 @@
+pub mod Words
+pub mod Faults
+pub mod Refusals
+pub mod Texts
+pub mod Plans
+pub mod Files
