@@ -15,7 +15,7 @@ use Rattle.pisa_isa.specs.Loaded.{statics_at, loaded}
 use Rattle.pisa_isa.specs.Machine.{State as Machine, reg}
 use Rattle.sound_execution.specs.Sound.{Stays}
 use Rattle.open_frame.specs.Open.{Setup, stack_at, put_by, object_register, frame_register, Open, IsGrounded}
-use Rattle.sound_execution.proofs.Loading.{starts_loaded}
+use Rattle.roopl_semantics.proofs.Starting.{starts_loaded}
 use Rattle.open_frame.proofs.Opens.{begun}
 
 module _ (program : Source) (image : Segments) (limits : Limits) (input : List FieldWord) (has : HasStatics program image) (inside : IsLimits limits) (valid : IsValid program input) where

@@ -5,7 +5,6 @@ pub mod Meaning
 pub mod Rules
 pub mod Accepted
 pub mod Memory
-pub mod LaidOut
 pub mod Stands
 pub mod Sealed
 pub mod Tables

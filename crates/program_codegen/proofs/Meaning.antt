@@ -13,7 +13,8 @@ use Rattle.roopl_semantics.specs.Source.{main_fields, main_body, starting, sourc
 use Rattle.class_table.specs.Classes.{main_of}
 use Rattle.roopl_semantics.specs.StandsFor.{EndsAt, cost_of}
 use Rattle.roopl_semantics.proofs.MoreFuel.{within_done, within_fault, done_within}
-use Rattle.program_codegen.proofs.Values.{IsPlainStatement, IsPlainBlock, update, skip, number, variable, done as end_of_block, next, statement_count, statement_values, block_values, first_values, main_state}
+use Rattle.roopl_semantics.proofs.Starting.{first_values}
+use Rattle.program_codegen.proofs.Values.{IsPlainStatement, IsPlainBlock, update, skip, number, variable, done as end_of_block, next, statement_count, statement_values, block_values, main_state}
 
 -- what a statement counts beside itself
 abbrev pub statement_cost : Statement → ℕ

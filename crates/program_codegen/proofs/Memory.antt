@@ -12,8 +12,9 @@ use Rattle.pisa_isa.specs.declared.cell.Cell.{Cell}
 use Rattle.pisa_isa.specs.declared.cell.Op.TheVariants.{Finish}
 use Rattle.roopl_semantics.specs.Operators.{updated}
 use Rattle.roopl_semantics.specs.Store.{Value, Word, number_of}
+use Rattle.roopl_semantics.proofs.Starting.{words_of}
 use Rattle.program_codegen.specs.Code.{one, field_number, statement_code, block_code}
-use Rattle.program_codegen.proofs.Values.{IsIntName, IsPlainStatement, IsPlainBlock, update, skip, number, variable, done, next, number_in, statement_values, block_values, words_of}
+use Rattle.program_codegen.proofs.Values.{IsIntName, IsPlainStatement, IsPlainBlock, update, skip, number, variable, done, next, number_in, statement_values, block_values}
 use Rattle.program_codegen.proofs.Accepted.{number_below, numbers_differ}
 use Rattle.program_codegen.proofs.Straight.{Memory, Straight, finish}
 use Rattle.program_codegen.proofs.StraightLine.{Line, end, then_cell, joined, to_same, placed, file, goes_addi, updates_by_number, updates_by_field, front_get}

@@ -1,15 +1,13 @@
 -- The image of a compiled program stands for it.
 use Rattle.std.proofs.Common.{◌≡◌, ◌∙◌, sym, ap, subst, ℕ, zero, suc, ◌+◌, ◌-◌, ◌<◌, ◌≤◌, List, [], ◌∷◌, ◌++◌, length, map, replicate, refl, Some, None, arith, ⊎_elim, length-append}
-use Rattle.std.specs.Prelude.{◌⊎◌, IsTrue, slice_set}
+use Rattle.std.specs.Prelude.{◌⊎◌, IsTrue}
 use Rattle.std.specs.List.{All}
 use Rattle.std.proofs.lemmas.Bool.{cases_lt}
-use Rattle.std.proofs.lemmas.List.{map-append, length-replicate, length-set}
+use Rattle.std.proofs.lemmas.List.{map-append, length-replicate}
 use Rattle.std.proofs.lemmas.List.Elements.{All-cons, All-nil, All-append}
 use Rattle.rpp_words.specs.declared.input.FieldWord.{FieldWord}
 use Rattle.rpp_words.specs.declared.input.Limits.{Limits}
 use Rattle.rpp_tree.specs.declared.tree.Var.{Var}
-use Rattle.rpp_tree.specs.declared.tree.VarType.{VarType}
-use Rattle.rpp_tree.specs.declared.tree.VarType.TheVariants as kind
 use Rattle.rpp_tree.specs.Tree.{Source, Statement, Statements}
 use Rattle.class_table.specs.First.{each_below}
 use Rattle.class_table.specs.Classes.{class_slots}
@@ -21,50 +19,27 @@ use Rattle.pisa_isa.specs.Runs.{run, visited, after_step}
 use Rattle.pisa_isa.specs.Ends.{MeetsEndsOnce, is_at_finish}
 use Rattle.pisa_isa.proofs.Longer.{clean_of_ends}
 use Rattle.pisa_isa.specs.Loaded.{loaded_state}
-use Rattle.roopl_semantics.specs.Source.{main_fields, main_body, with_input, IsValid}
+use Rattle.roopl_semantics.specs.Source.{main_fields, main_body, IsValid}
 use Rattle.rpp_words.specs.Limits.{IsLimits}
-use Rattle.roopl_semantics.specs.Store.{Value, Word, zero_value, zero_values}
+use Rattle.roopl_semantics.specs.Store.{Value, zero_values}
 use Rattle.roopl_semantics.specs.Layout.{HasStatics}
 use Rattle.roopl_semantics.specs.StandsFor.{StandsFor, Follows, run_of, EndsAt, enough_steps}
 use Rattle.program_codegen.specs.Code.{one, block_code, program_code, places, program_image}
-use Rattle.program_codegen.proofs.Values.{IsPlainStatement, IsPlainBlock, update, skip, done, next, statement_values, block_values, first_values, words_of}
+use Rattle.program_codegen.proofs.Values.{IsPlainStatement, IsPlainBlock, update, skip, done, next, statement_values, block_values}
 use Rattle.program_codegen.proofs.Meaning.{gives_done, last_values, last_state, only_cost, count-le-cost}
 use Rattle.program_codegen.proofs.Sealed.{block_short}
 use Rattle.program_codegen.proofs.Accepted.{IsCompiled}
 use Rattle.program_codegen.proofs.Memory.{with_cells, block_straight, length-block_values}
-use Rattle.program_codegen.proofs.LaidOut.{Shape, shape_of, front, back, length-front, loaded-program, layout-program, length-zero_values, IsPlain, word, nil, ArePlain, none, more}
+use Rattle.roopl_semantics.proofs.Starting.{Shape, shape_of, front, back, length-front, loaded-program, layout-program, length-zero_values, length-input, plain_zeros, plain_set, plain_input, ArePlain, first_values, words_of}
 use Rattle.program_codegen.proofs.Straight.{Memory, here, Straight, ended, passes}
 
 -- how many values there are, and that none is a reference
 
-length-with_input : (input : List FieldWord) (values : List Value) → length (with_input input values) ≡ length values
-length-with_input [] values = refl
-length-with_input (entry ∷ input) values = length-with_input input _ ∙ length-set values entry.field (Word entry.word)
-
 pub length-first : (fields : List Var) (input : List FieldWord) → length (first_values fields input) ≡ length fields
-length-first fields input = length-with_input input (zero_values fields) ∙ length-zero_values fields
+length-first fields input = length-input input (zero_values fields) ∙ length-zero_values fields
 
 pub length-last : (program : Source) (input : List FieldWord) → length (last_values program input) ≡ length (main_fields program)
 length-last program input = length-block_values (main_fields program) (main_body program) (first_values (main_fields program) input) ∙ length-first (main_fields program) input
-
-plain_zero : (kind : VarType) → IsPlain (zero_value kind)
-plain_zero kind.Int = word 0
-plain_zero (kind.Class class) = nil
-plain_zero kind.IntArray = nil
-plain_zero (kind.ClassArray class) = nil
-
-plain_zeros : (fields : List Var) → ArePlain (zero_values fields)
-plain_zeros [] = none
-plain_zeros (field ∷ fields) = more (zero_value field.kind) (zero_values fields) (plain_zero field.kind) (plain_zeros fields)
-
-plain_set : (values : List Value) (i w : ℕ) → ArePlain values → ArePlain (slice_set values i (Word w))
-plain_set _ i w none = none
-plain_set _ zero w (more v values is are) = more (Word w) values (word w) are
-plain_set _ (suc i) w (more v values is are) = more v (slice_set values i (Word w)) is (plain_set values i w are)
-
-plain_input : (input : List FieldWord) (values : List Value) → ArePlain values → ArePlain (with_input input values)
-plain_input [] values are = are
-plain_input (entry ∷ input) values are = plain_input input _ (plain_set values entry.field entry.word are)
 
 plain_statement : (fields : List Var) (s : Statement) (values : List Value) → IsPlainStatement fields s → ArePlain values → ArePlain (statement_values fields s values)
 plain_statement fields _ values (update at op name value known is) are = plain_set values _ _ are
@@ -112,7 +87,7 @@ module _ (program : Source) (built : IsCompiled program) (limits : Limits) (inpu
   image = program_image program
 
   abbrev shape : Shape
-  shape = shape_of program
+  shape = shape_of program (places program)
 
   abbrev fields : List Var
   fields = main_fields program
@@ -134,7 +109,7 @@ module _ (program : Source) (built : IsCompiled program) (limits : Limits) (inpu
   end_place = 1 + length (block_code fields body)
 
   loaded_state-here : loaded_state image limits input ≡ here 0 (in_memory first)
-  loaded_state-here = ap (λ cells. here 0 (record { regs = (in_memory first).regs; cells = cells })) (loaded-program program limits input valid)
+  loaded_state-here = ap (λ cells. here 0 (record { regs = (in_memory first).regs; cells = cells })) (loaded-program program (places program) limits input valid)
 
   path : Straight image.code 1 (in_memory first) end_place (in_memory last)
   path =
@@ -196,7 +171,7 @@ module _ (program : Source) (built : IsCompiled program) (limits : Limits) (inpu
       | over after is ↦ record {
         end = last_state program input;
         gives = gives_done program built.plain limits input;
-        cells = ap (λ e. e.last.cells) is ∙ sym (layout-program program limits last allowed (plain_last program input built.plain) (length-last program input));
+        cells = ap (λ e. e.last.cells) is ∙ sym (layout-program program (places program) limits last allowed (plain_last program input built.plain) (length-last program input));
         registers = ap (λ e. e.last.regs) is;
         branch = ap (λ e. e.last.br) is;
       }

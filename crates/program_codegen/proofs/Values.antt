@@ -61,14 +61,6 @@ abbrev pub block_values : List Var → Statements → List Value → List Value
 block_values fields End values = values
 block_values fields (Then first rest) values = block_values fields rest (statement_values fields first values)
 
--- the values that a run begins with
-abbrev pub first_values : List Var → List FieldWord → List Value
-first_values fields input = with_input input (zero_values fields)
-
 -- a run's state with these values
 abbrev pub main_state : ℕ → List Value → State
 main_state class values = record { frame = []; self = main_name; depth = 1; store = alone class values; log = [] }
-
--- the words that stand for values
-abbrev pub words_of : List Value → List ℕ
-words_of values = map number_of values

@@ -5,8 +5,9 @@ ghost use Rattle.rpp_tree.specs.Views.{statement_of, statements_of, procedure_of
 ghost use Rattle.class_table.specs.Members.{no_procedure};
 ghost use Rattle.class_table.specs.Classes.{procedure_at};
 ghost use Rattle.roopl_semantics.specs.Source.{main_body};
+ghost use Rattle.roopl_semantics.specs.Alone.{IsReportable};
 ghost use Rattle.roopl_semantics.specs.StandsFor.{StandsFor};
-ghost use Rattle.program_codegen.specs.Code.{program_code, program_image};
+ghost use Rattle.program_codegen.specs.Code.{program_code};
 ghost use Rattle.program_codegen.specs.Unbuilt.{unbuilt};
 ghost use Rattle.program_codegen.specs.Words.{BlockHasWords};
 
@@ -25,10 +26,9 @@ pub fn compile(alloc: Global, checked: &Checked) -> Result<Image, NoMemory>
 
     // On every input, heap and depth the image does what the program does.
     ensures stands { IfOk result (λ image. StandsFor (source_of checked.now) image) }
-    ensures cells { IfOk result (λ image. image ≡ program_image (source_of checked.now)) }
 
-    // Where it is made, the numbers in the statements of `main` are words.
-    ensures words { OnOk result (BlockHasWords (main_body (source_of checked.now))) }
+    // As long as not every form is compiled: what is can be reported.
+    ensures reportable { OnOk result (IsReportable (source_of checked.now)) }
 {
     let code = code(alloc, checked)?;
     let statics = statics(alloc, checked.table())?;

@@ -8,9 +8,9 @@ ghost use Rattle.program_codegen.specs.Words.{HasWord, StatementHasWords, BlockH
 use crate::cells::{ADDRESS, WORD, close, one, open, update_by_cell, with_number};
 use class_table::ClassTable;
 use pisa_isa::{Cell, Op};
+use roopl_semantics::FIRST_FIELD;
 use rpp_tree::text::Text;
 use rpp_tree::tree::{Expr, Stmt, UpdateOp};
-use roopl_semantics::FIRST_FIELD;
 use std::alloc::AllocError;
 
 // The data cell of the field of this name.

@@ -1,6 +1,8 @@
 pub mod CostBound
 pub mod MoreFuel
 pub mod Exactly
+pub mod Starting
+pub mod Told
 pub mod Testing
 pub mod IntRows
 mod CallRows

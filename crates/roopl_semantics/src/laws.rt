@@ -1,5 +1,5 @@
 // Laws of the meaning, each the contract of a function.
-ghost use Rattle.roopl_semantics.specs.Laws.{MoreFuelKeeps, CostIsEnough};
+ghost use Rattle.roopl_semantics.specs.Laws.{MoreFuelKeeps, CostIsEnough, StartsLoaded};
 ghost use Rattle.roopl_semantics.specs.Exact.{ImagesAreExact};
 
 /// A program that ends with some fuel ends the same with more.
@@ -16,4 +16,9 @@ pub fn cost_is_enough()
 /// source gives that store, and stops with a fault exactly if the source does.
 pub fn images_are_exact()
     ensures { ImagesAreExact }
+{}
+
+/// The memory of the starting store is the loaded memory.
+pub fn starts_loaded()
+    ensures { StartsLoaded }
 {}

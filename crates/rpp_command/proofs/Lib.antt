@@ -1,7 +1,2 @@
-pub mod Judging
-pub mod OneJudgement
-pub mod Reported
-pub mod Turned
-pub mod ValidInput
-pub mod TwoReads
+pub mod Early
 pub mod Targets

@@ -1,13 +1,4 @@
-pub mod Refusals
-pub mod Errors
-pub mod Judged
-pub mod NotBuilt
-pub mod Lines
-pub mod Inputs
-pub mod Faults
-pub mod ImageRefusals
 pub mod Plans
 pub mod Causes
+pub mod Lines
 pub mod Answers
-pub mod GoRun
-pub mod Laws

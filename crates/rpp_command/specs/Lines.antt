@@ -3,8 +3,8 @@ use Rattle.std.specs.Prelude.{ℕ, Bool, true, false, ◌+◌, ◌-◌, ◌*◌,
 use Rattle.std.specs.Char.{is_ascii_digit}
 use Rattle.std.specs.declared.option.Option.{Option}
 use Rattle.std.specs.Str.{bytes_eq}
-use Rattle.rpp_command.specs.declared.line.StateNames.{StateNames}
 use Rattle.rpp_command.specs.declared.line.Line.{Line}
+use Rattle.rpp_plan.specs.Files.{state_named, state_of_names, save_of_names}
 use Rattle.rpp_command.specs.declared.line.Line.TheVariants as line
 
 -- a line as contracts see it
@@ -17,19 +17,6 @@ pub data Asked : Type 0 where
   RunImage : (image : List ℕ) (heap deep steps : ℕ) (state save : Option (List ℕ)) → Asked
   Go : (file : List ℕ) (heap deep steps : ℕ) (input : Option (List ℕ)) → Asked
   Turn : (file : List ℕ) (heap deep steps : ℕ) (input : Option (List ℕ)) → Asked
-
--- the word `-` names no state
-abbrev pub state_named : List ℕ → Option (List ℕ)
-state_named word = if bytes_eq word (codes "-") then None else Some word
-
--- the file of the state to begin with, and that of the state to save, where there are such
-abbrev pub state_of_names : Option StateNames → Option (List ℕ)
-state_of_names None = None
-state_of_names (Some names) = state_named (string_bytes names.state)
-
-abbrev pub save_of_names : Option StateNames → Option (List ℕ)
-save_of_names None = None
-save_of_names (Some names) = Some (string_bytes names.save)
 
 abbrev pub asked : Line → Asked
 asked (line.Check file) = Check (string_bytes file)

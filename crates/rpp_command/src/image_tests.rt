@@ -191,3 +191,20 @@ fn failing_calls_of_compile(rt: HostRuntime) -> Result<(), Fail> {
     }
     Ok(())
 }
+
+#[test]
+fn one_static_word_too_many(rt: HostRuntime) -> Result<(), Fail> {
+    let mut text = String::new(rt.alloc());
+    for _ in 0..262_145 {
+        text.push_str("STATIC 1\n")?;
+    }
+    let mut shelf = shelf_of(rt.alloc(), &[("T", text.as_bytes())], &[])?;
+    let (status, said) = answer_on(rt.alloc(), &mut shelf, "asm T I", &[])?;
+    assert_eq!(rt; status, 4);
+    assert_eq!(rt;
+        said.as_slice(),
+        b"refused 41 TooManyCells at 262145\n".as_slice()
+    );
+    assert!(rt; shelf.text("I") == None);
+    Ok(())
+}

@@ -1,15 +1,10 @@
 // What the words ask for.
 ghost use Rattle.std.specs.Prelude.{◌≡◌, ◌<◌, ◌^◌, map, option_map, IfOk, IfSome, string_bytes};
-ghost use Rattle.rpp_command.specs.Lines.{asked, line_of, check_line_of, files_line_of, Compile, Asm, ListImage, Flip, run_line_of, run_with as run_asked, state_of_names, save_of_names, go_line_of, go_with as go_asked, number_of, HasShortNumbers};
+ghost use Rattle.rpp_command.specs.Lines.{asked, line_of, check_line_of, files_line_of, Compile, Asm, ListImage, Flip, run_line_of, run_with as run_asked, go_line_of, go_with as go_asked, number_of, HasShortNumbers};
+ghost use Rattle.rpp_plan.specs.Files.{state_of_names, save_of_names};
 
+use rpp_plan::StateNames;
 use rpp_words::NoMemory;
-
-/// The file of the state that a run begins with, `-` for the loaded memory, and the file for the state where it ends.
-#[derive(Debug, Drop)]
-pub struct StateNames {
-    pub state: String,
-    pub save: String,
-}
 
 /// A command with its words read.
 #[derive(Debug, Drop)]

@@ -154,3 +154,23 @@ fn there_and_back(rt: HostRuntime) -> Result<(), Fail> {
     assert!(rt; shelf.text("E") == Some(changed.as_slice()));
     Ok(())
 }
+
+// The calls of the shelf are counted from the one that assembles: it reads and writes one file each.
+#[test]
+fn failing_states(rt: HostRuntime) -> Result<(), Fail> {
+    let calls: [(&[u64], &str, &str); 3] = [
+        (&[3], "run I 1 1 5 T S", "cannot read I: failed\n"),
+        (&[4], "run I 1 1 5 T S", "cannot read T: failed\n"),
+        (&[4], "run I 1 1 5 - S", "cannot write S: failed\n"),
+    ];
+    for (failing, words, line) in calls {
+        let mut shelf = shelf_of(rt.alloc(), &[("T", b"START\nFINISH\n")], failing)?;
+        let (assembled, _) = answer_on(rt.alloc(), &mut shelf, "asm T I", &[])?;
+        assert_eq!(rt; assembled, 0, "{line}");
+        let (status, said) = answer_on(rt.alloc(), &mut shelf, words, &[])?;
+        assert_eq!(rt; status, 2, "{line}");
+        assert_eq!(rt; said.as_slice(), line.as_bytes(), "{line}");
+        assert!(rt; shelf.text("S") == None);
+    }
+    Ok(())
+}

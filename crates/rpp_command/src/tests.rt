@@ -19,8 +19,10 @@ fn answer_over(
     failing_puts: &[u64],
 ) -> Result<Answer, AllocError> {
     let mut owned = Vec::new(alloc);
-    for word in words.split(' ') {
-        owned.push(String::from_str(alloc, word)?)?;
+    if !words.is_empty() {
+        for word in words.split(' ') {
+            owned.push(String::from_str(alloc, word)?)?;
+        }
     }
     let mut texts = Vec::new(alloc);
     for (name, bytes) in files {
@@ -59,7 +61,9 @@ fn rows(rt: HostRuntime) -> Result<(), Fail> {
         (FIRST, "go F 1 1 6", 6, "bound\nsteps 6\n"),
         (FIRST, "go F 1 1 0", 6, "bound\nsteps 0\n"),
         (FIRST, "go F", 1, "words refused\n"),
+        // No words at all, and two empty ones.
         (FIRST, "", 1, "words refused\n"),
+        (FIRST, " ", 1, "words refused\n"),
         (FIRST, "go F 1 1 1000000000000000000", 1, "words refused\n"),
         (FIRST, "go F 21 1 5", 8, "refused 35 HeapOrder\n"),
         (FIRST, "go F 0 0 5", 8, "refused 35 HeapOrder\n"),
@@ -297,8 +301,31 @@ fn failing_calls(rt: HostRuntime) -> Result<(), Fail> {
     let read = answer_of(rt.alloc(), source, "go F 1 1 5", &[1], &[])?;
     assert_eq!(rt; read.status, 2);
     assert_eq!(rt; read.text.as_slice(), b"cannot read F: failed\n".as_slice());
+    let files = [("F", source), ("I", b"x = 1".as_slice())];
+    let given = answer_over(rt.alloc(), &files, "go F 1 1 5 I", &[2], &[])?;
+    assert_eq!(rt; given.status, 2);
+    assert_eq!(rt;
+        given.text.as_slice(),
+        b"cannot read I: failed\n".as_slice()
+    );
     let put = answer_of(rt.alloc(), source, "go F 1 1 5", &[], &[1])?;
     assert_eq!(rt; put.status, 2);
     assert_eq!(rt; put.text.as_slice(), b"".as_slice());
+    Ok(())
+}
+
+#[test]
+fn one_byte_more_than_a_text_may_have(rt: HostRuntime) -> Result<(), Fail> {
+    let mut text = FIRST.as_bytes().to_vec(rt.alloc())?;
+    text.resize(1_048_576, b' ')?;
+    let largest = answer_of(rt.alloc(), &text, "check F", &[], &[])?;
+    assert_eq!(rt; largest.status, 0);
+    text.push(b' ')?;
+    let longer = answer_of(rt.alloc(), &text, "check F", &[], &[])?;
+    assert_eq!(rt; longer.status, 2);
+    assert_eq!(rt;
+        longer.text.as_slice(),
+        b"cannot read F: too long\n".as_slice()
+    );
     Ok(())
 }

@@ -1,20 +1,19 @@
 // The top call.
-ghost use Rattle.std.specs.Prelude.{◌≡◌, ◌≢◌, ◌⊎◌, ◌≤◌, ◌<◌, OnOk, map, string_bytes, IfOk, IfErr, IfSome, IsErrOf};
+ghost use Rattle.std.specs.Prelude.{◌≡◌, ◌≢◌, ◌⊎◌, ◌≤◌, ◌<◌, OnOk, map, string_bytes, IfOk, IfErr, IfSome, IsErrOf, IsTrue};
 ghost use Rattle.rpp_ports.specs.Ports.{Rose};
 ghost use Rattle.rpp_command.specs.Lines.{asked, line_of, HasShortNumbers};
-ghost use Rattle.rpp_command.specs.Plans.{planned, code_of, IsPlan};
-ghost use Rattle.rpp_command.specs.Causes.{OnlyReads, Unreadable, LacksOne, KeepsButTarget, files_of, needed, target, target_of};
+ghost use Rattle.rpp_plan.specs.Plans.{GivesPlan, code_of};
+ghost use Rattle.rpp_command.specs.Plans.{IsPlan};
+ghost use Rattle.rpp_plan.specs.Files.{OnlyReads, Unreadable, LacksOne};
+ghost use Rattle.rpp_command.specs.Causes.{KeepsButTarget, files_of, needed, target, target_of};
 ghost use Rattle.rpp_command.specs.Answers.{CarriesOut, Answers, EndsEarly};
 
-use crate::check::check;
-use crate::compiling::compile;
 use crate::finish::{Broken, finish, say};
-use crate::go::go;
-use crate::images::{asm, flip, list};
 use crate::line::{Line, read_words};
-use crate::plan::{Plan, Stop, Verdict};
-use crate::running::run;
+use image_commands::{asm, flip, list, run};
 use pisa_machine::Steps;
+use program_commands::{Request, check, compile_file, go};
+use rpp_plan::{NoPlan, Plan, Sizes, Verdict};
 use rpp_ports::{Probe, Shelf, Sink};
 use std::alloc::Global;
 use std::marker::Brand;
@@ -45,10 +44,12 @@ pub fn rooplpp<S: Shelf, K: Sink>(
 
     // What 2 and 7 leave.
     ensures fault { result ≡ 2 → IfSome (S.texts shelf.old) (λ texts.
-        EndsEarly (line_of (map string_bytes words.now)) texts (Rose (S.faults shelf.old) (S.faults shelf.new))
+        EndsEarly (line_of (map string_bytes words.now)) texts
+        (Rose (S.faults shelf.old) (S.faults shelf.new)) (Rose (K.faults out.old) (K.faults out.new)) (IsTrue (K.needs_memory out.old))
         (S.texts shelf.new) (K.written out.old) (K.written out.new) Broken.Outside) }
     ensures memory { result ≡ 7 → IfSome (S.texts shelf.old) (λ texts.
-        EndsEarly (line_of (map string_bytes words.now)) texts (Rose (S.faults shelf.old) (S.faults shelf.new))
+        EndsEarly (line_of (map string_bytes words.now)) texts
+        (Rose (S.faults shelf.old) (S.faults shelf.new)) (Rose (K.faults out.old) (K.faults out.new)) (IsTrue (K.needs_memory out.old))
         (S.texts shelf.new) (K.written out.old) (K.written out.new) Broken.NoMemory) }
 
     // Whatever the status, each name keeps its text but the one that the line writes.
@@ -98,7 +99,9 @@ fn serve<S: Shelf, K: Sink, L: Ledger>(
     ensures outside { IsErrOf result Broken.Outside → Unreadable (S.texts shelf.old) (files_of (asked line.now))
         (Rose (S.faults shelf.old) (S.faults shelf.new) ⊎ Rose (K.faults out.old) (K.faults out.new)) }
     ensures early { IfErr result (λ broken. IfSome (S.texts shelf.old) (λ texts.
-        EndsEarly (Some (asked line.now)) texts (Rose (S.faults shelf.old) (S.faults shelf.new)) (S.texts shelf.new) (K.written out.old) (K.written out.new) broken)) }
+        EndsEarly (Some (asked line.now)) texts
+        (Rose (S.faults shelf.old) (S.faults shelf.new)) (Rose (K.faults out.old) (K.faults out.new)) (IsTrue (K.needs_memory out.old))
+        (S.texts shelf.new) (K.written out.old) (K.written out.new) broken)) }
     ensures whole { OnOk result (IfSome (S.texts shelf.old) (λ texts. ¬ LacksOne texts (files_of (asked line.now)))) }
     ensures kept { KeepsButTarget (S.texts shelf.old) (S.texts shelf.new) (target_of (asked line.now)) }
     ensures later { S.faults shelf.old ≤ S.faults shelf.new }
@@ -108,14 +111,16 @@ fn serve<S: Shelf, K: Sink, L: Ledger>(
     let mut steps = Steps::<L>::new(blank);
     let plan = match plan_line(alloc, line, shelf, probes, &mut steps) {
         Ok(plan) => plan,
-        Err(Stop::NoMemory) => return Err(Broken::NoMemory),
-        Err(Stop::Unread { text }) => {
+        Err(NoPlan::NoMemory) => return Err(Broken::NoMemory),
+        Err(NoPlan::Unread { text }) => {
             say(out, text.as_str())?;
             return Err(Broken::Outside);
         }
     };
-    finish(alloc, shelf, out, &plan)?;
-    Ok(plan.verdict)
+    match finish(alloc, shelf, out, &plan) {
+        Ok(()) => Ok(plan.verdict),
+        Err(broken) => Err(broken),
+    }
 }
 
 // The plan of a line.
@@ -126,15 +131,15 @@ fn plan_line<S: Shelf, L: Ledger>(
     shelf: &mut S,
     _probes: &mut Vec<Box<dyn Probe>>,
     counter: &mut Steps<L>,
-) -> Result<Plan, Stop>
+) -> Result<Plan, NoPlan>
     requires { HasShortNumbers (asked line.now) }
-    ensures plan { IfOk result (λ plan. IfSome (S.texts shelf.old) (λ texts. IsPlan (asked line.now) texts (planned plan))) }
+    ensures plan { GivesPlan (S.texts shelf.old) (IsPlan (asked line.now)) result }
     ensures reads { OnlyReads (S.texts shelf.old) (S.texts shelf.new) (S.faults shelf.old) (S.faults shelf.new) (files_of (asked line.now)) result }
     ensures probes { _probes.new.items ≡ _probes.old.items }
 {
     match line {
         Line::Check { file } => check(alloc, shelf, file.as_str()),
-        Line::Compile { file, image } => compile(alloc, shelf, file.as_str(), image.as_str()),
+        Line::Compile { file, image } => compile_file(alloc, shelf, file.as_str(), image.as_str()),
         Line::Asm { text, image } => asm(alloc, shelf, text.as_str(), image.as_str()),
         Line::List { image, text } => list(alloc, shelf, image.as_str(), text.as_str()),
         Line::Flip { image, flipped } => flip(alloc, shelf, image.as_str(), flipped.as_str()),
@@ -149,9 +154,11 @@ fn plan_line<S: Shelf, L: Ledger>(
             shelf,
             image.as_str(),
             states,
-            *heap,
-            *deep,
-            *steps,
+            Sizes {
+                heap: *heap,
+                deep: *deep,
+                bound: *steps,
+            },
             counter,
         ),
         Line::Go {
@@ -165,10 +172,14 @@ fn plan_line<S: Shelf, L: Ledger>(
             shelf,
             file.as_str(),
             input,
-            false,
-            *heap,
-            *deep,
-            *steps,
+            Request {
+                turns: false,
+                sizes: Sizes {
+                    heap: *heap,
+                    deep: *deep,
+                    bound: *steps,
+                },
+            },
             counter,
         ),
         Line::Turn {
@@ -182,10 +193,14 @@ fn plan_line<S: Shelf, L: Ledger>(
             shelf,
             file.as_str(),
             input,
-            true,
-            *heap,
-            *deep,
-            *steps,
+            Request {
+                turns: true,
+                sizes: Sizes {
+                    heap: *heap,
+                    deep: *deep,
+                    bound: *steps,
+                },
+            },
             counter,
         ),
     }

@@ -1,5 +1,5 @@
 // A sink in memory, some of whose calls fail.
-ghost use Rattle.std.specs.Prelude.{◌≡◌, ◌++◌, ◌≤◌, ◌↔◌, [], Some, OnOk, OnErr, IsErrOf, IsTrue};
+ghost use Rattle.std.specs.Prelude.{◌≡◌, ◌++◌, ◌≤◌, ◌↔◌, [], Some, OnOk, OnErr, IsErrOf, IsTrue, true};
 ghost use Rattle.std.specs.Io.KnownBytes.{Appends, Keeps};
 ghost use Rattle.rpp_ports.specs.Ports.{Rose, AppendsPrefix};
 ghost use Rattle.rpp_ports.specs.Failures.{CountsCall, IsCalm, is_due};
@@ -44,6 +44,8 @@ impl Sink for MemorySink {
     ghost written = { λ s. Some (sink_bytes s) };
 
     ghost faults = { sink_faults };
+
+    ghost needs_memory = { λ _. true };
 
     // Beyond the trait's clauses: any error appends nothing, the calls that fail are those that
     // were named, and no other answer raises the count.

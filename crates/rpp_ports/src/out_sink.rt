@@ -1,5 +1,5 @@
 // Standard output as a sink. What it has taken is not told.
-ghost use Rattle.std.specs.Prelude.{◌≡◌, ◌≤◌, None, OnOk, OnErr, IsErrOf};
+ghost use Rattle.std.specs.Prelude.{◌≡◌, ◌≤◌, None, OnOk, OnErr, IsErrOf, IsTrue, false};
 ghost use Rattle.std.specs.Io.KnownBytes.{Appends};
 ghost use Rattle.rpp_ports.specs.Ports.{Rose, AppendsPrefix};
 ghost use Rattle.rpp_ports.specs.Failures.{risen};
@@ -27,11 +27,14 @@ impl<'a, R: Print> Sink for OutSink<'a, R> {
 
     ghost faults = { λ s. s.faults };
 
-    // Each error is counted.
+    ghost needs_memory = { λ _. false };
+
+    // Each error is counted, and is a failure.
     fn put(&mut self, bytes: &[u8]) -> Result<(), SinkFault>
         ensures appended { OnOk result (Appends None None bytes.now) }
         ensures failed { IsErrOf result SinkFault.Failed → AppendsPrefix None None bytes.now }
         ensures cause { IsErrOf result SinkFault.Failed → Rose self.old.faults self.new.faults }
+        ensures wanting { IsErrOf result SinkFault.NoMemory → IsTrue false }
         ensures counts { OnErr result (self.new.faults ≡ risen self.old.faults) }
         ensures calm { OnOk result (self.new.faults ≡ self.old.faults) }
         ensures later { self.old.faults ≤ self.new.faults }

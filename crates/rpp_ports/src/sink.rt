@@ -1,5 +1,5 @@
 // Where output goes.
-ghost use Rattle.std.specs.Prelude.{◌≡◌, ◌≤◌, List, ℕ, OnOk, IsErrOf};
+ghost use Rattle.std.specs.Prelude.{◌≡◌, ◌≤◌, Bool, List, ℕ, OnOk, IsErrOf, IsTrue};
 ghost use Rattle.std.specs.declared.option.Option.{Option};
 ghost use Rattle.std.specs.Io.KnownBytes.{Appends, Keeps};
 ghost use Rattle.rpp_ports.specs.declared.sink.SinkFault.TheVariants.{NoMemory};
@@ -32,14 +32,18 @@ pub trait Sink {
     /// How often the outside has failed, up to 2^64 - 1. It never falls.
     ghost faults: { Self → ℕ };
 
+    /// Whether a put can find no memory.
+    ghost needs_memory: { Self → Bool };
+
     /// Appends all the bytes. A sink that takes nothing of a piece that is not empty has failed.
     ///
     /// `Failed` comes only where the count of faults rose, and then some first bytes of the piece,
-    /// or none, were appended. After `NoMemory` nothing of it was.
+    /// or none, were appended. `NoMemory` comes only of a sink that needs memory, and then nothing was.
     fn put(&mut self, bytes: &[u8]) -> Result<(), SinkFault>
         ensures appended { OnOk result (Appends (written self.old) (written self.new) bytes.now) }
         ensures failed { IsErrOf result SinkFault.Failed → AppendsPrefix (written self.old) (written self.new) bytes.now }
         ensures memory { IsErrOf result SinkFault.NoMemory → Keeps (written self.old) (written self.new) }
         ensures cause { IsErrOf result SinkFault.Failed → Rose (faults self.old) (faults self.new) }
+        ensures wanting { IsErrOf result SinkFault.NoMemory → IsTrue (needs_memory self.old) }
         ensures later { faults self.old ≤ faults self.new };
 }

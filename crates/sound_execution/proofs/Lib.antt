@@ -24,6 +24,5 @@ pub mod Starting
 pub mod Overlays
 pub mod Regions
 pub mod Plainness
-pub mod Loading
 pub mod Numbered
 pub mod Stated

@@ -1,5 +1,5 @@
 // What execution keeps, each law the contract of a function.
-ghost use Rattle.roopl_semantics.specs.Laws.{CountsAreReferences, StartsLoaded};
+ghost use Rattle.roopl_semantics.specs.Laws.{CountsAreReferences};
 ghost use Rattle.sound_execution.specs.Kept.{AcceptedIsPlain, StartIsSound, ExecutionKeeps, EndIsSound};
 
 /// In an accepted program every literal is a word, and no name is empty.
@@ -10,11 +10,6 @@ pub fn accepted_is_plain()
 /// The state in which a run begins is sound; the main object alone is held besides, once.
 pub fn start_is_sound()
     ensures { StartIsSound }
-{}
-
-/// The layout of the starting store is the memory that a machine begins with.
-pub fn start_is_loaded()
-    ensures { StartsLoaded }
 {}
 
 /// What is done by a checked block of an accepted program, whatever its statements, keeps a sound state sound.

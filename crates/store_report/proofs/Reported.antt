@@ -9,11 +9,11 @@ use Rattle.rpp_tree.specs.Tree.{Source}
 use Rattle.roopl_semantics.specs.Source.{main_fields}
 use Rattle.class_table.specs.Classes.{main_of}
 use Rattle.roopl_semantics.specs.Store.{Value, Word, Nil, number_of}
-use Rattle.roopl_semantics.specs.Alone.{alone, told_by, values_of, field_words, IsAlone}
+use Rattle.roopl_semantics.specs.Alone.{alone, told_by, values_of}
 use Rattle.roopl_semantics.specs.Report.{newly_met, walked, numbered, field_lines, object_lines, live_line, live_count, objects_shown}
 use Rattle.roopl_semantics.specs.Layout.{is_plain_among}
 use Rattle.roopl_semantics.specs.Walk.{counted, run_report}
-use Rattle.store_report.specs.Lines.{report_of}
+use Rattle.store_report.specs.Lines.{field_words, report_of}
 
 none_by : (kind : VarType) (word : ℕ) (rest : List Value) → newly_met [] (told_by kind word ∷ rest) ≡ newly_met [] rest
 none_by kind.Int word rest = refl
@@ -26,15 +26,15 @@ none_met [] words = refl
 none_met (field ∷ fields) [] = refl
 none_met (field ∷ fields) (word ∷ words) = none_by field.kind word (values_of fields words) ∙ none_met fields words
 
-module _ (program : Source) (cells : List ℕ) (values : List Value) (is : IsAlone program cells values) where
+module _ (program : Source) (cells : List ℕ) (values : List Value) (words : field_words program cells ≡ map number_of values) (told : values_of (main_fields program) (map number_of values) ≡ values) where
   none_here : newly_met [] values ≡ []
-  none_here = ap (newly_met []) (sym is.told) ∙ none_met (main_fields program) (map number_of values)
+  none_here = ap (newly_met []) (sym told) ∙ none_met (main_fields program) (map number_of values)
 
   none_numbered : numbered (alone (main_of program).class values) ≡ []
   none_numbered = ap (λ (first : List ℕ). walked 1 (alone (main_of program).class values) first first) none_here
 
   values_are : values_of (main_fields program) (field_words program cells) ≡ values
-  values_are = ap (values_of (main_fields program)) is.words ∙ is.told
+  values_are = ap (values_of (main_fields program)) words ∙ told
 
   shown : objects_shown program (alone (main_of program).class values) ≡ field_lines [] [] (main_fields program) values
   shown =

@@ -1,14 +1,15 @@
 // The lines of a report.
-ghost use Rattle.std.specs.Prelude.{◌≡◌, ◌≤◌, ◌+◌, ◌++◌, ◌∷◌, [], All, List, length, string_bytes, IfOk, OnOk, codes};
+ghost use Rattle.std.specs.Prelude.{◌≡◌, ◌++◌, ◌∷◌, [], All, List, length, string_bytes, IfOk, OnOk, codes};
 ghost use Rattle.std.specs.Str.{IsAscii};
 ghost use Rattle.rpp_tree.specs.Views.{source_of};
-ghost use Rattle.roopl_semantics.specs.Store.{Value};
-ghost use Rattle.roopl_semantics.specs.Source.{main_fields};
-ghost use Rattle.class_table.specs.Classes.{main_of};
-ghost use Rattle.roopl_semantics.specs.Alone.{alone, told_by, values_of, IsAlone};
+ghost use Rattle.rpp_words.specs.declared.input.FieldWord.{FieldWord};
+ghost use Rattle.roopl_semantics.specs.Store.{State};
+ghost use Rattle.roopl_semantics.specs.Source.{starting};
+ghost use Rattle.roopl_semantics.specs.Alone.{told_by, values_of, IsReportable};
 ghost use Rattle.roopl_semantics.specs.Report.{field_lines, signed_decimal, value_shown, live_line};
 ghost use Rattle.roopl_semantics.specs.Walk.{run_report};
 ghost use Rattle.store_report.specs.Lines.{report_of};
+ghost use Rattle.store_report.specs.Memory.{IsMemoryOf, IsFirstMemoryOf};
 ghost use Rattle.store_report.specs.Ascii.{HasAsciiName};
 
 use crate::words::field_words;
@@ -19,15 +20,19 @@ use rpp_tree::tree::{Var, VarType};
 use rpp_words::NoMemory;
 use std::alloc::{AllocError, Global};
 
-/// The report of the memory of a program's run, where the main object stands alone and its fields hold no references:
-/// a line for each field, and the number of live objects, 0.
+/// The report of the memory of a program's run: a line for each field of the main object, and the number of live objects, 0.
+/// What can be reported so far are the memories of programs whose runs end with the main object alone (`IsReportable`).
 pub fn report(alloc: Global, machine: &Machine, checked: &Checked) -> Result<String, NoMemory>
-    requires { 42 + length (main_fields (source_of checked.now)) ≤ length machine.now.state.cells }
     ensures lines { IfOk result (λ text. string_bytes text ≡ report_of (source_of checked.now) machine.now.state.cells) }
 
-    // It is the report of the store that the memory stands for.
-    ensures store { IfOk result (λ text. (values : List Value) → IsAlone (source_of checked.now) machine.now.state.cells values
-        → string_bytes text ≡ run_report (source_of checked.now) (alone (main_of (source_of checked.now)).class values) machine.now.state.cells) }
+    // Of a memory where a run ended it is the report of the store that the source gives.
+    ensures last { IfOk result (λ text. (end : State) → IsReportable (source_of checked.now)
+        → IsMemoryOf (source_of checked.now) machine.now.state.cells end
+        → string_bytes text ≡ run_report (source_of checked.now) end.store machine.now.state.cells) }
+
+    // Of a memory where a run begins it is the report of the store that the source begins with.
+    ensures first { IfOk result (λ text. (input : List FieldWord) → IsFirstMemoryOf (source_of checked.now) machine.now.state.cells input
+        → string_bytes text ≡ run_report (source_of checked.now) (starting (source_of checked.now) input).store machine.now.state.cells) }
 {
     let table = checked.table();
     let fields = table.fields(table.main().class);

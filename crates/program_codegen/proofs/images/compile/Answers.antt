@@ -11,6 +11,7 @@ use Rattle.program_codegen.specs.Code.{program_code}
 use Rattle.program_codegen.specs.Statics.{statics_in}
 use Rattle.roopl_semantics.proofs.MainPlace.{class_inside}
 use Rattle.program_codegen.proofs.Accepted.{compiled}
+use Rattle.program_codegen.proofs.Finished.{reportable}
 use Rattle.program_codegen.proofs.Sealed.{code_in_range, code_in_limit, sealable}
 use Rattle.program_codegen.proofs.Stands.{stands_for}
 use Rattle.program_codegen.proofs.Tables.{statics_same}
@@ -45,17 +46,20 @@ unreachable-requires c =
     let some = c.in-Err.ensures.sealed in
     cc
 
-pub returns-clause-cells : goal.returns-clause-cells
-returns-clause-cells c =
-    let program = source_of c.args.checked.now in
-    let inside = class_inside program c.table.ensures.accepted in
-    let statics = c.in_ok-statics.ensures.cells ∙ ap statics_in c.table.ensures.table ∙ statics_same program inside in
-    c.in-Ok.ensures.image
-    ∙ ap (λ (code : List Cell). record { code = code; statics = c.in_ok-statics.statics.items }) c.in_ok-code.ensures.code
-    ∙ ap (λ (xs : List ℕ). record { code = program_code program; statics = xs }) statics
-
 pub returns-clause-stands : goal.returns-clause-stands
 returns-clause-stands c =
     let program = source_of c.args.checked.now in
     let is = compiled program c.table.ensures.accepted c.requires c.in_ok-code.ensures.words in
-    subst (StandsFor program) (sym (returns-clause-cells c)) (stands_for program is)
+    let inside = class_inside program c.table.ensures.accepted in
+    let statics = c.in_ok-statics.ensures.cells ∙ ap statics_in c.table.ensures.table ∙ statics_same program inside in
+    let image =
+    c.in-Ok.ensures.image
+    ∙ ap (λ (code : List Cell). record { code = code; statics = c.in_ok-statics.statics.items }) c.in_ok-code.ensures.code
+    ∙ ap (λ (xs : List ℕ). record { code = program_code program; statics = xs }) statics
+    in
+    subst (StandsFor program) (sym image) (stands_for program is)
+
+pub returns-clause-reportable : goal.returns-clause-reportable
+returns-clause-reportable c =
+    let program = source_of c.args.checked.now in
+    reportable program (compiled program c.table.ensures.accepted c.requires c.in_ok-code.ensures.words)

@@ -1,0 +1,63 @@
+-- A plan of a command on images writes its target, or nothing.
+use Rattle.std.proofs.Common.{◌≡◌, ℕ, List, None, Some, Ok, Err, inl, inr, option_map, refl}
+use Rattle.std.specs.declared.option.Option.{Option}
+use Rattle.std.specs.Prelude.{Result}
+use Rattle.rpp_words.specs.declared.input.Limits.{Limits}
+use Rattle.rpp_ports.specs.Ports.{Texts}
+use Rattle.pisa_loader.specs.declared.error.LoadError.{LoadError}
+use Rattle.pisa_isa.specs.Image.{Segments}
+use Rattle.pisa_image.specs.declared.error.ImageError.{ImageError}
+use Rattle.pisa_asm.specs.declared.error.AsmError.{AsmError}
+use Rattle.pisa_image.specs.Reading.{image_at}
+use Rattle.pisa_asm.specs.Passes.{image_of_text}
+use Rattle.pisa_machine.specs.Position.{Position}
+use Rattle.pisa_isa.specs.Machine.{State}
+use Rattle.rpp_plan.specs.Plans.{Planned, WithState, WritesOnly}
+use Rattle.image_commands.specs.ImagePlans.{OfImage, IsAsmPlan, AssemblesFile, ListsFile, FlipsFile, RunsFile, IsListPlan, IsFlipPlan, IsRunPlan, IsSizedPlan, IsRanPlan, first_of, saved}
+use Rattle.rpp_plan.proofs.Writes.{of_text, along}
+
+image_writes : (read : Result Segments ImageError) (P : Segments → Planned → Type 0) (name : Option (List ℕ)) (p : Planned) → ((image : Segments) (q : Planned) → P image q → WritesOnly q name) → OfImage P read p → WritesOnly p name
+image_writes (Err e) P name p f h = along p _ name h (inl refl)
+image_writes (Ok image) P name p f h = f image p h
+
+asm_writes : (read : Result Segments AsmError) (name : List ℕ) (p : Planned) → IsAsmPlan read name p → WritesOnly p (Some name)
+asm_writes (Err e) name p h = along p _ (Some name) h (inl refl)
+asm_writes (Ok image) name p h = along p _ (Some name) h (inr refl)
+
+list_writes : (read : Result Segments ImageError) (name : List ℕ) (p : Planned) → IsListPlan read name p → WritesOnly p (Some name)
+list_writes read name p h = image_writes read _ (Some name) p (λ image q k. along q _ (Some name) k (inr refl)) h
+
+flip_writes : (read : Result Segments ImageError) (name : List ℕ) (p : Planned) → IsFlipPlan read name p → WritesOnly p (Some name)
+flip_writes read name p h = image_writes read _ (Some name) p (λ image q k. along q _ (Some name) k (inr refl)) h
+
+saved_name : (save : Option (List ℕ)) (last : State) → option_map (λ w. w.name) (saved save last) ≡ save
+saved_name None last = refl
+saved_name (Some name) last = refl
+
+ran_writes : (first : Result Position LoadError) (save : Option (List ℕ)) (steps : ℕ) (p : Planned) → IsRanPlan first save steps p → WritesOnly p save
+ran_writes (Err e) save steps p h = along p _ save h (inl refl)
+ran_writes (Ok first) save steps p h = along p _ save h (inr (saved_name save _))
+
+sized_writes : (refusal : Option LoadError) (image : Segments) (limits : Limits) (state save : Option (List ℕ)) (steps : ℕ) (p : Planned) → IsSizedPlan refusal image limits state save steps p → WritesOnly p save
+sized_writes (Some e) image limits state save steps p h = along p _ save h (inl refl)
+sized_writes None image limits state save steps p h = ran_writes (first_of image limits state) save steps p h
+
+run_writes : (read : Result Segments ImageError) (heap deep steps : ℕ) (state save : Option (List ℕ)) (p : Planned) → IsRunPlan read heap deep steps state save p → WritesOnly p save
+run_writes read heap deep steps state save p h = image_writes read _ save p (λ image q k. sized_writes _ image _ state save steps q k) h
+
+of_state : (texts : Texts) (state : Option (List ℕ)) (read : Result Segments ImageError) (heap deep steps : ℕ) (save : Option (List ℕ)) (p : Planned) → WithState texts state (λ given. IsRunPlan read heap deep steps given save p) → WritesOnly p save
+of_state texts None read heap deep steps save p g = run_writes read heap deep steps None save p g
+of_state texts (Some name) read heap deep steps save p h = of_text (texts name) _ _ (WritesOnly p save) h (λ given g. run_writes read heap deep steps (Some given) save p g)
+
+pub assembles_file_writes : (text image : List ℕ) (texts : Texts) (p : Planned) → AssemblesFile text image texts p → WritesOnly p (Some image)
+assembles_file_writes text image texts p h = of_text (texts text) _ _ (WritesOnly p (Some image)) h (λ bytes g. asm_writes (image_of_text bytes) image p g)
+
+pub lists_file_writes : (image text : List ℕ) (texts : Texts) (p : Planned) → ListsFile image text texts p → WritesOnly p (Some text)
+lists_file_writes image text texts p h = of_text (texts image) _ _ (WritesOnly p (Some text)) h (λ bytes g. list_writes (image_at bytes) text p g)
+
+pub flips_file_writes : (image flipped : List ℕ) (texts : Texts) (p : Planned) → FlipsFile image flipped texts p → WritesOnly p (Some flipped)
+flips_file_writes image flipped texts p h = of_text (texts image) _ _ (WritesOnly p (Some flipped)) h (λ bytes g. flip_writes (image_at bytes) flipped p g)
+
+pub runs_file_writes : (image : List ℕ) (heap deep steps : ℕ) (state save : Option (List ℕ)) (texts : Texts) (p : Planned) → RunsFile image heap deep steps state save texts p → WritesOnly p save
+runs_file_writes image heap deep steps state save texts p h =
+    of_text (texts image) _ _ (WritesOnly p save) h (λ bytes g. of_state texts state (image_at bytes) heap deep steps save p g)

@@ -1,0 +1,99 @@
+// `asm T IMG`, `list IMG T` and `flip IMG IMG2`: images, from their texts and files and to them.
+ghost use Rattle.std.specs.Prelude.{◌≤◌, [], ◌∷◌, length, Ok, IfOk, IfSome};
+ghost use Rattle.pisa_image.specs.Reading.{image_at};
+ghost use Rattle.pisa_asm.specs.declared.assembler.TheConstants.{MOST_TEXT};
+ghost use Rattle.pisa_asm.specs.Passes.{image_of_text};
+ghost use Rattle.rpp_plan.specs.Plans.{planned, GivesPlan};
+ghost use Rattle.image_commands.specs.ImagePlans.{IsAsmPlan, IsListPlan, IsFlipPlan, AssemblesFile, ListsFile, FlipsFile};
+ghost use Rattle.rpp_plan.specs.declared.reading.TheConstants.{MOST_IMAGE};
+ghost use Rattle.rpp_plan.specs.Files.{OnlyReads, assembly, image_file};
+
+use pisa_asm::{AsmError, MOST_TEXT, assemble};
+use pisa_image::{ImageError, read_image, write_image};
+use pisa_isa::Image;
+use rpp_plan::{
+    MOST_IMAGE, NoPlan, Plan, Verdict, asm_line, cells_line, image_line, read_file, write_as,
+};
+use rpp_ports::Shelf;
+use rpp_words::NoMemory;
+use std::alloc::Global;
+
+/// Assembles the text in a file into an image file.
+pub fn asm<S: Shelf>(alloc: Global, shelf: &mut S, text: &str, image: &str) -> Result<Plan, NoPlan>
+    ensures plan { GivesPlan (S.texts shelf.old) (AssemblesFile text.now image.now) result }
+    ensures reads { OnlyReads (S.texts shelf.old) (S.texts shelf.new) (S.faults shelf.old) (S.faults shelf.new) (assembly text.now ∷ []) result }
+{
+    let bytes = read_file(alloc, shelf, text, MOST_TEXT as u64)?;
+    Ok(asm_text(alloc, &bytes, image)?)
+}
+
+fn asm_text(alloc: Global, text: &[u8], name: &str) -> Result<Plan, NoMemory>
+    requires { length text.now ≤ MOST_TEXT }
+    ensures { IfOk result (λ plan. IsAsmPlan (image_of_text text.now) name.now (planned plan)) }
+{
+    match assemble(alloc, text) {
+        Ok(image) => write_as(alloc, "assembled", name, &image),
+        Err(AsmError::NoMemory) => Err(NoMemory),
+        Err(e) => Ok(Plan::prints(Verdict::ImageRefused, asm_line(alloc, e)?)),
+    }
+}
+
+/// Writes the listing of the image in a file.
+pub fn list<S: Shelf>(alloc: Global, shelf: &mut S, image: &str, text: &str) -> Result<Plan, NoPlan>
+    ensures plan { GivesPlan (S.texts shelf.old) (ListsFile image.now text.now) result }
+    ensures reads { OnlyReads (S.texts shelf.old) (S.texts shelf.new) (S.faults shelf.old) (S.faults shelf.new) (image_file image.now ∷ []) result }
+{
+    let bytes = read_file(alloc, shelf, image, MOST_IMAGE as u64)?;
+    Ok(list_bytes(alloc, &bytes, text)?)
+}
+
+fn list_bytes(alloc: Global, bytes: &[u8], name: &str) -> Result<Plan, NoMemory>
+    ensures { IfOk result (λ plan. IsListPlan (image_at bytes.now) name.now (planned plan)) }
+{
+    match read_image(alloc, bytes) {
+        Ok(image) => write_listing(alloc, &image, name),
+        Err(ImageError::NoMemory) => Err(NoMemory),
+        Err(e) => Ok(Plan::prints(Verdict::ImageRefused, image_line(alloc, e)?)),
+    }
+}
+
+fn write_listing(alloc: Global, image: &Image, name: &str) -> Result<Plan, NoMemory>
+    ensures { IfOk result (λ plan. IsListPlan (Ok image.now) name.now (planned plan)) }
+{
+    let listing = pisa_asm::list(alloc, image)?;
+    let text = cells_line(alloc, "listed", image.code())?;
+    Ok(Plan::writes(String::from_str(alloc, name)?, listing.into_bytes(), text))
+}
+
+/// Writes the flipped image of the image in a file.
+pub fn flip<S: Shelf>(
+    alloc: Global,
+    shelf: &mut S,
+    image: &str,
+    flipped: &str,
+) -> Result<Plan, NoPlan>
+    ensures plan { GivesPlan (S.texts shelf.old) (FlipsFile image.now flipped.now) result }
+    ensures reads { OnlyReads (S.texts shelf.old) (S.texts shelf.new) (S.faults shelf.old) (S.faults shelf.new) (image_file image.now ∷ []) result }
+{
+    let bytes = read_file(alloc, shelf, image, MOST_IMAGE as u64)?;
+    Ok(flip_bytes(alloc, &bytes, flipped)?)
+}
+
+fn flip_bytes(alloc: Global, bytes: &[u8], name: &str) -> Result<Plan, NoMemory>
+    ensures { IfOk result (λ plan. IsFlipPlan (image_at bytes.now) name.now (planned plan)) }
+{
+    match read_image(alloc, bytes) {
+        Ok(image) => write_flipped(alloc, &image, name),
+        Err(ImageError::NoMemory) => Err(NoMemory),
+        Err(e) => Ok(Plan::prints(Verdict::ImageRefused, image_line(alloc, e)?)),
+    }
+}
+
+fn write_flipped(alloc: Global, image: &Image, name: &str) -> Result<Plan, NoMemory>
+    ensures { IfOk result (λ plan. IsFlipPlan (Ok image.now) name.now (planned plan)) }
+{
+    let flipped = image_inverter::flip(alloc, image)?;
+    let bytes = write_image(alloc, &flipped)?;
+    let text = cells_line(alloc, "flipped", image.code())?;
+    Ok(Plan::writes(String::from_str(alloc, name)?, bytes, text))
+}

@@ -1,0 +1,4 @@
+pub mod Reported
+pub mod Turned
+pub mod ValidInput
+pub mod ProgramTargets

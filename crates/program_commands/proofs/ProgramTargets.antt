@@ -1,0 +1,71 @@
+-- A plan of a command on programs writes its target, or nothing.
+use Rattle.std.proofs.Common.{ℕ, Bool, true, false, List, [], None, Some, Ok, Err, inl, inr, refl}
+use Rattle.std.specs.declared.option.Option.{Option}
+use Rattle.std.specs.Prelude.{Result}
+use Rattle.rpp_words.specs.declared.input.Limits.{Limits}
+use Rattle.rpp_tree.specs.Tree.{Source}
+use Rattle.pisa_isa.specs.declared.machine.Stop.{Stop}
+use Rattle.pisa_isa.specs.declared.machine.Stop.TheVariants.{Finished, Trap, Bound, Returned, BadAddress, OffCode}
+use Rattle.rpp_ports.specs.Ports.{Texts}
+use Rattle.rpp_words.specs.declared.input.FieldWord.{FieldWord}
+use Rattle.pisa_loader.specs.declared.error.LoadError.{LoadError}
+use Rattle.program_commands.specs.Inputs.{given_input}
+use Rattle.class_table.specs.Refusal.{Refusal}
+use Rattle.program_codegen.specs.declared.unbuilt.Unbuilt.{Unbuilt}
+use Rattle.program_codegen.specs.Unbuilt.{unbuilt}
+use Rattle.rpp_plan.specs.Plans.{Planned, WithInput, WritesOnly}
+use Rattle.program_commands.specs.ProgramPlans.{IfBuilt, OfProgram, IsBuiltPlan, IsBuiltImage, WritesImage, IsCheckPlan, IsCompilePlan, ChecksFile, CompilesFile, GoesOn, IsLimitedPlan, IsInputPlan, IsGoPlan, ReportsStop}
+use Rattle.rpp_plan.proofs.Writes.{of_text, along}
+
+stop_writes : (turns : Bool) (why : Stop) (program : Source) (limits : Limits) (input : List FieldWord) (cells first : List ℕ) (spent steps : ℕ) (p : Planned) → ReportsStop turns why program limits input cells first spent steps p → WritesOnly p None
+stop_writes false Finished program limits input cells first spent steps p h = along p _ None h.reported (inl refl)
+stop_writes true Finished program limits input cells first spent steps p h = along p _ None h.reported (inl refl)
+stop_writes turns (Trap code) program limits input cells first spent steps p h = along p _ None h.reported (inl refl)
+stop_writes turns Bound program limits input cells first spent steps p h = along p _ None h.reported (inl refl)
+stop_writes turns Returned program limits input cells first spent steps p h = absurd h
+stop_writes turns (BadAddress a) program limits input cells first spent steps p h = absurd h
+stop_writes turns (OffCode a) program limits input cells first spent steps p h = absurd h
+
+input_writes : (turns : Bool) (input : Result (List FieldWord) LoadError) (program : Source) (limits : Limits) (steps : ℕ) (p : Planned) → IsInputPlan turns input program limits steps p → WritesOnly p None
+input_writes turns (Err e) program limits steps p h = along p _ None h (inl refl)
+input_writes turns (Ok input) program limits steps p h = stop_writes turns _ program limits input _ _ _ steps p h.reports
+
+limited_writes : (turns : Bool) (refusal : Option LoadError) (given : List ℕ) (program : Source) (limits : Limits) (steps : ℕ) (p : Planned) → IsLimitedPlan turns refusal given program limits steps p → WritesOnly p None
+limited_writes turns (Some e) given program limits steps p h = along p _ None h (inl refl)
+limited_writes turns None given program limits steps p h = input_writes turns (given_input program given) program limits steps p h
+
+-- what holds of the plans that P tells holds of all plans of a text: a refusal writes nothing
+told_writes : (found : Option Unbuilt) (text : List ℕ) (P : Planned → Type 0) (name : Option (List ℕ)) (p : Planned) → ((q : Planned) → P q → WritesOnly q name) → IfBuilt found text P p → WritesOnly p name
+told_writes (Some found) text P name p f h = along p _ name h.told (inl refl)
+told_writes None text P name p f h = f p h
+
+judged_writes : (judgement : Result Source Refusal) (P : Source → Planned → Type 0) (name : Option (List ℕ)) (p : Planned) → ((program : Source) (q : Planned) → P program q → WritesOnly q name) → OfProgram P judgement p → WritesOnly p name
+judged_writes (Err refusal) P name p f h = along p _ name h (inl refl)
+judged_writes (Ok program) P name p f h = f program p h
+
+go_writes : (turns : Bool) (text given : List ℕ) (heap deep steps : ℕ) (p : Planned) → IsGoPlan turns text given heap deep steps p → WritesOnly p None
+go_writes turns text given heap deep steps p g =
+    judged_writes g.judgement (λ program. IsBuiltPlan turns text given program heap deep steps) None p
+    (λ program q h. told_writes (unbuilt program) text _ None q (λ r k. limited_writes turns _ given program _ steps r k) h) g.plan
+
+check_writes : (text : List ℕ) (p : Planned) → IsCheckPlan text p → WritesOnly p None
+check_writes text p g = judged_writes g.judgement _ None p (λ program q h. along q _ None h (inl refl)) g.plan
+
+compile_writes : (text name : List ℕ) (p : Planned) → IsCompilePlan text name p → WritesOnly p (Some name)
+compile_writes text name p g =
+    judged_writes g.judgement (IsBuiltImage text name) (Some name) p
+    (λ program q h. told_writes (unbuilt program) text (WritesImage program name) (Some name) q (λ r k. along r _ (Some name) k.written (inr refl)) h) g.plan
+
+of_input : (turns : Bool) (texts : Texts) (input : Option (List ℕ)) (text : List ℕ) (heap deep steps : ℕ) (p : Planned) → WithInput texts input (λ given. IsGoPlan turns text given heap deep steps p) → WritesOnly p None
+of_input turns texts None text heap deep steps p g = go_writes turns text [] heap deep steps p g
+of_input turns texts (Some name) text heap deep steps p h = of_text (texts name) _ _ (WritesOnly p None) h (λ given g. go_writes turns text given heap deep steps p g)
+
+pub checks_file_writes : (file : List ℕ) (texts : Texts) (p : Planned) → ChecksFile file texts p → WritesOnly p None
+checks_file_writes file texts p h = of_text (texts file) _ _ (WritesOnly p None) h (λ text g. check_writes text p g)
+
+pub compiles_file_writes : (file image : List ℕ) (texts : Texts) (p : Planned) → CompilesFile file image texts p → WritesOnly p (Some image)
+compiles_file_writes file image texts p h = of_text (texts file) _ _ (WritesOnly p (Some image)) h (λ text g. compile_writes text image p g)
+
+pub goes_on_writes : (turns : Bool) (file : List ℕ) (input : Option (List ℕ)) (heap deep steps : ℕ) (texts : Texts) (p : Planned) → GoesOn turns file input heap deep steps texts p → WritesOnly p None
+goes_on_writes turns file input heap deep steps texts p h =
+    of_text (texts file) _ _ (WritesOnly p None) h (λ text g. of_input turns texts input text heap deep steps p g)

@@ -1,0 +1,28 @@
+use Rattle.std.proofs.Common.{◌≡◌, ◌∙◌, sym, ap}
+use Rattle.rpp_tree.specs.Views.{source_of}
+use Rattle.pisa_isa.specs.Flipped.{flipped_image}
+use Rattle.pisa_isa.specs.Image.{Segments}
+use Rattle.pisa_isa.specs.Runs.{run}
+use Rattle.pisa_machine.specs.Position.{Position, first_position}
+use Rattle.program_commands.proofs.Turned.{back_cells, back_spent}
+use Rattle.program_commands.proofs.turning.run_back.Goals as goal
+
+pub returns-clause-cells : goal.returns-clause-cells
+returns-clause-cells g c =
+    let m = c.args.machine in
+    let same : c.in_ok-flipped.flipped ≡ flipped_image m.image = c.in_ok-flipped.ensures.flipped ∙ ap flipped_image c.image.ensures.image in
+    let first : c.with_image-machine.result ≡ first_position (flipped_image m.image) m.state.regs m.state.cells =
+    c.with_image-machine.ensures ∙ ap (λ (i : Segments). first_position i m.state.regs m.state.cells) same in
+    back_cells (source_of c.args._checked.now) c.args.setting.now.limits c.args.setting.now.input.words.items c.args.setting.now.bound m c.args._spent c.requires.run c.image.ensures.machine.is_image c.requires.begun c.requires.within
+    (record { why = c.run-back.result.stop; spent = c.run-back.result.spent; last = c.run-back.new.self.state })
+    (sym (ap (λ (p : Position). run p.image.code c.args.setting.now.bound p.state) first) ∙ c.run-back.ensures.runs)
+
+pub returns-clause-spent : goal.returns-clause-spent
+returns-clause-spent g c =
+    let m = c.args.machine in
+    let same : c.in_ok-flipped.flipped ≡ flipped_image m.image = c.in_ok-flipped.ensures.flipped ∙ ap flipped_image c.image.ensures.image in
+    let first : c.with_image-machine.result ≡ first_position (flipped_image m.image) m.state.regs m.state.cells =
+    c.with_image-machine.ensures ∙ ap (λ (i : Segments). first_position i m.state.regs m.state.cells) same in
+    back_spent (source_of c.args._checked.now) c.args.setting.now.limits c.args.setting.now.input.words.items c.args.setting.now.bound m c.args._spent c.requires.run c.image.ensures.machine.is_image c.requires.begun c.requires.within
+    (record { why = c.run-back.result.stop; spent = c.run-back.result.spent; last = c.run-back.new.self.state })
+    (sym (ap (λ (p : Position). run p.image.code c.args.setting.now.bound p.state) first) ∙ c.run-back.ensures.runs)

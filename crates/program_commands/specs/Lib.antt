@@ -1,0 +1,3 @@
+pub mod ProgramPlans
+pub mod GoRun
+pub mod Inputs

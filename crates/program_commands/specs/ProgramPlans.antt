@@ -1,0 +1,156 @@
+-- The plans of the commands on programs.
+use Rattle.std.specs.Prelude.{◌≡◌, ℕ, ◌≤◌, ◌<◌, Bool, true, false, List, ◌++◌, length, None, Some, Result, Ok, Err, codes}
+use Rattle.std.specs.declared.option.Option.{Option}
+use Rattle.std.specs.Fmt.{decimal}
+use Rattle.rpp_words.specs.declared.input.FieldWord.{FieldWord}
+use Rattle.rpp_words.specs.declared.input.Limits.{Limits}
+use Rattle.rpp_tree.specs.declared.limits.TheConstants.{MOST_BYTES}
+use Rattle.rpp_tree.specs.Tree.{Source}
+use Rattle.rpp_ports.specs.Ports.{Texts}
+use Rattle.roopl_lexer.specs.declared.token.Token.{Token}
+use Rattle.roopl_lexer.specs.Tokens.{IsCutting}
+use Rattle.class_table.specs.Refusal.{Refusal}
+use Rattle.program_codegen.specs.declared.unbuilt.Unbuilt.{Unbuilt}
+use Rattle.program_codegen.specs.Unbuilt.{unbuilt}
+use Rattle.pisa_isa.specs.declared.machine.Stop.{Stop}
+use Rattle.pisa_isa.specs.declared.machine.Stop.TheVariants.{Finished, Trap, Bound as AtBound}
+use Rattle.pisa_isa.specs.Image.{Segments, IsImage}
+use Rattle.pisa_isa.specs.Flipped.{Restores}
+use Rattle.pisa_image.specs.ImageBytes.{image_bytes}
+use Rattle.pisa_isa.specs.Loaded.{loaded}
+use Rattle.pisa_isa.specs.Runs.{End, zero_registers}
+use Rattle.roopl_semantics.specs.Store.{State}
+use Rattle.roopl_semantics.specs.Source.{GivesDone, GivesFault, starting}
+use Rattle.roopl_semantics.specs.Walk.{run_report}
+use Rattle.roopl_semantics.specs.StandsFor.{StandsFor, EndsAt, run_of, enough_steps}
+use Rattle.roopl_judge.specs.Judged.{IsJudged}
+use Rattle.roopl_judge.specs.NotBuilt.{not_built}
+use Rattle.rpp_plan.specs.Refusals.{refused_line}
+use Rattle.rpp_words.specs.Texts.{line_end}
+use Rattle.pisa_loader.specs.Limiting.{limits_refusal}
+use Rattle.pisa_loader.specs.declared.error.LoadError.{LoadError}
+use Rattle.rpp_words.specs.declared.input.TheConstants.{MOST_DEEP}
+use Rattle.program_commands.specs.Inputs.{given_input}
+use Rattle.rpp_plan.specs.declared.plan.Verdict.TheVariants.{Done, SourceRefused, Trapped, Bound, InputRefused}
+use Rattle.rpp_plan.specs.Plans.{Planned, prints, writes, WithText, WithInput}
+use Rattle.rpp_plan.specs.Texts.{load_line, steps_line, fault_line, cells_line}
+
+-- the source gives a store, and the plan reports it, as it stands in these cells
+pub record ReportsStore (program : Source) (limits : Limits) (input : List FieldWord) (cells : List ℕ) (spent : ℕ) (p : Planned) : Type 0 where
+  pub end : State
+  pub gives : GivesDone program limits input end
+  pub reported : p ≡ prints Done (run_report program end.store cells ++ steps_line spent)
+
+-- the source gives this fault, and the plan reports it
+pub record ReportsFault (program : Source) (limits : Limits) (input : List FieldWord) (code spent : ℕ) (p : Planned) : Type 0 where
+  pub gives : GivesFault program limits input code
+  pub reported : p ≡ prints Trapped (fault_line code ++ steps_line spent)
+
+-- the bound ended the run, and the plan says so: the source ends at no cost for which so many steps are enough
+pub record ReportsBound (program : Source) (limits : Limits) (input : List FieldWord) (steps : ℕ) (p : Planned) : Type 0 where
+  pub early : (cost : ℕ) → EndsAt program limits input cost → steps < enough_steps cost
+  pub reported : p ≡ prints Bound (codes "bound" ++ (line_end ++ steps_line steps))
+
+-- what is printed of the way back: its steps, the report, and how many cells are as they were
+abbrev pub back_lines : (spent : ℕ) (report : List ℕ) (count : ℕ) → List ℕ
+back_lines spent report count = codes "back " ++ (decimal spent ++ (line_end ++ (report ++ (codes "restored " ++ (decimal count ++ (codes " cells" ++ line_end))))))
+
+-- the source gives a store, and the plan reports it, and behind it the store where the source began, as it stands in the first cells
+pub record ReportsTurn (program : Source) (limits : Limits) (input : List FieldWord) (cells first : List ℕ) (spent : ℕ) (p : Planned) : Type 0 where
+  pub end : State
+  pub gives : GivesDone program limits input end
+  pub reported : p ≡ prints Done ((run_report program end.store cells ++ steps_line spent) ++ back_lines spent (run_report program (starting program input).store first) (length first))
+
+-- what the plan of a finished run says, by whether it turns back
+abbrev pub ReportsFinish : (turns : Bool) → Source → Limits → List FieldWord → (cells first : List ℕ) (spent : ℕ) → Planned → Type 0
+ReportsFinish false program limits input cells first spent p = ReportsStore program limits input cells spent p
+ReportsFinish true program limits input cells first spent p = ReportsTurn program limits input cells first spent p
+
+-- what the plan of a run says, by why the run ended; it never ends otherwise
+abbrev pub ReportsStop : (turns : Bool) → Stop → Source → Limits → List FieldWord → (cells first : List ℕ) (spent steps : ℕ) → Planned → Type 0
+ReportsStop turns Finished program limits input cells first spent steps p = ReportsFinish turns program limits input cells first spent p
+ReportsStop turns (Trap code) program limits input cells first spent steps p = ReportsFault program limits input code spent p
+ReportsStop turns AtBound program limits input cells first spent steps p = ReportsBound program limits input steps p
+ReportsStop turns _ program limits input cells first spent steps p = ⊥
+
+-- what the plan of a run of at most so many steps from these first cells says, by its end
+abbrev pub ReportsEnd : (turns : Bool) → End → Source → Limits → List FieldWord → (first : List ℕ) (steps : ℕ) → Planned → Type 0
+ReportsEnd turns end program limits input first steps p = ReportsStop turns end.why program limits input end.last.cells first end.spent steps p
+
+-- There is an image that stands for the program, and the plan reports its run, whose steps the source's cost bounds. After a
+-- finish the flipped image restores every register and every cell, in as many steps.
+pub record RunsImage (turns : Bool) (program : Source) (limits : Limits) (input : List FieldWord) (steps : ℕ) (p : Planned) : Type 0 where
+  pub image : Segments
+  pub is_image : IsImage image
+  pub stands : StandsFor program image
+  pub in_time : (cost : ℕ) → EndsAt program limits input cost → (run_of image limits input steps).spent ≤ enough_steps cost
+  pub restores : (run_of image limits input steps).why ≡ Finished → Restores image.code (run_of image limits input steps) steps zero_registers (loaded image.statics limits input)
+  pub reports : ReportsEnd turns (run_of image limits input steps) program limits input (loaded image.statics limits input) steps p
+
+-- the input is judged, and then the run is made on it
+abbrev pub IsInputPlan : (turns : Bool) → Result (List FieldWord) LoadError → Source → Limits → ℕ → Planned → Type 0
+IsInputPlan turns (Err e) program limits steps p = p ≡ prints InputRefused (load_line e)
+IsInputPlan turns (Ok input) program limits steps p = RunsImage turns program limits input steps p
+
+-- the size of the memory is tried before the input
+abbrev pub IsLimitedPlan : (turns : Bool) → Option LoadError → (given : List ℕ) → Source → Limits → ℕ → Planned → Type 0
+IsLimitedPlan turns (Some e) given program limits steps p = p ≡ prints InputRefused (load_line e)
+IsLimitedPlan turns None given program limits steps p = IsInputPlan turns (given_input program given) program limits steps p
+
+-- the first form that is not built yet is told
+pub record TellsUnbuilt (text : List ℕ) (found : Unbuilt) (p : Planned) : Type 0 where
+  pub tokens : List Token
+  pub cutting : IsCutting text tokens
+  pub told : p ≡ prints SourceRefused (refused_line (not_built tokens found))
+
+-- a form that is not built yet is told, or P holds of the plan
+abbrev pub IfBuilt : Option Unbuilt → (text : List ℕ) → (P : Planned → Type 0) → Planned → Type 0
+IfBuilt (Some found) text P p = TellsUnbuilt text found p
+IfBuilt None text P p = P p
+
+-- the first refusal of a text is told, or P holds of the program that it is
+abbrev pub OfProgram : (P : Source → Planned → Type 0) → Result Source Refusal → Planned → Type 0
+OfProgram P (Err refusal) p = p ≡ prints SourceRefused (refused_line refusal)
+OfProgram P (Ok program) p = P program p
+
+-- the text is judged, and the plan is that of the judgement
+pub record IsJudgedPlan (text : List ℕ) (P : Source → Planned → Type 0) (p : Planned) : Type 0 where
+  pub judgement : Result Source Refusal
+  pub judged : IsJudged text judgement
+  pub plan : OfProgram P judgement p
+
+abbrev pub IsBuiltPlan : (turns : Bool) → (text given : List ℕ) → Source → (heap deep steps : ℕ) → Planned → Type 0
+IsBuiltPlan turns text given program heap deep steps p =
+    IfBuilt (unbuilt program) text (IsLimitedPlan turns (limits_refusal heap deep MOST_DEEP) given program (record { heap = heap; deep = deep }) steps) p
+
+abbrev pub IsGoPlan : (turns : Bool) → (text given : List ℕ) → (heap deep steps : ℕ) → Planned → Type 0
+IsGoPlan turns text given heap deep steps p = IsJudgedPlan text (λ program. IsBuiltPlan turns text given program heap deep steps) p
+
+abbrev pub IsCheckPlan : (text : List ℕ) → Planned → Type 0
+IsCheckPlan text p = IsJudgedPlan text (λ program p. p ≡ prints Done (codes "accepted" ++ line_end)) p
+
+-- an image that stands for the program is written
+pub record WritesImage (program : Source) (name : List ℕ) (p : Planned) : Type 0 where
+  pub image : Segments
+  pub is_image : IsImage image
+  pub stands : StandsFor program image
+  pub written : p ≡ writes name (image_bytes image) (cells_line (codes "compiled") image.code)
+
+abbrev pub IsBuiltImage : (text name : List ℕ) → Source → Planned → Type 0
+IsBuiltImage text name program p = IfBuilt (unbuilt program) text (WritesImage program name) p
+
+abbrev pub IsCompilePlan : (text name : List ℕ) → Planned → Type 0
+IsCompilePlan text name p = IsJudgedPlan text (IsBuiltImage text name) p
+
+-- the plan of `check` of this file
+abbrev pub ChecksFile : (file : List ℕ) → Texts → Planned → Type 0
+ChecksFile file texts p = WithText texts file MOST_BYTES (λ text. IsCheckPlan text p)
+
+-- the plan of `compile` of this file to that of an image
+abbrev pub CompilesFile : (file image : List ℕ) → Texts → Planned → Type 0
+CompilesFile file image texts p = WithText texts file MOST_BYTES (λ text. IsCompilePlan text image p)
+
+-- the plan of `go`, or of `turn`, of this file, on an input where there is one
+abbrev pub GoesOn : (turns : Bool) → (file : List ℕ) → (input : Option (List ℕ)) → (heap deep steps : ℕ) → Texts → Planned → Type 0
+GoesOn turns file input heap deep steps texts p =
+    WithText texts file MOST_BYTES (λ text. WithInput texts input (λ given. IsGoPlan turns text given heap deep steps p))

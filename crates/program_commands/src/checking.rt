@@ -1,0 +1,33 @@
+// `check F`: accepts or refuses a source.
+ghost use Rattle.std.specs.Prelude.{◌≤◌, [], ◌∷◌, length, IfOk, IfSome};
+ghost use Rattle.rpp_tree.specs.declared.limits.TheConstants.{MOST_BYTES};
+ghost use Rattle.rpp_plan.specs.Plans.{planned, GivesPlan};
+ghost use Rattle.program_commands.specs.ProgramPlans.{IsCheckPlan, ChecksFile};
+ghost use Rattle.rpp_plan.specs.Files.{OnlyReads, source};
+
+use roopl_judge::{SourceError, judge};
+use rpp_plan::{NoPlan, Plan, Verdict, read_file, refuse_source};
+use rpp_ports::Shelf;
+use rpp_tree::MOST_BYTES;
+use rpp_words::NoMemory;
+use std::alloc::Global;
+
+/// Judges the source in a file.
+pub fn check<S: Shelf>(alloc: Global, shelf: &mut S, file: &str) -> Result<Plan, NoPlan>
+    ensures plan { GivesPlan (S.texts shelf.old) (ChecksFile file.now) result }
+    ensures reads { OnlyReads (S.texts shelf.old) (S.texts shelf.new) (S.faults shelf.old) (S.faults shelf.new) (source file.now ∷ []) result }
+{
+    let text = read_file(alloc, shelf, file, MOST_BYTES as u64)?;
+    Ok(check_text(alloc, &text)?)
+}
+
+fn check_text(alloc: Global, text: &[u8]) -> Result<Plan, NoMemory>
+    requires { length text.now ≤ MOST_BYTES }
+    ensures { IfOk result (λ plan. IsCheckPlan text.now (planned plan)) }
+{
+    match judge(alloc, text) {
+        Ok(_judged) => Ok(Plan::prints(Verdict::Done, String::from_str(alloc, "accepted\n")?)),
+        Err(SourceError::Refused { number, at }) => Ok(refuse_source(alloc, number, at)?),
+        Err(SourceError::NoMemory) => Err(NoMemory),
+    }
+}

@@ -1,0 +1,2 @@
+pub mod AsRefusals
+pub mod OneJudgement

@@ -1,0 +1,4 @@
+pub mod Errors
+pub mod Judged
+pub mod Laws
+pub mod NotBuilt

@@ -1,0 +1,93 @@
+// Judges a text: the lexer, the parser, the class table and the types, in this order.
+ghost use Rattle.std.specs.Prelude.{◌≡◌, ◌≤◌, length, IfOk, IfErr, OnOk, Ok, Err};
+ghost use Rattle.rpp_tree.specs.declared.limits.TheConstants.{MOST_BYTES};
+ghost use Rattle.rpp_tree.specs.Views.{source_of};
+ghost use Rattle.class_table.specs.Table.{table_of, HasClassTable};
+ghost use Rattle.roopl_lexer.specs.Readable.{AreReadable};
+ghost use Rattle.roopl_lexer.specs.Tokens.{IsCutting};
+ghost use Rattle.roopl_judge.specs.Errors.{IfRefused};
+ghost use Rattle.roopl_judge.specs.Judged.{IsTree, IsJudged};
+
+use crate::error::{SourceError, of_class_table, of_lexer, of_parser, of_types};
+use class_table::{Checked, ClassTable};
+use reversible_types::check;
+use roopl_lexer::{Token, lex};
+use roopl_parser::parse;
+use rpp_tree::tree::Program;
+use std::alloc::Global;
+
+/// A text that every rule accepts, with its tokens.
+#[derive(Drop)]
+pub struct Judged {
+    pub tokens: Vec<Token>,
+    pub checked: Checked,
+}
+
+/// The program of a text, or its first refusal.
+pub fn judge(alloc: Global, text: &[u8]) -> Result<Judged, SourceError>
+    requires { length text.now ≤ MOST_BYTES }
+    ensures accepted { IfOk result (λ judged. IsJudged text.now (Ok (source_of judged.checked))) }
+    ensures tokens { IfOk result (λ judged. IsCutting text.now judged.tokens.items) }
+    ensures refused { IfErr result (IfRefused (λ refusal. IsJudged text.now (Err refusal))) }
+{
+    let tokens = cut(alloc, text)?;
+    let program = tree(alloc, text, &tokens)?;
+    let table = table(alloc, text, &program)?;
+    let checked = types(text, program, table)?;
+    Ok(Judged { tokens, checked })
+}
+
+// The tokens of a text.
+fn cut(alloc: Global, text: &[u8]) -> Result<Vec<Token>, SourceError>
+    requires { length text.now ≤ MOST_BYTES }
+    ensures tokens { IfOk result (λ tokens. IsCutting text.now tokens.items) }
+    ensures readable { IfOk result (λ tokens. AreReadable tokens.items) }
+    ensures refused { IfErr result (IfRefused (λ refusal. IsJudged text.now (Err refusal))) }
+{
+    match lex(alloc, text) {
+        Ok(tokens) => Ok(tokens),
+        Err(error) => Err(of_lexer(error)),
+    }
+}
+
+// The tree of a text with these tokens.
+fn tree(alloc: Global, text: &[u8], tokens: &[Token]) -> Result<Program, SourceError>
+    requires short { length text.now ≤ MOST_BYTES }
+    requires cutting { IsCutting text.now tokens.now }
+    requires readable { AreReadable tokens.now }
+    ensures tree { IfOk result (λ program. IsTree text.now (source_of program)) }
+    ensures refused { IfErr result (IfRefused (λ refusal. IsJudged text.now (Err refusal))) }
+{
+    match parse(alloc, tokens, text.len() as u32) {
+        Ok(program) => Ok(program),
+        Err(error) => Err(of_parser(error)),
+    }
+}
+
+// The class table of a text's tree.
+fn table(alloc: Global, text: &[u8], program: &Program) -> Result<ClassTable, SourceError>
+    requires short { length text.now ≤ MOST_BYTES }
+    requires tree { IsTree text.now (source_of program.now) }
+    ensures table { IfOk result (λ table. table ≡ table_of (source_of program.now)) }
+    ensures classes { OnOk result (HasClassTable (source_of program.now)) }
+    ensures refused { IfErr result (IfRefused (λ refusal. IsJudged text.now (Err refusal))) }
+{
+    match ClassTable::build(alloc, program, text.len() as u32) {
+        Ok(table) => Ok(table),
+        Err(error) => Err(of_class_table(error)),
+    }
+}
+
+// A text's tree with its table, where the types are accepted.
+fn types(_text: &[u8], program: Program, table: ClassTable) -> Result<Checked, SourceError>
+    requires tree { IsTree _text.now (source_of program) }
+    requires table { table ≡ table_of (source_of program) }
+    requires classes { HasClassTable (source_of program) }
+    ensures accepted { IfOk result (λ checked. IsJudged _text.now (Ok (source_of checked))) }
+    ensures refused { IfErr result (IfRefused (λ refusal. IsJudged _text.now (Err refusal))) }
+{
+    match check(program, table) {
+        Ok(checked) => Ok(checked),
+        Err(error) => Err(of_types(error)),
+    }
+}

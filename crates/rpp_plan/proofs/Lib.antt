@@ -1,0 +1,2 @@
+pub mod TwoReads
+pub mod Writes

@@ -1,0 +1,5 @@
+pub mod Faults
+pub mod Refusals
+pub mod Texts
+pub mod Plans
+pub mod Files

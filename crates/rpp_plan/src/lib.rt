@@ -1,0 +1,15 @@
+//! What a command makes: a plan of a status, a text and at most one file, or the reason that stops it; with the files that
+//! commands read, and the lines on refusals and faults. Commands live in crates above this one, and the top call above them.
+#![tactic(auto)]
+
+mod plan;
+mod reading;
+mod texts;
+mod writing;
+
+pub use plan::{NoPlan, Plan, Sizes, Verdict, Writing};
+pub use reading::{
+    Given, Images, MOST_IMAGE, MOST_STATE, StateNames, read_file, read_given, read_images,
+};
+pub use texts::{asm_line, fault_line, image_line, load_line, refuse_source, with_steps};
+pub use writing::{cells_line, write_as};
