@@ -1,5 +1,5 @@
 -- The inverse program undoes a run that ended in a state with which a run can begin.
-use Rattle.std.proofs.Common.{◌≡◌, ◌≢◌, ℕ, zero, suc, ◌+◌, ◌-◌, ◌<◌, ◌≤◌, refl, sym, ap, subst, ◌∙◌, arith, true, false, Bool, List, [], ◌∷◌, ◌++◌, length, map, Option, Some, None, option_map, unwrap_or, slice_set, nat_eq, nat_le, if◌then◌else◌, eqb-true, eq-eqb}
+use Rattle.std.proofs.Common.{◌≡◌, ◌≢◌, ℕ, zero, suc, ◌+◌, ◌-◌, ◌<◌, ◌≤◌, refl, sym, ap, ◌∙◌, arith, true, false, Bool, List, [], ◌∷◌, ◌++◌, length, map, Option, Some, None, slice_set, nat_eq, if◌then◌else◌, eqb-true}
 use Rattle.std.proofs.lemmas.Bool.{le-leb}
 use Rattle.std.specs.Prelude.{codes}
 use Rattle.std.specs.Fmt.{decimal}
@@ -10,21 +10,18 @@ use Rattle.rpp_words.specs.declared.input.Limits.{Limits}
 use Rattle.rpp_tree.specs.declared.tree.Var.{Var}
 use Rattle.rpp_tree.specs.declared.tree.VarType.{VarType}
 use Rattle.rpp_tree.specs.declared.tree.VarType.TheVariants as kind
-use Rattle.rpp_tree.specs.Tree.{Statements, Procedure, ClassText, Source}
+use Rattle.rpp_tree.specs.Tree.{Procedure, ClassText, Source}
 use Rattle.class_table.specs.Program.{IsAccepted}
 use Rattle.class_table.specs.declared.method.MethodId.{MethodId}
-use Rattle.class_table.specs.Members.{class_at}
 use Rattle.class_table.specs.Classes.{class_fields, procedure_at, main_of}
-use Rattle.buddy_book.specs.Place.{count_taken, place}
-use Rattle.stmt_inverter.specs.Inverse.{inverse, inverse_as, inverse_program}
-use Rattle.roopl_semantics.specs.Run.{Run, Done, More}
-use Rattle.roopl_semantics.specs.Store.{Value, Word, Nil, Name, Head, OfClass, OfInts, OfObjects, Object, Store, Binding, State, main_name, zero_value, zero_values, object_named, object_at, no_object}
+use Rattle.buddy_book.specs.Place.{count_taken}
+use Rattle.stmt_inverter.specs.Inverse.{inverse_as, inverse_program}
+use Rattle.roopl_semantics.specs.Run.{Done, More}
+use Rattle.roopl_semantics.specs.Store.{Value, Word, Nil, Name, Head, OfClass, OfInts, OfObjects, Object, Store, Binding, State, main_name, zero_value, zero_values, object_named, object_at}
 use Rattle.roopl_semantics.specs.Execution.{Setting, exec}
 use Rattle.roopl_semantics.specs.Source.{IsValid, main_fields, main_body, with_input, main_object, starting, within, source}
-use Rattle.roopl_semantics.specs.Agreement.{renamed, renamed_object}
-use Rattle.inverse_law.specs.StatesAgree.{renamed_binding, AgreeStates}
-use Rattle.roopl_semantics.specs.Laws.{book_of, CountsReferences}
-use Rattle.roopl_semantics.specs.Report.{Text, newly_met, walked, numbered, field_lines, head_shown, cell_lines, object_lines, number_shown, live_line, live_count, report}
+use Rattle.inverse_law.specs.StatesAgree.{renamed_binding}
+use Rattle.roopl_semantics.specs.Report.{newly_met, walked, numbered, field_lines, head_shown, cell_lines, object_lines, number_shown, live_line, live_count, report}
 use Rattle.roopl_semantics.proofs.MoreFuel.{within_done}
 use Rattle.sound_execution.proofs.Accepted.{knows_classes}
 use Rattle.sound_execution.proofs.Plainness.{program_plain}
@@ -39,9 +36,9 @@ use Rattle.inverse_law.proofs.Later.{IsSound, Later, exec_later}
 use Rattle.inverse_law.proofs.Seen.{Sees}
 use Rattle.inverse_law.proofs.Whole.{same_map, same_object, sees_agree}
 use Rattle.inverse_law.proofs.Grounded.{undone_from}
-use Rattle.inverse_law.proofs.Law.{main_context, starting_good, main_checked, leads_back}
+use Rattle.inverse_law.proofs.Law.{only_main, main_context, starting_good, main_checked, leads_back}
 use Rattle.inverse_law.proofs.SameTable.{class_kept, fields_kept, main_kept, procedure_kept}
-use Rattle.inverse_law.proofs.Turned.{turned, turned_inverse}
+use Rattle.inverse_law.proofs.Turned.{turned_inverse}
 use Rattle.inverse_law.proofs.SameRuns.{runs_turned}
 
 -- ---- the start of the inverse program is that of the program
@@ -199,11 +196,7 @@ module _ (program : Source) (limits : Limits) (input final : List FieldWord) (ac
       only.is ∙ ap (λ o. (main_name, o) ∷ []) (sym same ∙ object_is)
 
   only_named : (n : ℕ) (o : Object) → object_named again.store n ≡ Some o → n ≡ main_name
-  only_named n o h = by (nat_eq main_name n) refl h
-    where
-      by : (t : Bool) → nat_eq main_name n ≡ t → (if t then Some (main_object program final) else None) ≡ Some o → n ≡ main_name
-      by true f q = sym (eqb-true main_name n f)
-      by false f q = absurd (cc)
+  only_named n o h = (only_main program final n o h).0
 
   again_drawn : IsSound again
   again_drawn =

@@ -2,7 +2,7 @@
 use Rattle.std.proofs.Common.{◌≡◌, ℕ, zero, suc, ◌+◌, refl, sym, ap, subst, ◌∙◌, true, false, Bool, not, ◌||◌, List, [], ◌∷◌, ◌++◌, length, map, replicate, Some, None, unwrap_or, Ok, nat_eq, nat_lt, is_none, cond, if◌then◌else◌, length-set}
 use Rattle.rpp_words.specs.Words.{is_less}
 use Rattle.rpp_tree.specs.declared.tree.Var.{Var}
-use Rattle.rpp_tree.specs.Tree.{Expression, Null, Lvalue, Whole, Item, Object as AnObject, Ints, Objects, Statement, Statements, Update, Swap, If, From, Construct, Local, New, Delete, Copy, Uncopy, Call, Skip, End, Then, Procedure, Source, nodes, index_nodes}
+use Rattle.rpp_tree.specs.Tree.{Expression, Null, Lvalue, Whole, Item, Object as AnObject, Ints, Objects, Statement, Statements, Update, Swap, If, From, Construct, Local, New, Delete, Copy, Uncopy, Call, Skip, End, Then, Procedure, Source, nodes}
 use Rattle.class_table.specs.declared.kind.Kind.{Kind}
 use Rattle.class_table.specs.declared.kind.Kind.TheVariants as kind
 use Rattle.class_table.specs.Table.{table_of}
@@ -13,7 +13,7 @@ use Rattle.buddy_book.specs.Place.{Taken, count_taken, place}
 use Rattle.roopl_semantics.specs.Operators.{updated}
 use Rattle.roopl_semantics.specs.Run.{Run, after_cost, Done, ◌>>=◌, spend, fault_if}
 use Rattle.roopl_semantics.specs.Store.{Value, Word, Nil, Name, Head, OfClass, OfInts, OfObjects, Object, Store, State, number_of, is_nil, is_zero, same_value, zero_values, cleared, object_named, object_at, without}
-use Rattle.roopl_semantics.specs.Value.{Cell, Slot, Part, read, written, value as value_in, cell_of, evaluated, found, cell_named, nil_fault}
+use Rattle.roopl_semantics.specs.Value.{Cell, Slot, Part, read, written, value as value_in, evaluated, found, cell_named, nil_fault}
 use Rattle.roopl_semantics.specs.Elements.{elements, index_elements, own_element, kept_apart}
 use Rattle.roopl_semantics.specs.Execution.{Setting, Runner, holds, opened, closed, moved_out, moved_back, in_direction, new_object, order_of_cells, counted, one_less, constructed, element_call, cells_named, class_of, is_too_deep, invoked, allocated, freed, new_array, delete_array, with_local, turn_end, turns, statement, exec, same_cell, is_of_class, all_zero, fi_fault, loop_fault, not_nil_fault, count_fault, not_empty_fault, heap_full_fault, not_same_fault, class_differs_fault, length_differs_fault, length_fault, too_deep_fault, touched_fault}
 use Rattle.sound_execution.specs.Sound.{head_fits}
@@ -81,9 +81,6 @@ checked_ends code t = record { by = λ u c e. (passed_check code t u c e).0 }
 
 evaluated_ends : (setting : Setting) (e : Expression) (st : State) → Ends (evaluated setting.program e st) (λ v. value_in setting.program st e ≡ Ok v)
 evaluated_ends setting e st = record { by = λ v c h. (given_done (nodes e) (value_in setting.program st e) v c h).0 }
-
-found_ends : (setting : Setting) (t : Lvalue) (st : State) → Ends (found setting.program t st) (λ c. cell_of setting.program st t ≡ Ok c)
-found_ends setting t st = record { by = λ v c h. (given_done (index_nodes t) (cell_of setting.program st t) v c h).0 }
 
 class_heads : (program : Source) (c : ℕ) (head : Head) → head_fits program (kind.Class c) head ≡ true → is_class_head head ≡ true
 class_heads program c (OfClass d) h = refl

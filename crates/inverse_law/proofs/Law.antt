@@ -33,6 +33,17 @@ use Rattle.inverse_law.proofs.Known.{Context, Checked, Good, drawn_of}
 use Rattle.roopl_semantics.proofs.MoreFuel.{within_done}
 use Rattle.inverse_law.proofs.Grounded.{leads_back_from, undone_from}
 
+-- at the start of a run the main object is alone
+pub only_main : (program : Source) (input : List FieldWord) (name : ℕ) (object : Object) → object_named (starting program input).store name ≡ Some object → (name ≡ main_name) × (object ≡ main_object program input)
+only_main program input name object e = by (nat_eq main_name name) refl e
+  where
+    by : (t : Bool) → nat_eq main_name name ≡ t → (if t then Some (main_object program input) else None) ≡ Some object → (name ≡ main_name) × (object ≡ main_object program input)
+    by true f h = (sym (eqb-true main_name name f), (let s : main_object program input ≡ object = cc in sym s))
+    by false f h = cc
+
+pub elements_at_start : (program : Source) (input : List FieldWord) → ArraysHaveElements (starting program input).store
+elements_at_start program input = record { long = λ name object e h. (let z : true ≡ false = sym (ap (λ o. is_class_head o.head) (only_main program input name object e).1) ∙ h in cc) }
+
 module _ (program : Source) (limits : Limits) (input : List FieldWord) (accepted : IsAccepted program) (inside : IsLimits limits) (valid : IsValid program input) where
   abbrev setting : Setting
   setting = record { program = program; limits = limits }
@@ -44,21 +55,12 @@ module _ (program : Source) (limits : Limits) (input : List FieldWord) (accepted
   abbrev pub main_context : Context setting
   main_context = record { extra = main_alone; locals = []; shape = []; class = (main_of program).class; inside = class_inside program accepted; means = record { same = λ name. refl } }
 
-  only_main : (name : ℕ) (object : Object) → object_named (starting program input).store name ≡ Some object → (name ≡ main_name) × (object ≡ main_object program input)
-  only_main name object e = by (nat_eq main_name name) refl e
-    where
-      by : (t : Bool) → nat_eq main_name name ≡ t → (if t then Some (main_object program input) else None) ≡ Some object → (name ≡ main_name) × (object ≡ main_object program input)
-      by true f h = (sym (eqb-true main_name name f), (let s : main_object program input ≡ object = cc in sym s))
-      by false f h = cc
-
   pub starting_good : Good setting main_context (starting program input)
   starting_good =
       record {
         sound = starting_sound program limits input inside valid;
         drawn = drawn_of setting main_alone [] (main_of program).class (starting program input) (starting_sound program limits input inside valid);
-        arrays = record {
-          long = λ name object e h. (let z : true ≡ false = sym (ap (λ o. is_class_head o.head) (only_main name object e).1) ∙ h in cc);
-        };
+        arrays = elements_at_start program input;
       }
 
   pub main_checked : Checked setting main_context (main_body program)

@@ -30,5 +30,4 @@ pub mod ElementsKept
 pub mod Grounded
 pub mod Law
 pub mod Back
-pub mod Alike
-mod FragmentedRows
+mod InverseRuns

@@ -1,5 +1,5 @@
 -- An inverse program keeps the limits of a tree that the program keeps: its parts are the same, in another order.
-use Rattle.std.proofs.Common.{◌≡◌, ℕ, ◌+◌, ◌-◌, ◌<◌, ◌≤◌, refl, sym, ap, subst, ◌∙◌, arith, Bool, true, false, List, [], ◌∷◌, ◌++◌, length, map, max, Option, Some, None, sum_by}
+use Rattle.std.proofs.Common.{◌≡◌, ℕ, ◌+◌, ◌-◌, ◌<◌, ◌≤◌, refl, sym, ap, subst, ◌∙◌, arith, false, List, [], ◌∷◌, ◌++◌, length, map, max, sum_by}
 use Rattle.std.proofs.Math.Nat.{le-max_left, le-max_right, max-le}
 use Rattle.std.proofs.lemmas.List.{append_assoc, append-nil, length-map}
 use Rattle.std.proofs.lemmas.List.Sums.{sum_by-cons}
@@ -8,12 +8,12 @@ use Rattle.std.specs.List.{All, flat_map}
 use Rattle.std.specs.List.Sorted.{IsPermutation}
 use Rattle.std.proofs.lemmas.List.Elements.{All-map, All-weaker}
 use Rattle.rpp_tree.specs.declared.tree.Ident.{Ident}
-use Rattle.rpp_tree.specs.declared.limits.TheConstants.{MOST_BYTES, MOST_TOKENS, MOST_NODES, MOST_NUMBER, MOST_INDEX_DEPTH, MOST_CLASSES, MOST_PARAMETERS, MOST_LOCALS, MOST_NESTING}
-use Rattle.rpp_tree.specs.Tree.{Expression, Lvalue, Statement, Statements, Update, Swap, If, From, Construct, Local, New, Delete, Copy, Uncopy, Call, Skip, End, Then, joined, Procedure, ClassText, Source, nodes, statement_nodes, statement_depth, depth}
+use Rattle.rpp_tree.specs.declared.limits.TheConstants.{MOST_BYTES, MOST_TOKENS, MOST_NODES, MOST_NUMBER, MOST_INDEX_DEPTH, MOST_CLASSES, MOST_LOCALS, MOST_NESTING}
+use Rattle.rpp_tree.specs.Tree.{Statement, Statements, Update, Swap, If, From, Construct, Local, New, Delete, Copy, Uncopy, Call, Skip, End, Then, joined, Procedure, ClassText, Source, nodes, statement_depth, depth}
 use Rattle.rpp_tree.specs.Names.{IsName}
 use Rattle.rpp_tree.specs.Numbers.{expression_numbers, statement_numbers, block_numbers, procedure_numbers, class_numbers, source_numbers}
-use Rattle.rpp_tree.specs.Parts.{expression_names, var_names, statement_names, block_names, procedure_names, parent_names, class_names, source_names, name_places, expression_places, var_places, statement_places, block_places, procedure_places, class_places, source_places, expression_tokens, var_tokens, list_tokens, statement_tokens, block_tokens, procedure_tokens, parent_tokens, class_tokens, source_tokens}
-use Rattle.rpp_tree.specs.Limits.{index_depth, statement_index_depth, statement_locals, locals, IsSmallStatement, AreSmall, AreInnerSmall, IsSmallMethod, IsWithinLimits}
+use Rattle.rpp_tree.specs.Parts.{expression_names, var_names, statement_names, block_names, procedure_names, parent_names, class_names, source_names, name_places, expression_places, var_places, statement_places, block_places, procedure_places, class_places, source_places, var_tokens, list_tokens, statement_tokens, block_tokens, procedure_tokens, parent_tokens, class_tokens}
+use Rattle.rpp_tree.specs.Limits.{index_depth, statement_locals, locals, IsSmallStatement, AreSmall, AreInnerSmall, IsSmallMethod, IsWithinLimits}
 use Rattle.stmt_inverter.specs.Inverse.{inverse_statement_as, inverse_as, inverse_procedure, inverse_class, inverse_program}
 
 -- ---- lists with the same elements

@@ -1,21 +1,18 @@
 -- A block runs in the inverse program as the block with its calls turned runs in the program.
-use Rattle.std.proofs.Common.{◌≡◌, ℕ, zero, suc, ◌+◌, refl, sym, ap, ◌∙◌, true, false, Bool, not, ◌||◌, List, [], ◌∷◌, ◌++◌, length, map, replicate, Option, Some, None, unwrap_or, Result, Ok, Err, nat_eq, if◌then◌else◌, cond}
+use Rattle.std.proofs.Common.{◌≡◌, ℕ, zero, suc, ◌+◌, refl, ap, ◌∙◌, true, false, Bool, not, ◌||◌, List, [], ◌∷◌, ◌++◌, length, Option, Some, None, unwrap_or, Result, Ok, Err, if◌then◌else◌}
 use Rattle.std.proofs.Math.Path.{fun_ext}
-use Rattle.rpp_words.specs.Words.{is_less}
 use Rattle.rpp_words.specs.declared.input.Limits.{Limits}
-use Rattle.rpp_words.specs.declared.input.FieldWord.{FieldWord}
 use Rattle.rpp_tree.specs.declared.tree.Ident.{Ident}
 use Rattle.rpp_tree.specs.declared.tree.Var.{Var}
-use Rattle.rpp_tree.specs.Tree.{Expression, Number, Null, Variable, Element, Binary, Lvalue, Whole, Item, Object as AnObject, Ints, Objects, Statement, Statements, Update, Swap, If, From, Construct, Local, New, Delete, Copy, Uncopy, Call, Skip, End, Then, joined, Procedure, Source, nodes, index_nodes}
+use Rattle.rpp_tree.specs.Tree.{Expression, Number, Null, Variable, Element, Binary, Lvalue, Whole, Item, Object as AnObject, Ints, Objects, Statement, Statements, Update, Swap, If, From, Construct, Local, New, Delete, Copy, Uncopy, Call, Skip, End, Then, Procedure, Source, nodes, index_nodes}
 use Rattle.class_table.specs.Members.{field_of}
 use Rattle.class_table.specs.Classes.{class_number, class_fields, method_named}
 use Rattle.stmt_inverter.specs.Inverse.{inverse_as, inverse, inverse_procedure, inverse_program}
-use Rattle.roopl_semantics.specs.Operators.{updated}
-use Rattle.roopl_semantics.specs.Run.{Run, Done, Fault, More, after_cost, ◌>>=◌, give, given, spend, fault_if}
+use Rattle.roopl_semantics.specs.Run.{Run, after_cost, ◌>>=◌, given, spend, fault_if}
 use Rattle.roopl_semantics.specs.Store.{object_at, is_nil, Value, Head, OfClass, OfInts, OfObjects, State, Word, Nil, zero_values, number_of, same_value}
-use Rattle.roopl_semantics.specs.Value.{nil_fault, Cell, Slot, Part, own_class, slot_or_field, slot_of, cell_named, read, variable_value, element_cell, element_of, read_cell, combined, value as value_in, cell_of, evaluated, found}
+use Rattle.roopl_semantics.specs.Value.{nil_fault, Cell, Part, own_class, slot_or_field, slot_of, cell_named, read, variable_value, element_cell, element_of, read_cell, combined, value as value_in, cell_of, evaluated, found}
 use Rattle.roopl_semantics.specs.Elements.{elements, index_elements, own_element, same_array, is_among, share_array, read_cost, kept_apart, shared_array_fault}
-use Rattle.roopl_semantics.specs.Execution.{not_nil_fault, class_differs_fault, too_deep_fault, is_of_class, is_too_deep, Setting, Runner, holds, opened, closed, in_direction, constructed, element_call, element_name, cells_named, class_of, invoked, allocated, new_array, delete_array, with_local, turn_end, turns, statement, exec}
+use Rattle.roopl_semantics.specs.Execution.{not_nil_fault, class_differs_fault, too_deep_fault, is_of_class, is_too_deep, Setting, Runner, holds, opened, in_direction, constructed, element_call, element_name, cells_named, class_of, invoked, allocated, new_array, delete_array, with_local, turn_end, turns, statement, exec}
 use Rattle.inverse_law.proofs.SameTable.{fields_kept, number_kept, method_kept}
 use Rattle.inverse_law.proofs.Turned.{turned, turned_statement, turned_joined, turned_inverse, inverse_of_inverse, turned_twice}
 

@@ -1,5 +1,5 @@
 -- A program and its inverse program have the same class table, and no rule of the table refuses the one that does not refuse the other.
-use Rattle.std.proofs.Common.{◌≡◌, ℕ, zero, suc, ◌+◌, ◌-◌, refl, sym, ap, ◌∙◌, true, false, Bool, not, List, [], ◌∷◌, ◌++◌, length, map, take, position, codes, Option, Some, None, option_map, unwrap_or, slice_get, nat_lt, if◌then◌else◌}
+use Rattle.std.proofs.Common.{◌≡◌, ℕ, ◌+◌, ◌-◌, refl, sym, ap, ◌∙◌, not, List, [], ◌∷◌, ◌++◌, length, map, take, position, Option, Some, None, option_map, unwrap_or, slice_get, nat_lt, if◌then◌else◌}
 use Rattle.std.proofs.lemmas.List.{length-map}
 use Rattle.std.proofs.lemmas.Option.{slice_get-map}
 use Rattle.std.proofs.Math.Path.{fun_ext}
@@ -7,10 +7,8 @@ use Rattle.std.specs.Prelude.{is_some}
 use Rattle.std.specs.List.{list_any}
 use Rattle.std.specs.Str.{bytes_eq}
 use Rattle.indexmap.specs.IndexMap.{insert_entry}
-use Rattle.rpp_tree.specs.declared.tree.Var.{Var}
-use Rattle.rpp_tree.specs.Tree.{Statements, Procedure, ClassText, Source}
+use Rattle.rpp_tree.specs.Tree.{Procedure, ClassText, Source}
 use Rattle.class_table.specs.declared.method.MethodId.{MethodId}
-use Rattle.class_table.specs.declared.error.ClassError.{ClassError}
 use Rattle.class_table.specs.declared.error.ClassError.TheVariants.{DuplicateClass, InheritanceCycle, DuplicateMethod, OverrideDiffers, Limit}
 use Rattle.rpp_tree.specs.declared.limits.LimitKind.TheVariants as limit
 use Rattle.rpp_tree.specs.declared.limits.TheConstants.{MOST_FIELDS, MOST_METHODS}
@@ -23,7 +21,7 @@ use Rattle.class_table.specs.Overrides.{method_name, method_taken, duplicate_met
 use Rattle.class_table.specs.Mains.{is_main, mains_in, mains_from, mains, main_refusal, first_main}
 use Rattle.class_table.specs.Classes.{class_number, class_fields, class_slots, method_slot, dispatch, procedure_at, method_named, main_of}
 use Rattle.class_table.specs.Table.{table_of, first_class_refusal, HasClassTable}
-use Rattle.stmt_inverter.specs.Inverse.{inverse_as, inverse_procedure, inverse_class, inverse_program}
+use Rattle.stmt_inverter.specs.Inverse.{inverse_procedure, inverse_class, inverse_program}
 
 -- ---- lists of which each element changes
 

@@ -4,20 +4,19 @@ use Rattle.std.proofs.Math.Path.{fun_ext}
 use Rattle.std.specs.Prelude.{nat_eq, length}
 use Rattle.std.specs.Option.{is_none}
 use Rattle.rpp_tree.specs.declared.tree.Ident.{Ident}
-use Rattle.rpp_tree.specs.declared.tree.Var.{Var}
-use Rattle.rpp_tree.specs.Tree.{Expression, Lvalue, Statement, Statements, Update, Swap, If, From, Construct, Local, New, Delete, Copy, Uncopy, Call, Skip, End, Then, Procedure, ClassText, Source}
+use Rattle.rpp_tree.specs.Tree.{Lvalue, Statement, Statements, Update, Swap, If, From, Construct, Local, New, Delete, Copy, Uncopy, Call, Skip, End, Then, Procedure, ClassText, Source}
 use Rattle.class_table.specs.Scope.{Setting, Locals}
 use Rattle.class_table.specs.Refusal.{wrong_arity}
 use Rattle.class_table.specs.Table.{Table, table_of, slot_in, dispatch_in}
-use Rattle.class_table.specs.Expressions.{and_then, type_of}
-use Rattle.class_table.specs.Statements.{Verdict, passed, required, in_turn, each_passes, each_passes_after, test_rules, local_rules, construct_rules, with_local, with_object, argument_known, argument_new, arguments_fit, plain_receiver, receiver_class, slot_rules, call_rules, check_statement, check_statements}
-use Rattle.class_table.specs.Program.{parameter_new, with_parameters, check_method, setting_in, check_class, check_classes, check_program, IsAccepted}
+use Rattle.class_table.specs.Expressions.{and_then}
+use Rattle.class_table.specs.Statements.{passed, required, in_turn, each_passes, each_passes_after, test_rules, local_rules, construct_rules, with_local, with_object, argument_known, argument_new, arguments_fit, plain_receiver, receiver_class, slot_rules, call_rules, check_statement, check_statements}
+use Rattle.class_table.specs.Program.{parameter_new, with_parameters, check_method, check_class, check_classes, IsAccepted}
 use Rattle.class_table.proofs.PassedRules.{both_passed, in_turn_passes}
 use Rattle.stmt_inverter.specs.Inverse.{inverse_as, inverse_procedure, inverse_class, inverse_program}
 use Rattle.sound_execution.proofs.Undone.{inverse_checks}
 use Rattle.inverse_law.proofs.SameTable.{table_kept, has_table, parameters_kept}
 use Rattle.inverse_law.proofs.SameLimits.{within_limits}
-use Rattle.inverse_law.proofs.Turned.{turned, turned_inverse, checks_turned}
+use Rattle.inverse_law.proofs.Turned.{turned_inverse, checks_turned}
 
 module _ (program : Source) (table : Table) (class : ℕ) where
   abbrev here : Setting

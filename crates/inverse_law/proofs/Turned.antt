@@ -3,7 +3,7 @@ use Rattle.std.proofs.Common.{◌≡◌, refl, sym, ap, ◌∙◌, true, false, 
 use Rattle.rpp_tree.specs.Tree.{Statement, Statements, Update, Swap, If, From, Construct, Local, New, Delete, Copy, Uncopy, Call, Skip, End, Then, joined}
 use Rattle.class_table.specs.Scope.{Setting, Locals}
 use Rattle.class_table.specs.Statements.{in_turn, test_rules, local_rules, construct_rules, with_local, with_object, check_statement, check_statements}
-use Rattle.stmt_inverter.specs.Inverse.{call_direction, inverse_statement_as, inverse_as, inverse}
+use Rattle.stmt_inverter.specs.Inverse.{inverse_statement_as, inverse_as, inverse}
 use Rattle.stmt_inverter.proofs.Inverses.{inverse-twice}
 
 abbrev mutual

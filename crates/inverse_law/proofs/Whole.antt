@@ -1,17 +1,14 @@
 -- Every block is undone, and the inverse of `main` leads back.
 use Rattle.std.proofs.Common.{◌≡◌, ℕ, zero, suc, ◌+◌, ◌≤◌, refl, sym, ap, subst, ◌∙◌, arith, List, [], ◌∷◌, map, Some, None, Option, option_map}
-use Rattle.rpp_words.specs.declared.input.Limits.{Limits}
-use Rattle.rpp_words.specs.declared.input.FieldWord.{FieldWord}
-use Rattle.rpp_tree.specs.Tree.{Whole, Item, Object as AnObject, Ints, Objects, Statement, Statements, Update, Swap, If, From, Construct, Local, New, Delete, Copy, Uncopy, Call, Skip, End, Then, Source}
+use Rattle.rpp_tree.specs.Tree.{Whole, Item, Object as AnObject, Ints, Objects, Statement, Statements, Update, Swap, If, From, Construct, Local, New, Delete, Copy, Uncopy, Call, Skip, End, Then}
 use Rattle.stmt_inverter.specs.Inverse.{inverse_statement, inverse}
 use Rattle.roopl_semantics.specs.Run.{Run, Done, after_cost, ◌>>=◌}
 use Rattle.roopl_semantics.specs.Store.{Value, Word, Nil, Name, Object, Binding, State, object_named}
 use Rattle.roopl_semantics.specs.Execution.{Setting, statement, exec}
-use Rattle.roopl_semantics.specs.Source.{source, starting, main_body}
+use Rattle.roopl_semantics.specs.Source.{source}
 use Rattle.roopl_semantics.specs.Agreement.{renamed, renamed_object}
 use Rattle.inverse_law.specs.StatesAgree.{renamed_binding, AgreeStates}
 use Rattle.inverse_law.specs.InverseLaws.{LeadsBack}
-use Rattle.roopl_semantics.proofs.MoreFuel.{within_done}
 use Rattle.inverse_law.proofs.Runs.{Runs, split, done_result, done_cost, runs_end, runs_then, runs_joined}
 use Rattle.inverse_law.proofs.Later.{IsSound, Later, statement_later, exec_later}
 use Rattle.inverse_law.proofs.Seen.{Names, Sees}
@@ -123,13 +120,3 @@ module _ (setting : Setting) (G : Ground setting) where
       let later = exec_later setting n body a b c (G.sound C a good) e in
       let back = undo_block n C body a b c typed good e same_map b (sees_itself setting.limits.heap b later.sound) in
       record { back = back.back; runs = back.runs.by c (let z : c ≤ c = omega arith in z); agrees = sees_agree setting.limits.heap back.names a back.back back.sees }
-
--- what a program did, the inverse of its main method undoes
-pub main_leads_back : (program : Source) (limits : Limits) (input : List FieldWord) (fuel : ℕ) (end : State) (cost : ℕ)
-    → (G : Ground (record { program = program; limits = limits })) → (C : G.Context) → G.Typed C (main_body program) → G.Good C (starting program input)
-    → source program limits input fuel ≡ Done end cost
-    → LeadsBack (record { program = program; limits = limits }) (main_body program) (starting program input) end cost
-main_leads_back program limits input fuel end cost G C typed good e =
-    let setting : Setting = record { program = program; limits = limits } in
-    let over = within_done fuel (exec setting fuel (main_body program) (starting program input)) end cost e in
-    block_leads_back setting G C fuel (main_body program) (starting program input) end cost typed good over.is

@@ -59,7 +59,11 @@ BlocksUndo =
     → exec (record { program = program; limits = limits }) fuel body start ≡ Done end cost
     → LeadsBack (record { program = program; limits = limits }) body start end cost
 
--- what `BlocksUndo` asks of arrays, checked blocks keep
+-- what `BlocksUndo` asks of arrays holds at the start of a run
+abbrev pub StartHasElements : Type 0
+StartHasElements = (program : Source) (input : List FieldWord) → ArraysHaveElements (starting program input).store
+
+-- and checked blocks keep it
 abbrev pub ArraysKeepElements : Type 0
 ArraysKeepElements =
     (program : Source) (limits : Limits) (fuel : ℕ) (extra : ℕ → ℕ) (locals shape : Locals) (class : ℕ)

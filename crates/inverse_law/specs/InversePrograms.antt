@@ -23,7 +23,8 @@ InverseIsAccepted = (program : Source) → IsAccepted program → IsAccepted (in
 -- the main method of the inverse program leads back from an end, at this cost, to a state that agrees with the start
 pub record MainLeadsBack (program : Source) (limits : Limits) (begin end : State) (cost : ℕ) : Type 0 where
   pub back : State
-  pub runs : exec (record { program = inverse_program program; limits = limits }) cost (main_body (inverse_program program)) end ≡ Done back cost
+  pub runs : exec (record { program = inverse_program program; limits = limits }) cost (main_body (inverse_program program)) end
+      ≡ Done back cost
   pub agrees : AgreeStates limits.heap begin back
 
 -- what an accepted program did, the main method of its inverse program undoes

@@ -1,5 +1,5 @@
 -- When two states differ in names alone.
-use Rattle.std.specs.Prelude.{◌≡◌, ◌≢◌, ℕ, List, map, Some}
+use Rattle.std.specs.Prelude.{◌≡◌, ◌≢◌, ℕ, map, Some}
 use Rattle.buddy_book.specs.Place.{place}
 use Rattle.roopl_semantics.specs.Store.{Object, Binding, State, main_name, object_named}
 use Rattle.roopl_semantics.specs.Agreement.{Agree, renamed}

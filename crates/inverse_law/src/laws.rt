@@ -1,5 +1,5 @@
 // The inverse law, each form of it the contract of a function.
-ghost use Rattle.inverse_law.specs.InverseLaws.{InverseLaw, InputComesBack, BlocksUndo, ArraysKeepElements};
+ghost use Rattle.inverse_law.specs.InverseLaws.{InverseLaw, InputComesBack, BlocksUndo, StartHasElements, ArraysKeepElements};
 ghost use Rattle.inverse_law.specs.InversePrograms.{InverseIsAccepted, InverseMainUndoes, InverseProgramUndoes};
 
 /// What an accepted program did, the inverse of its main method undoes.
@@ -15,6 +15,11 @@ pub fn input_comes_back()
 /// The inverse of a checked block undoes what it did from a sound state.
 pub fn blocks_undo()
     ensures { BlocksUndo }
+{}
+
+/// At the start of a run each array has elements: none is there.
+pub fn start_has_elements()
+    ensures { StartHasElements }
 {}
 
 /// What a checked block does leaves each array its elements.
