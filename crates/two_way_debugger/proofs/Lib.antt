@@ -1,0 +1,5 @@
+pub mod OneStep
+pub mod Walking
+pub mod CellRange
+pub mod Digits
+pub mod Reading

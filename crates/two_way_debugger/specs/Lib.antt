@@ -1,0 +1,4 @@
+pub mod Moves
+pub mod Stops
+pub mod Shown
+pub mod Scripts

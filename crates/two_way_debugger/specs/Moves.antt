@@ -1,0 +1,57 @@
+-- Moves along the positions of a machine.
+use Rattle.std.specs.Prelude.{ℕ, zero, suc, ◌+◌, ◌-◌, ℤ, Bool, true, false, nat_eq, nat_lt, if◌then◌else◌, Option, Some, None, option_map}
+use Rattle.std.specs.Ordering.{int_eq}
+use Rattle.pisa_isa.specs.Machine.{stop, next, back}
+use Rattle.pisa_isa.specs.Runs.{counted}
+use Rattle.pisa_machine.specs.Position.{Position}
+use Rattle.two_way_debugger.specs.declared.moves.TheConstants.{LAST_POSITION}
+use Rattle.two_way_debugger.specs.declared.moves.Ending.{Ending}
+use Rattle.two_way_debugger.specs.declared.moves.Ending.TheVariants.{Made, Last, Start, Stopped}
+
+-- the next position, or the one before
+abbrev pub moved : (backward : Bool) → Position → Position
+moved false p = record p { state = next p.image.code p.state; made = suc p.made }
+moved true p = record p { state = back p.image.code p.state; made = p.made - 1 }
+
+-- why no move is made from a position, if none is: at a stop, at the last position and at position 0
+abbrev pub barrier : (backward : Bool) → Position → Option Ending
+barrier false p = if nat_lt p.made LAST_POSITION then option_map Stopped (stop p.image.code p.state) else Some Last
+barrier true p = if nat_eq p.made 0 then Some Start else None
+
+-- whether the machine stands at a place, where there is one to go to
+abbrev pub is_at : Option ℤ → Position → Bool
+is_at None p = false
+is_at (Some place) p = int_eq p.state.pc place
+
+-- how moves end: where, why, and after how many steps of the machine, its stop included
+pub record Walk : Type 0 where
+  pub position : Position
+  pub ending : Ending
+  pub spent : ℕ
+
+-- the steps of the machine in which no move was made
+abbrev pub spent_on : Ending → ℕ
+spent_on (Stopped e) = counted e
+spent_on _ = 0
+
+-- the steps of the machine in one wanted move
+abbrev pub spent_by : Option Ending → ℕ
+spent_by None = 1
+spent_by (Some ending) = spent_on ending
+
+abbrev pub ends : Position → Ending → Walk
+ends p ending = record { position = p; ending = ending; spent = spent_on ending }
+
+-- moves behind others
+abbrev pub later : ℕ → Walk → Walk
+later n w = record w { spent = n + w.spent }
+
+abbrev pub unless_ended : Option Ending → Position → Walk → Walk
+unless_ended (Some ending) p rest = ends p ending
+unless_ended None p rest = record rest { spent = suc rest.spent }
+
+-- at most n moves, up to the first after which the machine stands at the place
+abbrev pub walk : (backward : Bool) → (place : Option ℤ) → ℕ → Position → Walk
+walk backward place zero p = ends p Made
+walk backward place (suc n) p =
+    unless_ended (barrier backward p) p (if is_at place (moved backward p) then ends (moved backward p) Made else walk backward place n (moved backward p))

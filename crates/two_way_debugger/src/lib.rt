@@ -1,0 +1,23 @@
+//! A debugger that goes both ways along the run of a machine, by the commands of a script: steps and steps back, so many or
+//! up to a place, and what the registers and cells hold. A layer above may use that after any list of commands the
+//! position and the text are those of the definitions, and that a script is refused exactly at its first line that is no
+//! command.
+#![tactic(auto)]
+
+mod command;
+mod debugger;
+mod error;
+mod lines;
+mod moves;
+mod numbers;
+mod script;
+mod shown;
+mod stops;
+#[cfg(test)]
+mod tests;
+
+pub use command::Command;
+pub use debugger::Debugger;
+pub use error::ScriptError;
+pub use moves::LAST_POSITION;
+pub use script::{MOST_SCRIPT, read_script};
