@@ -1,5 +1,5 @@
 -- Where no final field names an object, the final fields are an input.
-use Rattle.std.proofs.Common.{◌≡◌, ℕ, suc, ◌+◌, ◌<◌, ◌^◌, refl, sym, ap, subst, ◌∙◌, arith, true, false, not, List, [], ◌∷◌, ◌++◌, length, map, Option, Some, None, slice_get, slice_set, ne_eqb}
+use Rattle.std.proofs.Common.{◌≡◌, ℕ, suc, ◌<◌, ◌^◌, refl, sym, ap, subst, ◌∙◌, arith, true, false, not, List, [], ◌∷◌, ◌++◌, length, map, Option, Some, None, slice_get, slice_set, ne_eqb}
 use Rattle.std.proofs.lemmas.Bool.{ltb-true}
 use Rattle.std.proofs.lemmas.List.{append_assoc, length-append}
 use Rattle.std.proofs.lemmas.List.Elements.{All-nil, All-cons}
@@ -19,19 +19,12 @@ use Rattle.class_table.specs.Table.{Table, table_of, class_of}
 use Rattle.class_table.specs.Expressions.{is_int}
 use Rattle.class_table.specs.Program.{IsAccepted}
 use Rattle.class_table.proofs.PassedRules.{both_true}
-use Rattle.class_table.specs.Classes.{main_of}
-use Rattle.buddy_book.specs.Place.{count_taken}
 use Rattle.roopl_semantics.specs.Run.{Done}
-use Rattle.roopl_semantics.specs.Execution.{Setting, exec}
-use Rattle.roopl_semantics.proofs.MoreFuel.{within_done}
-use Rattle.roopl_semantics.specs.Store.{Value, Word, Nil, Name, OfClass, Store, State, main_name, zero_value, zero_values, object_at}
-use Rattle.roopl_semantics.specs.Source.{IsValid, is_int_type, is_int_field, names_field, names_none_twice, with_input, main_fields, main_body, main_object, starting, source}
-use Rattle.sound_execution.specs.Sound.{cell_kinds, AllFit, main_alone}
+use Rattle.roopl_semantics.specs.Store.{Value, Word, Nil, Name, Store, State, main_name, zero_value, zero_values, object_at}
+use Rattle.roopl_semantics.specs.Source.{IsValid, is_int_type, is_int_field, names_field, names_none_twice, with_input, main_fields, source}
+use Rattle.sound_execution.specs.Sound.{cell_kinds, AllFit}
 use Rattle.sound_execution.proofs.Locals.{no_int_class}
-use Rattle.sound_execution.proofs.Stores.{live_object}
-use Rattle.sound_execution.proofs.Stated.{end_is_sound}
-use Rattle.inverse_law.proofs.Later.{exec_later}
-use Rattle.inverse_law.proofs.Law.{starting_good}
+use Rattle.inverse_law.proofs.Law.{end_of_run}
 use Rattle.inverse_law.specs.InversePrograms.{field_words, names_nothing, AreInput}
 
 set_seam : (front : List Value) (z : Value) (rest : List Value) (v : Value) → slice_set (front ++ z ∷ rest) (length front) v ≡ front ++ v ∷ rest
@@ -136,17 +129,9 @@ module _ (program : Source) (store : Store) where
 pub final_input : (program : Source) (limits : Limits) (input : List FieldWord) (fuel : ℕ) (end : State) (cost : ℕ) → IsAccepted program → IsLimits limits → IsValid program input → source program limits input fuel ≡ Done end cost
     → names_nothing (object_at end.store main_name).cells ≡ true → AreInput program (object_at end.store main_name).cells
 final_input program limits input fuel end cost accepted inside valid done none =
-    let here : Setting = record { program = program; limits = limits } in
-    let begin = starting program input in
-    let runs = (within_done fuel (exec here fuel (main_body program) begin) end cost done).is in
-    let later = exec_later here fuel (main_body program) begin end cost (starting_good program limits input accepted inside valid).drawn runs in
-    let sound = (end_is_sound program limits input fuel end cost accepted inside valid done).sound in
     let o = object_at end.store main_name in
-    let live = live_object end.store main_name (sound.lives main_name (let z : 0 < main_alone main_name = omega arith in z)) in
-    let was = later.old main_name o (let z : main_name < 2 + count_taken begin.log = omega arith in z) live in
-    let before : main_object program input ≡ was.before = (let z : Some (main_object program input) ≡ Some was.before = was.there in cc) in
-    let head : o.head ≡ OfClass (main_of program).class = was.head ∙ ap (λ b. b.head) (sym before) in
-    let fit : AllFit program end.store (map (kind_of_var program) (main_fields program)) o.cells = subst (λ h. AllFit program end.store (cell_kinds program h) o.cells) head (sound.objects main_name o live) in
+    let known = end_of_run program limits input accepted inside valid fuel end cost done in
+    let fit : AllFit program end.store (map (kind_of_var program) (main_fields program)) o.cells = subst (λ h. AllFit program end.store (cell_kinds program h) o.cells) known.head (known.sound.objects main_name o known.live) in
     record {
       valid = record { ints = ints_all program end.store [] (main_fields program) o.cells fit; once = none_twice 0 o.cells; words = words_all program end.store 0 (main_fields program) o.cells fit };
       fields = sym (filled program end.store (main_fields program) o.cells [] fit none);
