@@ -1,5 +1,5 @@
 -- The inverse program undoes a run that ended in a state with which a run can begin.
-use Rattle.std.proofs.Common.{◌≡◌, ◌≢◌, ℕ, zero, suc, ◌+◌, ◌-◌, ◌<◌, ◌≤◌, refl, sym, ap, ◌∙◌, arith, true, false, Bool, List, [], ◌∷◌, ◌++◌, length, map, Option, Some, None, slice_set, nat_eq, if◌then◌else◌, eqb-true}
+use Rattle.std.proofs.Common.{◌≡◌, ◌≢◌, ℕ, zero, suc, ◌-◌, ◌≤◌, refl, sym, ap, ◌∙◌, arith, true, false, Bool, List, [], ◌∷◌, ◌++◌, length, map, Option, Some, None, slice_set, nat_eq, if◌then◌else◌, eqb-true}
 use Rattle.std.proofs.lemmas.Bool.{le-leb}
 use Rattle.std.specs.Prelude.{codes}
 use Rattle.std.specs.Fmt.{decimal}
@@ -14,7 +14,6 @@ use Rattle.rpp_tree.specs.Tree.{Procedure, ClassText, Source}
 use Rattle.class_table.specs.Program.{IsAccepted}
 use Rattle.class_table.specs.declared.method.MethodId.{MethodId}
 use Rattle.class_table.specs.Classes.{class_fields, procedure_at, main_of}
-use Rattle.buddy_book.specs.Place.{count_taken}
 use Rattle.stmt_inverter.specs.Inverse.{inverse_as, inverse_program}
 use Rattle.roopl_semantics.specs.Run.{Done, More}
 use Rattle.roopl_semantics.specs.Store.{Value, Word, Nil, Name, Head, OfClass, OfInts, OfObjects, Object, Store, Binding, State, main_name, zero_value, zero_values, object_named, object_at}
@@ -25,18 +24,16 @@ use Rattle.roopl_semantics.specs.Report.{newly_met, walked, numbered, field_line
 use Rattle.roopl_semantics.proofs.MoreFuel.{within_done}
 use Rattle.sound_execution.proofs.Accepted.{knows_classes}
 use Rattle.sound_execution.proofs.Plainness.{program_plain}
-use Rattle.sound_execution.proofs.Stated.{end_is_sound, counts_are_held}
-use Rattle.sound_execution.proofs.Stores.{live_object}
-use Rattle.sound_execution.specs.Sound.{main_alone}
+use Rattle.sound_execution.proofs.Stated.{counts_are_held}
 use Rattle.reached_objects.specs.Ending.{IsReached}
 use Rattle.reached_objects.proofs.Final.{ends_reached}
 use Rattle.reached_objects.proofs.SameReports.{same_reports}
 use Rattle.inverse_law.specs.InversePrograms.{MainLeadsBack, BeginsAnew, RunsBack}
-use Rattle.inverse_law.proofs.Later.{IsSound, Later, exec_later}
+use Rattle.inverse_law.proofs.Later.{IsSound}
 use Rattle.inverse_law.proofs.Seen.{Sees}
 use Rattle.inverse_law.proofs.Whole.{same_map, same_object, sees_agree}
 use Rattle.inverse_law.proofs.Grounded.{undone_from}
-use Rattle.inverse_law.proofs.Law.{only_main, main_context, starting_good, main_checked, leads_back}
+use Rattle.inverse_law.proofs.Law.{EndOfRun, end_of_run, only_main, main_context, starting_good, main_checked, leads_back}
 use Rattle.inverse_law.proofs.SameTable.{class_kept, fields_kept, main_kept, procedure_kept}
 use Rattle.inverse_law.proofs.Turned.{turned_inverse}
 use Rattle.inverse_law.proofs.SameRuns.{runs_turned}
@@ -158,11 +155,8 @@ module _ (program : Source) (limits : Limits) (input final : List FieldWord) (ac
   abbrev again : State
   again = starting program final
 
-  runs_is : exec here fuel (main_body program) begin ≡ Done end cost
-  runs_is = (within_done fuel (exec here fuel (main_body program) begin) end cost done).is
-
-  later : Later begin end
-  later = exec_later here fuel (main_body program) begin end cost (starting_good program limits input accepted inside valid).drawn runs_is
+  known : EndOfRun program limits input end
+  known = end_of_run program limits input accepted inside valid fuel end cost done
 
   reached : IsReached program end.store
   reached = ends_reached program limits input fuel end cost accepted inside valid done
@@ -173,20 +167,14 @@ module _ (program : Source) (limits : Limits) (input final : List FieldWord) (ac
       ap (newly_met []) anew.fields ∙ none_met [] (main_object program final).cells (words_input final (zero_values (main_fields program)) (words_zero (main_fields program))) in
       ap (λ first. walked (length end.store) end.store first first) none ∙ none_walked (length end.store) end.store
 
-  main_live : object_named end.store main_name ≡ Some (object_at end.store main_name)
-  main_live = live_object end.store main_name ((end_is_sound program limits input fuel end cost accepted inside valid done).sound.lives main_name (let z : 0 < main_alone main_name = omega arith in z))
-
   only : IsAlone end.store
-  only = alone end.store (reached.count ∙ ap length none_numbered) (Some (object_at end.store main_name)) main_live (λ h. let z : Some (object_at end.store main_name) ≡ None = h in cc)
+  only = alone end.store (reached.count ∙ ap length none_numbered) (Some (object_at end.store main_name)) known.live (λ h. let z : Some (object_at end.store main_name) ≡ None = h in cc)
 
   object_is : object_at end.store main_name ≡ main_object program final
   object_is =
       let o = object_at end.store main_name in
-      let was = later.old main_name o (let z : main_name < 2 + count_taken begin.log = omega arith in z) main_live in
-      let before : main_object program input ≡ was.before = (let z : Some (main_object program input) ≡ Some was.before = was.there in cc) in
-      let head : o.head ≡ OfClass (main_of program).class = was.head ∙ ap (λ b. b.head) (sym before) in
-      let count : o.count ≡ 1 = (counts_are_held program limits input fuel end cost accepted inside valid done).main o main_live in
-      ap (λ x. record { head = x; count = o.count; cells = o.cells }) head
+      let count : o.count ≡ 1 = (counts_are_held program limits input fuel end cost accepted inside valid done).main o known.live in
+      ap (λ x. record { head = x; count = o.count; cells = o.cells }) known.head
       ∙ ap (λ x. record { head = OfClass (main_of program).class; count = x; cells = o.cells }) count
       ∙ ap (λ x. record { head = OfClass (main_of program).class; count = 1; cells = x }) anew.fields
 
@@ -210,9 +198,9 @@ module _ (program : Source) (limits : Limits) (input final : List FieldWord) (ac
   unfolding same_map
   sees =
       record {
-        frame = ap (map (renamed_binding (λ n. n))) (sym (no_frame end.frame later.names));
-        self = sym later.self;
-        depth = sym later.depth;
+        frame = ap (map (renamed_binding (λ n. n))) (sym (no_frame end.frame known.later.names));
+        self = sym known.later.self;
+        depth = sym known.later.depth;
         objects = λ n. ap (λ s. object_named s n) (sym store_is) ∙ sym (same_object (object_named end.store n));
         book = sym anew.free;
         blocks = λ n o h no_main. absurd (no_main (only_named n o (ap (λ s. object_named s n) (sym store_is) ∙ h)));
@@ -224,7 +212,7 @@ module _ (program : Source) (limits : Limits) (input final : List FieldWord) (ac
       let good = starting_good program limits input accepted inside valid in
       let undone =
       undone_from here (knows_classes program accepted (program_plain program accepted)) (main_context program limits input accepted inside valid) fuel (main_body program) begin end cost
-      (main_checked program limits input accepted inside valid) good runs_is same_map again sees in
+      (main_checked program limits input accepted inside valid) good (within_done fuel (exec here fuel (main_body program) begin) end cost done).is same_map again sees in
       let agrees = sees_agree limits.heap undone.names begin undone.back undone.sees in
       let there : Setting = record { program = inverse_program program; limits = limits } in
       let body = inverse_as false (main_body program) in

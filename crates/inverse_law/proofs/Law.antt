@@ -1,11 +1,11 @@
 -- The law of inverses for accepted programs whose literals are words.
-use Rattle.std.proofs.Common.{◌≡◌, ℕ, ◌<◌, ◌≤◌, arith, refl, sym, ap, ◌∙◌, true, false, Bool, List, [], length, Some, None, nat_eq, eqb-true, if◌then◌else◌}
+use Rattle.std.proofs.Common.{◌≡◌, ℕ, ◌+◌, ◌<◌, ◌≤◌, arith, refl, sym, ap, ◌∙◌, true, false, Bool, List, [], length, Some, None, nat_eq, eqb-true, if◌then◌else◌}
 use Rattle.rpp_words.specs.declared.input.Limits.{Limits}
 use Rattle.rpp_words.specs.declared.input.FieldWord.{FieldWord}
 use Rattle.rpp_tree.specs.Tree.{Statements, Source}
 use Rattle.class_table.specs.Program.{IsAccepted}
 use Rattle.roopl_semantics.specs.Run.{Done}
-use Rattle.roopl_semantics.specs.Store.{Object, State, main_name, object_named}
+use Rattle.roopl_semantics.specs.Store.{OfClass, Object, State, main_name, object_named, object_at}
 use Rattle.roopl_semantics.specs.Execution.{Setting, exec}
 use Rattle.rpp_words.specs.Limits.{IsLimits}
 use Rattle.class_table.specs.Classes.{main_of}
@@ -31,6 +31,10 @@ use Rattle.inverse_law.specs.InverseLaws.{ShowsBack}
 use Rattle.inverse_law.specs.ArrayLengths.{ArraysHaveElements, is_class_head}
 use Rattle.inverse_law.proofs.Known.{Context, Checked, Good, drawn_of}
 use Rattle.roopl_semantics.proofs.MoreFuel.{within_done}
+use Rattle.buddy_book.specs.Place.{count_taken}
+use Rattle.sound_execution.proofs.Stores.{live_object}
+use Rattle.sound_execution.proofs.Stated.{end_is_sound}
+use Rattle.inverse_law.proofs.Later.{Later, exec_later}
 use Rattle.inverse_law.proofs.Grounded.{leads_back_from, undone_from}
 
 -- at the start of a run the main object is alone
@@ -43,6 +47,13 @@ only_main program input name object e = by (nat_eq main_name name) refl e
 
 pub elements_at_start : (program : Source) (input : List FieldWord) → ArraysHaveElements (starting program input).store
 elements_at_start program input = record { long = λ name object e h. (let z : true ≡ false = sym (ap (λ o. is_class_head o.head) (only_main program input name object e).1) ∙ h in cc) }
+
+-- what is known of a run's end
+pub record EndOfRun (program : Source) (limits : Limits) (input : List FieldWord) (end : State) : Type 0 where
+  pub live : object_named end.store main_name ≡ Some (object_at end.store main_name)
+  pub head : (object_at end.store main_name).head ≡ OfClass (main_of program).class
+  pub later : Later (starting program input) end
+  pub sound : Sound (record { program = program; limits = limits }) main_alone [] (main_of program).class end
 
 module _ (program : Source) (limits : Limits) (input : List FieldWord) (accepted : IsAccepted program) (inside : IsLimits limits) (valid : IsValid program input) where
   abbrev setting : Setting
@@ -65,6 +76,18 @@ module _ (program : Source) (limits : Limits) (input : List FieldWord) (accepted
 
   pub main_checked : Checked setting main_context (main_body program)
   main_checked = let text = main_text program accepted plain in record { passes = text.checked; plain = text.plain }
+
+  -- the end comes later than the start, it is sound, and the main object is live and of the main class
+  pub end_of_run : (fuel : ℕ) (end : State) (cost : ℕ) → source program limits input fuel ≡ Done end cost → EndOfRun program limits input end
+  end_of_run fuel end cost done =
+      let begin = starting program input in
+      let o = object_at end.store main_name in
+      let runs = (within_done fuel (exec setting fuel (main_body program) begin) end cost done).is in
+      let later = exec_later setting fuel (main_body program) begin end cost starting_good.drawn runs in
+      let sound = (end_is_sound program limits input fuel end cost accepted inside valid done).sound in
+      let live = live_object end.store main_name (sound.lives main_name (let z : 0 < main_alone main_name = omega arith in z)) in
+      let was = later.old main_name o (let z : main_name < 2 + count_taken begin.log = omega arith in z) live in
+      record { live = live; head = was.head ∙ ap (λ b. b.head) (only_main program input main_name was.before was.there).1; later = later; sound = sound }
 
   pub leads_back : (fuel : ℕ) (end : State) (cost : ℕ) → source program limits input fuel ≡ Done end cost → LeadsBack setting (main_body program) (starting program input) end cost
   leads_back fuel end cost e =

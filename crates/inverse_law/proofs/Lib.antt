@@ -30,4 +30,5 @@ pub mod ElementsKept
 pub mod Grounded
 pub mod Law
 pub mod Back
+pub mod FinalInput
 mod InverseRuns

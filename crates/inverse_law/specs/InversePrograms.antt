@@ -1,5 +1,5 @@
 -- The laws of the inverse program.
-use Rattle.std.specs.Prelude.{◌≡◌, ℕ, List, Some}
+use Rattle.std.specs.Prelude.{◌≡◌, ℕ, suc, Bool, true, false, List, [], ◌∷◌, Some}
 use Rattle.rpp_words.specs.Limits.{IsLimits}
 use Rattle.rpp_words.specs.declared.input.FieldWord.{FieldWord}
 use Rattle.rpp_words.specs.declared.input.Limits.{Limits}
@@ -9,7 +9,7 @@ use Rattle.stmt_inverter.specs.Inverse.{inverse_program}
 use Rattle.buddy_book.specs.Book.{start}
 use Rattle.buddy_book.specs.Place.{place}
 use Rattle.roopl_semantics.specs.Run.{Done}
-use Rattle.roopl_semantics.specs.Store.{State, main_name, object_at}
+use Rattle.roopl_semantics.specs.Store.{Value, Word, Nil, Name, State, main_name, object_at}
 use Rattle.roopl_semantics.specs.Execution.{exec}
 use Rattle.roopl_semantics.specs.Source.{IsValid, main_body, main_object, source, starting}
 use Rattle.roopl_semantics.specs.Report.{report}
@@ -40,6 +40,33 @@ InverseMainUndoes =
 pub record BeginsAnew (program : Source) (limits : Limits) (end : State) (input : List FieldWord) : Type 0 where
   pub fields : (object_at end.store main_name).cells ≡ (main_object program input).cells
   pub free : book_of (place limits.heap end.log) ≡ Some (start limits.heap)
+
+-- the words among fields, from the field of a number on, as an input
+abbrev pub field_words : ℕ → List Value → List FieldWord
+field_words number [] = []
+field_words number (Word w ∷ cells) = record { field = number; word = w } ∷ field_words (suc number) cells
+field_words number (Nil ∷ cells) = field_words (suc number) cells
+field_words number (Name n ∷ cells) = field_words (suc number) cells
+
+-- whether no field names an object or array
+abbrev pub names_nothing : List Value → Bool
+names_nothing [] = true
+names_nothing (Word w ∷ cells) = names_nothing cells
+names_nothing (Nil ∷ cells) = names_nothing cells
+names_nothing (Name n ∷ cells) = false
+
+-- the main object's fields are those of an input
+pub record AreInput (program : Source) (cells : List Value) : Type 0 where
+  pub valid : IsValid program (field_words 0 cells)
+  pub fields : cells ≡ (main_object program (field_words 0 cells)).cells
+
+-- where no final field names an object or array, the words among them are such an input
+abbrev pub FinalFieldsAreInput : Type 0
+FinalFieldsAreInput =
+    (program : Source) (limits : Limits) (input : List FieldWord) (fuel : ℕ) (end : State) (cost : ℕ)
+    → IsAccepted program → IsLimits limits → IsValid program input
+    → source program limits input fuel ≡ Done end cost → names_nothing (object_at end.store main_name).cells ≡ true
+    → AreInput program (object_at end.store main_name).cells
 
 -- the inverse program, run with an input, ends at this cost in a state that agrees with the start, and its report is the start's
 pub record RunsBack (program : Source) (limits : Limits) (begin : State) (input : List FieldWord) (cost : ℕ) : Type 0 where

@@ -1,6 +1,6 @@
 // The inverse law, each form of it the contract of a function.
 ghost use Rattle.inverse_law.specs.InverseLaws.{InverseLaw, InputComesBack, BlocksUndo, StartHasElements, ArraysKeepElements};
-ghost use Rattle.inverse_law.specs.InversePrograms.{InverseIsAccepted, InverseMainUndoes, InverseProgramUndoes};
+ghost use Rattle.inverse_law.specs.InversePrograms.{InverseIsAccepted, InverseMainUndoes, FinalFieldsAreInput, InverseProgramUndoes};
 
 /// What an accepted program did, the inverse of its main method undoes.
 pub fn inverses_undo()
@@ -35,6 +35,11 @@ pub fn inverse_is_accepted()
 /// What an accepted program did, the main method of its inverse program undoes from the end, at the same cost.
 pub fn inverse_main_undoes()
     ensures { InverseMainUndoes }
+{}
+
+/// Where no final field of the main object names an object or array, the words among the final fields are an input.
+pub fn final_fields_are_input()
+    ensures { FinalFieldsAreInput }
 {}
 
 /// What an accepted program did, its inverse program undoes at the same cost, run with the final fields as its input, where
