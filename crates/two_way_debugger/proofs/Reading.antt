@@ -1,6 +1,5 @@
 -- Reading the lines of a script one after the other, as a loop does.
 use Rattle.std.proofs.Common.{◌≡◌, ◌∙◌, refl, sym, ap, ℕ, ◌+◌, ◌<◌, ◌≤◌, List, [], ◌∷◌, length, map, drop, get_or, length-drop, Result, Ok, Err, add-one, drop-cons, arith}
-use Rattle.std.specs.List.{slice_split}
 use Rattle.std.proofs.lemmas.List.{nil_from_length, length-map}
 use Rattle.std.proofs.lemmas.List.Splits.{length-slice_split}
 use Rattle.std.proofs.lemmas.List.Sums.{count_by-le-length}
@@ -8,7 +7,7 @@ use Rattle.std.specs.Prelude.{nat_eq}
 use Rattle.two_way_debugger.specs.declared.command.Command.{Command}
 use Rattle.two_way_debugger.specs.declared.error.ScriptError.{ScriptError}
 use Rattle.two_way_debugger.specs.declared.error.ScriptError.TheVariants.{BadCommand, NoMemory}
-use Rattle.two_way_debugger.specs.Scripts.{with_line, commands_from, kept_byte, without_returns, pieces, Fails}
+use Rattle.two_way_debugger.specs.Scripts.{with_line, commands_from, pieces, Fails}
 
 pub fails_with : (e : ScriptError) (inner whole : Result (List Command) ScriptError) → ((r : ScriptError) → inner ≡ Err r → whole ≡ Err r) → Fails e inner → Fails e whole
 fails_with NoMemory inner whole go f = tt

@@ -1,4 +1,4 @@
-use Rattle.std.proofs.Common.{◌≡◌, ◌∙◌, sym, ap, arith}
+use Rattle.std.proofs.Common.{◌∙◌, sym, ap, arith}
 use Rattle.two_way_debugger.specs.Moves.{Walk}
 use Rattle.two_way_debugger.proofs.Walking.{walk_within, walk_ended, walk_arrived, walk_more, walk_over}
 use Rattle.two_way_debugger.proofs.moves.make_moves.Goals as goal

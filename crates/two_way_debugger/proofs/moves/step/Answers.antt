@@ -1,4 +1,4 @@
-use Rattle.std.proofs.Common.{◌≡◌, ◌∙◌, refl, sym, ap, true, arith}
+use Rattle.std.proofs.Common.{◌≡◌, refl, true, arith}
 use Rattle.std.specs.Prelude.{nat_lt}
 use Rattle.std.proofs.lemmas.Bool.Decides.{nat_tests}
 use Rattle.two_way_debugger.specs.declared.moves.TheConstants.{LAST_POSITION}
