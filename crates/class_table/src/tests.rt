@@ -2,6 +2,7 @@
 use crate::error::ClassError;
 use crate::method::MethodId;
 use crate::table::ClassTable;
+use rpp_tree::MOST_CLASSES;
 use rpp_tree::text::Text;
 use rpp_tree::tree::{Block, Class, Ident, Method, Program, Var, VarType};
 use std::alloc::{AllocError, Global};
