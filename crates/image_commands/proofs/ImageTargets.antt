@@ -14,6 +14,11 @@ use Rattle.pisa_machine.specs.Position.{Position}
 use Rattle.pisa_isa.specs.Machine.{State}
 use Rattle.rpp_plan.specs.Plans.{Planned, WithState, WritesOnly}
 use Rattle.image_commands.specs.ImagePlans.{OfImage, IsAsmPlan, AssemblesFile, ListsFile, FlipsFile, RunsFile, IsListPlan, IsFlipPlan, IsRunPlan, IsSizedPlan, IsRanPlan, first_of, saved}
+use Rattle.two_way_debugger.specs.declared.command.Command.{Command}
+use Rattle.two_way_debugger.specs.declared.error.ScriptError.{ScriptError}
+use Rattle.two_way_debugger.specs.declared.error.ScriptError.TheVariants.{BadCommand, NoMemory}
+use Rattle.two_way_debugger.specs.Scripts.{script_of}
+use Rattle.image_commands.specs.DebugPlans.{IsScriptPlan, IsRoomPlan, IsDebugPlan, DebugsFile}
 use Rattle.rpp_plan.proofs.Writes.{of_text, along}
 
 image_writes : (read : Result Segments ImageError) (P : Segments → Planned → Type 0) (name : Option (List ℕ)) (p : Planned) → ((image : Segments) (q : Planned) → P image q → WritesOnly q name) → OfImage P read p → WritesOnly p name
@@ -61,3 +66,20 @@ flips_file_writes image flipped texts p h = of_text (texts image) _ _ (WritesOnl
 pub runs_file_writes : (image : List ℕ) (heap deep steps : ℕ) (state save : Option (List ℕ)) (texts : Texts) (p : Planned) → RunsFile image heap deep steps state save texts p → WritesOnly p save
 runs_file_writes image heap deep steps state save texts p h =
     of_text (texts image) _ _ (WritesOnly p save) h (λ bytes g. of_state texts state (image_at bytes) heap deep steps save p g)
+
+script_writes : (read : Result (List Command) ScriptError) (image : Segments) (limits : Limits) (p : Planned) → IsScriptPlan read image limits p → WritesOnly p None
+script_writes (Err (BadCommand line)) image limits p h = along p _ None h (inl refl)
+script_writes (Err NoMemory) image limits p h = absurd h
+script_writes (Ok commands) image limits p h = along p _ None h (inl refl)
+
+room_writes : (refusal : Option LoadError) (image : Segments) (limits : Limits) (script : List ℕ) (p : Planned) → IsRoomPlan refusal image limits script p → WritesOnly p None
+room_writes (Some e) image limits script p h = along p _ None h (inl refl)
+room_writes None image limits script p h = script_writes (script_of script) image limits p h
+
+debug_writes : (read : Result Segments ImageError) (heap deep : ℕ) (script : List ℕ) (p : Planned) → IsDebugPlan read heap deep script p → WritesOnly p None
+debug_writes read heap deep script p h = image_writes read _ None p (λ image q k. room_writes _ image _ script q k) h
+
+pub debugs_file_writes : (image : List ℕ) (heap deep : ℕ) (script : List ℕ) (texts : Texts) (p : Planned) → DebugsFile image heap deep script texts p → WritesOnly p None
+debugs_file_writes image heap deep script texts p h =
+    of_text (texts image) _ _ (WritesOnly p None) h
+    (λ bytes g. of_text (texts script) _ _ (WritesOnly p None) g (λ text k. debug_writes (image_at bytes) heap deep text p k))

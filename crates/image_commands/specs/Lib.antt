@@ -1,1 +1,2 @@
 pub mod ImagePlans
+pub mod DebugPlans

@@ -1,8 +1,11 @@
-//! The commands on images: `asm`, `list`, `flip` and `run`. Each reads its files and makes a plan; the top call carries it out.
+//! The commands on images: `asm`, `list`, `flip`, `run` and `debug`. Each reads its files and makes a plan; the top call
+//! carries it out.
 #![tactic(auto)]
 
+mod debugging;
 mod images;
 mod running;
 
+pub use debugging::{Room, debug};
 pub use images::{asm, flip, list};
 pub use running::run;

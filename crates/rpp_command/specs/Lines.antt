@@ -15,6 +15,7 @@ pub data Asked : Type 0 where
   ListImage : (image text : List ℕ) → Asked
   Flip : (image flipped : List ℕ) → Asked
   RunImage : (image : List ℕ) (heap deep steps : ℕ) (state save : Option (List ℕ)) → Asked
+  Debug : (image : List ℕ) (heap deep : ℕ) (script : List ℕ) → Asked
   Go : (file : List ℕ) (heap deep steps : ℕ) (input : Option (List ℕ)) → Asked
   Turn : (file : List ℕ) (heap deep steps : ℕ) (input : Option (List ℕ)) → Asked
 
@@ -25,6 +26,7 @@ asked (line.Asm text image) = Asm (string_bytes text) (string_bytes image)
 asked (line.List image text) = ListImage (string_bytes image) (string_bytes text)
 asked (line.Flip image flipped) = Flip (string_bytes image) (string_bytes flipped)
 asked (line.Run image heap deep steps names) = RunImage (string_bytes image) heap deep steps (state_of_names names) (save_of_names names)
+asked (line.Debug image heap deep script) = Debug (string_bytes image) heap deep (string_bytes script)
 asked (line.Go file heap deep steps input) = Go (string_bytes file) heap deep steps (option_map string_bytes input)
 asked (line.Turn file heap deep steps input) = Turn (string_bytes file) heap deep steps (option_map string_bytes input)
 
@@ -63,6 +65,15 @@ run_line_of (image ∷ heap ∷ deep ∷ steps ∷ state ∷ save ∷ []) =
     run_with image (number_of heap) (number_of deep) (number_of steps) (state_named state) (Some save)
 run_line_of _ = None
 
+-- an image, an order of the heap, a depth, and the file of a script
+abbrev pub debug_with : List ℕ → Option ℕ → Option ℕ → List ℕ → Option Asked
+debug_with image (Some heap) (Some deep) script = Some (Debug image heap deep script)
+debug_with image _ _ script = None
+
+abbrev pub debug_line_of : List (List ℕ) → Option Asked
+debug_line_of (image ∷ heap ∷ deep ∷ script ∷ []) = debug_with image (number_of heap) (number_of deep) script
+debug_line_of _ = None
+
 abbrev pub check_line_of : List (List ℕ) → Option Asked
 check_line_of (file ∷ []) = Some (Check file)
 check_line_of _ = None
@@ -82,6 +93,7 @@ line_of (name ∷ args) =
     else if bytes_eq name (codes "list") then files_line_of ListImage args
     else if bytes_eq name (codes "flip") then files_line_of Flip args
     else if bytes_eq name (codes "run") then run_line_of args
+    else if bytes_eq name (codes "debug") then debug_line_of args
     else if bytes_eq name (codes "go") then go_line_of false args
     else if bytes_eq name (codes "turn") then go_line_of true args
     else None
@@ -94,5 +106,6 @@ HasShortNumbers (Asm text image) = Unit {0}
 HasShortNumbers (ListImage image text) = Unit {0}
 HasShortNumbers (Flip image flipped) = Unit {0}
 HasShortNumbers (RunImage image heap deep steps state save) = (heap < 10 ^ 18) × (deep < 10 ^ 18) × (steps < 10 ^ 18)
+HasShortNumbers (Debug image heap deep script) = (heap < 10 ^ 18) × (deep < 10 ^ 18)
 HasShortNumbers (Go file heap deep steps input) = (heap < 10 ^ 18) × (deep < 10 ^ 18) × (steps < 10 ^ 18)
 HasShortNumbers (Turn file heap deep steps input) = (heap < 10 ^ 18) × (deep < 10 ^ 18) × (steps < 10 ^ 18)

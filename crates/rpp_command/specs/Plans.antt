@@ -3,8 +3,9 @@ use Rattle.std.specs.Prelude.{true, false}
 use Rattle.rpp_ports.specs.Ports.{Texts}
 use Rattle.rpp_plan.specs.Plans.{Planned}
 use Rattle.image_commands.specs.ImagePlans.{AssemblesFile, ListsFile, FlipsFile, RunsFile}
+use Rattle.image_commands.specs.DebugPlans.{DebugsFile}
 use Rattle.program_commands.specs.ProgramPlans.{ChecksFile, CompilesFile, GoesOn}
-use Rattle.rpp_command.specs.Lines.{Asked, Check, Compile, Asm, ListImage, Flip, RunImage, Go, Turn}
+use Rattle.rpp_command.specs.Lines.{Asked, Check, Compile, Asm, ListImage, Flip, RunImage, Debug, Go, Turn}
 
 -- a plan of the line, where the shelf has these texts
 unfoldable pub IsPlan : Asked → Texts → Planned → Type 0
@@ -14,5 +15,6 @@ IsPlan (Asm text image) = AssemblesFile text image
 IsPlan (ListImage image text) = ListsFile image text
 IsPlan (Flip image flipped) = FlipsFile image flipped
 IsPlan (RunImage image heap deep steps state save) = RunsFile image heap deep steps state save
+IsPlan (Debug image heap deep script) = DebugsFile image heap deep script
 IsPlan (Go file heap deep steps input) = GoesOn false file input heap deep steps
 IsPlan (Turn file heap deep steps input) = GoesOn true file input heap deep steps

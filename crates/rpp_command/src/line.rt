@@ -1,6 +1,6 @@
 // What the words ask for.
 ghost use Rattle.std.specs.Prelude.{◌≡◌, ◌<◌, ◌^◌, map, option_map, IfOk, IfSome, string_bytes};
-ghost use Rattle.rpp_command.specs.Lines.{asked, line_of, check_line_of, files_line_of, Compile, Asm, ListImage, Flip, run_line_of, run_with as run_asked, go_line_of, go_with as go_asked, number_of, HasShortNumbers};
+ghost use Rattle.rpp_command.specs.Lines.{asked, line_of, check_line_of, files_line_of, Compile, Asm, ListImage, Flip, run_line_of, run_with as run_asked, debug_line_of, debug_with as debug_asked, go_line_of, go_with as go_asked, number_of, HasShortNumbers};
 ghost use Rattle.rpp_plan.specs.Files.{state_of_names, save_of_names};
 
 use rpp_plan::StateNames;
@@ -42,6 +42,13 @@ pub enum Line {
         steps: u64,
         states: Option<StateNames>,
     },
+    /// Follows a script along the run of an image: its file, the order of the heap, the depth, and the file of the script.
+    Debug {
+        image: String,
+        heap: u64,
+        deep: u64,
+        script: String,
+    },
     /// Compiles and runs a program: its file, the order of the heap, the depth, the number of steps,
     /// and the file of its input, if there is one.
     Go {
@@ -77,6 +84,7 @@ pub fn read_words(words: &[String]) -> Result<Option<Line>, NoMemory>
         "list" => list_line(args),
         "flip" => flip_line(args),
         "run" => run_line(args),
+        "debug" => debug_line(args),
         "go" => go_line(args, false),
         "turn" => go_line(args, true),
         _ => Ok(None),
@@ -189,6 +197,39 @@ fn run_with(
         deep,
         steps,
         states,
+    }))
+}
+
+fn debug_line(args: &[String]) -> Result<Option<Line>, NoMemory>
+    ensures line { IfOk result (λ line. option_map asked line ≡ debug_line_of (map string_bytes args.now)) }
+    ensures numbers { IfOk result (λ line. IfSome line (λ line. HasShortNumbers (asked line))) }
+{
+    match args {
+        [image, heap, deep, script] => debug_with(image, heap, deep, script),
+        _ => Ok(None),
+    }
+}
+
+fn debug_with(
+    image: &String,
+    heap: &String,
+    deep: &String,
+    script: &String,
+) -> Result<Option<Line>, NoMemory>
+    ensures line { IfOk result (λ line. option_map asked line ≡ debug_asked (string_bytes image.now) (number_of (string_bytes heap.now)) (number_of (string_bytes deep.now)) (string_bytes script.now)) }
+    ensures numbers { IfOk result (λ line. IfSome line (λ line. HasShortNumbers (asked line))) }
+{
+    let Some(heap) = read_number(heap.as_str()) else {
+        return Ok(None);
+    };
+    let Some(deep) = read_number(deep.as_str()) else {
+        return Ok(None);
+    };
+    Ok(Some(Line::Debug {
+        image: image.clone()?,
+        heap,
+        deep,
+        script: script.clone()?,
     }))
 }
 

@@ -10,7 +10,7 @@ ghost use Rattle.rpp_command.specs.Answers.{CarriesOut, Answers, EndsEarly};
 
 use crate::finish::{Broken, finish, say};
 use crate::line::{Line, read_words};
-use image_commands::{asm, flip, list, run};
+use image_commands::{Room, asm, debug, flip, list, run};
 use pisa_machine::Steps;
 use program_commands::{Request, check, compile_file, go};
 use rpp_plan::{NoPlan, Plan, Sizes, Verdict};
@@ -158,6 +158,22 @@ fn plan_line<S: Shelf, L: Ledger>(
                 heap: *heap,
                 deep: *deep,
                 bound: *steps,
+            },
+            counter,
+        ),
+        Line::Debug {
+            image,
+            heap,
+            deep,
+            script,
+        } => debug(
+            alloc,
+            shelf,
+            image.as_str(),
+            script.as_str(),
+            Room {
+                heap: *heap,
+                deep: *deep,
             },
             counter,
         ),

@@ -44,6 +44,10 @@ load_line (load.BadState at) = codes "refused 38 BadState at " ++ (decimal at ++
 load_line (load.BadInputLine line) = codes "refused 40 BadInputLine at " ++ (decimal line ++ line_end)
 load_line load.NoMemory = []
 
+-- what is printed where this line of a script is no command
+abbrev pub bad_command_line : (line : ℕ) → List ℕ
+bad_command_line line = codes "refused 39 BadCommand at " ++ (decimal line ++ line_end)
+
 abbrev pub steps_line : ℕ → List ℕ
 steps_line steps = codes "steps " ++ (decimal steps ++ line_end)
 

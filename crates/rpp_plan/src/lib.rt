@@ -9,7 +9,10 @@ mod writing;
 
 pub use plan::{NoPlan, Plan, Sizes, Verdict, Writing};
 pub use reading::{
-    Given, Images, MOST_IMAGE, MOST_STATE, StateNames, read_file, read_given, read_images,
+    Both, Given, Images, MOST_IMAGE, MOST_STATE, StateNames, read_both, read_file, read_given,
+    read_images,
 };
-pub use texts::{asm_line, fault_line, image_line, load_line, refuse_source, with_steps};
+pub use texts::{
+    asm_line, bad_command_line, fault_line, image_line, load_line, refuse_source, with_steps,
+};
 pub use writing::{cells_line, write_as};

@@ -46,6 +46,33 @@ pub fn read_file<S: Shelf>(
     }
 }
 
+/// The texts of two files.
+#[derive(Drop)]
+pub struct Both {
+    pub first: Vec<u8>,
+    pub second: Vec<u8>,
+}
+
+/// The texts of two files, one after the other, each of at most so many bytes.
+pub fn read_both<S: Shelf>(
+    alloc: Global,
+    shelf: &mut S,
+    first: &str,
+    most: u64,
+    second: &str,
+    most_second: u64,
+) -> Result<Both, NoPlan>
+    ensures text { IfOk result (λ both. IfSome (S.texts shelf.old) (λ texts. WithText texts first.now most (λ text. WithText texts second.now most_second (λ other. (both.first.items ≡ text) × (both.second.items ≡ other))))) }
+    ensures within { IfOk result (λ both. length both.first.items ≤ most) }
+    ensures within_second { IfOk result (λ both. length both.second.items ≤ most_second) }
+    ensures reads { OnlyReads (S.texts shelf.old) (S.texts shelf.new) (S.faults shelf.old) (S.faults shelf.new)
+        (record { name = first.now; limit = most } ∷ record { name = second.now; limit = most_second } ∷ []) result }
+{
+    let first = read_file(alloc, shelf, first, most)?;
+    let second = read_file(alloc, shelf, second, most_second)?;
+    Ok(Both { first, second })
+}
+
 /// A source, and the input to it.
 #[derive(Drop)]
 pub struct Given {

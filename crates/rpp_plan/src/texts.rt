@@ -2,7 +2,7 @@
 ghost use Rattle.std.specs.Prelude.{◌≡◌, IfOk, string_bytes, ◌<◌, ◌++◌, Ok};
 ghost use Rattle.rpp_plan.specs.Plans.{planned, prints};
 ghost use Rattle.rpp_plan.specs.Refusals.{refused as refusal, refused_line as line_of_refusal, refusal_name as name_of_refusal};
-ghost use Rattle.rpp_plan.specs.Texts.{load_line as line_of_load, fault_line as line_of_fault, steps_line, asm_line as line_of_asm, image_line as line_of_image};
+ghost use Rattle.rpp_plan.specs.Texts.{load_line as line_of_load, bad_command_line as line_of_bad_command, fault_line as line_of_fault, steps_line, asm_line as line_of_asm, image_line as line_of_image};
 ghost use Rattle.rpp_plan.specs.Faults.{fault_name as name_of_fault};
 
 use crate::plan::{Plan, Verdict};
@@ -73,6 +73,13 @@ pub fn load_line(alloc: Global, e: LoadError) -> Result<String, AllocError>
         }
         LoadError::NoMemory => Ok(String::new(alloc)),
     }
+}
+
+/// What is printed where this line of a script is no command.
+pub fn bad_command_line(alloc: Global, line: u32) -> Result<String, AllocError>
+    ensures { IfOk result (λ text. string_bytes text ≡ line_of_bad_command line) }
+{
+    format!(in alloc; "refused 39 BadCommand at {line}\n")
 }
 
 /// A text with the line on the number of steps behind it.

@@ -1,0 +1,147 @@
+// `debug IMG H D SCRIPT`: follows a script along the run of an image, both ways.
+ghost use Rattle.std.specs.Prelude.{◌≡◌, ◌≤◌, [], ◌∷◌, length, Ok, IfOk, IfSome, string_bytes};
+ghost use Rattle.pisa_image.specs.Reading.{image_at};
+ghost use Rattle.pisa_loader.specs.Limiting.{limits_refusal};
+ghost use Rattle.rpp_words.specs.Limits.{IsLimits};
+ghost use Rattle.rpp_words.specs.declared.input.TheConstants.{MOST_DEEP};
+ghost use Rattle.two_way_debugger.specs.declared.script.TheConstants.{MOST_SCRIPT};
+ghost use Rattle.two_way_debugger.specs.Scripts.{script_of};
+ghost use Rattle.two_way_debugger.specs.Shown.{shown};
+ghost use Rattle.rpp_plan.specs.Files.{OnlyReads, image_file};
+ghost use Rattle.rpp_plan.specs.Plans.{planned, GivesPlan};
+ghost use Rattle.image_commands.specs.DebugPlans.{script_file, followed, IsScriptPlan, IsRoomPlan, IsDebugPlan, DebugsFile};
+
+use pisa_image::{ImageError, read_image};
+use pisa_isa::Image;
+use pisa_loader::{check_limits, load};
+use pisa_machine::{Machine, Steps};
+use rpp_plan::{
+    MOST_IMAGE, NoPlan, Plan, Verdict, bad_command_line, image_line, load_line, read_both,
+};
+use rpp_ports::Shelf;
+use rpp_words::{Input, Limits, MOST_DEEP, NoMemory};
+use std::alloc::Global;
+use std::sync::ledger::Ledger;
+use two_way_debugger::{Command, Debugger, MOST_SCRIPT, ScriptError, read_script};
+
+/// The sizes of a memory: the order of the heap, and the depth of the stack.
+#[derive(Clone, Copy, Debug, PartialEq, Eq)]
+pub struct Room {
+    pub heap: u64,
+    pub deep: u64,
+}
+
+/// Follows the script in a file along the run of the image in a file, from the loaded memory on, and tells what its commands
+/// print.
+pub fn debug<S: Shelf, L: Ledger>(
+    alloc: Global,
+    shelf: &mut S,
+    image: &str,
+    script: &str,
+    room: Room,
+    steps: &mut Steps<L>,
+) -> Result<Plan, NoPlan>
+    ensures plan { GivesPlan (S.texts shelf.old) (DebugsFile image.now room.heap room.deep script.now) result }
+    ensures reads { OnlyReads (S.texts shelf.old) (S.texts shelf.new) (S.faults shelf.old) (S.faults shelf.new)
+        (image_file image.now ∷ script_file script.now ∷ []) result }
+{
+    let read = read_both(
+        alloc,
+        shelf,
+        image,
+        MOST_IMAGE as u64,
+        script,
+        MOST_SCRIPT as u64,
+    )?;
+    Ok(debug_over(alloc, &read.first, &read.second, room, steps)?)
+}
+
+fn debug_over<L: Ledger>(
+    alloc: Global,
+    bytes: &[u8],
+    script: &[u8],
+    room: Room,
+    steps: &mut Steps<L>,
+) -> Result<Plan, NoMemory>
+    requires { length script.now ≤ MOST_SCRIPT }
+    ensures { IfOk result (λ plan. IsDebugPlan (image_at bytes.now) room.heap room.deep script.now (planned plan)) }
+{
+    match read_image(alloc, bytes) {
+        Ok(image) => debug_sized(alloc, image, script, room, steps),
+        Err(ImageError::NoMemory) => Err(NoMemory),
+        Err(e) => Ok(Plan::prints(Verdict::ImageRefused, image_line(alloc, e)?)),
+    }
+}
+
+// The sizes of heap and stack are tried before the script.
+fn debug_sized<L: Ledger>(
+    alloc: Global,
+    image: Image,
+    script: &[u8],
+    room: Room,
+    steps: &mut Steps<L>,
+) -> Result<Plan, NoMemory>
+    requires { length script.now ≤ MOST_SCRIPT }
+    ensures { IfOk result (λ plan. IsRoomPlan (limits_refusal room.heap room.deep MOST_DEEP) image
+        (record { heap = room.heap; deep = room.deep }) script.now (planned plan)) }
+{
+    match check_limits(room.heap, room.deep, MOST_DEEP) {
+        Ok(limits) => debug_script(alloc, image, limits, script, steps),
+        Err(e) => Ok(Plan::prints(Verdict::InputRefused, load_line(alloc, e)?)),
+    }
+}
+
+// The script is judged, and then it is followed.
+fn debug_script<L: Ledger>(
+    alloc: Global,
+    image: Image,
+    limits: Limits,
+    script: &[u8],
+    steps: &mut Steps<L>,
+) -> Result<Plan, NoMemory>
+    requires script { length script.now ≤ MOST_SCRIPT }
+    requires limits { IsLimits limits }
+    ensures { IfOk result (λ plan. IsScriptPlan (script_of script.now) image limits (planned plan)) }
+{
+    match read_script(alloc, script) {
+        Ok(commands) => follow_script(alloc, image, limits, &commands, steps),
+        Err(ScriptError::NoMemory) => Err(NoMemory),
+        Err(ScriptError::BadCommand { line }) => {
+            Ok(Plan::prints(Verdict::InputRefused, bad_command_line(alloc, line)?))
+        }
+    }
+}
+
+// The plan that prints what these commands print from the loaded memory on.
+fn follow_script<L: Ledger>(
+    alloc: Global,
+    image: Image,
+    limits: Limits,
+    commands: &[Command],
+    steps: &mut Steps<L>,
+) -> Result<Plan, NoMemory>
+    requires { IsLimits limits }
+    ensures { IfOk result (λ plan. planned plan ≡ followed image limits commands.now) }
+{
+    let input = Input {
+        words: Vec::new(alloc),
+    };
+    let machine = load(alloc, image, limits, &input)?;
+    let text = follow_from(alloc, machine, commands, steps)?;
+    Ok(Plan::prints(Verdict::Done, text))
+}
+
+// What these commands print from where a machine stands.
+fn follow_from<L: Ledger>(
+    alloc: Global,
+    machine: Machine,
+    commands: &[Command],
+    steps: &mut Steps<L>,
+) -> Result<String, NoMemory>
+    ensures { IfOk result (λ text. string_bytes text ≡ shown commands.now machine) }
+{
+    let mut debugger = Debugger::new(machine);
+    let mut text = String::new(alloc);
+    debugger.follow(alloc, commands, &mut text, steps)?;
+    Ok(text)
+}
