@@ -2,11 +2,12 @@
 use Rattle.std.proofs.Common.{ℕ, true, false, List, None, Some, inl, inr, option_map, IfSome, subst}
 use Rattle.std.specs.declared.option.Option.{Option}
 use Rattle.rpp_ports.specs.Ports.{Texts}
-use Rattle.rpp_command.specs.Lines.{Asked, Check, Compile, Asm, ListImage, Flip, RunImage, Debug, Go, Turn}
+use Rattle.rpp_command.specs.Lines.{Asked, Check, Compile, Asm, ListImage, Flip, ShowInverse, Generate, RunImage, Debug, Go, Turn}
 use Rattle.rpp_plan.specs.Plans.{Planned, Written, WritesOnly}
 use Rattle.rpp_command.specs.Plans.{IsPlan}
 use Rattle.rpp_command.specs.Causes.{target_of, KeepsButTarget}
 use Rattle.program_commands.proofs.ProgramTargets.{checks_file_writes, compiles_file_writes, goes_on_writes}
+use Rattle.text_commands.proofs.TextTargets.{shows_inverse_writes, generates_writes}
 use Rattle.image_commands.proofs.ImageTargets.{assembles_file_writes, lists_file_writes, flips_file_writes, runs_file_writes, debugs_file_writes}
 
 plan_writes : (line : Asked) (texts : Texts) (p : Planned) → IsPlan line texts p → WritesOnly p (target_of line)
@@ -16,6 +17,8 @@ plan_writes (Compile file image) texts p h = compiles_file_writes file image tex
 plan_writes (Asm text image) texts p h = assembles_file_writes text image texts p h
 plan_writes (ListImage image text) texts p h = lists_file_writes image text texts p h
 plan_writes (Flip image flipped) texts p h = flips_file_writes image flipped texts p h
+plan_writes (ShowInverse file out) texts p h = shows_inverse_writes file out texts p h
+plan_writes (Generate seed size out) texts p h = generates_writes seed size out texts p h
 plan_writes (RunImage image heap deep steps state save) texts p h = runs_file_writes image heap deep steps state save texts p h
 plan_writes (Debug image heap deep script) texts p h = debugs_file_writes image heap deep script texts p h
 plan_writes (Go file heap deep steps input) texts p h = goes_on_writes false file input heap deep steps texts p h

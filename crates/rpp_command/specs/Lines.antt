@@ -14,6 +14,8 @@ pub data Asked : Type 0 where
   Asm : (text image : List ℕ) → Asked
   ListImage : (image text : List ℕ) → Asked
   Flip : (image flipped : List ℕ) → Asked
+  ShowInverse : (file out : List ℕ) → Asked
+  Generate : (seed size : ℕ) (out : List ℕ) → Asked
   RunImage : (image : List ℕ) (heap deep steps : ℕ) (state save : Option (List ℕ)) → Asked
   Debug : (image : List ℕ) (heap deep : ℕ) (script : List ℕ) → Asked
   Go : (file : List ℕ) (heap deep steps : ℕ) (input : Option (List ℕ)) → Asked
@@ -25,6 +27,8 @@ asked (line.Compile file image) = Compile (string_bytes file) (string_bytes imag
 asked (line.Asm text image) = Asm (string_bytes text) (string_bytes image)
 asked (line.List image text) = ListImage (string_bytes image) (string_bytes text)
 asked (line.Flip image flipped) = Flip (string_bytes image) (string_bytes flipped)
+asked (line.ShowInverse file out) = ShowInverse (string_bytes file) (string_bytes out)
+asked (line.Generate seed size out) = Generate seed size (string_bytes out)
 asked (line.Run image heap deep steps names) = RunImage (string_bytes image) heap deep steps (state_of_names names) (save_of_names names)
 asked (line.Debug image heap deep script) = Debug (string_bytes image) heap deep (string_bytes script)
 asked (line.Go file heap deep steps input) = Go (string_bytes file) heap deep steps (option_map string_bytes input)
@@ -65,6 +69,20 @@ run_line_of (image ∷ heap ∷ deep ∷ steps ∷ state ∷ save ∷ []) =
     run_with image (number_of heap) (number_of deep) (number_of steps) (state_named state) (Some save)
 run_line_of _ = None
 
+-- a number of items
+abbrev pub items_of : Option ℕ → Option ℕ
+items_of None = None
+items_of (Some n) = if nat_lt 0 n && nat_le n 800 then Some n else None
+
+-- a seed, a number of items, and a file
+abbrev pub generate_with : Option ℕ → Option ℕ → List ℕ → Option Asked
+generate_with (Some seed) (Some size) out = Some (Generate seed size out)
+generate_with _ _ out = None
+
+abbrev pub generate_line_of : List (List ℕ) → Option Asked
+generate_line_of (seed ∷ size ∷ out ∷ []) = generate_with (number_of seed) (items_of (number_of size)) out
+generate_line_of _ = None
+
 -- an image, an order of the heap, a depth, and the file of a script
 abbrev pub debug_with : List ℕ → Option ℕ → Option ℕ → List ℕ → Option Asked
 debug_with image (Some heap) (Some deep) script = Some (Debug image heap deep script)
@@ -92,6 +110,8 @@ line_of (name ∷ args) =
     else if bytes_eq name (codes "asm") then files_line_of Asm args
     else if bytes_eq name (codes "list") then files_line_of ListImage args
     else if bytes_eq name (codes "flip") then files_line_of Flip args
+    else if bytes_eq name (codes "show-inverse") then files_line_of ShowInverse args
+    else if bytes_eq name (codes "generate") then generate_line_of args
     else if bytes_eq name (codes "run") then run_line_of args
     else if bytes_eq name (codes "debug") then debug_line_of args
     else if bytes_eq name (codes "go") then go_line_of false args
@@ -105,6 +125,8 @@ HasShortNumbers (Compile file image) = Unit {0}
 HasShortNumbers (Asm text image) = Unit {0}
 HasShortNumbers (ListImage image text) = Unit {0}
 HasShortNumbers (Flip image flipped) = Unit {0}
+HasShortNumbers (ShowInverse file out) = Unit {0}
+HasShortNumbers (Generate seed size out) = Unit {0}
 HasShortNumbers (RunImage image heap deep steps state save) = (heap < 10 ^ 18) × (deep < 10 ^ 18) × (steps < 10 ^ 18)
 HasShortNumbers (Debug image heap deep script) = (heap < 10 ^ 18) × (deep < 10 ^ 18)
 HasShortNumbers (Go file heap deep steps input) = (heap < 10 ^ 18) × (deep < 10 ^ 18) × (steps < 10 ^ 18)

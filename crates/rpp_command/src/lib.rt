@@ -19,4 +19,6 @@ mod run_tests;
 #[cfg(test)]
 mod tests;
 #[cfg(test)]
+mod text_tests;
+#[cfg(test)]
 mod turn_tests;

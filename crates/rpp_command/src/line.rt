@@ -1,6 +1,6 @@
 // What the words ask for.
 ghost use Rattle.std.specs.Prelude.{◌≡◌, ◌<◌, ◌^◌, map, option_map, IfOk, IfSome, string_bytes};
-ghost use Rattle.rpp_command.specs.Lines.{asked, line_of, check_line_of, files_line_of, Compile, Asm, ListImage, Flip, run_line_of, run_with as run_asked, debug_line_of, debug_with as debug_asked, go_line_of, go_with as go_asked, number_of, HasShortNumbers};
+ghost use Rattle.rpp_command.specs.Lines.{asked, line_of, check_line_of, files_line_of, Compile, Asm, ListImage, Flip, ShowInverse, generate_line_of, generate_with as generate_asked, items_of, run_line_of, run_with as run_asked, debug_line_of, debug_with as debug_asked, go_line_of, go_with as go_asked, number_of, HasShortNumbers};
 ghost use Rattle.rpp_plan.specs.Files.{state_of_names, save_of_names};
 
 use rpp_plan::StateNames;
@@ -32,6 +32,17 @@ pub enum Line {
     Flip {
         image: String,
         flipped: String,
+    },
+    /// Writes the inverse of a source: its file, and that of the inverse.
+    ShowInverse {
+        file: String,
+        out: String,
+    },
+    /// Writes a generated source: its seed, its number of items, and its file.
+    Generate {
+        seed: u64,
+        size: u32,
+        out: String,
     },
     /// Runs an image: its file, the order of the heap, the depth, the number of steps, and the files of two states, if
     /// there are such.
@@ -83,6 +94,8 @@ pub fn read_words(words: &[String]) -> Result<Option<Line>, NoMemory>
         "asm" => asm_line(args),
         "list" => list_line(args),
         "flip" => flip_line(args),
+        "show-inverse" => show_inverse_line(args),
+        "generate" => generate_line(args),
         "run" => run_line(args),
         "debug" => debug_line(args),
         "go" => go_line(args, false),
@@ -152,6 +165,46 @@ fn flip_line(args: &[String]) -> Result<Option<Line>, NoMemory>
     Ok(Some(Line::Flip {
         image: image.clone()?,
         flipped: flipped.clone()?,
+    }))
+}
+
+fn show_inverse_line(args: &[String]) -> Result<Option<Line>, NoMemory>
+    ensures line { IfOk result (λ line. option_map asked line ≡ files_line_of ShowInverse (map string_bytes args.now)) }
+    ensures numbers { IfOk result (λ line. IfSome line (λ line. HasShortNumbers (asked line))) }
+{
+    let [file, out] = args else {
+        return Ok(None);
+    };
+    Ok(Some(Line::ShowInverse {
+        file: file.clone()?,
+        out: out.clone()?,
+    }))
+}
+
+fn generate_line(args: &[String]) -> Result<Option<Line>, NoMemory>
+    ensures line { IfOk result (λ line. option_map asked line ≡ generate_line_of (map string_bytes args.now)) }
+    ensures numbers { IfOk result (λ line. IfSome line (λ line. HasShortNumbers (asked line))) }
+{
+    match args {
+        [seed, size, out] => generate_with(seed, size, out),
+        _ => Ok(None),
+    }
+}
+
+fn generate_with(seed: &String, size: &String, out: &String) -> Result<Option<Line>, NoMemory>
+    ensures line { IfOk result (λ line. option_map asked line ≡ generate_asked (number_of (string_bytes seed.now)) (items_of (number_of (string_bytes size.now))) (string_bytes out.now)) }
+    ensures numbers { IfOk result (λ line. IfSome line (λ line. HasShortNumbers (asked line))) }
+{
+    let Some(seed) = read_number(seed.as_str()) else {
+        return Ok(None);
+    };
+    let Some(size) = read_items(size.as_str()) else {
+        return Ok(None);
+    };
+    Ok(Some(Line::Generate {
+        seed,
+        size,
+        out: out.clone()?,
     }))
 }
 
@@ -286,6 +339,20 @@ fn go_with(
 }
 
 const MOST_DIGITS: usize = 18;
+
+const MOST_ITEMS: u64 = 800;
+
+// The number of items, from 1 to 800, that a word is.
+fn read_items(word: &str) -> Option<u32>
+    ensures { result ≡ items_of (number_of word.now) }
+{
+    let number = read_number(word)?;
+    if number > 0 && number <= MOST_ITEMS {
+        Some(number as u32)
+    } else {
+        None
+    }
+}
 
 // The number that 1 to 18 decimal digits are.
 fn read_number(word: &str) -> Option<u64>

@@ -18,6 +18,7 @@ use rpp_ports::{Probe, Shelf, Sink};
 use std::alloc::Global;
 use std::marker::Brand;
 use std::sync::ledger::{Blank, Ledger};
+use text_commands::{generate, show_inverse};
 
 /// Does what the words say, and answers the status of the program.
 pub fn rooplpp<S: Shelf, K: Sink>(
@@ -143,6 +144,10 @@ fn plan_line<S: Shelf, L: Ledger>(
         Line::Asm { text, image } => asm(alloc, shelf, text.as_str(), image.as_str()),
         Line::List { image, text } => list(alloc, shelf, image.as_str(), text.as_str()),
         Line::Flip { image, flipped } => flip(alloc, shelf, image.as_str(), flipped.as_str()),
+        Line::ShowInverse { file, out } => {
+            show_inverse(alloc, shelf, file.as_str(), out.as_str())
+        }
+        Line::Generate { seed, size, out } => generate(alloc, shelf, *seed, *size, out.as_str()),
         Line::Run {
             image,
             heap,

@@ -1,0 +1,2 @@
+pub mod InverseNames
+pub mod TextTargets

@@ -1,0 +1,54 @@
+// `show-inverse F OUT`: writes the inverse of a program.
+ghost use Rattle.std.specs.Prelude.{◌≡◌, ◌≤◌, [], ◌∷◌, length, IfOk, IfSome};
+ghost use Rattle.rpp_tree.specs.Views.{source_of};
+ghost use Rattle.rpp_tree.specs.declared.limits.TheConstants.{MOST_BYTES};
+ghost use Rattle.stmt_inverter.specs.Inverse.{inverse_program};
+ghost use Rattle.roopl_printer.specs.Spelled.{printed};
+ghost use Rattle.rpp_plan.specs.Plans.{planned, GivesPlan};
+ghost use Rattle.rpp_plan.specs.Files.{OnlyReads, source};
+ghost use Rattle.text_commands.specs.TextPlans.{writes_text, IsInversePlan, ShowsInverse};
+
+use crate::writing::write_text;
+use class_table::Checked;
+use roopl_judge::{SourceError, judge};
+use roopl_printer::print;
+use rpp_plan::{NoPlan, Plan, read_file, refuse_source};
+use rpp_ports::Shelf;
+use rpp_tree::MOST_BYTES;
+use rpp_words::NoMemory;
+use std::alloc::Global;
+use stmt_inverter::invert_program;
+
+/// Judges the source in a file, and writes the text of its inverse program into another.
+pub fn show_inverse<S: Shelf>(
+    alloc: Global,
+    shelf: &mut S,
+    file: &str,
+    out: &str,
+) -> Result<Plan, NoPlan>
+    ensures plan { GivesPlan (S.texts shelf.old) (ShowsInverse file.now out.now) result }
+    ensures reads { OnlyReads (S.texts shelf.old) (S.texts shelf.new) (S.faults shelf.old) (S.faults shelf.new) (source file.now ∷ []) result }
+{
+    let text = read_file(alloc, shelf, file, MOST_BYTES as u64)?;
+    Ok(invert_text(alloc, &text, out)?)
+}
+
+fn invert_text(alloc: Global, text: &[u8], name: &str) -> Result<Plan, NoMemory>
+    requires { length text.now ≤ MOST_BYTES }
+    ensures { IfOk result (λ plan. IsInversePlan text.now name.now (planned plan)) }
+{
+    match judge(alloc, text) {
+        Ok(judged) => write_inverse(alloc, &judged.checked, name),
+        Err(SourceError::Refused { number, at }) => Ok(refuse_source(alloc, number, at)?),
+        Err(SourceError::NoMemory) => Err(NoMemory),
+    }
+}
+
+// The plan that writes the text of the inverse of an accepted program.
+fn write_inverse(alloc: Global, checked: &Checked, name: &str) -> Result<Plan, NoMemory>
+    ensures { IfOk result (λ plan. planned plan ≡ writes_text name.now (printed (inverse_program (source_of checked.now)))) }
+{
+    let inverse = invert_program(alloc, checked.program())?;
+    let text = print(alloc, &inverse)?;
+    write_text(alloc, name, text)
+}
