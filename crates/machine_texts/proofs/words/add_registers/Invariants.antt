@@ -1,7 +1,7 @@
 use Rattle.std.proofs.Common.{◌≡◌, ◌++◌, drop}
 use Rattle.std.specs.Prelude.{string_bytes}
-use Rattle.two_way_debugger.specs.Shown.{register_lines}
-use Rattle.two_way_debugger.proofs.shown.add_registers.Given as goal
+use Rattle.machine_texts.specs.Words.{register_lines}
+use Rattle.machine_texts.proofs.words.add_registers.Given as goal
 
 -- the lines so far and those of the registers that are left are the whole
 abbrev pub invariant-loop-number : goal.invariant-loop-number

@@ -3,7 +3,7 @@ use Rattle.std.proofs.Common.{◌≡◌, ◌∙◌, sym, ℕ, suc, ◌+◌, ◌-
 use Rattle.std.specs.Prelude.{nat_le}
 use Rattle.std.specs.Char.{is_ascii_digit}
 use Rattle.std.proofs.lemmas.Bool.Decides.{nat_tests}
-use Rattle.two_way_debugger.specs.Scripts.{digits_after, at_most}
+use Rattle.machine_texts.specs.Lines.{digits_after, at_most}
 
 above : (most n : ℕ) → most < n → nat_le n most ≡ false
 above most n h = grind (arith, nat_tests)

@@ -1,8 +1,8 @@
 use Rattle.std.proofs.Common.{sym, length, arith}
 use Rattle.std.specs.Prelude.{nat_eq}
-use Rattle.two_way_debugger.specs.Scripts.{at_most, digits_after}
-use Rattle.two_way_debugger.proofs.Digits.{one_too_many}
-use Rattle.two_way_debugger.proofs.numbers.number_up_to.Goals as goal
+use Rattle.machine_texts.specs.Lines.{at_most, digits_after}
+use Rattle.machine_texts.proofs.Digits.{one_too_many}
+use Rattle.machine_texts.proofs.numbers.number_up_to.Goals as goal
 
 pub returns-then-number-most-clause-value : goal.returns-then-number-most-clause-value
 returns-then-number-most-clause-value c =

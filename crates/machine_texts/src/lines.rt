@@ -1,18 +1,18 @@
 // The lines of a script, and the words of a line.
 ghost use Rattle.std.specs.Prelude.{◌≡◌, ◌≤◌, ◌+◌, ◌++◌, map, length, vec_len, IfOk, OnOk};
-ghost use Rattle.two_way_debugger.specs.Scripts.{pieces as pieces_of, is_blank as is_blank_line, begins_with as begins, kept_byte, without_returns as text_without_returns};
+ghost use Rattle.machine_texts.specs.Lines.{pieces as pieces_of, is_blank as is_blank_line, begins_with as begins, kept_byte, without_returns as text_without_returns};
 
 use std::alloc::{AllocError, Global};
 
 /// Whether there are only spaces and tabs.
-pub(crate) fn is_blank(line: &[u8]) -> bool
+pub fn is_blank(line: &[u8]) -> bool
     ensures { result ≡ is_blank_line line.now }
 {
     line.iter().all(|byte| *byte == b' ' || *byte == b'\t')
 }
 
 /// The pieces that a byte parts.
-pub(crate) fn pieces(alloc: Global, at: u8, bytes: &[u8]) -> Result<Vec<&[u8]>, AllocError>
+pub fn pieces(alloc: Global, at: u8, bytes: &[u8]) -> Result<Vec<&[u8]>, AllocError>
     ensures { IfOk result (λ pieces. map (λ piece. piece.now) pieces.items ≡ pieces_of at bytes.now) }
 {
     bytes.split(|byte| *byte == at).collect(alloc)
@@ -29,7 +29,7 @@ fn begins_with(byte: u8, bytes: &[u8]) -> bool
 }
 
 /// A text without the carriage returns that stand before line feeds.
-pub(crate) fn without_returns(alloc: Global, bytes: &[u8]) -> Result<Vec<u8>, AllocError>
+pub fn without_returns(alloc: Global, bytes: &[u8]) -> Result<Vec<u8>, AllocError>
     ensures text { IfOk result (λ text. text.items ≡ text_without_returns bytes.now) }
     ensures within { IfOk result (λ text. vec_len text ≤ length bytes.now) }
 {

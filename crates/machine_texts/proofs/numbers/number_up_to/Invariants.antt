@@ -1,6 +1,6 @@
 use Rattle.std.proofs.Common.{◌≡◌, ◌≤◌, drop}
-use Rattle.two_way_debugger.specs.Scripts.{digits_after, at_most}
-use Rattle.two_way_debugger.proofs.numbers.number_up_to.Given as goal
+use Rattle.machine_texts.specs.Lines.{digits_after, at_most}
+use Rattle.machine_texts.proofs.numbers.number_up_to.Given as goal
 
 -- the digits that are left decide
 abbrev pub invariant-loop-digit : goal.invariant-loop-digit

@@ -1,12 +1,12 @@
 // Printed words, and the lines on stops.
 ghost use Rattle.std.specs.Prelude.{◌≡◌, ◌++◌, IfOk, OnOk, string_bytes};
-ghost use Rattle.two_way_debugger.specs.Stops.{fault_name as name_of_fault, stop_line};
+ghost use Rattle.machine_texts.specs.Stops.{fault_name as name_of_fault, stop_line};
 
 use pisa_isa::Stop;
 use std::alloc::AllocError;
 
 /// Adds the line on why a machine stopped.
-pub(crate) fn add_stop(text: &mut String, stop: Stop) -> Result<(), AllocError>
+pub fn add_stop(text: &mut String, stop: Stop) -> Result<(), AllocError>
     ensures { OnOk result (string_bytes text.new ≡ string_bytes text.old ++ stop_line stop) }
 {
     match stop {

@@ -1,6 +1,6 @@
 use Rattle.std.proofs.Common.{◌≡◌, ◌≤◌, ◌++◌, drop, vec_len}
-use Rattle.two_way_debugger.specs.Scripts.{without_returns}
-use Rattle.two_way_debugger.proofs.lines.without_returns.Given as goal
+use Rattle.machine_texts.specs.Lines.{without_returns}
+use Rattle.machine_texts.proofs.lines.without_returns.Given as goal
 
 -- the text so far and what is left are the whole
 abbrev pub invariant-loop-i : goal.invariant-loop-i

@@ -1,16 +1,10 @@
--- Words as they are printed, and the lines on why a machine stopped.
+-- The lines on why a machine stopped.
 use Rattle.std.specs.Prelude.{ℕ, ◌==◌, List, [], ◌∷◌, ◌++◌, codes, if◌then◌else◌}
 use Rattle.std.specs.Fmt.{decimal, signed_decimal}
-use Rattle.rpp_words.specs.Words.{signed}
 use Rattle.pisa_isa.specs.declared.machine.Stop.{Stop}
 use Rattle.pisa_isa.specs.declared.machine.Stop.TheVariants.{Finished, Returned, Trap, BadAddress, OffCode, Bound}
-
-abbrev pub line_end : List ℕ
-line_end = 10 ∷ []
-
--- a word in signed decimal
-abbrev pub word_shown : ℕ → List ℕ
-word_shown word = signed_decimal (signed word)
+use Rattle.rpp_words.specs.Texts.{line_end}
+use Rattle.machine_texts.specs.Words.{word_shown}
 
 -- the name of a fault with a space in front; a number that is no fault has none
 abbrev pub fault_name : ℕ → List ℕ

@@ -1,12 +1,12 @@
 // Numbers in decimal digits.
 ghost use Rattle.std.specs.Prelude.{◌≡◌, ◌<◌, ◌≤◌, ◌^◌, IfSome};
-ghost use Rattle.two_way_debugger.specs.Scripts.{number_up_to as number_of, short_number as short_number_of};
+ghost use Rattle.machine_texts.specs.Lines.{number_up_to as number_of, short_number as short_number_of};
 
 /// The most digits of a number of moves, or of a place.
 const MOST_DIGITS: usize = 18;
 
 /// The number that one digit or more write, if it is at most so much.
-pub(crate) fn number_up_to(most: u64, word: &[u8]) -> Option<u64>
+pub fn number_up_to(most: u64, word: &[u8]) -> Option<u64>
     requires { most < 10 ^ 18 }
     ensures value { result ≡ number_of most word.now }
     ensures within { IfSome result (λ number. number ≤ most) }
@@ -28,7 +28,7 @@ pub(crate) fn number_up_to(most: u64, word: &[u8]) -> Option<u64>
 }
 
 /// The number that 1 to 18 digits write.
-pub(crate) fn short_number(word: &[u8]) -> Option<u64>
+pub fn short_number(word: &[u8]) -> Option<u64>
     ensures value { result ≡ short_number_of word.now }
     ensures short { IfSome result (λ number. number < 10 ^ 18) }
 {
