@@ -3,7 +3,8 @@ use Rattle.std.proofs.Common.{◌≡◌, ◌∙◌, sym, ap, ℕ, suc, ◌+◌, 
 use Rattle.std.specs.Prelude.{min, slice_get}
 use Rattle.std.proofs.lemmas.List.{length-take, get_or-take, nil_from_length, append-nil}
 use Rattle.std.proofs.lemmas.Option.{slice_get-get_or}
-use Rattle.two_way_debugger.specs.Shown.{cell_line, cell_lines}
+use Rattle.two_way_debugger.specs.Shown.{cell_lines}
+use Rattle.machine_texts.specs.Words.{cell_line}
 
 some_is : (x y : ℕ) → Some x ≡ Some y → x ≡ y
 some_is x y h = cc

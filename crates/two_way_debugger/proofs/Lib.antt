@@ -1,5 +1,4 @@
 pub mod OneStep
 pub mod Walking
 pub mod CellRange
-pub mod Digits
 pub mod Reading

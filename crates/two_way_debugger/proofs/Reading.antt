@@ -7,7 +7,8 @@ use Rattle.std.specs.Prelude.{nat_eq}
 use Rattle.two_way_debugger.specs.declared.command.Command.{Command}
 use Rattle.two_way_debugger.specs.declared.error.ScriptError.{ScriptError}
 use Rattle.two_way_debugger.specs.declared.error.ScriptError.TheVariants.{BadCommand, NoMemory}
-use Rattle.two_way_debugger.specs.Scripts.{with_line, commands_from, pieces, Fails}
+use Rattle.two_way_debugger.specs.Scripts.{with_line, commands_from, Fails}
+use Rattle.machine_texts.specs.Lines.{pieces}
 
 pub fails_with : (e : ScriptError) (inner whole : Result (List Command) ScriptError) → ((r : ScriptError) → inner ≡ Err r → whole ≡ Err r) → Fails e inner → Fails e whole
 fails_with NoMemory inner whole go f = tt

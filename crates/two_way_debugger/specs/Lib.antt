@@ -1,4 +1,3 @@
 pub mod Moves
-pub mod Stops
 pub mod Shown
 pub mod Scripts

@@ -8,11 +8,9 @@ use Rattle.two_way_debugger.specs.declared.moves.Ending.TheVariants.{Made, Last,
 use Rattle.two_way_debugger.specs.declared.command.Command.{Command}
 use Rattle.two_way_debugger.specs.declared.command.Command.TheVariants.{Step, Back, To, BackTo, Regs, Cells}
 use Rattle.two_way_debugger.specs.Moves.{Walk, ends, walk}
-use Rattle.two_way_debugger.specs.Stops.{line_end, word_shown, stop_line}
-
-abbrev pub direction : Bool → List ℕ
-direction false = codes "1"
-direction true = codes "-1"
+use Rattle.rpp_words.specs.Texts.{line_end}
+use Rattle.machine_texts.specs.Words.{word_shown, direction, register_lines, cell_line}
+use Rattle.machine_texts.specs.Stops.{stop_line}
 
 -- what the line on a move says of how it ended, with the line's end
 abbrev pub ending_shown : Ending → List ℕ
@@ -30,20 +28,8 @@ at_shown p ending =
 abbrev pub walk_shown : Walk → List ℕ
 walk_shown w = at_shown w.position w.ending
 
--- a register, unless it is 0
-abbrev pub register_line : (number word : ℕ) → List ℕ
-register_line number word = if nat_eq word 0 then [] else codes "$" ++ (decimal number ++ (codes " = " ++ (word_shown word ++ line_end)))
-
--- the registers from this number on
-abbrev pub register_lines : (number : ℕ) → List ℕ → List ℕ
-register_lines number [] = []
-register_lines number (word ∷ words) = register_line number word ++ register_lines (suc number) words
-
 abbrev pub registers_shown : List ℕ → List ℕ
 registers_shown words = if list_all (nat_eq 0) words then codes "all zero" ++ line_end else register_lines 0 words
-
-abbrev pub cell_line : (number word : ℕ) → List ℕ
-cell_line number word = codes "cell " ++ (decimal number ++ (codes " = " ++ (word_shown word ++ line_end)))
 
 -- cells from this number on
 abbrev pub cell_lines : (number : ℕ) → List ℕ → List ℕ

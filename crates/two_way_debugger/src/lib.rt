@@ -7,12 +7,9 @@
 mod command;
 mod debugger;
 mod error;
-mod lines;
 mod moves;
-mod numbers;
 mod script;
 mod shown;
-mod stops;
 #[cfg(test)]
 mod tests;
 

@@ -1,10 +1,10 @@
 // What commands print.
 ghost use Rattle.std.specs.Prelude.{◌≡◌, ◌+◌, ◌++◌, min, nat_eq, length, IfOk, OnOk, string_bytes};
 ghost use Rattle.std.specs.List.{list_all};
-ghost use Rattle.two_way_debugger.specs.Shown.{direction as direction_text, ending_shown, at_shown, register_line, register_lines, registers_shown, cell_line, cells_shown};
+ghost use Rattle.two_way_debugger.specs.Shown.{ending_shown, at_shown, registers_shown, cells_shown};
 
 use crate::moves::Ending;
-use crate::stops::add_stop;
+use machine_texts::{add_cell, add_registers, add_stop, direction};
 use pisa_machine::Machine;
 use std::alloc::{AllocError, Global};
 
@@ -24,12 +24,6 @@ pub(crate) fn walk_line(
     let mut text = format!(in alloc; "at {made} pc {pc} br {br} dir {dir}")?;
     add_ending(&mut text, ending)?;
     Ok(text)
-}
-
-fn direction(back: bool) -> &'static str
-    ensures { result.now ≡ direction_text back }
-{
-    if back { "-1" } else { "1" }
 }
 
 // How moves ended, with the line's end.
@@ -58,31 +52,10 @@ pub(crate) fn register_text(alloc: Global, regs: &[u32]) -> Result<String, Alloc
     Ok(text)
 }
 
-// The registers that are not 0.
-fn add_registers(text: &mut String, regs: &[u32]) -> Result<(), AllocError>
-    ensures { OnOk result (string_bytes text.new ≡ string_bytes text.old ++ register_lines 0 regs.now) }
-{
-    for (number, word) in regs.iter().enumerate() {
-        add_register(text, number, *word)?;
-    }
-    Ok(())
-}
-
 fn all_zero(words: &[u32]) -> bool
     ensures { result ≡ list_all (nat_eq 0) words.now }
 {
     words.iter().all(|word| 0 == *word)
-}
-
-// The line on a register, unless it is 0.
-fn add_register(text: &mut String, number: usize, word: u32) -> Result<(), AllocError>
-    ensures { OnOk result (string_bytes text.new ≡ string_bytes text.old ++ register_line number word) }
-{
-    if word == 0 {
-        return Ok(());
-    }
-    let value = word.cast_signed();
-    write!(text, "${number} = {value}\n")
 }
 
 /// The lines of the cells from one on, at most so many.
@@ -109,12 +82,4 @@ fn end_of_cells(machine: &Machine, from: u32, count: u32) -> u32
     ensures { result ≡ min (from + count) (length machine.now.state.cells) }
 {
     from.saturating_add(count).min(machine.cells())
-}
-
-// The line on a cell.
-fn add_cell(text: &mut String, number: u32, word: u32) -> Result<(), AllocError>
-    ensures { OnOk result (string_bytes text.new ≡ string_bytes text.old ++ cell_line number word) }
-{
-    let value = word.cast_signed();
-    write!(text, "cell {number} = {value}\n")
 }

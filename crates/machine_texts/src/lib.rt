@@ -1,0 +1,13 @@
+//! What the commands on machines write and read in common: the lines on stops, registers and cells, and the lines of scripts
+//! with their words and numbers. A layer above may use that each call gives exactly the text of its definition.
+#![tactic(auto)]
+
+mod lines;
+mod numbers;
+mod stops;
+mod words;
+
+pub use lines::{is_blank, pieces, without_returns};
+pub use numbers::{number_up_to, short_number};
+pub use stops::add_stop;
+pub use words::{add_cell, add_registers, direction};

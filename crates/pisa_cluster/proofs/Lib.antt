@@ -1,0 +1,5 @@
+pub mod Locality
+pub mod Commuting
+pub mod Keeping
+pub mod Undoing
+pub mod Calls
