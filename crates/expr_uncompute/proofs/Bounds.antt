@@ -5,11 +5,13 @@ use Rattle.rpp_tree.specs.declared.tree.BinOp.TheVariants as op
 use Rattle.rpp_tree.specs.declared.tree.UpdateOp.{UpdateOp}
 use Rattle.rpp_tree.specs.Tree.{Expression, Number, Null, Variable, Element, Binary, Lvalue, Whole, Item, nodes, index_nodes}
 use Rattle.paired_code.specs.declared.part.Symbol.{Symbol}
-use Rattle.paired_code.specs.Layout.{mirror_cells}
+use Rattle.paired_code.specs.Layout.{mirror_cells, check_cells}
 use Rattle.paired_code.proofs.Mirrored.{length_mirror}
 use Rattle.expr_uncompute.specs.declared.Spot.{Spot}
+use Rattle.roopl_semantics.specs.Elements.{elements, index_elements, own_element, read_cost}
+use Rattle.expr_uncompute.specs.Number.{index_of}
 use Rattle.expr_uncompute.specs.Code
-use Rattle.expr_uncompute.specs.Steps.{operator_steps, operand_steps, open_steps, prepare_steps, parts_steps, value_steps, test_steps, fetch_steps, place_steps, update_steps, swap_steps, tokens, place_tokens}
+use Rattle.expr_uncompute.specs.Steps.{operator_steps, operand_steps, open_steps, prepare_steps, parts_steps, value_steps, test_steps, fetch_steps, place_steps, compare_steps, apart_steps, both_apart_steps, update_steps, swap_steps, tokens, place_tokens}
 
 -- ---- steps
 
@@ -81,12 +83,64 @@ pub place_less : (target : Lvalue) → place_steps target ≤ 81 * index_nodes t
 place_less (Whole name) = omega arith
 place_less (Item name index) = let a = operand_most index in let b = prepare_most index in omega arith
 
--- a statement counts 1 beside its nodes
-pub update_most : (target : Lvalue) (e : Expression) → update_steps target e ≤ 162 * (1 + index_nodes target + nodes e)
-update_most target e = let a = place_less target in let b = fetch_most e in omega arith
+compare_is : (e : Expression) → compare_steps e ≡ 30 * length (elements e)
+compare_is (Number at word) = refl
+compare_is (Null at) = refl
+compare_is (Variable name) = refl
+compare_is (Element name index) = let a = compare_is index in omega arith
+compare_is (Binary at op left right) =
+    let a = compare_is left in
+    let b = compare_is right in
+    omega (arith, length-append (elements left) (elements right))
 
-pub swap_most : (left right : Lvalue) → swap_steps left right ≤ 304 * (1 + index_nodes left + index_nodes right)
-swap_most left right = let a = place_most left in let b = place_most right in omega arith
+index_compare_is : (target : Lvalue) → compare_steps (index_of target) ≡ 30 * length (index_elements target)
+index_compare_is (Whole name) = refl
+index_compare_is (Item name index) = compare_is index
+
+-- what an update compares, by what the source counts
+apart_is : (target : Lvalue) (e : Expression) → apart_steps target (index_of target) e ≡ 30 * read_cost (own_element target) (index_elements target ++ elements e)
+apart_is (Whole name) e = refl
+apart_is (Item name index) e =
+    let a = compare_is index in
+    let b = compare_is e in
+    omega (arith, length-append (elements index) (elements e))
+
+-- and what a swap compares: twice so much where both places are elements
+both_apart_most : (left right : Lvalue) → both_apart_steps left right ≤ 60 * read_cost (own_element left ++ own_element right) (index_elements left ++ index_elements right)
+both_apart_most (Whole name) (Whole other) = omega arith
+both_apart_most (Whole name) (Item other index) =
+    let a = compare_is index in omega arith
+both_apart_most (Item name index) right =
+    let a = compare_is index in
+    let b = index_compare_is right in
+    let c = side right in
+    omega (arith, length-append (elements index) (index_elements right))
+  where
+    side : (right : Lvalue) → apart_steps right index (index_of right) ≤ compare_steps index + compare_steps (index_of right)
+    side (Whole other) = omega arith
+    side (Item other k) = omega arith
+
+both_apart_least : (left right : Lvalue) → read_cost (own_element left ++ own_element right) (index_elements left ++ index_elements right) ≤ both_apart_steps left right
+both_apart_least (Whole name) (Whole other) = omega arith
+both_apart_least (Whole name) (Item other index) = let a = compare_is index in omega arith
+both_apart_least (Item name index) right =
+    let a = compare_is index in
+    let b = index_compare_is right in
+    omega (arith, length-append (elements index) (index_elements right))
+
+-- a statement counts 1 beside its nodes, and 1 for each element that it reads where it changes one
+pub update_most : (target : Lvalue) (e : Expression) → update_steps target e ≤ 162 * (1 + index_nodes target + nodes e + read_cost (own_element target) (index_elements target ++ elements e))
+update_most target e = let a = place_less target in let b = fetch_most e in let c = apart_is target e in omega arith
+
+pub swap_most : (left right : Lvalue) → swap_steps left right ≤ 304 * (1 + index_nodes left + index_nodes right + read_cost (own_element left ++ own_element right) (index_elements left ++ index_elements right))
+swap_most left right = let a = place_most left in let b = place_most right in let c = both_apart_most left right in omega arith
+
+-- so do faults of a shared array
+pub update_sharing_most : (target : Lvalue) (e : Expression) → place_steps target + fetch_steps e + apart_steps target (index_of target) e ≤ 162 * (1 + index_nodes target + nodes e + read_cost (own_element target) (index_elements target ++ elements e))
+update_sharing_most target e = let a = place_less target in let b = fetch_most e in let c = apart_is target e in omega arith
+
+pub swap_sharing_most : (left right : Lvalue) → place_steps left + place_steps right + both_apart_steps left right ≤ 304 * (1 + index_nodes left + index_nodes right + read_cost (own_element left ++ own_element right) (index_elements left ++ index_elements right))
+swap_sharing_most left right = let a = place_most left in let b = place_most right in let c = both_apart_most left right in omega arith
 
 -- an expression of few nodes needs few words of the frame
 pub words_most : (e : Expression) → Code.words e + 1 ≤ nodes e
@@ -247,23 +301,62 @@ module _ (spot : List ℕ → Spot) (free : ℕ) where
       let c = prepare_cells index i in
       omega (arith, length-append (Code.prepare_cells spot free index i) (Code.around w mid), length_around w mid, length-append (Code.checked_cells spot free name.text index i) Code.point_cells)
 
-  pub update_cells : (o : UpdateOp) (target : Lvalue) (e : Expression) → length (Code.update_cells spot free o target e) ≤ 58 * (place_tokens target + 1 + tokens e)
+  -- two arrays compared, 31 cells: an element has three tokens and those of its index
+  compare_length : (x y : Spot) → length (Code.compare_cells x y) ≡ 31
+  compare_length x y =
+      let w = Code.copy_cells x Code.left_operand in
+      let r = Code.reach_cells y ++ Code.sltx Code.outcome Code.left_operand Code.content ∷ Code.sltx Code.outcome Code.content Code.left_operand ∷ Code.xori Code.outcome 1 ∷ [] in
+      omega (arith, length_around (w ++ r) (check_cells Code.outcome 16), length-append w r, copy_cells x Code.left_operand)
+
+  compare_all : (x : Spot) (e : Expression) → length (Code.compare_all spot x e) ≤ 11 * tokens e
+  compare_all x (Number at word) = omega arith
+  compare_all x (Null at) = omega arith
+  compare_all x (Variable name) = omega arith
+  compare_all x (Element name index) =
+      let a = compare_all x index in
+      omega (arith, compare_length x (spot name.text), length-append (Code.compare_cells x (spot name.text)) (Code.compare_all spot x index))
+  compare_all x (Binary at o left right) =
+      let a = compare_all x left in
+      let c = compare_all x right in
+      omega (arith, length-append (Code.compare_all spot x left) (Code.compare_all spot x right))
+
+  index_tokens : (target : Lvalue) → tokens (index_of target) ≤ place_tokens target
+  index_tokens (Whole name) = omega arith
+  index_tokens (Item name index) = omega arith
+
+  apart_cells : (target : Lvalue) (e e' : Expression) → length (Code.apart_cells spot target e e') ≤ 11 * (tokens e + tokens e')
+  apart_cells (Whole name) e e' = omega arith
+  apart_cells (Item name index) e e' =
+      let a = compare_all (spot name.text) e in
+      let c = compare_all (spot name.text) e' in
+      omega (arith, length-append (Code.compare_all spot (spot name.text) e) (Code.compare_all spot (spot name.text) e'))
+
+  pub update_cells : (o : UpdateOp) (target : Lvalue) (e : Expression) → length (Code.update_cells spot free o target e) ≤ 80 * (place_tokens target + 1 + tokens e)
   update_cells o target e =
       let p = Code.place_cells spot free target 0 Code.place in
       let v = Code.fetch_cells spot free e (Code.place_words target) Code.amount in
       let mid = Code.exch Code.content Code.place ∷ Code.update_cell o Code.content Code.amount ∷ Code.exch Code.content Code.place ∷ [] in
       let a = place_cells target 0 Code.place in
       let c = fetch_cells e (Code.place_words target) Code.amount in
-      omega (arith, length_around (p ++ v) mid, length-append p v)
+      let k = Code.apart_cells spot target (index_of target) e in
+      let d = apart_cells target (index_of target) e in
+      let t = index_tokens target in
+      omega (arith, length_around ((p ++ v) ++ k) mid, length-append (p ++ v) k, length-append p v)
 
-  pub swap_cells : (left right : Lvalue) → length (Code.swap_cells spot free left right) ≤ 58 * (place_tokens left + 1 + place_tokens right)
+  pub swap_cells : (left right : Lvalue) → length (Code.swap_cells spot free left right) ≤ 102 * (place_tokens left + 1 + place_tokens right)
   swap_cells left right =
       let p = Code.place_cells spot free left 0 Code.place in
       let v = Code.place_cells spot free right (Code.place_words left) Code.other_place in
       let mid = Code.exch Code.first_word Code.place ∷ Code.exch Code.second_word Code.other_place ∷ Code.exch Code.second_word Code.place ∷ Code.exch Code.first_word Code.other_place ∷ [] in
       let a = place_cells left 0 Code.place in
       let c = place_cells right (Code.place_words left) Code.other_place in
-      omega (arith, length_around (p ++ v) mid, length-append p v)
+      let k = Code.apart_cells spot left (index_of left) (index_of right) in
+      let l = Code.apart_cells spot right (index_of left) (index_of right) in
+      let d = apart_cells left (index_of left) (index_of right) in
+      let e = apart_cells right (index_of left) (index_of right) in
+      let t = index_tokens left in
+      let u = index_tokens right in
+      omega (arith, length_around ((p ++ v) ++ (k ++ l)) mid, length-append (p ++ v) (k ++ l), length-append p v, length-append k l)
 
 -- ---- and how many at least: a step stands for three counts at most
 
@@ -291,8 +384,8 @@ place_least : (target : Lvalue) → index_nodes target ≤ place_steps target
 place_least (Whole name) = omega arith
 place_least (Item name index) = let a = prepare_least index in omega arith
 
-pub update_least : (target : Lvalue) (e : Expression) → 1 + index_nodes target + nodes e ≤ update_steps target e
-update_least target e = let a = place_least target in let b = parts_least e in omega arith
+pub update_least : (target : Lvalue) (e : Expression) → 1 + index_nodes target + nodes e + read_cost (own_element target) (index_elements target ++ elements e) ≤ update_steps target e
+update_least target e = let a = place_least target in let b = parts_least e in let c = apart_is target e in omega arith
 
-pub swap_least : (left right : Lvalue) → 1 + index_nodes left + index_nodes right ≤ swap_steps left right
-swap_least left right = let a = place_least left in let b = place_least right in omega arith
+pub swap_least : (left right : Lvalue) → 1 + index_nodes left + index_nodes right + read_cost (own_element left ++ own_element right) (index_elements left ++ index_elements right) ≤ swap_steps left right
+swap_least left right = let a = place_least left in let b = place_least right in let c = both_apart_least left right in omega arith

@@ -1,3 +1,5 @@
+pub mod Parameters
+pub mod Fields
 pub mod Goes
 pub mod Comparing
 pub mod Scratch
@@ -15,11 +17,15 @@ pub mod ValueLaws
 pub mod Whole
 pub mod PlaceLaws
 pub mod Written
+pub mod KeptApart
 pub mod Updates
 pub mod Statements
 pub mod Bounds
 pub mod ForContracts
 pub mod Meaning
+pub mod Sharing
 pub mod SourceLaws
 pub mod Meeting
 pub mod FoundLaws
+pub mod StatementRows
+pub mod Transport

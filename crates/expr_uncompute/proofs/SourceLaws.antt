@@ -1,5 +1,5 @@
 -- The laws against the source: values, tests, updates and swaps under what a relation of memory and state gives.
-use Rattle.std.proofs.Common.{◌≡◌, ℕ, ◌+◌, Bool, List, sym, ap, ◌∙◌, subst}
+use Rattle.std.proofs.Common.{◌≡◌, ℕ, ◌+◌, Bool, true, false, List, sym, ap, ◌∙◌, subst}
 use Rattle.std.specs.Prelude.{slice_index, slice_set, Ok, Err}
 use Rattle.rpp_tree.specs.declared.tree.UpdateOp.{UpdateOp}
 use Rattle.rpp_tree.specs.Tree.{Expression, Number, Null, Variable, Element, Binary, Lvalue, Whole, Item, Source}
@@ -11,8 +11,9 @@ use Rattle.roopl_semantics.specs.Store.{Value, State, number_of}
 use Rattle.roopl_semantics.specs.Value.{Cell, read, value, cell_of}
 use Rattle.expr_uncompute.specs.declared.Spot.{Spot}
 use Rattle.expr_uncompute.specs.Code.{words, place_words}
-use Rattle.expr_uncompute.specs.Number.{Bases, number, read_of, place_address, Sees, Same, SamePlace}
-use Rattle.expr_uncompute.specs.Steps.{value_steps, test_steps, place_steps, fetch_steps, update_steps, swap_steps}
+use Rattle.roopl_semantics.specs.Elements.{shared_array_fault}
+use Rattle.expr_uncompute.specs.Number.{Bases, number, read_of, index_of, place_address, update_shares, swap_shares, Sees, Same, SamePlace}
+use Rattle.expr_uncompute.specs.Steps.{value_steps, test_steps, place_steps, fetch_steps, apart_steps, both_apart_steps, update_steps, swap_steps}
 use Rattle.expr_uncompute.specs.Laws.{bases_of, Ready, Xored, truth_of, turned, updated_at, swapped_at, Stays, BothStay}
 use Rattle.expr_uncompute.specs.Promises.{free_at, SeesIn, ValueLaw, TestLaw, UpdateLaw, SwapLaw, CanRun, IsTrap}
 use Rattle.expr_uncompute.specs.Means.{shown, shown_result, cell_address, cell_result, Means, MeansPlace, SameValues, SameCells}
@@ -63,6 +64,8 @@ module _ (address slot : ℕ → ℕ) (program : Source) (spot : List ℕ → Sp
     pub value_sees_after : Sees spot (bases_of m) (free_at free m) cells' e
     pub same_cells : SameCells program st st' target
     pub same_values : SameValues program st st' e
+    pub apart : update_shares spot (bases_of m) m.cells target e ≡ false
+    pub apart_after : update_shares spot (bases_of m) cells' target e ≡ false
 
   pub source_update : (op : UpdateOp) (target : Lvalue) (e : Expression) (p : List Symbol) → UpdateLaw spot free op target e p → (im : Image) (d : Bool) (m : Memory) (st st' : State) (cell : Cell) (v : Value) (cells' : List ℕ) → cell_of program st target ≡ Ok cell → value program st e ≡ Ok v
       → number_of v ≡ shown address slot v → slice_index m.cells (cell_address address slot cell) ≡ number_of (read st cell) → cells' ≡ slice_set m.cells (cell_address address slot cell) (updated (turned d op) (number_of (read st cell)) (number_of v)) → Updating target e m st st' cells'
@@ -78,8 +81,9 @@ module _ (address slot : ℕ → ℕ) (program : Source) (spot : List ℕ → Sp
         value_sees = h.value_sees_after;
         place_same = same_places (bases_of m) m.cells cells' st st' target h.place_means h.place_means_after h.same_cells;
         value_same = same_numbers (bases_of m) m.cells cells' st st' e h.value_means h.value_means_after h.same_values;
+        apart = h.apart_after;
       } in
-      subst (λ z. Runs im p d m (Done (with_cells z m) (update_steps target e))) same (law.updates im d m h.can a (shown address slot v) na nn (subst (Stays spot (bases_of m) (free_at free m) target e m.cells) (sym same) stays))
+      subst (λ z. Runs im p d m (Done (with_cells z m) (update_steps target e))) same (law.updates im d m h.can a (shown address slot v) na nn h.apart (subst (Stays spot (bases_of m) (free_at free m) target e m.cells) (sym same) stays))
     where
       with_cells : List ℕ → Memory → Memory
       with_cells cells z = record z { cells = cells }
@@ -94,6 +98,11 @@ module _ (address slot : ℕ → ℕ) (program : Source) (spot : List ℕ → Sp
   source_update_value op target e p law im d m st cell c can h k nc n =
       law.value_faults im d m can (cell_address address slot cell) c (place_is address slot program st spot (bases_of m) m.cells target h ∙ ap (cell_result address slot) nc) (number_is address slot program st spot (bases_of m) m.cells e k ∙ ap (shown_result address slot) n)
 
+  pub source_update_sharing : (op : UpdateOp) (target : Lvalue) (e : Expression) (p : List Symbol) → UpdateLaw spot free op target e p → (im : Image) (d : Bool) (m : Memory) (st : State) (cell : Cell) (v : Value) → CanRun spot free (place_words target + words e) (read_of target) e m → MeansPlace address slot program st spot (bases_of m) m.cells target → Means address slot program st spot (bases_of m) m.cells e → cell_of program st target ≡ Ok cell → value program st e ≡ Ok v → update_shares spot (bases_of m) m.cells target e ≡ true
+      → IsTrap im p d m shared_array_fault (place_steps target + fetch_steps e + apart_steps target (index_of target) e)
+  source_update_sharing op target e p law im d m st cell v can h k nc n shared =
+      law.sharing_faults im d m can (cell_address address slot cell) (shown address slot v) (place_is address slot program st spot (bases_of m) m.cells target h ∙ ap (cell_result address slot) nc) (number_is address slot program st spot (bases_of m) m.cells e k ∙ ap (shown_result address slot) n) shared
+
   -- ---- swaps
 
   pub record Swapping (left right : Lvalue) (m : Memory) (st st' : State) (cells' : List ℕ) : Type 0 where
@@ -106,6 +115,8 @@ module _ (address slot : ℕ → ℕ) (program : Source) (spot : List ℕ → Sp
     pub right_sees_after : Sees spot (bases_of m) (free_at free m) cells' (read_of right)
     pub left_same : SameCells program st st' left
     pub right_same : SameCells program st st' right
+    pub apart : swap_shares spot (bases_of m) m.cells left right ≡ false
+    pub apart_after : swap_shares spot (bases_of m) cells' left right ≡ false
 
   pub source_swap : (left right : Lvalue) (p : List Symbol) → SwapLaw spot free left right p → (im : Image) (d : Bool) (m : Memory) (st st' : State) (x y : Cell) (cells' : List ℕ) → cell_of program st left ≡ Ok x → cell_of program st right ≡ Ok y
       → cells' ≡ swapped_at (cell_address address slot x) (cell_address address slot y) m.cells → Swapping left right m st st' cells'
@@ -120,8 +131,9 @@ module _ (address slot : ℕ → ℕ) (program : Source) (spot : List ℕ → Sp
         right_sees = h.right_sees_after;
         left_same = same_places (bases_of m) m.cells cells' st st' left h.left_means h.left_means_after h.left_same;
         right_same = same_places (bases_of m) m.cells cells' st st' right h.right_means h.right_means_after h.right_same;
+        apart = h.apart_after;
       } in
-      subst (λ z. Runs im p d m (Done (with_cells z m) (swap_steps left right))) (sym is) (law.swaps im d m h.can a a' na na' (subst (BothStay spot (bases_of m) (free_at free m) left right m.cells) is stays))
+      subst (λ z. Runs im p d m (Done (with_cells z m) (swap_steps left right))) (sym is) (law.swaps im d m h.can a a' na na' h.apart (subst (BothStay spot (bases_of m) (free_at free m) left right m.cells) is stays))
     where
       with_cells : List ℕ → Memory → Memory
       with_cells cells z = record z { cells = cells }
@@ -134,3 +146,8 @@ module _ (address slot : ℕ → ℕ) (program : Source) (spot : List ℕ → Sp
       → IsTrap im p d m c (place_steps left + place_steps right)
   source_swap_right left right p law im d m st x c can h k nx n =
       law.right_faults im d m can (cell_address address slot x) c (place_is address slot program st spot (bases_of m) m.cells left h ∙ ap (cell_result address slot) nx) (place_is address slot program st spot (bases_of m) m.cells right k ∙ ap (cell_result address slot) n)
+
+  pub source_swap_sharing : (left right : Lvalue) (p : List Symbol) → SwapLaw spot free left right p → (im : Image) (d : Bool) (m : Memory) (st : State) (x y : Cell) → CanRun spot free (place_words left + place_words right) (read_of left) (read_of right) m → MeansPlace address slot program st spot (bases_of m) m.cells left → MeansPlace address slot program st spot (bases_of m) m.cells right → cell_of program st left ≡ Ok x → cell_of program st right ≡ Ok y → swap_shares spot (bases_of m) m.cells left right ≡ true
+      → IsTrap im p d m shared_array_fault (place_steps left + place_steps right + both_apart_steps left right)
+  source_swap_sharing left right p law im d m st x y can h k nx ny shared =
+      law.sharing_faults im d m can (cell_address address slot x) (cell_address address slot y) (place_is address slot program st spot (bases_of m) m.cells left h ∙ ap (cell_result address slot) nx) (place_is address slot program st spot (bases_of m) m.cells right k ∙ ap (cell_result address slot) ny) shared

@@ -15,8 +15,8 @@ use Rattle.paired_code.specs.declared.part.Symbol.{Symbol}
 use Rattle.roopl_semantics.specs.Operators.{updated}
 use Rattle.expr_uncompute.specs.declared.Spot.{Spot}
 use Rattle.expr_uncompute.specs.Code.{words, place_words, update_cells, swap_cells}
-use Rattle.expr_uncompute.specs.Number.{Bases, number, read_of, place_address, Sees, SamePlace}
-use Rattle.expr_uncompute.specs.Steps.{place_steps, fetch_steps, update_steps, swap_steps}
+use Rattle.expr_uncompute.specs.Number.{Bases, number, read_of, index_of, place_address, update_shares, swap_shares, Sees, SamePlace}
+use Rattle.expr_uncompute.specs.Steps.{place_steps, fetch_steps, apart_steps, both_apart_steps, update_steps, swap_steps}
 use Rattle.expr_uncompute.specs.Laws.{bases_of, Ready, turned, updated_at, swapped_at, Stays, BothStay}
 use Rattle.expr_uncompute.proofs.Goes.{TrapsBoth}
 use Rattle.expr_uncompute.proofs.Scratch.{keeping, mem}
@@ -24,7 +24,7 @@ use Rattle.expr_uncompute.proofs.Numbers.{words_set, number_word}
 use Rattle.expr_uncompute.proofs.Stored.{same_number}
 use Rattle.expr_uncompute.proofs.Whole.{as_mem}
 use Rattle.expr_uncompute.proofs.Written.{FitFrom, same_turned, place_turned}
-use Rattle.expr_uncompute.proofs.Updates.{place_low, update_goes, update_traps_place, update_traps_value, swap_goes, swap_traps_first, swap_traps_second}
+use Rattle.expr_uncompute.proofs.Updates.{place_low, update_goes, update_traps_place, update_traps_value, update_traps_sharing, swap_goes, swap_traps_first, swap_traps_second, swap_traps_sharing}
 
 updated_word : (op : UpdateOp) (x v : ℕ) → x < 2 ^ 32 → v < 2 ^ 32 → updated op x v < 2 ^ 32
 updated_word update.Add x v h k = omega arith
@@ -114,9 +114,9 @@ module _ (spot : List ℕ → Spot) (free : ℕ) (m : Memory) where
 
   module _ (op : UpdateOp) (target : Lvalue) (value : Expression) (ready : Ready free (place_words target + words value) m) (place_sees : Sees spot (bases_of m) (reg m 4 + free) m.cells (read_of target)) (value_sees : Sees spot (bases_of m) (reg m 4 + free) m.cells value) (im : Image) where
     -- forward the update is made, backward that by the inverse operator
-    pub update_law : (d : Bool) (a v : ℕ) → place_address spot (bases_of m) m.cells target ≡ Ok a → number spot (bases_of m) m.cells value ≡ Ok v → Stays spot (bases_of m) (reg m 4 + free) target value m.cells (updated_at d op a v m.cells)
+    pub update_law : (d : Bool) (a v : ℕ) → place_address spot (bases_of m) m.cells target ≡ Ok a → number spot (bases_of m) m.cells value ≡ Ok v → update_shares spot (bases_of m) m.cells target value ≡ false → Stays spot (bases_of m) (reg m 4 + free) target value m.cells (updated_at d op a v m.cells)
         → Runs im (update_cells spot free op target value) d m (Done (record m { cells = updated_at d op a v m.cells }) (update_steps target value))
-    update_law d a v na nv stays = run_cells (place_words target + words value) ready im d _ _ _ (either d stays)
+    update_law d a v na nv apart stays = run_cells (place_words target + words value) ready im d _ _ _ (either d stays)
       where
         fit : FitFrom spot free (bases_of m) target (words value) m.cells
         fit = fit_from target (words value) ready place_sees
@@ -133,7 +133,7 @@ module _ (spot : List ℕ → Spot) (free : ℕ) (m : Memory) where
         either : (d : Bool) → Stays spot (bases_of m) (reg m 4 + free) target value m.cells (updated_at d op a v m.cells) → Runs im (update_cells spot free op target value) d (mem (bases_of m) (reg m) (keeping 0 0 0) m.cells) (Done (mem (bases_of m) (reg m) (keeping 0 0 0) (updated_at d op a v m.cells)) (update_steps target value))
         either false s =
             let zs' : List ℕ = updated_at false op a v m.cells in
-            (update_goes spot free (bases_of m) (reg m) op target value m.cells zs' a v fit (fit' false s) value_sees s.value_sees na (place_kept target m.cells zs' a s.place_same na) nv (same_number spot free (bases_of m) value m.cells zs' s.value_same ∙ nv) s.place_same s.value_same refl).ahead im
+            (update_goes spot free (bases_of m) (reg m) op target value m.cells zs' a v fit (fit' false s) value_sees s.value_sees na (place_kept target m.cells zs' a s.place_same na) nv (same_number spot free (bases_of m) value m.cells zs' s.value_same ∙ nv) s.place_same s.value_same apart s.apart refl).ahead im
         either true s =
             let zs : List ℕ = m.cells in
             let x : ℕ = slice_index zs a in
@@ -143,7 +143,7 @@ module _ (spot : List ℕ → Spot) (free : ℕ) (m : Memory) where
             let there : slice_index zs' a ≡ y = get_or-set_same zs a y 0 (let l = al in omega arith) in
             let back : zs ≡ slice_set zs' a (updated op (slice_index zs' a) v) =
             sym (ap (λ z. slice_set zs' a (updated op z v)) there ∙ ap (slice_set zs' a) (updated_back op x v (ready.words a) vw) ∙ set-set zs a y x ∙ set-get_or zs a 0) in
-            (update_goes spot free (bases_of m) (reg m) op target value zs' zs a v (fit' true s) fit s.value_sees value_sees (place_kept target zs zs' a s.place_same na) na (same_number spot free (bases_of m) value zs zs' s.value_same ∙ nv) nv (place_turned spot free (bases_of m) target zs zs' s.place_same) (same_turned spot free (bases_of m) value zs zs' s.value_same) back).back im
+            (update_goes spot free (bases_of m) (reg m) op target value zs' zs a v (fit' true s) fit s.value_sees value_sees (place_kept target zs zs' a s.place_same na) na (same_number spot free (bases_of m) value zs zs' s.value_same ∙ nv) nv (place_turned spot free (bases_of m) target zs zs' s.place_same) (same_turned spot free (bases_of m) value zs zs' s.value_same) s.apart apart back).back im
 
     -- a fault of the place, and then one of the value
     pub update_place_fault : (d : Bool) (c : ℕ) → place_address spot (bases_of m) m.cells target ≡ Err c → (k : ℕ) × (k ≤ place_steps target) × Runs im (update_cells spot free op target value) d m (Trapped c k)
@@ -152,11 +152,15 @@ module _ (spot : List ℕ → Spot) (free : ℕ) (m : Memory) where
     pub update_value_fault : (d : Bool) (a c : ℕ) → place_address spot (bases_of m) m.cells target ≡ Ok a → number spot (bases_of m) m.cells value ≡ Err c → (k : ℕ) × (k ≤ place_steps target + fetch_steps value) × Runs im (update_cells spot free op target value) d m (Trapped c k)
     update_value_fault d a c na n = run_traps (place_words target + words value) ready im d _ _ c (update_traps_value spot free (bases_of m) (reg m) op target value m.cells a c (fit_from target (words value) ready place_sees) value_sees na n)
 
+    -- and then one of a shared array
+    pub update_sharing_fault : (d : Bool) (a v : ℕ) → place_address spot (bases_of m) m.cells target ≡ Ok a → number spot (bases_of m) m.cells value ≡ Ok v → update_shares spot (bases_of m) m.cells target value ≡ true → (k : ℕ) × (k ≤ place_steps target + fetch_steps value + apart_steps target (index_of target) value) × Runs im (update_cells spot free op target value) d m (Trapped 16 k)
+    update_sharing_fault d a v na nv shared = run_traps (place_words target + words value) ready im d _ _ 16 (update_traps_sharing spot free (bases_of m) (reg m) op target value m.cells a v (fit_from target (words value) ready place_sees) value_sees na nv shared)
+
   module _ (left right : Lvalue) (ready : Ready free (place_words left + place_words right) m) (left_sees : Sees spot (bases_of m) (reg m 4 + free) m.cells (read_of left)) (right_sees : Sees spot (bases_of m) (reg m 4 + free) m.cells (read_of right)) (im : Image) where
     -- either way the words are swapped; one cell stays
-    pub swap_law : (d : Bool) (p q : ℕ) → place_address spot (bases_of m) m.cells left ≡ Ok p → place_address spot (bases_of m) m.cells right ≡ Ok q → BothStay spot (bases_of m) (reg m 4 + free) left right m.cells (swapped_at p q m.cells)
+    pub swap_law : (d : Bool) (p q : ℕ) → place_address spot (bases_of m) m.cells left ≡ Ok p → place_address spot (bases_of m) m.cells right ≡ Ok q → swap_shares spot (bases_of m) m.cells left right ≡ false → BothStay spot (bases_of m) (reg m 4 + free) left right m.cells (swapped_at p q m.cells)
         → Runs im (swap_cells spot free left right) d m (Done (record m { cells = swapped_at p q m.cells }) (swap_steps left right))
-    swap_law d p q np nq s = run_cells (place_words left + place_words right) ready im d _ _ _ (either d)
+    swap_law d p q np nq apart s = run_cells (place_words left + place_words right) ready im d _ _ _ (either d)
       where
         zs' : List ℕ
         zs' = swapped_at p q m.cells
@@ -175,16 +179,19 @@ module _ (spot : List ℕ → Spot) (free : ℕ) (m : Memory) where
 
         either : (d : Bool) → Runs im (swap_cells spot free left right) d (mem (bases_of m) (reg m) (keeping 0 0 0) m.cells) (Done (mem (bases_of m) (reg m) (keeping 0 0 0) (swapped_at p q m.cells)) (swap_steps left right))
         either false =
-            (swap_goes spot free (bases_of m) (reg m) left right m.cells (swapped_at p q m.cells) p q fit fit' right_sees s.right_sees np (place_kept left m.cells _ p s.left_same np) nq (place_kept right m.cells _ q s.right_same nq) s.left_same s.right_same refl).ahead im
+            (swap_goes spot free (bases_of m) (reg m) left right m.cells (swapped_at p q m.cells) p q fit fit' right_sees s.right_sees np (place_kept left m.cells _ p s.left_same np) nq (place_kept right m.cells _ q s.right_same nq) s.left_same s.right_same apart s.apart refl).ahead im
         either true =
             let fits = ready.inside in
             let l = pl in
             let l' = ql in
             let back = swapped_back m.cells p q (omega arith) (omega arith) in
-            (swap_goes spot free (bases_of m) (reg m) left right (swapped_at p q m.cells) m.cells p q fit' fit s.right_sees right_sees (place_kept left m.cells _ p s.left_same np) np (place_kept right m.cells _ q s.right_same nq) nq (place_turned spot free (bases_of m) left m.cells _ s.left_same) (place_turned spot free (bases_of m) right m.cells _ s.right_same) back).back im
+            (swap_goes spot free (bases_of m) (reg m) left right (swapped_at p q m.cells) m.cells p q fit' fit s.right_sees right_sees (place_kept left m.cells _ p s.left_same np) np (place_kept right m.cells _ q s.right_same nq) nq (place_turned spot free (bases_of m) left m.cells _ s.left_same) (place_turned spot free (bases_of m) right m.cells _ s.right_same) s.apart apart back).back im
 
     pub swap_left_fault : (d : Bool) (c : ℕ) → place_address spot (bases_of m) m.cells left ≡ Err c → (k : ℕ) × (k ≤ place_steps left) × Runs im (swap_cells spot free left right) d m (Trapped c k)
     swap_left_fault d c n = run_traps (place_words left + place_words right) ready im d _ _ c (swap_traps_first spot free (bases_of m) (reg m) left right m.cells c (fit_from left (place_words right) ready left_sees) n)
 
     pub swap_right_fault : (d : Bool) (p c : ℕ) → place_address spot (bases_of m) m.cells left ≡ Ok p → place_address spot (bases_of m) m.cells right ≡ Err c → (k : ℕ) × (k ≤ place_steps left + place_steps right) × Runs im (swap_cells spot free left right) d m (Trapped c k)
     swap_right_fault d p c np n = run_traps (place_words left + place_words right) ready im d _ _ c (swap_traps_second spot free (bases_of m) (reg m) left right m.cells p c (fit_from left (place_words right) ready left_sees) right_sees np n)
+
+    pub swap_sharing_fault : (d : Bool) (p q : ℕ) → place_address spot (bases_of m) m.cells left ≡ Ok p → place_address spot (bases_of m) m.cells right ≡ Ok q → swap_shares spot (bases_of m) m.cells left right ≡ true → (k : ℕ) × (k ≤ place_steps left + place_steps right + both_apart_steps left right) × Runs im (swap_cells spot free left right) d m (Trapped 16 k)
+    swap_sharing_fault d p q np nq shared = run_traps (place_words left + place_words right) ready im d _ _ 16 (swap_traps_sharing spot free (bases_of m) (reg m) left right m.cells p q (fit_from left (place_words right) ready left_sees) right_sees np nq shared)

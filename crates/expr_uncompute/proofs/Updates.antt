@@ -1,5 +1,5 @@
 -- Updates of a place by a value, and swaps of two places.
-use Rattle.std.proofs.Common.{◌≡◌, ◌≢◌, ℕ, ◌+◌, ◌^◌, ◌<◌, List, [], ◌∷◌, ◌++◌, length, length-set, refl, sym, ap, ◌∙◌, subst, arith, ⊎_elim}
+use Rattle.std.proofs.Common.{◌≡◌, ◌≢◌, ℕ, ◌+◌, ◌^◌, ◌<◌, ◌≤◌, true, false, List, [], ◌∷◌, ◌++◌, length, length-set, refl, sym, ap, ◌∙◌, subst, arith, ⊎_elim}
 use Rattle.std.specs.Prelude.{slice_index, slice_set, Ok, Err}
 use Rattle.std.proofs.lemmas.List.{get_or-set_same, get_or-set_other, set_comm, set-set}
 use Rattle.std.proofs.lemmas.Bool.{cases_eq}
@@ -10,17 +10,18 @@ use Rattle.paired_code.specs.Machine.{Memory}
 use Rattle.paired_code.specs.declared.part.Symbol.{Symbol}
 use Rattle.roopl_semantics.specs.Operators.{updated}
 use Rattle.expr_uncompute.specs.declared.Spot.{Spot}
-use Rattle.expr_uncompute.specs.Code.{words, content, amount, place, other_place, first_word, second_word, exch, update_cell, place_words, place_cells, fetch_cells, update_cells, swap_cells}
-use Rattle.expr_uncompute.specs.Number.{Bases, number, word_of, element_at, read_of, place_address, Sees, Same, SamePlace}
-use Rattle.expr_uncompute.specs.Steps.{place_steps, fetch_steps, update_steps, swap_steps}
-use Rattle.expr_uncompute.proofs.Goes.{Goes, TrapsBoth, goes_seq, goes_cons, goes_to, goes_around, goes_xor, goes_add, goes_sub, goes_exch, traps_first, traps_then, traps_around}
+use Rattle.expr_uncompute.specs.Code.{words, content, amount, place, other_place, first_word, second_word, exch, update_cell, place_words, place_cells, fetch_cells, apart_cells, both_apart_cells, update_cells, swap_cells}
+use Rattle.expr_uncompute.specs.Number.{Bases, number, word_of, element_at, read_of, index_of, place_address, update_shares, swap_shares, Sees, Same, SamePlace}
+use Rattle.expr_uncompute.specs.Steps.{place_steps, fetch_steps, apart_steps, both_apart_steps, update_steps, swap_steps}
+use Rattle.expr_uncompute.proofs.Goes.{Goes, Traps, TrapsBoth, goes_seq, goes_cons, goes_to, goes_around, goes_xor, goes_add, goes_sub, goes_exch, traps_first, traps_then, traps_around}
 use Rattle.expr_uncompute.proofs.Scratch.{keeping, mem}
-use Rattle.expr_uncompute.proofs.Numbers.{Agree, number_same, number_word, element_address_same}
+use Rattle.expr_uncompute.proofs.Numbers.{Agree, AllWords, number_same, number_word, element_address_same, sees_same}
 use Rattle.expr_uncompute.proofs.Stored.{stored_length, stored_below}
+use Rattle.expr_uncompute.proofs.KeptApart.{shares_same, index_seen, swap_shares_same, apart_goes, apart_traps, both_apart_go, both_apart_traps}
 use Rattle.expr_uncompute.proofs.Ways.{ok_is, inside_of}
-use Rattle.expr_uncompute.proofs.Prepare.{parts_done}
+use Rattle.expr_uncompute.proofs.Prepare.{PartsDone, stored_words, parts_done}
 use Rattle.expr_uncompute.proofs.PlaceLaws.{placed, place_points, other_points, place_goes, place_traps, fetch_goes, fetch_traps}
-use Rattle.expr_uncompute.proofs.Written.{FitFrom, place_fits, value_fits, other_fits, placed_below, placed_length, filled, filled_written, both_placed, both_written, write_one, write_two}
+use Rattle.expr_uncompute.proofs.Written.{FitFrom, place_fits, value_fits, other_fits, placed_below, placed_length, placed_words, filled, filled_written, both_placed, both_written, write_one, write_two}
 
 -- ---- the middle of an update
 
@@ -118,11 +119,49 @@ module _ (spot : List ℕ → Spot) (free : ℕ) (b : Bases) where
         goes_seq (place_goes spot free b place f 0 0 0 0 a 0 a (place_points spot free b f 0 0 a) 0 zs target (place_fits spot free b target (words e) zs h) na)
         (fetch_goes spot free b f a 0 e (place_words target) zs1 (value_fits spot free b target e zs h s) v (number_same spot b low zs zs1 (placed_below spot free b target zs) e s ∙ nv))
 
+    -- what is known of the cells then
+    record Filled (zs ys : List ℕ) : Type 0 where
+      all : AllWords ys
+      count : length ys ≡ length zs
+      below : Agree low zs ys
+
+    filled_is : (zs : List ℕ) → FitFrom spot free b target (words e) zs → Sees spot b low zs e → Filled zs (filled spot free b target e zs)
+    filled_is zs h s =
+        let d : PartsDone spot free b e (place_words target) (placed spot free b target 0 zs) = parts_done spot free b e (place_words target) (placed spot free b target 0 zs) (value_fits spot free b target e zs h s) in
+        record { all = d.all; count = d.count ∙ placed_length spot free b target zs; below = λ a l. d.below a l ∙ placed_below spot free b target zs a l }
+
+    -- no array is shared, and nothing changes
+    apart_goes_on : (zs : List ℕ) (a v : ℕ) → FitFrom spot free b target (words e) zs → Sees spot b low zs e → update_shares spot b zs target e ≡ false
+        → Goes (apart_cells spot target (index_of target) e) (apart_steps target (index_of target) e) (mem b f (keeping v a 0) (filled spot free b target e zs)) (mem b f (keeping v a 0) (filled spot free b target e zs))
+    apart_goes_on zs a v h s apart =
+        let ys : List ℕ = filled spot free b target e zs in
+        let k = filled_is zs h s in
+        let fits = h.fits in
+        let small = h.small in
+        let i = index_seen spot b low target zs h.sees in
+        apart_goes spot b low f v a 0 ys k.all (let c = k.count in omega arith) (let c = k.count in omega arith) target (index_of target) e (sees_same spot b low zs ys k.below (read_of target) h.sees) (sees_same spot b low zs ys k.below (index_of target) i) (sees_same spot b low zs ys k.below e s) (shares_same spot b low zs ys k.below target (index_of target) e h.sees i s ∙ apart)
+
+    -- or one is
+    pub sharing_traps : (zs : List ℕ) (a v : ℕ) → FitFrom spot free b target (words e) zs → Sees spot b low zs e → update_shares spot b zs target e ≡ true
+        → Traps (apart_cells spot target (index_of target) e) (apart_steps target (index_of target) e) 16 (mem b f (keeping v a 0) (filled spot free b target e zs))
+    sharing_traps zs a v h s shared =
+        let ys : List ℕ = filled spot free b target e zs in
+        let k = filled_is zs h s in
+        let fits = h.fits in
+        let small = h.small in
+        let i = index_seen spot b low target zs h.sees in
+        apart_traps spot b low f v a 0 ys k.all (let c = k.count in omega arith) (let c = k.count in omega arith) target (index_of target) e (sees_same spot b low zs ys k.below (read_of target) h.sees) (sees_same spot b low zs ys k.below (index_of target) i) (sees_same spot b low zs ys k.below e s) (shares_same spot b low zs ys k.below target (index_of target) e h.sees i s ∙ shared)
+
+    -- place, value and check
+    pub held_goes : (zs : List ℕ) (a v : ℕ) → FitFrom spot free b target (words e) zs → Sees spot b low zs e → place_address spot b zs target ≡ Ok a → number spot b zs e ≡ Ok v → update_shares spot b zs target e ≡ false
+        → Goes ((place_cells spot free target 0 place ++ fetch_cells spot free e (place_words target) amount) ++ apart_cells spot target (index_of target) e) (place_steps target + fetch_steps e + apart_steps target (index_of target) e) (mem b f (keeping 0 0 0) zs) (mem b f (keeping v a 0) (filled spot free b target e zs))
+    held_goes zs a v h s na nv apart = goes_seq (found_goes zs a v h s na nv) (apart_goes_on zs a v h s apart)
+
   module _ (f : ℕ → ℕ) (op : UpdateOp) (target : Lvalue) (e : Expression) where
     -- forward: the word at the place is updated
-    pub update_goes : (zs zs' : List ℕ) (a v : ℕ) → FitFrom spot free b target (words e) zs → FitFrom spot free b target (words e) zs' → Sees spot b low zs e → Sees spot b low zs' e → place_address spot b zs target ≡ Ok a → place_address spot b zs' target ≡ Ok a → number spot b zs e ≡ Ok v → number spot b zs' e ≡ Ok v → SamePlace spot b zs zs' target → Same spot b zs zs' e → zs' ≡ slice_set zs a (updated op (slice_index zs a) v)
+    pub update_goes : (zs zs' : List ℕ) (a v : ℕ) → FitFrom spot free b target (words e) zs → FitFrom spot free b target (words e) zs' → Sees spot b low zs e → Sees spot b low zs' e → place_address spot b zs target ≡ Ok a → place_address spot b zs' target ≡ Ok a → number spot b zs e ≡ Ok v → number spot b zs' e ≡ Ok v → SamePlace spot b zs zs' target → Same spot b zs zs' e → update_shares spot b zs target e ≡ false → update_shares spot b zs' target e ≡ false → zs' ≡ slice_set zs a (updated op (slice_index zs a) v)
         → Goes (update_cells spot free op target e) (update_steps target e) (mem b f (keeping 0 0 0) zs) (mem b f (keeping 0 0 0) zs')
-    update_goes zs zs' a v h h' s s' na na' nv nv' sp sv q =
+    update_goes zs zs' a v h h' s s' na na' nv nv' sp sv apart apart' q =
         let ys : List ℕ = filled spot free b target e zs in
         let x : ℕ = slice_index zs a in
         let y : ℕ = updated op x v in
@@ -136,18 +175,23 @@ module _ (spot : List ℕ → Spot) (free : ℕ) (b : Bases) where
         let over : filled spot free b target e zs' ≡ slice_set ys a y =
         ap (filled spot free b target e) q
         ∙ filled_written spot free b (λ z. slice_set z a y) (write_one spot free b a y al) target e zs h.sees (subst (λ z. Sees spot b low z (read_of target)) q h'.sees) (subst (λ z. SamePlace spot b zs z target) q sp) s (subst (λ z. Sees spot b low z e) q s') (subst (λ z. Same spot b zs z e) q sv) in
-        goes_around (found_goes f target e zs a v h s na nv) mid (goes_to refl refl (ap (mem b f (keeping v a 0)) over) (found_goes f target e zs' a v h' s' na' nv'))
+        goes_around (held_goes f target e zs a v h s na nv apart) mid (goes_to refl refl (ap (mem b f (keeping v a 0)) over) (held_goes f target e zs' a v h' s' na' nv' apart'))
 
     -- the place's fault comes first
     pub update_traps_place : (zs : List ℕ) (c : ℕ) → FitFrom spot free b target (words e) zs → place_address spot b zs target ≡ Err c → TrapsBoth (update_cells spot free op target e) (place_steps target) c (mem b f (keeping 0 0 0) zs)
     update_traps_place zs c h n =
-        traps_around (exch content place ∷ update_cell op content amount ∷ exch content place ∷ []) (traps_first (fetch_cells spot free e (place_words target) amount) (place_traps spot free b place f 0 0 0 target 0 c zs (place_fits spot free b target (words e) zs h) n))
+        traps_around (exch content place ∷ update_cell op content amount ∷ exch content place ∷ []) (traps_first (apart_cells spot target (index_of target) e) (traps_first (fetch_cells spot free e (place_words target) amount) (place_traps spot free b place f 0 0 0 target 0 c zs (place_fits spot free b target (words e) zs h) n)))
 
     pub update_traps_value : (zs : List ℕ) (a c : ℕ) → FitFrom spot free b target (words e) zs → Sees spot b low zs e → place_address spot b zs target ≡ Ok a → number spot b zs e ≡ Err c → TrapsBoth (update_cells spot free op target e) (place_steps target + fetch_steps e) c (mem b f (keeping 0 0 0) zs)
     update_traps_value zs a c h s na n =
         let zs1 : List ℕ = placed spot free b target 0 zs in
-        traps_around (exch content place ∷ update_cell op content amount ∷ exch content place ∷ []) (traps_then (place_goes spot free b place f 0 0 0 0 a 0 a (place_points spot free b f 0 0 a) 0 zs target (place_fits spot free b target (words e) zs h) na)
-        (fetch_traps spot free b f a 0 e (place_words target) zs1 (value_fits spot free b target e zs h s) c (number_same spot b low zs zs1 (placed_below spot free b target zs) e s ∙ n)))
+        traps_around (exch content place ∷ update_cell op content amount ∷ exch content place ∷ []) (traps_first (apart_cells spot target (index_of target) e) (traps_then (place_goes spot free b place f 0 0 0 0 a 0 a (place_points spot free b f 0 0 a) 0 zs target (place_fits spot free b target (words e) zs h) na)
+        (fetch_traps spot free b f a 0 e (place_words target) zs1 (value_fits spot free b target e zs h s) c (number_same spot b low zs zs1 (placed_below spot free b target zs) e s ∙ n))))
+
+    -- and then that of a shared array
+    pub update_traps_sharing : (zs : List ℕ) (a v : ℕ) → FitFrom spot free b target (words e) zs → Sees spot b low zs e → place_address spot b zs target ≡ Ok a → number spot b zs e ≡ Ok v → update_shares spot b zs target e ≡ true → TrapsBoth (update_cells spot free op target e) (place_steps target + fetch_steps e + apart_steps target (index_of target) e) 16 (mem b f (keeping 0 0 0) zs)
+    update_traps_sharing zs a v h s na nv shared =
+        traps_around (exch content place ∷ update_cell op content amount ∷ exch content place ∷ []) (traps_then (found_goes f target e zs a v h s na nv) (sharing_traps f target e zs a v h s shared))
 
   -- ---- swaps
 
@@ -166,37 +210,82 @@ module _ (spot : List ℕ → Spot) (free : ℕ) (b : Bases) where
         goes_seq (place_goes spot free b place f 0 0 0 0 p 0 p (place_points spot free b f 0 0 p) 0 zs target (place_fits spot free b target (place_words other) zs h) np)
         (place_goes spot free b other_place f 0 p 0 0 p q q (other_points spot free b f 0 p q) (place_words target) zs1 other (other_fits spot free b target other zs h s) (address_same other zs zs1 (placed_below spot free b target zs) s ∙ nq))
 
-    pub swap_goes : (zs zs' : List ℕ) (p q : ℕ) → FitFrom spot free b target (place_words other) zs → FitFrom spot free b target (place_words other) zs' → Sees spot b low zs (read_of other) → Sees spot b low zs' (read_of other) → place_address spot b zs target ≡ Ok p → place_address spot b zs' target ≡ Ok p → place_address spot b zs other ≡ Ok q → place_address spot b zs' other ≡ Ok q → SamePlace spot b zs zs' target → SamePlace spot b zs zs' other → zs' ≡ slice_set (slice_set zs p (slice_index zs q)) q (slice_index zs p)
+    other_length : (other : Lvalue) (ws : List ℕ) → length (placed spot free b other (place_words target) ws) ≡ length ws
+    other_length (Whole name) ws = refl
+    other_length (Item name index) ws = stored_length spot free b index (place_words target) ws
+
+    other_below : (other : Lvalue) (ws : List ℕ) → Agree low ws (placed spot free b other (place_words target) ws)
+    other_below (Whole name) ws a l = refl
+    other_below (Item name index) ws a l = stored_below spot free b index (place_words target) ws a l
+
+    other_words : (other : Lvalue) (ws : List ℕ) → AllWords ws → Sees spot b low ws (read_of other) → AllWords (placed spot free b other (place_words target) ws)
+    other_words (Whole name) ws w s = w
+    other_words (Item name index) ws w s = stored_words spot free b index (place_words target) ws w s.2
+
+    record Placed (zs ys : List ℕ) : Type 0 where
+      all : AllWords ys
+      count : length ys ≡ length zs
+      below : Agree low zs ys
+
+    placed_is : (zs : List ℕ) → FitFrom spot free b target (place_words other) zs → Sees spot b low zs (read_of other) → Placed zs (both_placed spot free b target other zs)
+    placed_is zs h s =
+        let zs1 : List ℕ = placed spot free b target 0 zs in
+        let below1 : Agree low zs zs1 = placed_below spot free b target zs in
+        record {
+          all = other_words other zs1 (placed_words spot free b target zs h.all h.sees) (sees_same spot b low zs zs1 below1 (read_of other) s);
+          count = other_length other zs1 ∙ placed_length spot free b target zs;
+          below = λ a l. other_below other zs1 a l ∙ below1 a l;
+        }
+
+    both_apart_on : (zs : List ℕ) (p q : ℕ) → FitFrom spot free b target (place_words other) zs → Sees spot b low zs (read_of other) → swap_shares spot b zs target other ≡ false
+        → Goes (both_apart_cells spot target other) (both_apart_steps target other) (mem b f (keeping 0 p q) (both_placed spot free b target other zs)) (mem b f (keeping 0 p q) (both_placed spot free b target other zs))
+    both_apart_on zs p q h s apart =
+        let ys : List ℕ = both_placed spot free b target other zs in
+        let k = placed_is zs h s in
+        let fits = h.fits in
+        let small = h.small in
+        both_apart_go spot b low f 0 p q ys k.all (let c = k.count in omega arith) (let c = k.count in omega arith) target other (sees_same spot b low zs ys k.below (read_of target) h.sees) (sees_same spot b low zs ys k.below (read_of other) s) (swap_shares_same spot b low zs ys k.below target other h.sees s ∙ apart)
+
+    both_sharing_traps : (zs : List ℕ) (p q : ℕ) → FitFrom spot free b target (place_words other) zs → Sees spot b low zs (read_of other) → swap_shares spot b zs target other ≡ true
+        → Traps (both_apart_cells spot target other) (both_apart_steps target other) 16 (mem b f (keeping 0 p q) (both_placed spot free b target other zs))
+    both_sharing_traps zs p q h s shared =
+        let ys : List ℕ = both_placed spot free b target other zs in
+        let k = placed_is zs h s in
+        let fits = h.fits in
+        let small = h.small in
+        both_apart_traps spot b low f 0 p q ys k.all (let c = k.count in omega arith) (let c = k.count in omega arith) target other (sees_same spot b low zs ys k.below (read_of target) h.sees) (sees_same spot b low zs ys k.below (read_of other) s) (swap_shares_same spot b low zs ys k.below target other h.sees s ∙ shared)
+
+    both_held : (zs : List ℕ) (p q : ℕ) → FitFrom spot free b target (place_words other) zs → Sees spot b low zs (read_of other) → place_address spot b zs target ≡ Ok p → place_address spot b zs other ≡ Ok q → swap_shares spot b zs target other ≡ false
+        → Goes ((place_cells spot free target 0 place ++ place_cells spot free other (place_words target) other_place) ++ both_apart_cells spot target other) (place_steps target + place_steps other + both_apart_steps target other) (mem b f (keeping 0 0 0) zs) (mem b f (keeping 0 p q) (both_placed spot free b target other zs))
+    both_held zs p q h s np nq apart = goes_seq (both_found zs p q h s np nq) (both_apart_on zs p q h s apart)
+
+    pub swap_goes : (zs zs' : List ℕ) (p q : ℕ) → FitFrom spot free b target (place_words other) zs → FitFrom spot free b target (place_words other) zs' → Sees spot b low zs (read_of other) → Sees spot b low zs' (read_of other) → place_address spot b zs target ≡ Ok p → place_address spot b zs' target ≡ Ok p → place_address spot b zs other ≡ Ok q → place_address spot b zs' other ≡ Ok q → SamePlace spot b zs zs' target → SamePlace spot b zs zs' other → swap_shares spot b zs target other ≡ false → swap_shares spot b zs' target other ≡ false → zs' ≡ slice_set (slice_set zs p (slice_index zs q)) q (slice_index zs p)
         → Goes (swap_cells spot free target other) (swap_steps target other) (mem b f (keeping 0 0 0) zs) (mem b f (keeping 0 0 0) zs')
-    swap_goes zs zs' p q h h' s s' np np' nq nq' st so e =
+    swap_goes zs zs' p q h h' s s' np np' nq nq' st so apart apart' e =
         let ys : List ℕ = both_placed spot free b target other zs in
         let pl : p < low = place_low target p zs h.sees np in
         let ql : q < low = place_low other q zs s nq in
         let fits = h.fits in
-        let zs1 : List ℕ = placed spot free b target 0 zs in
-        let ylen : length ys ≡ length zs = other_length other zs1 ∙ placed_length spot free b target zs in
-        let below : Agree low zs ys = λ a l. other_below other zs1 a l ∙ placed_below spot free b target zs a l in
+        let k = placed_is zs h s in
+        let ylen = k.count in
+        let below : Agree low zs ys = k.below in
         let mid = swap_mid b f p q ys (omega arith) (omega arith) in
         let mid' = goes_to refl refl (ap (λ y. mem b f (keeping 0 p q) (slice_set (slice_set ys p y) q (slice_index ys p))) (below q ql) ∙ ap (λ x. mem b f (keeping 0 p q) (slice_set (slice_set ys p (slice_index zs q)) q x)) (below p pl)) mid in
         let over : both_placed spot free b target other zs' ≡ slice_set (slice_set ys p (slice_index zs q)) q (slice_index zs p) =
         ap (both_placed spot free b target other) e
         ∙ both_written spot free b (λ z. slice_set (slice_set z p (slice_index zs q)) q (slice_index zs p)) (write_two spot free b p (slice_index zs q) q (slice_index zs p) pl ql) target other zs h.sees (subst (λ z. Sees spot b low z (read_of target)) e h'.sees) (subst (λ z. SamePlace spot b zs z target) e st) s (subst (λ z. Sees spot b low z (read_of other)) e s') (subst (λ z. SamePlace spot b zs z other) e so) in
-        goes_around (both_found zs p q h s np nq) mid' (goes_to refl refl (ap (mem b f (keeping 0 p q)) over) (both_found zs' p q h' s' np' nq'))
-      where
-        other_length : (other : Lvalue) (ws : List ℕ) → length (placed spot free b other (place_words target) ws) ≡ length ws
-        other_length (Whole name) ws = refl
-        other_length (Item name index) ws = stored_length spot free b index (place_words target) ws
-
-        other_below : (other : Lvalue) (ws : List ℕ) → Agree low ws (placed spot free b other (place_words target) ws)
-        other_below (Whole name) ws a l = refl
-        other_below (Item name index) ws a l = stored_below spot free b index (place_words target) ws a l
+        goes_around (both_held zs p q h s np nq apart) mid' (goes_to refl refl (ap (mem b f (keeping 0 p q)) over) (both_held zs' p q h' s' np' nq' apart'))
 
     pub swap_traps_first : (zs : List ℕ) (c : ℕ) → FitFrom spot free b target (place_words other) zs → place_address spot b zs target ≡ Err c → TrapsBoth (swap_cells spot free target other) (place_steps target) c (mem b f (keeping 0 0 0) zs)
     swap_traps_first zs c h n =
-        traps_around (exch first_word place ∷ exch second_word other_place ∷ exch second_word place ∷ exch first_word other_place ∷ []) (traps_first (place_cells spot free other (place_words target) other_place) (place_traps spot free b place f 0 0 0 target 0 c zs (place_fits spot free b target (place_words other) zs h) n))
+        traps_around (exch first_word place ∷ exch second_word other_place ∷ exch second_word place ∷ exch first_word other_place ∷ []) (traps_first (both_apart_cells spot target other) (traps_first (place_cells spot free other (place_words target) other_place) (place_traps spot free b place f 0 0 0 target 0 c zs (place_fits spot free b target (place_words other) zs h) n)))
 
     pub swap_traps_second : (zs : List ℕ) (p c : ℕ) → FitFrom spot free b target (place_words other) zs → Sees spot b low zs (read_of other) → place_address spot b zs target ≡ Ok p → place_address spot b zs other ≡ Err c → TrapsBoth (swap_cells spot free target other) (place_steps target + place_steps other) c (mem b f (keeping 0 0 0) zs)
     swap_traps_second zs p c h s np n =
         let zs1 : List ℕ = placed spot free b target 0 zs in
-        traps_around (exch first_word place ∷ exch second_word other_place ∷ exch second_word place ∷ exch first_word other_place ∷ []) (traps_then (place_goes spot free b place f 0 0 0 0 p 0 p (place_points spot free b f 0 0 p) 0 zs target (place_fits spot free b target (place_words other) zs h) np)
-        (place_traps spot free b other_place f 0 p 0 other (place_words target) c zs1 (other_fits spot free b target other zs h s) (address_same other zs zs1 (placed_below spot free b target zs) s ∙ n)))
+        traps_around (exch first_word place ∷ exch second_word other_place ∷ exch second_word place ∷ exch first_word other_place ∷ []) (traps_first (both_apart_cells spot target other) (traps_then (place_goes spot free b place f 0 0 0 0 p 0 p (place_points spot free b f 0 0 p) 0 zs target (place_fits spot free b target (place_words other) zs h) np)
+        (place_traps spot free b other_place f 0 p 0 other (place_words target) c zs1 (other_fits spot free b target other zs h s) (address_same other zs zs1 (placed_below spot free b target zs) s ∙ n))))
+
+    pub swap_traps_sharing : (zs : List ℕ) (p q : ℕ) → FitFrom spot free b target (place_words other) zs → Sees spot b low zs (read_of other) → place_address spot b zs target ≡ Ok p → place_address spot b zs other ≡ Ok q → swap_shares spot b zs target other ≡ true → TrapsBoth (swap_cells spot free target other) (place_steps target + place_steps other + both_apart_steps target other) 16 (mem b f (keeping 0 0 0) zs)
+    swap_traps_sharing zs p q h s np nq shared =
+        traps_around (exch first_word place ∷ exch second_word other_place ∷ exch second_word place ∷ exch first_word other_place ∷ []) (traps_then (both_found zs p q h s np nq) (both_sharing_traps zs p q h s shared))

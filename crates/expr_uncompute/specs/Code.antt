@@ -11,6 +11,7 @@ use Rattle.paired_code.specs.declared.part.Symbol.{Symbol}
 use Rattle.paired_code.specs.declared.part.Symbol.TheVariants.{Own}
 use Rattle.paired_code.specs.Layout.{mirror_cells, check_cells}
 use Rattle.expr_uncompute.specs.declared.Spot.{Spot}
+use Rattle.expr_uncompute.specs.Number.{index_of}
 use Rattle.expr_uncompute.specs.declared.Spot.TheVariants.{Field, Frame}
 
 -- ---- the registers
@@ -194,6 +195,11 @@ abbrev pub index_check : List Symbol
 index_check =
     around (exch content right_operand ∷ []) (around (sltx outcome left_operand content ∷ sltx outcome left_operand nought ∷ xori outcome 1 ∷ []) (check_cells outcome 9))
 
+-- fault 16 where the words of two spots are the same
+abbrev pub compare_cells : (x y : Spot) → List Symbol
+compare_cells x y =
+    around (copy_cells x left_operand ++ (reach_cells y ++ sltx outcome left_operand content ∷ sltx outcome content left_operand ∷ xori outcome 1 ∷ [])) (check_cells outcome 16)
+
 -- the address of the element in the array's register
 abbrev pub point_cells : List Symbol
 point_cells = add right_operand left_operand ∷ addi right_operand 2 ∷ []
@@ -213,6 +219,24 @@ abbrev pub update_cell : UpdateOp → (d s : ℕ) → Symbol
 update_cell update.Add d s = add d s
 update_cell update.Sub d s = sub d s
 update_cell update.Xor d s = xor d s
+
+module _ (spot : List ℕ → Spot) where
+  -- a changed element's array, by its spot, compared with those of which an expression reads elements
+  abbrev pub compare_all : Spot → Expression → List Symbol
+  compare_all changed (Number at word) = []
+  compare_all changed (Null at) = []
+  compare_all changed (Variable name) = []
+  compare_all changed (Element name index) = compare_cells changed (spot name.text) ++ compare_all changed index
+  compare_all changed (Binary at op left right) = compare_all changed left ++ compare_all changed right
+
+  -- the check of a place that changes against two expressions that are read
+  abbrev pub apart_cells : Lvalue → (e e' : Expression) → List Symbol
+  apart_cells (Whole name) e e' = []
+  apart_cells (Item name index) e e' = compare_all (spot name.text) e ++ compare_all (spot name.text) e'
+
+  -- of both places of a swap
+  abbrev pub both_apart_cells : (left right : Lvalue) → List Symbol
+  both_apart_cells left right = apart_cells left (index_of left) (index_of right) ++ apart_cells right (index_of left) (index_of right)
 
 module _ (spot : List ℕ → Spot) (free : ℕ) where
   -- the value of an operand xored into a register: a word of the frame has it, from i on, where it is no leaf
@@ -278,9 +302,9 @@ module _ (spot : List ℕ → Spot) (free : ℕ) where
   -- an update of a place by a value
   abbrev pub update_cells : UpdateOp → Lvalue → Expression → List Symbol
   update_cells op target value =
-      around (place_cells target 0 place ++ fetch_cells value (place_words target) amount) (exch content place ∷ update_cell op content amount ∷ exch content place ∷ [])
+      around ((place_cells target 0 place ++ fetch_cells value (place_words target) amount) ++ apart_cells spot target (index_of target) value) (exch content place ∷ update_cell op content amount ∷ exch content place ∷ [])
 
   -- the words of two places swapped; where they are one, it stays as it is
   abbrev pub swap_cells : Lvalue → Lvalue → List Symbol
   swap_cells left right =
-      around (place_cells left 0 place ++ place_cells right (place_words left) other_place) (exch first_word place ∷ exch second_word other_place ∷ exch second_word place ∷ exch first_word other_place ∷ [])
+      around ((place_cells left 0 place ++ place_cells right (place_words left) other_place) ++ both_apart_cells spot left right) (exch first_word place ∷ exch second_word other_place ∷ exch second_word place ∷ exch first_word other_place ∷ [])

@@ -9,7 +9,7 @@ use Rattle.paired_code.specs.Pieces.{Done, Trapped, Runs}
 use Rattle.roopl_semantics.specs.Operators.{is_true, truth_word, updated}
 use Rattle.expr_uncompute.specs.Code.{object, frame}
 use Rattle.expr_uncompute.specs.declared.Spot.{Spot}
-use Rattle.expr_uncompute.specs.Number.{Bases, read_of, Sees, Same, SamePlace}
+use Rattle.expr_uncompute.specs.Number.{Bases, read_of, update_shares, swap_shares, Sees, Same, SamePlace}
 
 -- a register that code of expressions uses for itself
 abbrev pub Temporary : ℕ → Type 0
@@ -51,12 +51,13 @@ updated_at d op a v cells = slice_set cells a (updated (turned d op) (slice_inde
 abbrev pub swapped_at : (p q : ℕ) → List ℕ → List ℕ
 swapped_at p q cells = slice_set (slice_set cells p (slice_index cells q)) q (slice_index cells p)
 
--- after a write all that the place and the value read is where it was, and says the same
+-- after a write all that the place and the value read is where it was, and says the same, and no array is shared
 pub record Stays (spot : List ℕ → Spot) (b : Bases) (low : ℕ) (target : Lvalue) (value : Expression) (cells cells' : List ℕ) : Type 0 where
   pub place_sees : Sees spot b low cells' (read_of target)
   pub value_sees : Sees spot b low cells' value
   pub place_same : SamePlace spot b cells cells' target
   pub value_same : Same spot b cells cells' value
+  pub apart : update_shares spot b cells' target value ≡ false
 
 -- the same of two places
 pub record BothStay (spot : List ℕ → Spot) (b : Bases) (low : ℕ) (left right : Lvalue) (cells cells' : List ℕ) : Type 0 where
@@ -64,3 +65,4 @@ pub record BothStay (spot : List ℕ → Spot) (b : Bases) (low : ℕ) (left rig
   pub right_sees : Sees spot b low cells' (read_of right)
   pub left_same : SamePlace spot b cells cells' left
   pub right_same : SamePlace spot b cells cells' right
+  pub apart : swap_shares spot b cells' left right ≡ false

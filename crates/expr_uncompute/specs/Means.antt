@@ -1,9 +1,9 @@
 -- How the words of a memory stand for the values of the source that an expression reads.
-use Rattle.std.specs.Prelude.{◌≡◌, ◌≢◌, ℕ, ◌+◌, ◌<◌, Bool, true, false, List, length, slice_index, Result, Ok, Err}
+use Rattle.std.specs.Prelude.{◌≡◌, ◌≢◌, ℕ, ◌+◌, ◌<◌, nat_eq, Bool, true, false, List, length, slice_index, Result, Ok, Err}
 use Rattle.rpp_tree.specs.declared.tree.BinOp.{BinOp}
 use Rattle.rpp_tree.specs.declared.tree.BinOp.TheVariants as op
 use Rattle.rpp_tree.specs.Tree.{Expression, Number, Null, Variable, Element, Binary, Lvalue, Whole, Item, Source}
-use Rattle.roopl_semantics.specs.Store.{Value, Word, Nil, Name, State, number_of, object_at}
+use Rattle.roopl_semantics.specs.Store.{Value, Word, Nil, Name, State, number_of, same_value, object_at}
 use Rattle.roopl_semantics.specs.Value.{Cell, Slot, Part, cell_named, variable_value, read, value, cell_of}
 use Rattle.expr_uncompute.specs.declared.Spot.{Spot}
 use Rattle.expr_uncompute.specs.Number.{Bases, address_of, word_of}
@@ -73,6 +73,20 @@ module _ (address slot : ℕ → ℕ) where
     abbrev pub MeansPlace : Lvalue → Type 0
     MeansPlace (Whole name) = address_of b (spot name.text) ≡ cell_address (cell_named program st name.text)
     MeansPlace (Item name index) = HasWord name.text × StandsArray (variable_value program st name.text) × IsInt (value program st index) × Means index
+
+    -- an array is one of which an expression reads an element exactly where their words are the same
+    abbrev pub TellsArrays : (array : Value) → Expression → Type 0
+    TellsArrays array (Number at word) = Unit {0}
+    TellsArrays array (Null at) = Unit {0}
+    TellsArrays array (Variable name) = Unit {0}
+    TellsArrays array (Element name index) =
+        (same_value array (variable_value program st name.text) ≡ nat_eq (shown array) (shown (variable_value program st name.text))) × TellsArrays array index
+    TellsArrays array (Binary at o left right) = TellsArrays array left × TellsArrays array right
+
+    -- the same of the array of a place that changes, and two expressions that are read
+    abbrev pub TellsShares : Lvalue → (e e' : Expression) → Type 0
+    TellsShares (Whole name) e e' = Unit {0}
+    TellsShares (Item name index) e e' = TellsArrays (variable_value program st name.text) e × TellsArrays (variable_value program st name.text) e'
 
 -- at each of its nodes an expression has the same value in two states
 module _ (program : Source) (st st' : State) where

@@ -1,5 +1,5 @@
 -- What an expression is, read from a memory alone.
-use Rattle.std.specs.Prelude.{◌≡◌, ◌≢◌, ℕ, ◌+◌, ◌^◌, ◌<◌, ◌≤◌, nat_eq, nat_lt, if◌then◌else◌, List, slice_index, Result, Ok, Err}
+use Rattle.std.specs.Prelude.{◌≡◌, ◌≢◌, ℕ, ◌+◌, ◌^◌, ◌<◌, ◌≤◌, nat_eq, nat_lt, if◌then◌else◌, Bool, false, ◌||◌, List, slice_index, Result, Ok, Err}
 use Rattle.rpp_tree.specs.declared.tree.BinOp.{BinOp}
 use Rattle.rpp_tree.specs.Tree.{Expression, Number, Null, Variable, Element, Binary, Lvalue, Whole, Item}
 use Rattle.roopl_semantics.specs.Operators.{operated}
@@ -44,6 +44,11 @@ abbrev pub read_of : Lvalue → Expression
 read_of (Whole name) = Variable name
 read_of (Item name index) = Element name index
 
+-- the index of a place; nil where it is no element
+abbrev pub index_of : Lvalue → Expression
+index_of (Whole name) = Null 0
+index_of (Item name index) = index
+
 module _ (spot : List ℕ → Spot) (b : Bases) where
   -- the word of a variable
   abbrev pub word_of : List ℕ → List ℕ → ℕ
@@ -61,6 +66,27 @@ module _ (spot : List ℕ → Spot) (b : Bases) where
   abbrev pub place_address : List ℕ → Lvalue → Result ℕ ℕ
   place_address cells (Whole name) = Ok (address_of b (spot name.text))
   place_address cells (Item name index) = element_at cells (word_of cells name.text) (number cells index)
+
+  -- whether an expression reads an element of the array of this word
+  abbrev pub reads_array : List ℕ → (array : ℕ) → Expression → Bool
+  reads_array cells array (Number at word) = false
+  reads_array cells array (Null at) = false
+  reads_array cells array (Variable name) = false
+  reads_array cells array (Element name index) = nat_eq array (word_of cells name.text) || reads_array cells array index
+  reads_array cells array (Binary at op left right) = reads_array cells array left || reads_array cells array right
+
+  -- whether a place that changes is an element of an array of which one of two expressions reads an element
+  abbrev pub shares : List ℕ → Lvalue → (e e' : Expression) → Bool
+  shares cells (Whole name) e e' = false
+  shares cells (Item name index) e e' = reads_array cells (word_of cells name.text) e || reads_array cells (word_of cells name.text) e'
+
+  -- the same of an update, which reads the place's index and the value
+  abbrev pub update_shares : List ℕ → Lvalue → Expression → Bool
+  update_shares cells target value = shares cells target (index_of target) value
+
+  -- and of a swap, which changes both places and reads both indexes
+  abbrev pub swap_shares : List ℕ → (left right : Lvalue) → Bool
+  swap_shares cells left right = shares cells left (index_of left) (index_of right) || shares cells right (index_of left) (index_of right)
 
   -- a word that is nil, or where an array stands, all below an address
   pub record IsArray (low : ℕ) (cells : List ℕ) (a : ℕ) : Type 0 where

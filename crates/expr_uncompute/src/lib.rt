@@ -1,10 +1,14 @@
 //! The code of expressions: values, tests, updates and swaps of places as pieces of reversible code,
-//! each with the law of its runs in both directions. The layer above may use the calls, `Spot`, the
-//! registers `OBJECT` and `FRAME`, and the laws of specs/Promises.antt. `Scope` is a stand-in for
-//! what tells where names stand: each stands in the word that its length numbers.
+//! each with the law of its runs in both directions. A `Scope` tells where the visible variables of
+//! a method stand. The layer above may use the calls, `Scope`, `Spot`, the registers `OBJECT` and
+//! `FRAME`, and the laws of specs/Promises.antt; which cells a piece has is this crate's own matter.
 #![tactic(auto)]
 
+mod apart;
 mod cells;
+mod expressions;
+mod known;
+mod names;
 mod places;
 mod rows;
 mod scope;
@@ -12,12 +16,11 @@ mod scope;
 mod tests;
 mod values;
 
-pub use places::{swap_code, update_code};
+pub use expressions::{swap_code, test_code, update_code, value_code};
 pub use rows::{FRAME, OBJECT};
 pub use scope::Scope;
-pub use values::{test_code, value_code};
 
-/// Where a variable stands: a field of the present object, or a word of the open frame.
+/// Where a variable stands: a field of the present object by its number, or a word of the open frame.
 #[derive(Clone, Copy, PartialEq, Eq, Debug)]
 pub enum Spot {
     Field(u32),

@@ -54,7 +54,8 @@ pub fn offset(spot: Spot) -> u32
     }
 }
 
-fn reach(alloc: Global, spot: Spot) -> Result<Piece, NoMemory>
+/// The word of a spot in `CONTENT`.
+pub fn reached(alloc: Global, spot: Spot) -> Result<Piece, NoMemory>
     requires { offset_of spot < 2 ^ 32 }
     ensures { IfOk result (λ p. p ≡ unmarked (reach_cells spot)) }
 {
@@ -66,14 +67,6 @@ fn reach(alloc: Global, spot: Spot) -> Result<Piece, NoMemory>
     seq(front, third)
 }
 
-/// The word of a spot in `CONTENT`.
-pub fn reached(alloc: Global, spot: Spot) -> Result<Piece, NoMemory>
-    requires { offset_of spot < 2 ^ 32 }
-    ensures { IfOk result (λ p. p ≡ unmarked (reach_cells spot)) }
-{
-    reach(alloc, spot)
-}
-
 /// The word of a spot xored into a register.
 pub fn copy(alloc: Global, spot: Spot, into: u8) -> Result<Piece, NoMemory>
     requires small { offset_of spot < 2 ^ 32 }
@@ -81,7 +74,7 @@ pub fn copy(alloc: Global, spot: Spot, into: u8) -> Result<Piece, NoMemory>
     requires apart { into ≢ CONTENT }
     ensures { IfOk result (λ p. p ≡ unmarked (copy_cells spot into)) }
 {
-    let outer = reach(alloc, spot)?;
+    let outer = reached(alloc, spot)?;
     let middle = xor(alloc, into, CONTENT)?;
     enclosed(alloc, outer, middle)
 }
@@ -93,7 +86,7 @@ pub fn store(alloc: Global, spot: Spot, from: u8) -> Result<Piece, NoMemory>
     requires apart { CONTENT ≢ from }
     ensures { IfOk result (λ p. p ≡ unmarked (store_cells spot from)) }
 {
-    let outer = reach(alloc, spot)?;
+    let outer = reached(alloc, spot)?;
     let middle = xor(alloc, CONTENT, from)?;
     enclosed(alloc, outer, middle)
 }

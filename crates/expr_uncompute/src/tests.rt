@@ -2,10 +2,12 @@ ghost use Rattle.std.specs.Prelude.{◌≡◌, ◌<◌, ◌≤◌, ◌+◌, ◌^
 ghost use Rattle.rpp_tree.specs.Views.{expression_of, lvalue_of};
 ghost use Rattle.expr_uncompute.specs.Code.{words as words_of, place_words as words_of_place};
 
-use crate::{Scope, swap_code, test_code, update_code, value_code};
+use crate::known::Names;
+use crate::places::{swap_piece, update_piece};
+use crate::values::{test_piece, value_piece};
 use paired_code::{Piece, cells_of, link, mirror};
 use pisa_isa::{Cells, Core, Image, Stop, step};
-use rpp_tree::{BinOp, Expr, Ident, Place, Text, UpdateOp};
+use rpp_tree::{BinOp, Expr, Ident, Place, Text, UpdateOp, Var, VarType};
 use std::alloc::{AllocError, Global};
 use std::process::Abort;
 use std::test::Fail;
@@ -35,15 +37,6 @@ fn ident(alloc: Global, text: &str) -> Result<Ident, AllocError> {
     Ok(Ident {
         at: 0,
         text: Text::of(alloc, text.as_bytes())?,
-    })
-}
-
-fn whole(alloc: Global, name: &str) -> Result<Place, AllocError>
-    ensures { IfOk result (λ p. words_of_place (lvalue_of p) ≡ 0) }
-{
-    Ok(Place {
-        name: ident(alloc, name)?,
-        index: None,
     })
 }
 
@@ -96,8 +89,8 @@ fn image_of<R: Abort>(rt: &R, alloc: Global, main: Piece) -> Result<Image, Fail>
     Ok(link(alloc, main, Vec::new(alloc), Vec::new(alloc))?)
 }
 
-/// 200 cells: the frame at 100 has a in word 1, b in word 2, an array at 50 in word 3 and nil in
-/// word 4; the array is 7, 8, 9.
+/// 200 cells: the frame at 100 has a in word 16, bb in 17, in 18 and 20 the array at 50, nil in 19,
+/// and in 21 the array at 60; the arrays are 7, 8, 9 and 3, 4.
 fn memory<R: Abort>(rt: &R, alloc: Global) -> Result<Words, Fail> {
     let mut words = Vec::new(alloc);
     for at in 0..200u32 {
@@ -114,25 +107,31 @@ fn word_at(at: u32) -> u32 {
         52 => 7,
         53 => 8,
         54 => 9,
-        101 => 1,
-        102 => 5,
-        103 => 50,
+        60 => 2,
+        61 => 1,
+        62 => 3,
+        63 => 4,
+        116 => 1,
+        117 => 5,
+        118 => 50,
+        120 => 50,
+        121 => 60,
         _ => 0,
     }
 }
 
-/// Why the run stops, and after how many counted steps; what differs from the memory before is
-/// counted.
-fn run(image: &Image, core: &mut Core, words: &mut Words) -> Option<(Stop, u32)> {
-    for spent in 1..=10000 {
+/// Why the run stops.
+fn run(image: &Image, core: &mut Core, words: &mut Words) -> Option<Stop> {
+    for _ in 0..10000 {
         if let Some(stop) = step(core, image.code(), words) {
-            return Some((stop, spent));
+            return Some(stop);
         }
     }
     None
 }
 
-fn core_at_start() -> Core {
+/// The present object stands at 40, the frame at 100; register 11 is the target.
+fn core_with(target: u32) -> Core {
     let mut core = Core {
         pc: 0,
         br: 0,
@@ -141,6 +140,7 @@ fn core_at_start() -> Core {
     };
     core.regs[3] = 40;
     core.regs[4] = 100;
+    core.regs[11] = target;
     core
 }
 
@@ -158,14 +158,76 @@ fn changed(words: &Words) -> u32 {
     count
 }
 
-fn scope() -> Scope {
-    Scope {
-        names: 16,
-        free: 16,
-    }
+/// How a piece runs over that memory: why it stops, whether no register differs but the target, the
+/// target, and how many words differ.
+fn seen<R: Abort>(
+    rt: &R,
+    alloc: Global,
+    piece: Piece,
+    target: u32,
+) -> Result<(Option<Stop>, bool, u32, u32), Fail> {
+    let image = image_of(rt, alloc, piece)?;
+    let mut core = core_with(target);
+    let mut words = memory(rt, alloc)?;
+    let stop = run(&image, &mut core, &mut words);
+    let found = core.regs[11];
+    let clean = core.regs == core_with(found).regs;
+    Ok((stop, clean, found, changed(&words)))
 }
 
-/// `(arr[arr[0] - 6] + bb) ^ a`; names of 1, 2, 3 and 4 letters are the frame's words 1 to 4.
+/// The variables of the frame's words 16 to 21.
+fn variables(alloc: Global) -> Result<Vec<Var>, AllocError> {
+    let mut variables = Vec::new(alloc);
+    for name in ["a", "bb", "arr", "none", "same", "other"] {
+        variables.push(Var {
+            kind: VarType::Int,
+            name: ident(alloc, name)?,
+        })?;
+    }
+    Ok(variables)
+}
+
+#[test]
+fn each_operator_both_ways(rt: HostRuntime) -> Result<(), Fail> {
+    let alloc = rt.alloc();
+    let names = Names {
+        variables: &[],
+        fields: &[],
+    };
+    let least = 0x8000_0000u32;
+    for (op, left, right, value, what) in [
+        (BinOp::Add, 7, 5, 12, "7 + 5"),
+        (BinOp::Add, u32::MAX, 2, 1, "-1 + 2"),
+        (BinOp::Sub, 3, 5, 0xffff_fffe, "3 - 5"),
+        (BinOp::Xor, 12, 10, 6, "12 ^ 10"),
+        (BinOp::And, 12, 10, 8, "12 & 10"),
+        (BinOp::Or, 12, 10, 14, "12 | 10"),
+        (BinOp::AndAlso, 2, 4, 1, "2 && 4"),
+        (BinOp::AndAlso, 2, 0, 0, "2 && 0"),
+        (BinOp::OrElse, 0, 4, 1, "0 || 4"),
+        (BinOp::OrElse, 0, 0, 0, "0 || 0"),
+        (BinOp::Less, least, 1, 1, "the least number < 1"),
+        (BinOp::Less, 1, 1, 0, "1 < 1"),
+        (BinOp::Greater, 1, least, 1, "1 > the least number"),
+        (BinOp::AtMost, 1, 1, 1, "1 <= 1"),
+        (BinOp::AtMost, 1, u32::MAX, 0, "1 <= -1"),
+        (BinOp::AtLeast, u32::MAX, 0, 0, "-1 >= 0"),
+        (BinOp::Equal, 5, 5, 1, "5 = 5"),
+        (BinOp::Equal, least, 0, 0, "the least number = 0"),
+        (BinOp::NotEqual, 5, 6, 1, "5 != 6"),
+    ] {
+        let e = both(alloc, op, number(left), number(right))?;
+        let piece = value_piece(alloc, &e, &names, 11)?;
+        let back = mirror(alloc, &piece)?;
+        let end = seen(&rt, alloc, piece, 0)?;
+        assert_eq!(rt; end, (Some(Stop::Finished), true, value, 0), "{what}");
+        let end = seen(&rt, alloc, back, value)?;
+        assert_eq!(rt; end, (Some(Stop::Finished), true, 0, 0), "{what} back");
+    }
+    Ok(())
+}
+
+/// `(arr[arr[0] - 6] + bb) ^ a`
 fn nested(alloc: Global) -> Result<Expr, AllocError>
     ensures { IfOk result (λ e. words_of (expression_of e) ≤ 10) }
 {
@@ -177,108 +239,168 @@ fn nested(alloc: Global) -> Result<Expr, AllocError>
 }
 
 #[test]
-fn a_nested_value_both_ways(rt: HostRuntime) -> Result<(), Fail> {
+fn an_element_in_an_index_both_ways(rt: HostRuntime) -> Result<(), Fail> {
     let alloc = rt.alloc();
-    let e = nested(alloc)?;
-    let piece = value_code(alloc, &e, &scope(), 11)?;
-    let back = mirror(alloc, &piece)?;
-    // 13 tokens, 9 nodes
-    assert!(rt; cells_of(&piece).len() <= 58 * 13);
-    let image = image_of(&rt, alloc, piece)?;
-    let other = image_of(&rt, alloc, back)?;
-    let mut core = core_at_start();
-    let mut words = memory(&rt, alloc)?;
-    // arr[7 - 6] = 8, plus 5 is 13, xor 1 is 12
-    let end = run(&image, &mut core, &mut words);
-    assert_eq!(rt; core.regs[11], 12);
-    assert_eq!(rt; changed(&words), 0);
-    assert_eq!(rt; core.regs[16], 0);
-    assert_eq!(rt; core.regs[18], 0);
-    let Some((stop, spent)) = end else {
-        assert!(rt; false);
-        return Ok(());
+    let variables = variables(alloc)?;
+    assert!(rt; variables.len() <= 48);
+    let visible: &[Var] = &variables;
+    let names = Names {
+        variables: visible,
+        fields: &[],
     };
-    assert_eq!(rt; stop, Stop::Finished);
-    assert!(rt; spent <= 162 * 9 + 2);
-    core.pc = 0;
-    let end = run(&other, &mut core, &mut words);
-    assert_eq!(rt; end, Some((Stop::Finished, spent)));
-    assert_eq!(rt; core.regs[11], 0);
-    assert_eq!(rt; changed(&words), 0);
+    let e = nested(alloc)?;
+    // arr[7 - 6] is 8, plus 5 is 13, xor 1 is 12
+    let piece = value_piece(alloc, &e, &names, 11)?;
+    let back = mirror(alloc, &piece)?;
+    let end = seen(&rt, alloc, piece, 0)?;
+    assert_eq!(rt; end, (Some(Stop::Finished), true, 12, 0), "its value");
+    let end = seen(&rt, alloc, back, 12)?;
+    assert_eq!(rt;
+        end,
+        (Some(Stop::Finished), true, 0, 0),
+        "its value taken away"
+    );
+    let piece = test_piece(alloc, &e, &names, 11)?;
+    let end = seen(&rt, alloc, piece, 0)?;
+    assert_eq!(rt; end, (Some(Stop::Finished), true, 1, 0), "its truth");
     Ok(())
 }
 
 #[test]
-fn tests_and_faults_both_ways(rt: HostRuntime) -> Result<(), Fail> {
+fn faults_both_ways(rt: HostRuntime) -> Result<(), Fail> {
     let alloc = rt.alloc();
-    // nil[0], arr[3], arr[-1]
-    for row in 0..3u32 {
-        let e = match row {
-            0 => element(alloc, "none", number(0))?,
-            1 => element(alloc, "arr", number(3))?,
-            _ => element(alloc, "arr", number(u32::MAX))?,
-        };
-        let code = match row {
-            0 => 5,
-            _ => 9,
-        };
-        let piece = test_code(alloc, &e, &scope(), 11)?;
+    let variables = variables(alloc)?;
+    assert!(rt; variables.len() <= 48);
+    let visible: &[Var] = &variables;
+    let names = Names {
+        variables: visible,
+        fields: &[],
+    };
+    for (array, index, code, what) in [
+        ("none", 0, 5, "none[0]"),
+        ("none", u32::MAX, 5, "none[-1]"),
+        ("arr", 3, 9, "arr[3]"),
+        ("arr", u32::MAX, 9, "arr[-1]"),
+    ] {
+        let e = element(alloc, array, number(index))?;
+        let piece = test_piece(alloc, &e, &names, 11)?;
         let back = mirror(alloc, &piece)?;
-        let image = image_of(&rt, alloc, piece)?;
-        let other = image_of(&rt, alloc, back)?;
-        let mut core = core_at_start();
-        let mut words = memory(&rt, alloc)?;
-        let end = run(&image, &mut core, &mut words);
-        let Some((stop, _)) = end else {
-            assert!(rt; false);
-            return Ok(());
-        };
-        assert_eq!(rt; stop, Stop::Trap(code));
-        let mut core = core_at_start();
-        let mut words = memory(&rt, alloc)?;
-        let end = run(&other, &mut core, &mut words);
-        let Some((stop, _)) = end else {
-            assert!(rt; false);
-            return Ok(());
-        };
-        assert_eq!(rt; stop, Stop::Trap(code));
+        let (stop, ..) = seen(&rt, alloc, piece, 0)?;
+        assert_eq!(rt; stop, Some(Stop::Trap(code)), "{what}");
+        let (stop, ..) = seen(&rt, alloc, back, 0)?;
+        assert_eq!(rt; stop, Some(Stop::Trap(code)), "{what} back");
     }
     Ok(())
 }
 
 #[test]
-fn updates_and_swaps_both_ways(rt: HostRuntime) -> Result<(), Fail> {
+fn an_update_both_ways(rt: HostRuntime) -> Result<(), Fail> {
     let alloc = rt.alloc();
-    // arr[a] += bb, and back
+    let variables = variables(alloc)?;
+    assert!(rt; variables.len() <= 48);
+    let visible: &[Var] = &variables;
+    let names = Names {
+        variables: visible,
+        fields: &[],
+    };
+    // arr[a] += bb, and undone
     let place = item(alloc, "arr", read(alloc, "a")?)?;
     let value = read(alloc, "bb")?;
-    let piece = update_code(alloc, UpdateOp::Add, &place, &value, &scope())?;
+    let piece = update_piece(alloc, UpdateOp::Add, &place, &value, &names)?;
     let back = mirror(alloc, &piece)?;
     let image = image_of(&rt, alloc, piece)?;
     let other = image_of(&rt, alloc, back)?;
-    let mut core = core_at_start();
+    let mut core = core_with(0);
     let mut words = memory(&rt, alloc)?;
-    assert!(rt; run(&image, &mut core, &mut words).is_some());
-    assert_eq!(rt; changed(&words), 1);
+    assert_eq!(rt;
+        run(&image, &mut core, &mut words),
+        Some(Stop::Finished),
+        "arr[a] += bb"
+    );
+    assert!(rt; words.words.len() == 200);
+    assert_eq!(rt;
+        (words.words[53], changed(&words)),
+        (13, 1),
+        "8 + 5, and nothing else"
+    );
     core.pc = 0;
-    assert!(rt; run(&other, &mut core, &mut words).is_some());
-    assert_eq!(rt; changed(&words), 0);
-    // arr[0] <=> arr[a], and arr[1] <=> arr[a], which are one
-    for row in 0..2u32 {
-        let left = item(alloc, "arr", number(row))?;
+    assert_eq!(rt;
+        run(&other, &mut core, &mut words),
+        Some(Stop::Finished),
+        "arr[a] -= bb"
+    );
+    assert_eq!(rt; changed(&words), 0, "as it was");
+    assert!(rt; core.regs == core_with(0).regs);
+    Ok(())
+}
+
+#[test]
+fn swaps(rt: HostRuntime) -> Result<(), Fail> {
+    let alloc = rt.alloc();
+    let variables = variables(alloc)?;
+    assert!(rt; variables.len() <= 48);
+    let visible: &[Var] = &variables;
+    let names = Names {
+        variables: visible,
+        fields: &[],
+    };
+    for (index, differ, what) in [
+        (0, 2, "arr[0] <=> arr[a]"),
+        (1, 0, "arr[1] <=> arr[a], which are one"),
+    ] {
+        let left = item(alloc, "arr", number(index))?;
         let right = item(alloc, "arr", read(alloc, "a")?)?;
-        let piece = swap_code(alloc, &left, &right, &scope())?;
-        let image = image_of(&rt, alloc, piece)?;
-        let mut core = core_at_start();
-        let mut words = memory(&rt, alloc)?;
-        let end = run(&image, &mut core, &mut words);
-        let Some((stop, _)) = end else {
-            assert!(rt; false);
-            return Ok(());
-        };
-        assert_eq!(rt; stop, Stop::Finished);
-        assert_eq!(rt; changed(&words), 2 - 2 * row);
-        assert_eq!(rt; core.regs[22], 0);
+        let piece = swap_piece(alloc, &left, &right, &names)?;
+        let end = seen(&rt, alloc, piece, 0)?;
+        assert_eq!(rt; end, (Some(Stop::Finished), true, 0, differ), "{what}");
+    }
+    Ok(())
+}
+
+#[test]
+fn arrays_are_kept_apart(rt: HostRuntime) -> Result<(), Fail> {
+    let alloc = rt.alloc();
+    let variables = variables(alloc)?;
+    assert!(rt; variables.len() <= 48);
+    let visible: &[Var] = &variables;
+    let names = Names {
+        variables: visible,
+        fields: &[],
+    };
+    for (array, index, stop, what) in [
+        ("arr", 1, Stop::Trap(16), "arr[0] += arr[1]"),
+        (
+            "same",
+            1,
+            Stop::Trap(16),
+            "arr[0] += same[1], one array by two names",
+        ),
+        ("other", 1, Stop::Finished, "arr[0] += other[1]"),
+        ("none", 1, Stop::Trap(5), "arr[0] += none[1]"),
+        ("same", 3, Stop::Trap(9), "arr[0] += same[3], past the end"),
+    ] {
+        let place = item(alloc, "arr", number(0))?;
+        let left = both(alloc, BinOp::Add, read(alloc, "a")?, read(alloc, "bb")?)?;
+        let right = element(alloc, array, number(index))?;
+        let value = both(alloc, BinOp::Xor, left, right)?;
+        let piece = update_piece(alloc, UpdateOp::Add, &place, &value, &names)?;
+        let back = mirror(alloc, &piece)?;
+        let (found, ..) = seen(&rt, alloc, piece, 0)?;
+        assert_eq!(rt; found, Some(stop), "{what}");
+        let (found, ..) = seen(&rt, alloc, back, 0)?;
+        assert_eq!(rt; found, Some(stop), "{what} back");
+    }
+    for (array, index, stop, what) in [
+        ("arr", 8, Stop::Trap(16), "arr[arr[1] - 8] <=> arr[0]"),
+        ("other", 4, Stop::Finished, "arr[other[1] - 4] <=> arr[0]"),
+    ] {
+        let inner = element(alloc, array, number(1))?;
+        let at = both(alloc, BinOp::Sub, inner, number(index))?;
+        let left = item(alloc, "arr", at)?;
+        let right = item(alloc, "arr", number(0))?;
+        let piece = swap_piece(alloc, &left, &right, &names)?;
+        let (found, ..) = seen(&rt, alloc, piece, 0)?;
+        assert_eq!(rt; found, Some(stop), "{what}");
     }
     Ok(())
 }

@@ -1,19 +1,21 @@
 // The code of values.
-ghost use Rattle.std.specs.Prelude.{◌≡◌, ◌≢◌, ◌<◌, ◌≤◌, ◌⊎◌, ◌+◌, ◌^◌, [], ◌∷◌, ◌++◌, IfOk};
+ghost use Rattle.std.specs.Prelude.{◌≡◌, ◌≢◌, ◌<◌, ◌≤◌, ◌⊎◌, ◌+◌, ◌*◌, ◌^◌, [], ◌∷◌, ◌++◌, length, IfOk};
 ghost use Rattle.rpp_tree.specs.Views.{expression_of, lvalue_of};
 ghost use Rattle.paired_code.specs.Code.{unmarked};
 ghost use Rattle.expr_uncompute.specs.Code.{Target, words as words_of, place_words as words_of_place, operand_cells, checked_cells as checked_of, open_cells, prepare_cells, parts_cells, fetch_cells, value_cells, test_cells, result_of, truth as truth_register, nil_check as nil_cells, index_check as index_cells};
 ghost use Rattle.expr_uncompute.specs.Number.{read_of};
 ghost use Rattle.expr_uncompute.specs.Promises.{ValueLaw, TestLaw};
-ghost use Rattle.expr_uncompute.specs.Toy.{spot_by};
+ghost use Rattle.expr_uncompute.specs.Steps.{tokens};
+ghost use Rattle.expr_uncompute.specs.Visible.{spot_of as spot_of_name, free_of, known_by};
 
 use crate::Spot;
 use crate::cells::{enclosed, exch, xor, xori};
+use crate::known::Names;
+use crate::names::{free, spot_of};
 use crate::rows::{
     CONTENT, LEFT, RIGHT, copy, index_check, nil_check, operator, operator_register, point,
     reached, store, truth,
 };
-use crate::scope::{Scope, spot_of};
 use paired_code::{Piece, empty, seq};
 use rpp_tree::Text;
 use rpp_tree::tree::{Expr, Place};
@@ -62,16 +64,16 @@ pub fn place_words(place: &Place) -> u32
 }
 
 // A word of the frame.
-fn home(scope: &Scope, i: u32) -> Spot
+fn home(names: &Names, i: u32) -> Spot
     requires { i ≤ 2000 }
-    ensures { result ≡ Spot.Frame (scope.now.free + i) }
+    ensures { result ≡ Spot.Frame (free_of (known_by names.now) + i) }
 {
-    Spot::Frame(scope.free + i)
+    Spot::Frame(free(names) + i)
 }
 
 fn operand_read(
     alloc: Global,
-    scope: &Scope,
+    names: &Names,
     place: &Place,
     i: u32,
     into: u8,
@@ -79,26 +81,26 @@ fn operand_read(
     requires room { i ≤ 2000 }
     requires register { into < 32 }
     requires apart { into ≢ CONTENT }
-    ensures { IfOk result (λ p. p ≡ unmarked (operand_cells (spot_by scope.now.names) scope.now.free (read_of (lvalue_of place.now)) i into)) }
+    ensures { IfOk result (λ p. p ≡ unmarked (operand_cells (spot_of_name (known_by names.now)) (free_of (known_by names.now)) (read_of (lvalue_of place.now)) i into)) }
 {
     match &place.index {
-        None => copy(alloc, spot_of(scope, &place.name.text), into),
-        Some(_) => copy(alloc, home(scope, i), into),
+        None => copy(alloc, spot_of(names, &place.name.text), into),
+        Some(_) => copy(alloc, home(names, i), into),
     }
 }
 
 /// The value of an operand xored into a register.
-pub fn operand(alloc: Global, scope: &Scope, e: &Expr, i: u32, into: u8) -> Result<Piece, NoMemory>
+pub fn operand(alloc: Global, names: &Names, e: &Expr, i: u32, into: u8) -> Result<Piece, NoMemory>
     requires room { i ≤ 2000 }
     requires register { into < 32 }
     requires apart { into ≢ CONTENT }
-    ensures { IfOk result (λ p. p ≡ unmarked (operand_cells (spot_by scope.now.names) scope.now.free (expression_of e.now) i into)) }
+    ensures { IfOk result (λ p. p ≡ unmarked (operand_cells (spot_of_name (known_by names.now)) (free_of (known_by names.now)) (expression_of e.now) i into)) }
 {
     match e {
         Expr::Number { word, .. } => xori(alloc, into, *word),
         Expr::Nil { .. } => Ok(empty(alloc)),
-        Expr::Read(place) => operand_read(alloc, scope, place, i, into),
-        Expr::Binary { .. } => copy(alloc, home(scope, i), into),
+        Expr::Read(place) => operand_read(alloc, names, place, i, into),
+        Expr::Binary { .. } => copy(alloc, home(names, i), into),
     }
 }
 
@@ -113,29 +115,29 @@ fn both_checks(alloc: Global) -> Result<Piece, NoMemory>
 /// An element's index and array, both checked.
 pub fn checked(
     alloc: Global,
-    scope: &Scope,
+    names: &Names,
     name: &Text,
     index: &Expr,
     i: u32,
 ) -> Result<Piece, NoMemory>
     requires { i ≤ 2000 }
-    ensures { IfOk result (λ p. p ≡ unmarked (checked_of (spot_by scope.now.names) scope.now.free name.now (expression_of index.now) i)) }
+    ensures { IfOk result (λ p. p ≡ unmarked (checked_of (spot_of_name (known_by names.now)) (free_of (known_by names.now)) name.now (expression_of index.now) i)) }
 {
-    let first = operand(alloc, scope, index, i, LEFT)?;
-    let array = copy(alloc, spot_of(scope, name), RIGHT)?;
+    let first = operand(alloc, names, index, i, LEFT)?;
+    let array = copy(alloc, spot_of(names, name), RIGHT)?;
     let checks = both_checks(alloc)?;
     let rest = seq(array, checks)?;
     seq(first, rest)
 }
 
-fn open_read(alloc: Global, scope: &Scope, place: &Place, i: u32) -> Result<Piece, NoMemory>
+fn open_read(alloc: Global, names: &Names, place: &Place, i: u32) -> Result<Piece, NoMemory>
     requires { i ≤ 1000 }
-    ensures { IfOk result (λ p. p ≡ unmarked (open_cells (spot_by scope.now.names) scope.now.free (read_of (lvalue_of place.now)) i)) }
+    ensures { IfOk result (λ p. p ≡ unmarked (open_cells (spot_of_name (known_by names.now)) (free_of (known_by names.now)) (read_of (lvalue_of place.now)) i)) }
 {
     match &place.index {
-        None => reached(alloc, spot_of(scope, &place.name.text)),
+        None => reached(alloc, spot_of(names, &place.name.text)),
         Some(index) => {
-            let front = checked(alloc, scope, &place.name.text, index, i + 1)?;
+            let front = checked(alloc, names, &place.name.text, index, i + 1)?;
             let address = point(alloc)?;
             let word = exch(alloc, ITEM, RIGHT)?;
             let rest = seq(address, word)?;
@@ -145,22 +147,22 @@ fn open_read(alloc: Global, scope: &Scope, place: &Place, i: u32) -> Result<Piec
 }
 
 /// The value of an expression in its register, where its parts are prepared.
-pub fn open(alloc: Global, scope: &Scope, e: &Expr, i: u32) -> Result<Piece, NoMemory>
+pub fn open(alloc: Global, names: &Names, e: &Expr, i: u32) -> Result<Piece, NoMemory>
     requires { i + words_of (expression_of e.now) ≤ 1000 }
-    ensures { IfOk result (λ p. p ≡ unmarked (open_cells (spot_by scope.now.names) scope.now.free (expression_of e.now) i)) }
+    ensures { IfOk result (λ p. p ≡ unmarked (open_cells (spot_of_name (known_by names.now)) (free_of (known_by names.now)) (expression_of e.now) i)) }
 {
     match e {
         Expr::Number { word, .. } => xori(alloc, CONTENT, *word),
         Expr::Nil { .. } => Ok(empty(alloc)),
-        Expr::Read(place) => open_read(alloc, scope, place, i),
+        Expr::Read(place) => open_read(alloc, names, place, i),
         Expr::Binary {
             op,
             left,
             right,
             ..
         } => {
-            let first = operand(alloc, scope, left, i + 1, LEFT)?;
-            let second = operand(alloc, scope, right, i + 1 + words(left), RIGHT)?;
+            let first = operand(alloc, names, left, i + 1, LEFT)?;
+            let second = operand(alloc, names, right, i + 1 + words(left), RIGHT)?;
             let row = operator(alloc, *op)?;
             let rest = seq(second, row)?;
             seq(first, rest)
@@ -170,25 +172,25 @@ pub fn open(alloc: Global, scope: &Scope, e: &Expr, i: u32) -> Result<Piece, NoM
 
 /// Every element and operator computed once into its word of the frame.
 #[cycle(prepared)]
-pub fn prepare(alloc: Global, scope: &Scope, e: &Expr, i: u32) -> Result<Piece, NoMemory>
+pub fn prepare(alloc: Global, names: &Names, e: &Expr, i: u32) -> Result<Piece, NoMemory>
     requires { i + words_of (expression_of e.now) ≤ 1000 }
-    ensures { IfOk result (λ p. p ≡ unmarked (prepare_cells (spot_by scope.now.names) scope.now.free (expression_of e.now) i)) }
+    ensures { IfOk result (λ p. p ≡ unmarked (prepare_cells (spot_of_name (known_by names.now)) (free_of (known_by names.now)) (expression_of e.now) i)) }
 {
     match e {
         Expr::Number { .. } => Ok(empty(alloc)),
         Expr::Nil { .. } => Ok(empty(alloc)),
-        Expr::Read(place) => prepare_read(alloc, scope, place, i),
+        Expr::Read(place) => prepare_read(alloc, names, place, i),
         Expr::Binary {
             op,
             left,
             right,
             ..
         } => {
-            let first = prepare(alloc, scope, left, i + 1)?;
-            let second = prepare(alloc, scope, right, i + 1 + words(left))?;
+            let first = prepare(alloc, names, left, i + 1)?;
+            let second = prepare(alloc, names, right, i + 1 + words(left))?;
             let parts = seq(first, second)?;
-            let opened = open(alloc, scope, e, i)?;
-            let kept = store(alloc, home(scope, i), operator_register(*op))?;
+            let opened = open(alloc, names, e, i)?;
+            let kept = store(alloc, home(names, i), operator_register(*op))?;
             let node = enclosed(alloc, opened, kept)?;
             seq(parts, node)
         }
@@ -196,44 +198,44 @@ pub fn prepare(alloc: Global, scope: &Scope, e: &Expr, i: u32) -> Result<Piece, 
 }
 
 #[cycle(prepared)]
-fn prepare_read(alloc: Global, scope: &Scope, place: &Place, i: u32) -> Result<Piece, NoMemory>
+fn prepare_read(alloc: Global, names: &Names, place: &Place, i: u32) -> Result<Piece, NoMemory>
     requires { i + words_of (read_of (lvalue_of place.now)) ≤ 1000 }
-    ensures { IfOk result (λ p. p ≡ unmarked (prepare_cells (spot_by scope.now.names) scope.now.free (read_of (lvalue_of place.now)) i)) }
+    ensures { IfOk result (λ p. p ≡ unmarked (prepare_cells (spot_of_name (known_by names.now)) (free_of (known_by names.now)) (read_of (lvalue_of place.now)) i)) }
 {
     match &place.index {
         None => Ok(empty(alloc)),
         Some(index) => {
-            let parts = prepare(alloc, scope, index, i + 1)?;
-            let opened = open_read(alloc, scope, place, i)?;
-            let kept = store(alloc, home(scope, i), ITEM)?;
+            let parts = prepare(alloc, names, index, i + 1)?;
+            let opened = open_read(alloc, names, place, i)?;
+            let kept = store(alloc, home(names, i), ITEM)?;
             let node = enclosed(alloc, opened, kept)?;
             seq(parts, node)
         }
     }
 }
 
-fn parts_read(alloc: Global, scope: &Scope, place: &Place, i: u32) -> Result<Piece, NoMemory>
+fn parts_read(alloc: Global, names: &Names, place: &Place, i: u32) -> Result<Piece, NoMemory>
     requires { i + words_of (read_of (lvalue_of place.now)) ≤ 1000 }
-    ensures { IfOk result (λ p. p ≡ unmarked (parts_cells (spot_by scope.now.names) scope.now.free (read_of (lvalue_of place.now)) i)) }
+    ensures { IfOk result (λ p. p ≡ unmarked (parts_cells (spot_of_name (known_by names.now)) (free_of (known_by names.now)) (read_of (lvalue_of place.now)) i)) }
 {
     match &place.index {
         None => Ok(empty(alloc)),
-        Some(index) => prepare(alloc, scope, index, i + 1),
+        Some(index) => prepare(alloc, names, index, i + 1),
     }
 }
 
 /// The parts of an expression prepared.
-pub fn parts(alloc: Global, scope: &Scope, e: &Expr, i: u32) -> Result<Piece, NoMemory>
+pub fn parts(alloc: Global, names: &Names, e: &Expr, i: u32) -> Result<Piece, NoMemory>
     requires { i + words_of (expression_of e.now) ≤ 1000 }
-    ensures { IfOk result (λ p. p ≡ unmarked (parts_cells (spot_by scope.now.names) scope.now.free (expression_of e.now) i)) }
+    ensures { IfOk result (λ p. p ≡ unmarked (parts_cells (spot_of_name (known_by names.now)) (free_of (known_by names.now)) (expression_of e.now) i)) }
 {
     match e {
         Expr::Number { .. } => Ok(empty(alloc)),
         Expr::Nil { .. } => Ok(empty(alloc)),
-        Expr::Read(place) => parts_read(alloc, scope, place, i),
+        Expr::Read(place) => parts_read(alloc, names, place, i),
         Expr::Binary { left, right, .. } => {
-            let first = prepare(alloc, scope, left, i + 1)?;
-            let second = prepare(alloc, scope, right, i + 1 + words(left))?;
+            let first = prepare(alloc, names, left, i + 1)?;
+            let second = prepare(alloc, names, right, i + 1 + words(left))?;
             seq(first, second)
         }
     }
@@ -265,28 +267,30 @@ pub fn result_register(e: &Expr) -> u8
 }
 
 /// The value of an expression xored into a register.
-pub fn value_code(alloc: Global, e: &Expr, scope: &Scope, into: u8) -> Result<Piece, NoMemory>
+pub fn value_piece(alloc: Global, e: &Expr, names: &Names, into: u8) -> Result<Piece, NoMemory>
     requires register { Target into }
     requires room { words_of (expression_of e.now) ≤ 1000 }
-    ensures code { IfOk result (λ p. p ≡ unmarked (value_cells (spot_by scope.now.names) scope.now.free (expression_of e.now) into)) }
-    ensures law { IfOk result (λ p. ValueLaw (spot_by scope.now.names) scope.now.free into (expression_of e.now) p.cells) }
+    ensures code { IfOk result (λ p. p ≡ unmarked (value_cells (spot_of_name (known_by names.now)) (free_of (known_by names.now)) (expression_of e.now) into)) }
+    ensures law { IfOk result (λ p. ValueLaw (spot_of_name (known_by names.now)) (free_of (known_by names.now)) into (expression_of e.now) p.cells) }
+    ensures size { IfOk result (λ p. length p.cells ≤ 58 * tokens (expression_of e.now)) }
 {
-    let outer = parts(alloc, scope, e, 0)?;
-    let opened = open(alloc, scope, e, 0)?;
+    let outer = parts(alloc, names, e, 0)?;
+    let opened = open(alloc, names, e, 0)?;
     let last = xor(alloc, into, result_register(e))?;
     let middle = enclosed(alloc, opened, last)?;
     enclosed(alloc, outer, middle)
 }
 
 /// Whether it is true xored into a register.
-pub fn test_code(alloc: Global, e: &Expr, scope: &Scope, into: u8) -> Result<Piece, NoMemory>
+pub fn test_piece(alloc: Global, e: &Expr, names: &Names, into: u8) -> Result<Piece, NoMemory>
     requires register { Target into }
     requires room { words_of (expression_of e.now) ≤ 1000 }
-    ensures code { IfOk result (λ p. p ≡ unmarked (test_cells (spot_by scope.now.names) scope.now.free (expression_of e.now) into)) }
-    ensures law { IfOk result (λ p. TestLaw (spot_by scope.now.names) scope.now.free into (expression_of e.now) p.cells) }
+    ensures code { IfOk result (λ p. p ≡ unmarked (test_cells (spot_of_name (known_by names.now)) (free_of (known_by names.now)) (expression_of e.now) into)) }
+    ensures law { IfOk result (λ p. TestLaw (spot_of_name (known_by names.now)) (free_of (known_by names.now)) into (expression_of e.now) p.cells) }
+    ensures size { IfOk result (λ p. length p.cells ≤ 58 * tokens (expression_of e.now)) }
 {
-    let outer = parts(alloc, scope, e, 0)?;
-    let opened = open(alloc, scope, e, 0)?;
+    let outer = parts(alloc, names, e, 0)?;
+    let opened = open(alloc, names, e, 0)?;
     let told = truth(alloc, TRUTH, result_register(e))?;
     let opened = seq(opened, told)?;
     let last = xor(alloc, into, TRUTH)?;
