@@ -1,0 +1,391 @@
+-- How many steps and cells code of expressions has at most.
+use Rattle.std.proofs.Common.{◌≡◌, ℕ, ◌+◌, ◌*◌, ◌≤◌, List, [], ◌∷◌, ◌++◌, length, length-append, refl, arith}
+use Rattle.rpp_tree.specs.declared.tree.BinOp.{BinOp}
+use Rattle.rpp_tree.specs.declared.tree.BinOp.TheVariants as op
+use Rattle.rpp_tree.specs.declared.tree.UpdateOp.{UpdateOp}
+use Rattle.rpp_tree.specs.Tree.{Expression, Number, Null, Variable, Element, Binary, Lvalue, Whole, Item, nodes, index_nodes}
+use Rattle.paired_code.specs.declared.part.Symbol.{Symbol}
+use Rattle.paired_code.specs.Layout.{mirror_cells, check_cells}
+use Rattle.paired_code.proofs.Mirrored.{length_mirror}
+use Rattle.expr_uncompute.specs.declared.Spot.{Spot}
+use Rattle.roopl_semantics.specs.Elements.{elements, index_elements, own_element, read_cost}
+use Rattle.expr_uncompute.specs.Number.{index_of}
+use Rattle.expr_uncompute.specs.Code
+use Rattle.expr_uncompute.specs.Steps.{operator_steps, operand_steps, open_steps, prepare_steps, parts_steps, value_steps, test_steps, fetch_steps, place_steps, compare_steps, apart_steps, both_apart_steps, update_steps, swap_steps, tokens, place_tokens}
+
+-- ---- steps
+
+some_nodes : (e : Expression) → 1 ≤ nodes e
+some_nodes (Number at word) = omega arith
+some_nodes (Null at) = omega arith
+some_nodes (Variable name) = omega arith
+some_nodes (Element name index) = omega arith
+some_nodes (Binary at o left right) = omega arith
+
+operator_most : (o : BinOp) → operator_steps o ≤ 5
+operator_most op.Add = omega arith
+operator_most op.Sub = omega arith
+operator_most op.Xor = omega arith
+operator_most op.And = omega arith
+operator_most op.Or = omega arith
+operator_most op.AndAlso = omega arith
+operator_most op.OrElse = omega arith
+operator_most op.Less = omega arith
+operator_most op.Greater = omega arith
+operator_most op.AtMost = omega arith
+operator_most op.AtLeast = omega arith
+operator_most op.Equal = omega arith
+operator_most op.NotEqual = omega arith
+operator_most _ = omega arith
+
+operand_most : (e : Expression) → operand_steps e ≤ 7
+operand_most (Number at word) = omega arith
+operand_most (Null at) = omega arith
+operand_most (Variable name) = omega arith
+operand_most (Element name index) = omega arith
+operand_most (Binary at o left right) = omega arith
+
+open_most : (e : Expression) → open_steps e ≤ 37
+open_most (Number at word) = omega arith
+open_most (Null at) = omega arith
+open_most (Variable name) = omega arith
+open_most (Element name index) = let a = operand_most index in omega arith
+open_most (Binary at o left right) = let a = operand_most left in let b = operand_most right in let c = operator_most o in omega arith
+
+prepare_most : (e : Expression) → prepare_steps e ≤ 81 * nodes e
+prepare_most (Number at word) = omega arith
+prepare_most (Null at) = omega arith
+prepare_most (Variable name) = omega arith
+prepare_most (Element name index) = let a = open_most (Element name index) in let b = prepare_most index in omega arith
+prepare_most (Binary at o left right) = let a = open_most (Binary at o left right) in let b = prepare_most left in let c = prepare_most right in omega arith
+
+parts_most : (e : Expression) → parts_steps e + 81 ≤ 81 * nodes e
+parts_most (Number at word) = omega arith
+parts_most (Null at) = omega arith
+parts_most (Variable name) = omega arith
+parts_most (Element name index) = let b = prepare_most index in omega arith
+parts_most (Binary at o left right) = let b = prepare_most left in let c = prepare_most right in omega arith
+
+pub value_most : (e : Expression) → value_steps e ≤ 162 * nodes e
+value_most e = let a = parts_most e in let b = open_most e in omega arith
+
+pub test_most : (e : Expression) → test_steps e ≤ 162 * nodes e
+test_most e = let a = parts_most e in let b = open_most e in omega arith
+
+pub fetch_most : (e : Expression) → fetch_steps e ≤ 81 * nodes e
+fetch_most e = let a = parts_most e in let b = open_most e in omega arith
+
+pub place_most : (target : Lvalue) → place_steps target ≤ 152 * index_nodes target + 2
+place_most (Whole name) = omega arith
+place_most (Item name index) = let a = operand_most index in let b = prepare_most index in let c = some_nodes index in omega arith
+
+pub place_less : (target : Lvalue) → place_steps target ≤ 81 * index_nodes target + 73
+place_less (Whole name) = omega arith
+place_less (Item name index) = let a = operand_most index in let b = prepare_most index in omega arith
+
+compare_is : (e : Expression) → compare_steps e ≡ 30 * length (elements e)
+compare_is (Number at word) = refl
+compare_is (Null at) = refl
+compare_is (Variable name) = refl
+compare_is (Element name index) = let a = compare_is index in omega arith
+compare_is (Binary at op left right) =
+    let a = compare_is left in
+    let b = compare_is right in
+    omega (arith, length-append (elements left) (elements right))
+
+index_compare_is : (target : Lvalue) → compare_steps (index_of target) ≡ 30 * length (index_elements target)
+index_compare_is (Whole name) = refl
+index_compare_is (Item name index) = compare_is index
+
+-- what an update compares, by what the source counts
+apart_is : (target : Lvalue) (e : Expression) → apart_steps target (index_of target) e ≡ 30 * read_cost (own_element target) (index_elements target ++ elements e)
+apart_is (Whole name) e = refl
+apart_is (Item name index) e =
+    let a = compare_is index in
+    let b = compare_is e in
+    omega (arith, length-append (elements index) (elements e))
+
+-- and what a swap compares: twice so much where both places are elements
+both_apart_most : (left right : Lvalue) → both_apart_steps left right ≤ 60 * read_cost (own_element left ++ own_element right) (index_elements left ++ index_elements right)
+both_apart_most (Whole name) (Whole other) = omega arith
+both_apart_most (Whole name) (Item other index) =
+    let a = compare_is index in omega arith
+both_apart_most (Item name index) right =
+    let a = compare_is index in
+    let b = index_compare_is right in
+    let c = side right in
+    omega (arith, length-append (elements index) (index_elements right))
+  where
+    side : (right : Lvalue) → apart_steps right index (index_of right) ≤ compare_steps index + compare_steps (index_of right)
+    side (Whole other) = omega arith
+    side (Item other k) = omega arith
+
+both_apart_least : (left right : Lvalue) → read_cost (own_element left ++ own_element right) (index_elements left ++ index_elements right) ≤ both_apart_steps left right
+both_apart_least (Whole name) (Whole other) = omega arith
+both_apart_least (Whole name) (Item other index) = let a = compare_is index in omega arith
+both_apart_least (Item name index) right =
+    let a = compare_is index in
+    let b = index_compare_is right in
+    omega (arith, length-append (elements index) (index_elements right))
+
+-- a statement counts 1 beside its nodes, and 1 for each element that it reads where it changes one
+pub update_most : (target : Lvalue) (e : Expression) → update_steps target e ≤ 162 * (1 + index_nodes target + nodes e + read_cost (own_element target) (index_elements target ++ elements e))
+update_most target e = let a = place_less target in let b = fetch_most e in let c = apart_is target e in omega arith
+
+pub swap_most : (left right : Lvalue) → swap_steps left right ≤ 304 * (1 + index_nodes left + index_nodes right + read_cost (own_element left ++ own_element right) (index_elements left ++ index_elements right))
+swap_most left right = let a = place_most left in let b = place_most right in let c = both_apart_most left right in omega arith
+
+-- so do faults of a shared array
+pub update_sharing_most : (target : Lvalue) (e : Expression) → place_steps target + fetch_steps e + apart_steps target (index_of target) e ≤ 162 * (1 + index_nodes target + nodes e + read_cost (own_element target) (index_elements target ++ elements e))
+update_sharing_most target e = let a = place_less target in let b = fetch_most e in let c = apart_is target e in omega arith
+
+pub swap_sharing_most : (left right : Lvalue) → place_steps left + place_steps right + both_apart_steps left right ≤ 304 * (1 + index_nodes left + index_nodes right + read_cost (own_element left ++ own_element right) (index_elements left ++ index_elements right))
+swap_sharing_most left right = let a = place_most left in let b = place_most right in let c = both_apart_most left right in omega arith
+
+-- an expression of few nodes needs few words of the frame
+pub words_most : (e : Expression) → Code.words e + 1 ≤ nodes e
+words_most (Number at word) = omega arith
+words_most (Null at) = omega arith
+words_most (Variable name) = omega arith
+words_most (Element name index) = let a = words_most index in omega arith
+words_most (Binary at o left right) = let a = words_most left in let b = words_most right in omega arith
+
+pub place_words_most : (target : Lvalue) → Code.place_words target ≤ index_nodes target
+place_words_most (Whole name) = omega arith
+place_words_most (Item name index) = let a = words_most index in omega arith
+
+-- and has few tokens for its nodes
+pub tokens_most : (e : Expression) → tokens e ≤ 3 * nodes e
+tokens_most (Number at word) = omega arith
+tokens_most (Null at) = omega arith
+tokens_most (Variable name) = omega arith
+tokens_most (Element name index) = let a = tokens_most index in omega arith
+tokens_most (Binary at o left right) = let a = tokens_most left in let b = tokens_most right in omega arith
+
+-- ---- cells
+
+pub length_around : (w mid : List Symbol) → length (Code.around w mid) ≡ length w + (length mid + length w)
+length_around w mid = omega (arith, length-append w (mid ++ mirror_cells w), length-append mid (mirror_cells w), length_mirror w)
+
+module _ (spot : List ℕ → Spot) (free : ℕ) where
+  copy_cells : (s : Spot) (into : ℕ) → length (Code.copy_cells s into) ≡ 7
+  copy_cells s into = length_around (Code.reach_cells s) (Code.xor into Code.content ∷ [])
+
+  operand_cells : (e : Expression) (i into : ℕ) → length (Code.operand_cells spot free e i into) ≤ 7
+  operand_cells (Number at word) i into = omega arith
+  operand_cells (Null at) i into = omega arith
+  operand_cells (Variable name) i into = let h = copy_cells (spot name.text) into in omega arith
+  operand_cells (Element name index) i into = let h = copy_cells (Rattle.expr_uncompute.specs.declared.Spot.TheVariants.Frame (free + i)) into in omega arith
+  operand_cells (Binary at o left right) i into = let h = copy_cells (Rattle.expr_uncompute.specs.declared.Spot.TheVariants.Frame (free + i)) into in omega arith
+
+  operator_cells : (o : BinOp) → length (Code.operator_cells o) ≤ 5
+  operator_cells op.Add = omega arith
+  operator_cells op.Sub = omega arith
+  operator_cells op.Xor = omega arith
+  operator_cells op.And = omega arith
+  operator_cells op.Or = omega arith
+  operator_cells op.AndAlso = omega arith
+  operator_cells op.OrElse = omega arith
+  operator_cells op.Less = omega arith
+  operator_cells op.Greater = omega arith
+  operator_cells op.AtMost = omega arith
+  operator_cells op.AtLeast = omega arith
+  operator_cells op.Equal = omega arith
+  operator_cells op.NotEqual = omega arith
+  operator_cells _ = omega arith
+
+  nil_cells : length Code.nil_check ≡ 9
+  nil_cells = refl
+
+  index_cells : length Code.index_check ≡ 13
+  index_cells = refl
+
+  checked_cells : (name : List ℕ) (index : Expression) (i : ℕ) → length (Code.checked_cells spot free name index i) ≤ 36
+  checked_cells name index i =
+      let a = operand_cells index i Code.left_operand in
+      let c = copy_cells (spot name) Code.right_operand in
+      let p = Code.operand_cells spot free index i Code.left_operand in
+      let r = Code.copy_cells (spot name) Code.right_operand in
+      omega (arith, length-append p (r ++ (Code.nil_check ++ Code.index_check)), length-append r (Code.nil_check ++ Code.index_check), length-append Code.nil_check Code.index_check, nil_cells, index_cells)
+
+  -- an element has at most 39 cells open, an operator 19, a leaf 3
+  abbrev open_bound : Expression → ℕ
+  open_bound (Element name index) = 39
+  open_bound (Binary at o left right) = 19
+  open_bound _ = 3
+
+  open_cells : (e : Expression) (i : ℕ) → length (Code.open_cells spot free e i) ≤ open_bound e
+  open_cells (Number at word) i = omega arith
+  open_cells (Null at) i = omega arith
+  open_cells (Variable name) i = omega arith
+  open_cells (Element name index) i =
+      let a = checked_cells name.text index (i + 1) in
+      omega (arith, length-append (Code.checked_cells spot free name.text index (i + 1)) (Code.point_cells ++ Code.exch Code.item Code.right_operand ∷ []))
+  open_cells (Binary at o left right) i =
+      let a = operand_cells left (i + 1) Code.left_operand in
+      let c = operand_cells right (i + 1 + Code.words left) Code.right_operand in
+      let d = operator_cells o in
+      let p = Code.operand_cells spot free left (i + 1) Code.left_operand in
+      let r = Code.operand_cells spot free right (i + 1 + Code.words left) Code.right_operand in
+      omega (arith, length-append p (r ++ Code.operator_cells o), length-append r (Code.operator_cells o))
+
+  store_cells : (s : Spot) (r : ℕ) → length (Code.store_cells s r) ≡ 7
+  store_cells s r = length_around (Code.reach_cells s) (Code.xor Code.content r ∷ [])
+
+  prepare_cells : (e : Expression) (i : ℕ) → length (Code.prepare_cells spot free e i) + 16 ≤ 29 * tokens e
+  prepare_cells (Number at word) i = omega arith
+  prepare_cells (Null at) i = omega arith
+  prepare_cells (Variable name) i = omega arith
+  prepare_cells (Element name index) i =
+      let whole : Expression = Element name index in
+      let s = Code.store_cells (Rattle.expr_uncompute.specs.declared.Spot.TheVariants.Frame (free + i)) Code.item in
+      let a = prepare_cells index (i + 1) in
+      let c = open_cells whole i in
+      omega (arith, length-append (Code.prepare_cells spot free index (i + 1)) (Code.around (Code.open_cells spot free whole i) s), length_around (Code.open_cells spot free whole i) s, store_cells (Rattle.expr_uncompute.specs.declared.Spot.TheVariants.Frame (free + i)) Code.item)
+  prepare_cells (Binary at o left right) i =
+      let whole : Expression = Binary at o left right in
+      let s = Code.store_cells (Rattle.expr_uncompute.specs.declared.Spot.TheVariants.Frame (free + i)) (Code.operator_result o) in
+      let p = Code.prepare_cells spot free left (i + 1) in
+      let r = Code.prepare_cells spot free right (i + 1 + Code.words left) in
+      let a = prepare_cells left (i + 1) in
+      let d = prepare_cells right (i + 1 + Code.words left) in
+      let c = open_cells whole i in
+      omega (arith, length-append (p ++ r) (Code.around (Code.open_cells spot free whole i) s), length-append p r, length_around (Code.open_cells spot free whole i) s, store_cells (Rattle.expr_uncompute.specs.declared.Spot.TheVariants.Frame (free + i)) (Code.operator_result o))
+
+  -- the parts and the opened node, with room for nine cells
+  both_cells : (e : Expression) (i : ℕ) → length (Code.parts_cells spot free e i) + length (Code.open_cells spot free e i) + 9 ≤ 29 * tokens e
+  both_cells (Number at word) i = omega arith
+  both_cells (Null at) i = omega arith
+  both_cells (Variable name) i = omega arith
+  both_cells (Element name index) i = let a = prepare_cells index (i + 1) in let c = open_cells (Element name index) i in omega arith
+  both_cells (Binary at o left right) i =
+      let a = prepare_cells left (i + 1) in
+      let d = prepare_cells right (i + 1 + Code.words left) in
+      let c = open_cells (Binary at o left right) i in
+      omega (arith, length-append (Code.prepare_cells spot free left (i + 1)) (Code.prepare_cells spot free right (i + 1 + Code.words left)))
+
+  pub value_cells : (e : Expression) (into : ℕ) → length (Code.value_cells spot free e into) ≤ 58 * tokens e
+  value_cells e into =
+      let mid = Code.around (Code.open_cells spot free e 0) (Code.xor into (Code.result_of e) ∷ []) in
+      omega (arith, both_cells e 0, length_around (Code.parts_cells spot free e 0) mid, length_around (Code.open_cells spot free e 0) (Code.xor into (Code.result_of e) ∷ []))
+
+  pub test_cells : (e : Expression) (into : ℕ) → length (Code.test_cells spot free e into) ≤ 58 * tokens e
+  test_cells e into =
+      let w = Code.open_cells spot free e 0 ++ Code.truth_cells Code.truth (Code.result_of e) in
+      let mid = Code.around w (Code.xor into Code.truth ∷ []) in
+      omega (arith, both_cells e 0, length_around (Code.parts_cells spot free e 0) mid, length_around w (Code.xor into Code.truth ∷ []), length-append (Code.open_cells spot free e 0) (Code.truth_cells Code.truth (Code.result_of e)))
+
+  -- and where it is opened twice
+  twice_open : (e : Expression) (i : ℕ) → length (Code.parts_cells spot free e i) + (length (Code.open_cells spot free e i) + (1 + length (Code.open_cells spot free e i))) ≤ 29 * tokens e
+  twice_open (Number at word) i = omega arith
+  twice_open (Null at) i = omega arith
+  twice_open (Variable name) i = omega arith
+  twice_open (Element name index) i = let a = prepare_cells index (i + 1) in let c = open_cells (Element name index) i in omega arith
+  twice_open (Binary at o left right) i =
+      let a = prepare_cells left (i + 1) in
+      let d = prepare_cells right (i + 1 + Code.words left) in
+      let c = open_cells (Binary at o left right) i in
+      omega (arith, length-append (Code.prepare_cells spot free left (i + 1)) (Code.prepare_cells spot free right (i + 1 + Code.words left)))
+
+  fetch_cells : (e : Expression) (i into : ℕ) → length (Code.fetch_cells spot free e i into) ≤ 29 * tokens e
+  fetch_cells e i into =
+      let mid = Code.around (Code.open_cells spot free e i) (Code.xor into (Code.result_of e) ∷ []) in
+      omega (arith, twice_open e i, length-append (Code.parts_cells spot free e i) mid, length_around (Code.open_cells spot free e i) (Code.xor into (Code.result_of e) ∷ []))
+
+  place_cells : (target : Lvalue) (i into : ℕ) → length (Code.place_cells spot free target i into) ≤ 29 * place_tokens target
+  place_cells (Whole name) i into = omega arith
+  place_cells (Item name index) i into =
+      let w = Code.checked_cells spot free name.text index i ++ Code.point_cells in
+      let mid = Code.xor into Code.right_operand ∷ [] in
+      let a = checked_cells name.text index i in
+      let c = prepare_cells index i in
+      omega (arith, length-append (Code.prepare_cells spot free index i) (Code.around w mid), length_around w mid, length-append (Code.checked_cells spot free name.text index i) Code.point_cells)
+
+  -- two arrays compared, 31 cells: an element has three tokens and those of its index
+  compare_length : (x y : Spot) → length (Code.compare_cells x y) ≡ 31
+  compare_length x y =
+      let w = Code.copy_cells x Code.left_operand in
+      let r = Code.reach_cells y ++ Code.sltx Code.outcome Code.left_operand Code.content ∷ Code.sltx Code.outcome Code.content Code.left_operand ∷ Code.xori Code.outcome 1 ∷ [] in
+      omega (arith, length_around (w ++ r) (check_cells Code.outcome 16), length-append w r, copy_cells x Code.left_operand)
+
+  compare_all : (x : Spot) (e : Expression) → length (Code.compare_all spot x e) ≤ 11 * tokens e
+  compare_all x (Number at word) = omega arith
+  compare_all x (Null at) = omega arith
+  compare_all x (Variable name) = omega arith
+  compare_all x (Element name index) =
+      let a = compare_all x index in
+      omega (arith, compare_length x (spot name.text), length-append (Code.compare_cells x (spot name.text)) (Code.compare_all spot x index))
+  compare_all x (Binary at o left right) =
+      let a = compare_all x left in
+      let c = compare_all x right in
+      omega (arith, length-append (Code.compare_all spot x left) (Code.compare_all spot x right))
+
+  index_tokens : (target : Lvalue) → tokens (index_of target) ≤ place_tokens target
+  index_tokens (Whole name) = omega arith
+  index_tokens (Item name index) = omega arith
+
+  apart_cells : (target : Lvalue) (e e' : Expression) → length (Code.apart_cells spot target e e') ≤ 11 * (tokens e + tokens e')
+  apart_cells (Whole name) e e' = omega arith
+  apart_cells (Item name index) e e' =
+      let a = compare_all (spot name.text) e in
+      let c = compare_all (spot name.text) e' in
+      omega (arith, length-append (Code.compare_all spot (spot name.text) e) (Code.compare_all spot (spot name.text) e'))
+
+  pub update_cells : (o : UpdateOp) (target : Lvalue) (e : Expression) → length (Code.update_cells spot free o target e) ≤ 80 * (place_tokens target + 1 + tokens e)
+  update_cells o target e =
+      let p = Code.place_cells spot free target 0 Code.place in
+      let v = Code.fetch_cells spot free e (Code.place_words target) Code.amount in
+      let mid = Code.exch Code.content Code.place ∷ Code.update_cell o Code.content Code.amount ∷ Code.exch Code.content Code.place ∷ [] in
+      let a = place_cells target 0 Code.place in
+      let c = fetch_cells e (Code.place_words target) Code.amount in
+      let k = Code.apart_cells spot target (index_of target) e in
+      let d = apart_cells target (index_of target) e in
+      let t = index_tokens target in
+      omega (arith, length_around ((p ++ v) ++ k) mid, length-append (p ++ v) k, length-append p v)
+
+  pub swap_cells : (left right : Lvalue) → length (Code.swap_cells spot free left right) ≤ 102 * (place_tokens left + 1 + place_tokens right)
+  swap_cells left right =
+      let p = Code.place_cells spot free left 0 Code.place in
+      let v = Code.place_cells spot free right (Code.place_words left) Code.other_place in
+      let mid = Code.exch Code.first_word Code.place ∷ Code.exch Code.second_word Code.other_place ∷ Code.exch Code.second_word Code.place ∷ Code.exch Code.first_word Code.other_place ∷ [] in
+      let a = place_cells left 0 Code.place in
+      let c = place_cells right (Code.place_words left) Code.other_place in
+      let k = Code.apart_cells spot left (index_of left) (index_of right) in
+      let l = Code.apart_cells spot right (index_of left) (index_of right) in
+      let d = apart_cells left (index_of left) (index_of right) in
+      let e = apart_cells right (index_of left) (index_of right) in
+      let t = index_tokens left in
+      let u = index_tokens right in
+      omega (arith, length_around ((p ++ v) ++ (k ++ l)) mid, length-append (p ++ v) (k ++ l), length-append p v, length-append k l)
+
+-- ---- and how many at least: a step stands for three counts at most
+
+prepare_least : (e : Expression) → nodes e ≤ prepare_steps e + 1
+prepare_least (Number at word) = omega arith
+prepare_least (Null at) = omega arith
+prepare_least (Variable name) = omega arith
+prepare_least (Element name index) = let a = prepare_least index in omega arith
+prepare_least (Binary at o left right) = let a = prepare_least left in let b = prepare_least right in omega arith
+
+parts_least : (e : Expression) → nodes e ≤ parts_steps e + 3
+parts_least (Number at word) = omega arith
+parts_least (Null at) = omega arith
+parts_least (Variable name) = omega arith
+parts_least (Element name index) = let a = prepare_least index in omega arith
+parts_least (Binary at o left right) = let a = prepare_least left in let b = prepare_least right in omega arith
+
+pub value_least : (e : Expression) → nodes e ≤ 3 * value_steps e
+value_least e = let a = parts_least e in omega arith
+
+pub test_least : (e : Expression) → nodes e ≤ test_steps e
+test_least e = let a = parts_least e in omega arith
+
+place_least : (target : Lvalue) → index_nodes target ≤ place_steps target
+place_least (Whole name) = omega arith
+place_least (Item name index) = let a = prepare_least index in omega arith
+
+pub update_least : (target : Lvalue) (e : Expression) → 1 + index_nodes target + nodes e + read_cost (own_element target) (index_elements target ++ elements e) ≤ update_steps target e
+update_least target e = let a = place_least target in let b = parts_least e in let c = apart_is target e in omega arith
+
+pub swap_least : (left right : Lvalue) → 1 + index_nodes left + index_nodes right + read_cost (own_element left ++ own_element right) (index_elements left ++ index_elements right) ≤ swap_steps left right
+swap_least left right = let a = place_least left in let b = place_least right in let c = both_apart_least left right in omega arith

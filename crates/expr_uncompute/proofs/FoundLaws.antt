@@ -1,0 +1,67 @@
+-- Places and values found, for any code that uses them: what stands in the registers then, and what takes it away again.
+use Rattle.std.proofs.Common.{◌≡◌, ℕ, ◌+◌, Bool, List, ◌++◌, refl, sym, ap, subst, arith}
+use Rattle.std.specs.Prelude.{Ok, Err}
+use Rattle.rpp_tree.specs.Tree.{Expression, Lvalue}
+use Rattle.paired_code.specs.declared.part.Symbol.{Symbol}
+use Rattle.paired_code.specs.Machine.{Memory, Image, reg, with_reg}
+use Rattle.paired_code.specs.Pieces.{Trapped, Runs}
+use Rattle.expr_uncompute.specs.declared.Spot.{Spot}
+use Rattle.expr_uncompute.specs.Code.{words, place_words, amount, place, other_place, around, place_cells, fetch_cells}
+use Rattle.expr_uncompute.specs.Number.{number, read_of, place_address}
+use Rattle.expr_uncompute.specs.Steps.{place_steps, fetch_steps}
+use Rattle.expr_uncompute.specs.Laws.{bases_of, Ready}
+use Rattle.expr_uncompute.specs.Promises.{SeesIn, CanRun, IsTrap}
+use Rattle.expr_uncompute.proofs.Goes.{Goes, goes_to, traps_around}
+use Rattle.expr_uncompute.proofs.Scratch.{keeping, mem}
+use Rattle.expr_uncompute.proofs.Whole.{as_mem}
+use Rattle.expr_uncompute.proofs.PlaceLaws.{FitPlace, placed, place_points, place_goes, place_traps}
+use Rattle.expr_uncompute.proofs.Written.{filled, both_placed}
+use Rattle.expr_uncompute.proofs.Updates.{found_goes, both_found}
+use Rattle.expr_uncompute.proofs.Statements.{fit_from}
+
+-- a value in `amount`, and the addresses of a place and of a second one
+abbrev pub kept_at : (v a a' : ℕ) → List ℕ → Memory → Memory
+kept_at v a a' cells m = record (with_reg (with_reg (with_reg m amount v) place a) other_place a') { cells = cells }
+
+module _ (spot : List ℕ → Spot) (free : ℕ) (m : Memory) where
+  shown_as : (n : ℕ) → Ready free n m → (v a a' : ℕ) (cells : List ℕ) → mem (bases_of m) (reg m) (keeping v a a') cells ≡ kept_at v a a' cells m
+  shown_as n h v a a' cells = sym (ap (kept_at v a a' cells) (as_mem free n m h))
+
+  -- the address of a place
+  pub place_found : (target : Lvalue) (a : ℕ) → Ready free (place_words target) m → SeesIn spot free m (read_of target) → place_address spot (bases_of m) m.cells target ≡ Ok a
+      → Goes (place_cells spot free target 0 place) (place_steps target) m (kept_at 0 a 0 (placed spot free (bases_of m) target 0 m.cells) m)
+  place_found target a h s n =
+      let fit : FitPlace spot free (bases_of m) target 0 m.cells = record {
+        all = h.words;
+        sees = s;
+        fits = let l = h.inside in omega arith;
+        small = h.small;
+        empty = λ k lo hi. h.empty k (omega arith) (omega arith);
+      } in
+      goes_to refl (sym (as_mem free (place_words target) m h)) (shown_as (place_words target) h 0 a 0 _) (place_goes spot free (bases_of m) place (reg m) 0 0 0 0 a 0 a (place_points spot free (bases_of m) (reg m) 0 0 a) 0 m.cells target fit n)
+
+  -- or its fault, whatever is to be done with it
+  pub place_fails : (target : Lvalue) (c : ℕ) (mid : List Symbol) → Ready free (place_words target) m → SeesIn spot free m (read_of target) → place_address spot (bases_of m) m.cells target ≡ Err c
+      → (im : Image) (d : Bool) → IsTrap im (around (place_cells spot free target 0 place) mid) d m c (place_steps target)
+  place_fails target c mid h s n im d =
+      let fit : FitPlace spot free (bases_of m) target 0 m.cells = record {
+        all = h.words;
+        sees = s;
+        fits = let l = h.inside in omega arith;
+        small = h.small;
+        empty = λ k lo hi. h.empty k (omega arith) (omega arith);
+      } in
+      let t = (traps_around mid (place_traps spot free (bases_of m) place (reg m) 0 0 0 target 0 c m.cells fit n)).runs im d in
+      (t.0, t.1, subst (λ z. Runs im (around (place_cells spot free target 0 place) mid) d z (Trapped c t.0)) (sym (as_mem free (place_words target) m h)) t.2)
+
+  -- a place and a value
+  pub value_found : (target : Lvalue) (e : Expression) (a v : ℕ) → CanRun spot free (place_words target + words e) (read_of target) e m → place_address spot (bases_of m) m.cells target ≡ Ok a → number spot (bases_of m) m.cells e ≡ Ok v
+      → Goes (place_cells spot free target 0 place ++ fetch_cells spot free e (place_words target) amount) (place_steps target + fetch_steps e) m (kept_at v a 0 (filled spot free (bases_of m) target e m.cells) m)
+  value_found target e a v h na nv =
+      goes_to refl (sym (as_mem free (place_words target + words e) m h.ready)) (shown_as (place_words target + words e) h.ready v a 0 _) (found_goes spot free (bases_of m) (reg m) target e m.cells a v (fit_from spot free m target (words e) h.ready h.first) h.second na nv)
+
+  -- two places
+  pub places_found : (target other : Lvalue) (a a' : ℕ) → CanRun spot free (place_words target + place_words other) (read_of target) (read_of other) m → place_address spot (bases_of m) m.cells target ≡ Ok a → place_address spot (bases_of m) m.cells other ≡ Ok a'
+      → Goes (place_cells spot free target 0 place ++ place_cells spot free other (place_words target) other_place) (place_steps target + place_steps other) m (kept_at 0 a a' (both_placed spot free (bases_of m) target other m.cells) m)
+  places_found target other a a' h na na' =
+      goes_to refl (sym (as_mem free (place_words target + place_words other) m h.ready)) (shown_as (place_words target + place_words other) h.ready 0 a a' _) (both_found spot free (bases_of m) (reg m) target other m.cells a a' (fit_from spot free m target (place_words other) h.ready h.first) h.second na na')

@@ -1,0 +1,6 @@
+use Rattle.rpp_tree.specs.Views.{expression_of}
+use Rattle.expr_uncompute.proofs.Bounds.{test_most}
+use Rattle.expr_uncompute.proofs.expressions.test_code.Goals as goal
+
+pub returns-clause-steps : goal.returns-clause-steps
+returns-clause-steps c = test_most (expression_of c.args.e.now)

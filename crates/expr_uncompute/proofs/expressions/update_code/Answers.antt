@@ -1,0 +1,6 @@
+use Rattle.rpp_tree.specs.Views.{expression_of, lvalue_of}
+use Rattle.expr_uncompute.proofs.Bounds.{update_most}
+use Rattle.expr_uncompute.proofs.expressions.update_code.Goals as goal
+
+pub returns-clause-steps : goal.returns-clause-steps
+returns-clause-steps c = update_most (lvalue_of c.args.place.now) (expression_of c.args.value.now)

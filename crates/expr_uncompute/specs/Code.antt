@@ -1,0 +1,310 @@
+-- The cells of value code, in its linear form.
+use Rattle.std.specs.Prelude.{ℕ, ◌+◌, ◌<◌, ◌⊎◌, List, [], ◌∷◌, ◌++◌}
+use Rattle.rpp_tree.specs.declared.tree.BinOp.{BinOp}
+use Rattle.rpp_tree.specs.declared.tree.BinOp.TheVariants as op
+use Rattle.rpp_tree.specs.declared.tree.UpdateOp.{UpdateOp}
+use Rattle.rpp_tree.specs.declared.tree.UpdateOp.TheVariants as update
+use Rattle.rpp_tree.specs.Tree.{Expression, Number, Null, Variable, Element, Binary, Lvalue, Whole, Item}
+use Rattle.pisa_isa.specs.declared.cell.Op.{Op}
+use Rattle.pisa_isa.specs.declared.cell.Op.TheVariants.{Add, Sub, Xor, Addi, Xori, Andx, Orx, Sltx, Exch}
+use Rattle.paired_code.specs.declared.part.Symbol.{Symbol}
+use Rattle.paired_code.specs.declared.part.Symbol.TheVariants.{Own}
+use Rattle.paired_code.specs.Layout.{mirror_cells, check_cells}
+use Rattle.expr_uncompute.specs.declared.Spot.{Spot}
+use Rattle.expr_uncompute.specs.Number.{index_of}
+use Rattle.expr_uncompute.specs.declared.Spot.TheVariants.{Field, Frame}
+
+-- ---- the registers
+
+abbrev pub link : ℕ
+link = 2
+
+abbrev pub object : ℕ
+object = 3
+
+abbrev pub frame : ℕ
+frame = 4
+
+-- the address of a word that is read, and the word
+abbrev pub address : ℕ
+address = 5
+
+abbrev pub content : ℕ
+content = 6
+
+-- always 0
+abbrev pub nought : ℕ
+nought = 7
+
+-- whether an operand is true, and what an operator gives
+abbrev pub left_truth : ℕ
+left_truth = 8
+
+abbrev pub right_truth : ℕ
+right_truth = 9
+
+abbrev pub outcome : ℕ
+outcome = 10
+
+-- the operands: of an element, its index and its array
+abbrev pub left_operand : ℕ
+left_operand = 16
+
+abbrev pub right_operand : ℕ
+right_operand = 17
+
+-- an element
+abbrev pub item : ℕ
+item = 18
+
+-- the value that an update adds
+abbrev pub amount : ℕ
+amount = 19
+
+-- the address of a place, and of a second one
+abbrev pub place : ℕ
+place = 20
+
+abbrev pub other_place : ℕ
+other_place = 21
+
+-- the words of two places that are swapped
+abbrev pub first_word : ℕ
+first_word = 22
+
+abbrev pub second_word : ℕ
+second_word = 23
+
+-- the truth of a value
+abbrev pub truth : ℕ
+truth = 24
+
+-- a register that no code of expressions uses for itself
+abbrev pub Target : ℕ → Type 0
+Target r = (r < 2) ⊎ (((10 < r) × (r < 16)) ⊎ ((24 < r) × (r < 32)))
+
+-- ---- cells
+
+abbrev pub two : Op → (a b : ℕ) → Symbol
+two op a b = Own (record { op = op; a = a; b = b; c = 0; imm = 0 })
+
+abbrev pub three : Op → (a b c : ℕ) → Symbol
+three op a b c = Own (record { op = op; a = a; b = b; c = c; imm = 0 })
+
+abbrev pub with_word : Op → (a i : ℕ) → Symbol
+with_word op a i = Own (record { op = op; a = a; b = 0; c = 0; imm = i })
+
+abbrev pub add : (d s : ℕ) → Symbol
+add d s = two Add d s
+
+abbrev pub sub : (d s : ℕ) → Symbol
+sub d s = two Sub d s
+
+abbrev pub xor : (d s : ℕ) → Symbol
+xor d s = two Xor d s
+
+abbrev pub exch : (d s : ℕ) → Symbol
+exch d s = two Exch d s
+
+abbrev pub addi : (d w : ℕ) → Symbol
+addi d w = with_word Addi d w
+
+abbrev pub xori : (d w : ℕ) → Symbol
+xori d w = with_word Xori d w
+
+abbrev pub andx : (d s t : ℕ) → Symbol
+andx d s t = three Andx d s t
+
+abbrev pub orx : (d s t : ℕ) → Symbol
+orx d s t = three Orx d s t
+
+abbrev pub sltx : (d s t : ℕ) → Symbol
+sltx d s t = three Sltx d s t
+
+-- a piece between another and its mirror
+abbrev pub around : List Symbol → List Symbol → List Symbol
+around w mid = w ++ (mid ++ mirror_cells w)
+
+-- ---- words of memory
+
+abbrev pub base_of : Spot → ℕ
+base_of (Field i) = object
+base_of (Frame i) = frame
+
+abbrev pub offset_of : Spot → ℕ
+offset_of (Field i) = 2 + i
+offset_of (Frame i) = i
+
+-- the address of a spot in `address`, and its word in `content`
+abbrev pub reach_cells : Spot → List Symbol
+reach_cells s = xor address (base_of s) ∷ addi address (offset_of s) ∷ exch content address ∷ []
+
+abbrev pub copy_cells : Spot → ℕ → List Symbol
+copy_cells s into = around (reach_cells s) (xor into content ∷ [])
+
+-- register r xored into the word
+abbrev pub store_cells : Spot → ℕ → List Symbol
+store_cells s r = around (reach_cells s) (xor content r ∷ [])
+
+-- ---- one node
+
+-- how many words of the frame an expression needs: one for each element and operator
+abbrev pub words : Expression → ℕ
+words (Number at word) = 0
+words (Null at) = 0
+words (Variable name) = 0
+words (Element name index) = 1 + words index
+words (Binary at op left right) = 1 + (words left + words right)
+
+-- the truth of register a in register t
+abbrev pub truth_cells : (t a : ℕ) → List Symbol
+truth_cells t a = sltx t nought a ∷ sltx t a nought ∷ []
+
+-- an operator's result, from its operands
+abbrev pub operator_cells : BinOp → List Symbol
+operator_cells op.Add = add left_operand right_operand ∷ []
+operator_cells op.Sub = sub left_operand right_operand ∷ []
+operator_cells op.Xor = xor left_operand right_operand ∷ []
+operator_cells op.And = andx outcome left_operand right_operand ∷ []
+operator_cells op.Or = orx outcome left_operand right_operand ∷ []
+operator_cells op.AndAlso = truth_cells left_truth left_operand ++ (truth_cells right_truth right_operand ++ andx outcome left_truth right_truth ∷ [])
+operator_cells op.OrElse = truth_cells left_truth left_operand ++ (truth_cells right_truth right_operand ++ orx outcome left_truth right_truth ∷ [])
+operator_cells op.Less = sltx outcome left_operand right_operand ∷ []
+operator_cells op.Greater = sltx outcome right_operand left_operand ∷ []
+operator_cells op.AtMost = sltx outcome right_operand left_operand ∷ xori outcome 1 ∷ []
+operator_cells op.AtLeast = sltx outcome left_operand right_operand ∷ xori outcome 1 ∷ []
+operator_cells op.Equal = sltx outcome left_operand right_operand ∷ sltx outcome right_operand left_operand ∷ xori outcome 1 ∷ []
+operator_cells op.NotEqual = sltx outcome left_operand right_operand ∷ sltx outcome right_operand left_operand ∷ []
+operator_cells op.Mul = []
+operator_cells op.Div = []
+operator_cells op.Rem = []
+
+-- the register that has it
+abbrev pub operator_result : BinOp → ℕ
+operator_result op.Add = left_operand
+operator_result op.Sub = left_operand
+operator_result op.Xor = left_operand
+operator_result _ = outcome
+
+-- fault 5 where the array is nil
+abbrev pub nil_check : List Symbol
+nil_check = around (sltx outcome nought right_operand ∷ xori outcome 1 ∷ []) (check_cells outcome 5)
+
+-- fault 9 where the index, without sign, is not below the array's length
+abbrev pub index_check : List Symbol
+index_check =
+    around (exch content right_operand ∷ []) (around (sltx outcome left_operand content ∷ sltx outcome left_operand nought ∷ xori outcome 1 ∷ []) (check_cells outcome 9))
+
+-- fault 16 where the words of two spots are the same
+abbrev pub compare_cells : (x y : Spot) → List Symbol
+compare_cells x y =
+    around (copy_cells x left_operand ++ (reach_cells y ++ sltx outcome left_operand content ∷ sltx outcome content left_operand ∷ xori outcome 1 ∷ [])) (check_cells outcome 16)
+
+-- the address of the element in the array's register
+abbrev pub point_cells : List Symbol
+point_cells = add right_operand left_operand ∷ addi right_operand 2 ∷ []
+
+-- the register that has the value of an opened expression
+abbrev pub result_of : Expression → ℕ
+result_of (Element name index) = item
+result_of (Binary at op left right) = operator_result op
+result_of _ = content
+
+-- the words of the frame that a place needs
+abbrev pub place_words : Lvalue → ℕ
+place_words (Whole name) = 0
+place_words (Item name index) = words index
+
+abbrev pub update_cell : UpdateOp → (d s : ℕ) → Symbol
+update_cell update.Add d s = add d s
+update_cell update.Sub d s = sub d s
+update_cell update.Xor d s = xor d s
+
+module _ (spot : List ℕ → Spot) where
+  -- a changed element's array, by its spot, compared with those of which an expression reads elements
+  abbrev pub compare_all : Spot → Expression → List Symbol
+  compare_all changed (Number at word) = []
+  compare_all changed (Null at) = []
+  compare_all changed (Variable name) = []
+  compare_all changed (Element name index) = compare_cells changed (spot name.text) ++ compare_all changed index
+  compare_all changed (Binary at op left right) = compare_all changed left ++ compare_all changed right
+
+  -- the check of a place that changes against two expressions that are read
+  abbrev pub apart_cells : Lvalue → (e e' : Expression) → List Symbol
+  apart_cells (Whole name) e e' = []
+  apart_cells (Item name index) e e' = compare_all (spot name.text) e ++ compare_all (spot name.text) e'
+
+  -- of both places of a swap
+  abbrev pub both_apart_cells : (left right : Lvalue) → List Symbol
+  both_apart_cells left right = apart_cells left (index_of left) (index_of right) ++ apart_cells right (index_of left) (index_of right)
+
+module _ (spot : List ℕ → Spot) (free : ℕ) where
+  -- the value of an operand xored into a register: a word of the frame has it, from i on, where it is no leaf
+  abbrev pub operand_cells : Expression → (i into : ℕ) → List Symbol
+  operand_cells (Number at word) i into = xori into word ∷ []
+  operand_cells (Null at) i into = []
+  operand_cells (Variable name) i into = copy_cells (spot name.text) into
+  operand_cells (Element name index) i into = copy_cells (Frame (free + i)) into
+  operand_cells (Binary at op left right) i into = copy_cells (Frame (free + i)) into
+
+  -- an element's index and array, both checked
+  abbrev pub checked_cells : List ℕ → Expression → (i : ℕ) → List Symbol
+  checked_cells name index i =
+      operand_cells index i left_operand ++ (copy_cells (spot name) right_operand ++ (nil_check ++ index_check))
+
+  -- the value of an expression in its register, where its parts are prepared
+  abbrev pub open_cells : Expression → (i : ℕ) → List Symbol
+  open_cells (Number at word) i = xori content word ∷ []
+  open_cells (Null at) i = []
+  open_cells (Variable name) i = reach_cells (spot name.text)
+  open_cells (Element name index) i = checked_cells name.text index (i + 1) ++ (point_cells ++ exch item right_operand ∷ [])
+  open_cells (Binary at op left right) i =
+      operand_cells left (i + 1) left_operand ++ (operand_cells right (i + 1 + words left) right_operand ++ operator_cells op)
+
+  -- every element and operator computed once into its word of the frame, from word i on
+  abbrev pub prepare_cells : Expression → (i : ℕ) → List Symbol
+  prepare_cells (Number at word) i = []
+  prepare_cells (Null at) i = []
+  prepare_cells (Variable name) i = []
+  prepare_cells (Element name index) i =
+      prepare_cells index (i + 1) ++ around (open_cells (Element name index) i) (store_cells (Frame (free + i)) item)
+  prepare_cells (Binary at op left right) i =
+      (prepare_cells left (i + 1) ++ prepare_cells right (i + 1 + words left))
+      ++ around (open_cells (Binary at op left right) i) (store_cells (Frame (free + i)) (operator_result op))
+
+  -- the parts of an expression prepared
+  abbrev pub parts_cells : Expression → (i : ℕ) → List Symbol
+  parts_cells (Element name index) i = prepare_cells index (i + 1)
+  parts_cells (Binary at op left right) i = prepare_cells left (i + 1) ++ prepare_cells right (i + 1 + words left)
+  parts_cells _ i = []
+
+  -- the parts prepared, and the value xored into a register
+  abbrev pub fetch_cells : Expression → (i into : ℕ) → List Symbol
+  fetch_cells e i into = parts_cells e i ++ around (open_cells e i) (xor into (result_of e) ∷ [])
+
+  -- ---- values, tests, updates and swaps
+
+  -- the value of an expression xored into a register
+  abbrev pub value_cells : Expression → (into : ℕ) → List Symbol
+  value_cells e into = around (parts_cells e 0) (around (open_cells e 0) (xor into (result_of e) ∷ []))
+
+  -- whether it is true xored into a register
+  abbrev pub test_cells : Expression → (into : ℕ) → List Symbol
+  test_cells e into =
+      around (parts_cells e 0) (around (open_cells e 0 ++ truth_cells truth (result_of e)) (xor into truth ∷ []))
+
+  -- the address of a place in a register
+  abbrev pub place_cells : Lvalue → (i into : ℕ) → List Symbol
+  place_cells (Whole name) i into = xor into (base_of (spot name.text)) ∷ addi into (offset_of (spot name.text)) ∷ []
+  place_cells (Item name index) i into =
+      prepare_cells index i ++ around (checked_cells name.text index i ++ point_cells) (xor into right_operand ∷ [])
+
+  -- an update of a place by a value
+  abbrev pub update_cells : UpdateOp → Lvalue → Expression → List Symbol
+  update_cells op target value =
+      around ((place_cells target 0 place ++ fetch_cells value (place_words target) amount) ++ apart_cells spot target (index_of target) value) (exch content place ∷ update_cell op content amount ∷ exch content place ∷ [])
+
+  -- the words of two places swapped; where they are one, it stays as it is
+  abbrev pub swap_cells : Lvalue → Lvalue → List Symbol
+  swap_cells left right =
+      around ((place_cells left 0 place ++ place_cells right (place_words left) other_place) ++ both_apart_cells spot left right) (exch first_word place ∷ exch second_word other_place ∷ exch second_word place ∷ exch first_word other_place ∷ [])

@@ -1,0 +1,147 @@
+// The check that a place that changes is an element of no array of which an element is read.
+ghost use Rattle.std.specs.Prelude.{◌≡◌, ◌<◌, ◌^◌, [], ◌∷◌, ◌++◌, IfOk};
+ghost use Rattle.rpp_tree.specs.Views.{expression_of, lvalue_of};
+ghost use Rattle.paired_code.specs.Code.{unmarked};
+ghost use Rattle.expr_uncompute.specs.Code.{offset_of, sltx as sltx_cell, xori as xori_cell, compare_cells, compare_all as cells_of_all, apart_cells, both_apart_cells};
+ghost use Rattle.expr_uncompute.specs.Number.{read_of, index_of};
+ghost use Rattle.expr_uncompute.specs.Visible.{spot_of as spot_of_name, known_by};
+
+use crate::Spot;
+use crate::cells::{enclosed, sltx, xori};
+use crate::known::Names;
+use crate::names::spot_of;
+use crate::rows::{CONTENT, LEFT, OUTCOME, copy, reached};
+use paired_code::{Piece, check_zero, empty, seq};
+use rpp_tree::tree::{Expr, Place};
+use rpp_words::NoMemory;
+use std::alloc::Global;
+
+// Whether two words are the same.
+fn same_row(alloc: Global) -> Result<Piece, NoMemory>
+    ensures { IfOk result (λ p. p ≡ unmarked (sltx_cell OUTCOME LEFT CONTENT ∷ sltx_cell OUTCOME CONTENT LEFT ∷ xori_cell OUTCOME 1 ∷ [])) }
+{
+    let below = sltx(alloc, OUTCOME, LEFT, CONTENT)?;
+    let above = sltx(alloc, OUTCOME, CONTENT, LEFT)?;
+    let differ = seq(below, above)?;
+    let flip = xori(alloc, OUTCOME, 1)?;
+    seq(differ, flip)
+}
+
+// Fault 16 where the words of two spots are the same.
+fn compare(alloc: Global, x: Spot, y: Spot) -> Result<Piece, NoMemory>
+    requires first { offset_of x < 2 ^ 32 }
+    requires second { offset_of y < 2 ^ 32 }
+    ensures { IfOk result (λ p. p ≡ unmarked (compare_cells x y)) }
+{
+    let array = copy(alloc, x, LEFT)?;
+    let other = reached(alloc, y)?;
+    let test = same_row(alloc)?;
+    let rest = seq(other, test)?;
+    let outer = seq(array, rest)?;
+    let stop = check_zero(alloc, OUTCOME, 16)?;
+    enclosed(alloc, outer, stop)
+}
+
+// A changed element's array compared with that of each element that an expression reads.
+#[cycle(compared)]
+fn compare_all(alloc: Global, names: &Names, changed: Spot, e: &Expr) -> Result<Piece, NoMemory>
+    requires { offset_of changed < 2 ^ 32 }
+    ensures { IfOk result (λ p. p ≡ unmarked (cells_of_all (spot_of_name (known_by names.now)) changed (expression_of e.now))) }
+{
+    match e {
+        Expr::Number { .. } => Ok(empty(alloc)),
+        Expr::Nil { .. } => Ok(empty(alloc)),
+        Expr::Read(place) => compare_read(alloc, names, changed, place),
+        Expr::Binary { left, right, .. } => {
+            let first = compare_all(alloc, names, changed, left)?;
+            let second = compare_all(alloc, names, changed, right)?;
+            seq(first, second)
+        }
+    }
+}
+
+#[cycle(compared)]
+fn compare_read(
+    alloc: Global,
+    names: &Names,
+    changed: Spot,
+    place: &Place,
+) -> Result<Piece, NoMemory>
+    requires { offset_of changed < 2 ^ 32 }
+    ensures { IfOk result (λ p. p ≡ unmarked (cells_of_all (spot_of_name (known_by names.now)) changed (read_of (lvalue_of place.now)))) }
+{
+    match &place.index {
+        None => Ok(empty(alloc)),
+        Some(index) => {
+            let first = compare(alloc, changed, spot_of(names, &place.name.text))?;
+            let rest = compare_all(alloc, names, changed, index)?;
+            seq(first, rest)
+        }
+    }
+}
+
+// The same of the elements in the index of a place.
+fn compare_index(
+    alloc: Global,
+    names: &Names,
+    changed: Spot,
+    place: &Place,
+) -> Result<Piece, NoMemory>
+    requires { offset_of changed < 2 ^ 32 }
+    ensures { IfOk result (λ p. p ≡ unmarked (cells_of_all (spot_of_name (known_by names.now)) changed (index_of (lvalue_of place.now)))) }
+{
+    match &place.index {
+        None => Ok(empty(alloc)),
+        Some(index) => compare_all(alloc, names, changed, index),
+    }
+}
+
+/// The check of an update: the place against its index and the value.
+pub fn apart(alloc: Global, names: &Names, place: &Place, value: &Expr) -> Result<Piece, NoMemory>
+    ensures { IfOk result (λ p. p ≡ unmarked (apart_cells (spot_of_name (known_by names.now)) (lvalue_of place.now) (index_of (lvalue_of place.now)) (expression_of value.now))) }
+{
+    match &place.index {
+        None => Ok(empty(alloc)),
+        Some(index) => {
+            let changed = spot_of(names, &place.name.text);
+            let first = compare_all(alloc, names, changed, index)?;
+            let second = compare_all(alloc, names, changed, value)?;
+            seq(first, second)
+        }
+    }
+}
+
+// A place that changes against two indexes.
+fn apart_from(
+    alloc: Global,
+    names: &Names,
+    changed: &Place,
+    left: &Place,
+    right: &Place,
+) -> Result<Piece, NoMemory>
+    ensures { IfOk result (λ p. p ≡ unmarked (apart_cells (spot_of_name (known_by names.now)) (lvalue_of changed.now) (index_of (lvalue_of left.now)) (index_of (lvalue_of right.now)))) }
+{
+    match &changed.index {
+        None => Ok(empty(alloc)),
+        Some(_) => {
+            let spot = spot_of(names, &changed.name.text);
+            let first = compare_index(alloc, names, spot, left)?;
+            let second = compare_index(alloc, names, spot, right)?;
+            seq(first, second)
+        }
+    }
+}
+
+/// The check of a swap: each of the places against both indexes.
+pub fn both_apart(
+    alloc: Global,
+    names: &Names,
+    left: &Place,
+    right: &Place,
+) -> Result<Piece, NoMemory>
+    ensures { IfOk result (λ p. p ≡ unmarked (both_apart_cells (spot_of_name (known_by names.now)) (lvalue_of left.now) (lvalue_of right.now))) }
+{
+    let first = apart_from(alloc, names, left, left, right)?;
+    let second = apart_from(alloc, names, right, left, right)?;
+    seq(first, second)
+}

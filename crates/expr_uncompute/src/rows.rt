@@ -1,0 +1,229 @@
+// Words of memory, operators and checks.
+ghost use Rattle.std.specs.Prelude.{◌≡◌, ◌≢◌, ◌<◌, ◌≤◌, ◌+◌, ◌^◌, [], ◌∷◌, ◌++◌, IfOk};
+ghost use Rattle.paired_code.specs.Code.{unmarked};
+ghost use Rattle.expr_uncompute.specs.Code.{base_of, offset_of, reach_cells, copy_cells, store_cells, truth_cells as truth_of, operator_cells, operator_result, nil_check as nil_cells, index_check as index_cells, point_cells};
+
+use crate::Spot;
+use crate::cells::{add, addi, andx, enclosed, exch, orx, sltx, sub, xor, xori};
+use paired_code::{Piece, check_zero, empty, seq};
+use rpp_tree::tree::BinOp;
+use rpp_words::NoMemory;
+use std::alloc::Global;
+
+/// The register that holds the address of the present object.
+pub const OBJECT: u8 = 3;
+/// The register that holds the address of the open frame.
+pub const FRAME: u8 = 4;
+/// The address of a word that is read.
+pub const ADDRESS: u8 = 5;
+/// The word.
+pub const CONTENT: u8 = 6;
+
+const NOUGHT: u8 = 7;
+
+const LEFT_TRUTH: u8 = 8;
+
+const RIGHT_TRUTH: u8 = 9;
+
+/// What an operator gives.
+pub const OUTCOME: u8 = 10;
+/// The left operand, or an index.
+pub const LEFT: u8 = 16;
+/// The right operand, or an array.
+pub const RIGHT: u8 = 17;
+
+/// The register of a spot's base.
+pub fn base(spot: Spot) -> u8
+    ensures value { result ≡ base_of spot }
+    ensures low { result < 5 }
+{
+    match spot {
+        Spot::Field(_) => OBJECT,
+        Spot::Frame(_) => FRAME,
+    }
+}
+
+/// The offset of a spot.
+pub fn offset(spot: Spot) -> u32
+    requires { offset_of spot < 2 ^ 32 }
+    ensures { result ≡ offset_of spot }
+{
+    match spot {
+        Spot::Field(number) => number + 2,
+        Spot::Frame(word) => word,
+    }
+}
+
+/// The word of a spot in `CONTENT`.
+pub fn reached(alloc: Global, spot: Spot) -> Result<Piece, NoMemory>
+    requires { offset_of spot < 2 ^ 32 }
+    ensures { IfOk result (λ p. p ≡ unmarked (reach_cells spot)) }
+{
+    let from = base(spot);
+    let first = xor(alloc, ADDRESS, from)?;
+    let second = addi(alloc, ADDRESS, offset(spot))?;
+    let third = exch(alloc, CONTENT, ADDRESS)?;
+    let front = seq(first, second)?;
+    seq(front, third)
+}
+
+/// The word of a spot xored into a register.
+pub fn copy(alloc: Global, spot: Spot, into: u8) -> Result<Piece, NoMemory>
+    requires small { offset_of spot < 2 ^ 32 }
+    requires register { into < 32 }
+    requires apart { into ≢ CONTENT }
+    ensures { IfOk result (λ p. p ≡ unmarked (copy_cells spot into)) }
+{
+    let outer = reached(alloc, spot)?;
+    let middle = xor(alloc, into, CONTENT)?;
+    enclosed(alloc, outer, middle)
+}
+
+/// A register xored into the word of a spot.
+pub fn store(alloc: Global, spot: Spot, from: u8) -> Result<Piece, NoMemory>
+    requires small { offset_of spot < 2 ^ 32 }
+    requires register { from < 32 }
+    requires apart { CONTENT ≢ from }
+    ensures { IfOk result (λ p. p ≡ unmarked (store_cells spot from)) }
+{
+    let outer = reached(alloc, spot)?;
+    let middle = xor(alloc, CONTENT, from)?;
+    enclosed(alloc, outer, middle)
+}
+
+/// The truth of a register in another.
+pub fn truth(alloc: Global, into: u8, from: u8) -> Result<Piece, NoMemory>
+    requires into { into < 32 }
+    requires from { from < 32 }
+    requires apart { into ≢ from }
+    requires not_nought { into ≢ NOUGHT }
+    ensures { IfOk result (λ p. p ≡ unmarked (truth_of into from)) }
+{
+    let first = sltx(alloc, into, NOUGHT, from)?;
+    let second = sltx(alloc, into, from, NOUGHT)?;
+    seq(first, second)
+}
+
+fn both_truths(alloc: Global, last: Piece) -> Result<Piece, NoMemory>
+    requires { last.marks ≡ [] }
+    ensures { IfOk result (λ p. p ≡ unmarked (truth_of LEFT_TRUTH LEFT ++ (truth_of RIGHT_TRUTH RIGHT ++ last.cells))) }
+{
+    let left = truth(alloc, LEFT_TRUTH, LEFT)?;
+    let right = truth(alloc, RIGHT_TRUTH, RIGHT)?;
+    let rest = seq(right, last)?;
+    seq(left, rest)
+}
+
+fn negated(alloc: Global, test: Piece) -> Result<Piece, NoMemory>
+    requires { test.marks ≡ [] }
+    ensures { IfOk result (λ p. p ≡ unmarked (test.cells ++ Rattle.expr_uncompute.specs.Code.xori OUTCOME 1 ∷ [])) }
+{
+    let flip = xori(alloc, OUTCOME, 1)?;
+    seq(test, flip)
+}
+
+fn differ(alloc: Global) -> Result<Piece, NoMemory>
+    ensures { IfOk result (λ p. p ≡ unmarked (Rattle.expr_uncompute.specs.Code.sltx OUTCOME LEFT RIGHT ∷ Rattle.expr_uncompute.specs.Code.sltx OUTCOME RIGHT LEFT ∷ [])) }
+{
+    let first = sltx(alloc, OUTCOME, LEFT, RIGHT)?;
+    let second = sltx(alloc, OUTCOME, RIGHT, LEFT)?;
+    seq(first, second)
+}
+
+/// The cells of an operator.
+pub fn operator(alloc: Global, op: BinOp) -> Result<Piece, NoMemory>
+    ensures { IfOk result (λ p. p ≡ unmarked (operator_cells op)) }
+{
+    match op {
+        BinOp::Add => add(alloc, LEFT, RIGHT),
+        BinOp::Sub => sub(alloc, LEFT, RIGHT),
+        BinOp::Xor => xor(alloc, LEFT, RIGHT),
+        BinOp::And => andx(alloc, OUTCOME, LEFT, RIGHT),
+        BinOp::Or => orx(alloc, OUTCOME, LEFT, RIGHT),
+        BinOp::AndAlso => {
+            let last = andx(alloc, OUTCOME, LEFT_TRUTH, RIGHT_TRUTH)?;
+            both_truths(alloc, last)
+        }
+        BinOp::OrElse => {
+            let last = orx(alloc, OUTCOME, LEFT_TRUTH, RIGHT_TRUTH)?;
+            both_truths(alloc, last)
+        }
+        BinOp::Less => sltx(alloc, OUTCOME, LEFT, RIGHT),
+        BinOp::Greater => sltx(alloc, OUTCOME, RIGHT, LEFT),
+        BinOp::AtMost => {
+            let test = sltx(alloc, OUTCOME, RIGHT, LEFT)?;
+            negated(alloc, test)
+        }
+        BinOp::AtLeast => {
+            let test = sltx(alloc, OUTCOME, LEFT, RIGHT)?;
+            negated(alloc, test)
+        }
+        BinOp::Equal => {
+            let test = differ(alloc)?;
+            negated(alloc, test)
+        }
+        BinOp::NotEqual => differ(alloc),
+        BinOp::Mul => Ok(empty(alloc)),
+        BinOp::Div => Ok(empty(alloc)),
+        BinOp::Rem => Ok(empty(alloc)),
+    }
+}
+
+/// The register that has an operator's result.
+pub fn operator_register(op: BinOp) -> u8
+    ensures value { result ≡ operator_result op }
+    ensures register { result < 32 }
+    ensures apart { CONTENT ≢ result }
+{
+    match op {
+        BinOp::Add => LEFT,
+        BinOp::Sub => LEFT,
+        BinOp::Xor => LEFT,
+        _ => OUTCOME,
+    }
+}
+
+fn nil_row(alloc: Global) -> Result<Piece, NoMemory>
+    ensures { IfOk result (λ p. p ≡ unmarked (Rattle.expr_uncompute.specs.Code.sltx OUTCOME NOUGHT RIGHT ∷ Rattle.expr_uncompute.specs.Code.xori OUTCOME 1 ∷ [])) }
+{
+    let test = sltx(alloc, OUTCOME, NOUGHT, RIGHT)?;
+    negated(alloc, test)
+}
+
+/// The check that an array is not nil.
+pub fn nil_check(alloc: Global) -> Result<Piece, NoMemory>
+    ensures { IfOk result (λ p. p ≡ unmarked nil_cells) }
+{
+    let outer = nil_row(alloc)?;
+    let middle = check_zero(alloc, OUTCOME, 5)?;
+    enclosed(alloc, outer, middle)
+}
+
+fn index_row(alloc: Global) -> Result<Piece, NoMemory>
+    ensures { IfOk result (λ p. p ≡ unmarked (Rattle.expr_uncompute.specs.Code.sltx OUTCOME LEFT CONTENT ∷ Rattle.expr_uncompute.specs.Code.sltx OUTCOME LEFT NOUGHT ∷ Rattle.expr_uncompute.specs.Code.xori OUTCOME 1 ∷ [])) }
+{
+    let below = sltx(alloc, OUTCOME, LEFT, CONTENT)?;
+    let negative = sltx(alloc, OUTCOME, LEFT, NOUGHT)?;
+    let test = seq(below, negative)?;
+    negated(alloc, test)
+}
+
+/// The check that an index, without sign, is below an array's length.
+pub fn index_check(alloc: Global) -> Result<Piece, NoMemory>
+    ensures { IfOk result (λ p. p ≡ unmarked index_cells) }
+{
+    let row = index_row(alloc)?;
+    let check = check_zero(alloc, OUTCOME, 9)?;
+    let middle = enclosed(alloc, row, check)?;
+    let outer = exch(alloc, CONTENT, RIGHT)?;
+    enclosed(alloc, outer, middle)
+}
+
+/// The address of an element.
+pub fn point(alloc: Global) -> Result<Piece, NoMemory>
+    ensures { IfOk result (λ p. p ≡ unmarked point_cells) }
+{
+    let first = add(alloc, RIGHT, LEFT)?;
+    let second = addi(alloc, RIGHT, 2)?;
+    seq(first, second)
+}

@@ -1,0 +1,299 @@
+// The code of values.
+ghost use Rattle.std.specs.Prelude.{◌≡◌, ◌≢◌, ◌<◌, ◌≤◌, ◌⊎◌, ◌+◌, ◌*◌, ◌^◌, [], ◌∷◌, ◌++◌, length, IfOk};
+ghost use Rattle.rpp_tree.specs.Views.{expression_of, lvalue_of};
+ghost use Rattle.paired_code.specs.Code.{unmarked};
+ghost use Rattle.expr_uncompute.specs.Code.{Target, words as words_of, place_words as words_of_place, operand_cells, checked_cells as checked_of, open_cells, prepare_cells, parts_cells, fetch_cells, value_cells, test_cells, result_of, truth as truth_register, nil_check as nil_cells, index_check as index_cells};
+ghost use Rattle.expr_uncompute.specs.Number.{read_of};
+ghost use Rattle.expr_uncompute.specs.Promises.{ValueLaw, TestLaw};
+ghost use Rattle.expr_uncompute.specs.Steps.{tokens};
+ghost use Rattle.expr_uncompute.specs.Visible.{spot_of as spot_of_name, free_of, known_by};
+
+use crate::Spot;
+use crate::cells::{enclosed, exch, xor, xori};
+use crate::known::Names;
+use crate::names::{free, spot_of};
+use crate::rows::{
+    CONTENT, LEFT, RIGHT, copy, index_check, nil_check, operator, operator_register, point,
+    reached, store, truth,
+};
+use paired_code::{Piece, empty, seq};
+use rpp_tree::Text;
+use rpp_tree::tree::{Expr, Place};
+use rpp_words::NoMemory;
+use std::alloc::Global;
+
+/// An element.
+pub const ITEM: u8 = 18;
+/// The truth of a value.
+pub const TRUTH: u8 = 24;
+
+/// How many words of the frame an expression needs.
+#[cycle(count_words)]
+pub fn words(e: &Expr) -> u32
+    requires { words_of (expression_of e.now) ≤ 1000 }
+    ensures { result ≡ words_of (expression_of e.now) }
+{
+    match e {
+        Expr::Number { .. } => 0,
+        Expr::Nil { .. } => 0,
+        Expr::Read(place) => read_words(place),
+        Expr::Binary { left, right, .. } => 1 + (words(left) + words(right)),
+    }
+}
+
+#[cycle(count_words)]
+fn read_words(place: &Place) -> u32
+    requires { words_of (read_of (lvalue_of place.now)) ≤ 1000 }
+    ensures { result ≡ words_of (read_of (lvalue_of place.now)) }
+{
+    match &place.index {
+        None => 0,
+        Some(index) => 1 + words(index),
+    }
+}
+
+/// The words that a place needs.
+pub fn place_words(place: &Place) -> u32
+    requires { words_of_place (lvalue_of place.now) ≤ 1000 }
+    ensures { result ≡ words_of_place (lvalue_of place.now) }
+{
+    match &place.index {
+        None => 0,
+        Some(index) => words(index),
+    }
+}
+
+// A word of the frame.
+fn home(names: &Names, i: u32) -> Spot
+    requires { i ≤ 2000 }
+    ensures { result ≡ Spot.Frame (free_of (known_by names.now) + i) }
+{
+    Spot::Frame(free(names) + i)
+}
+
+fn operand_read(
+    alloc: Global,
+    names: &Names,
+    place: &Place,
+    i: u32,
+    into: u8,
+) -> Result<Piece, NoMemory>
+    requires room { i ≤ 2000 }
+    requires register { into < 32 }
+    requires apart { into ≢ CONTENT }
+    ensures { IfOk result (λ p. p ≡ unmarked (operand_cells (spot_of_name (known_by names.now)) (free_of (known_by names.now)) (read_of (lvalue_of place.now)) i into)) }
+{
+    match &place.index {
+        None => copy(alloc, spot_of(names, &place.name.text), into),
+        Some(_) => copy(alloc, home(names, i), into),
+    }
+}
+
+/// The value of an operand xored into a register.
+pub fn operand(alloc: Global, names: &Names, e: &Expr, i: u32, into: u8) -> Result<Piece, NoMemory>
+    requires room { i ≤ 2000 }
+    requires register { into < 32 }
+    requires apart { into ≢ CONTENT }
+    ensures { IfOk result (λ p. p ≡ unmarked (operand_cells (spot_of_name (known_by names.now)) (free_of (known_by names.now)) (expression_of e.now) i into)) }
+{
+    match e {
+        Expr::Number { word, .. } => xori(alloc, into, *word),
+        Expr::Nil { .. } => Ok(empty(alloc)),
+        Expr::Read(place) => operand_read(alloc, names, place, i, into),
+        Expr::Binary { .. } => copy(alloc, home(names, i), into),
+    }
+}
+
+fn both_checks(alloc: Global) -> Result<Piece, NoMemory>
+    ensures { IfOk result (λ p. p ≡ unmarked (nil_cells ++ index_cells)) }
+{
+    let first = nil_check(alloc)?;
+    let second = index_check(alloc)?;
+    seq(first, second)
+}
+
+/// An element's index and array, both checked.
+pub fn checked(
+    alloc: Global,
+    names: &Names,
+    name: &Text,
+    index: &Expr,
+    i: u32,
+) -> Result<Piece, NoMemory>
+    requires { i ≤ 2000 }
+    ensures { IfOk result (λ p. p ≡ unmarked (checked_of (spot_of_name (known_by names.now)) (free_of (known_by names.now)) name.now (expression_of index.now) i)) }
+{
+    let first = operand(alloc, names, index, i, LEFT)?;
+    let array = copy(alloc, spot_of(names, name), RIGHT)?;
+    let checks = both_checks(alloc)?;
+    let rest = seq(array, checks)?;
+    seq(first, rest)
+}
+
+fn open_read(alloc: Global, names: &Names, place: &Place, i: u32) -> Result<Piece, NoMemory>
+    requires { i ≤ 1000 }
+    ensures { IfOk result (λ p. p ≡ unmarked (open_cells (spot_of_name (known_by names.now)) (free_of (known_by names.now)) (read_of (lvalue_of place.now)) i)) }
+{
+    match &place.index {
+        None => reached(alloc, spot_of(names, &place.name.text)),
+        Some(index) => {
+            let front = checked(alloc, names, &place.name.text, index, i + 1)?;
+            let address = point(alloc)?;
+            let word = exch(alloc, ITEM, RIGHT)?;
+            let rest = seq(address, word)?;
+            seq(front, rest)
+        }
+    }
+}
+
+/// The value of an expression in its register, where its parts are prepared.
+pub fn open(alloc: Global, names: &Names, e: &Expr, i: u32) -> Result<Piece, NoMemory>
+    requires { i + words_of (expression_of e.now) ≤ 1000 }
+    ensures { IfOk result (λ p. p ≡ unmarked (open_cells (spot_of_name (known_by names.now)) (free_of (known_by names.now)) (expression_of e.now) i)) }
+{
+    match e {
+        Expr::Number { word, .. } => xori(alloc, CONTENT, *word),
+        Expr::Nil { .. } => Ok(empty(alloc)),
+        Expr::Read(place) => open_read(alloc, names, place, i),
+        Expr::Binary {
+            op,
+            left,
+            right,
+            ..
+        } => {
+            let first = operand(alloc, names, left, i + 1, LEFT)?;
+            let second = operand(alloc, names, right, i + 1 + words(left), RIGHT)?;
+            let row = operator(alloc, *op)?;
+            let rest = seq(second, row)?;
+            seq(first, rest)
+        }
+    }
+}
+
+/// Every element and operator computed once into its word of the frame.
+#[cycle(prepared)]
+pub fn prepare(alloc: Global, names: &Names, e: &Expr, i: u32) -> Result<Piece, NoMemory>
+    requires { i + words_of (expression_of e.now) ≤ 1000 }
+    ensures { IfOk result (λ p. p ≡ unmarked (prepare_cells (spot_of_name (known_by names.now)) (free_of (known_by names.now)) (expression_of e.now) i)) }
+{
+    match e {
+        Expr::Number { .. } => Ok(empty(alloc)),
+        Expr::Nil { .. } => Ok(empty(alloc)),
+        Expr::Read(place) => prepare_read(alloc, names, place, i),
+        Expr::Binary {
+            op,
+            left,
+            right,
+            ..
+        } => {
+            let first = prepare(alloc, names, left, i + 1)?;
+            let second = prepare(alloc, names, right, i + 1 + words(left))?;
+            let parts = seq(first, second)?;
+            let opened = open(alloc, names, e, i)?;
+            let kept = store(alloc, home(names, i), operator_register(*op))?;
+            let node = enclosed(alloc, opened, kept)?;
+            seq(parts, node)
+        }
+    }
+}
+
+#[cycle(prepared)]
+fn prepare_read(alloc: Global, names: &Names, place: &Place, i: u32) -> Result<Piece, NoMemory>
+    requires { i + words_of (read_of (lvalue_of place.now)) ≤ 1000 }
+    ensures { IfOk result (λ p. p ≡ unmarked (prepare_cells (spot_of_name (known_by names.now)) (free_of (known_by names.now)) (read_of (lvalue_of place.now)) i)) }
+{
+    match &place.index {
+        None => Ok(empty(alloc)),
+        Some(index) => {
+            let parts = prepare(alloc, names, index, i + 1)?;
+            let opened = open_read(alloc, names, place, i)?;
+            let kept = store(alloc, home(names, i), ITEM)?;
+            let node = enclosed(alloc, opened, kept)?;
+            seq(parts, node)
+        }
+    }
+}
+
+fn parts_read(alloc: Global, names: &Names, place: &Place, i: u32) -> Result<Piece, NoMemory>
+    requires { i + words_of (read_of (lvalue_of place.now)) ≤ 1000 }
+    ensures { IfOk result (λ p. p ≡ unmarked (parts_cells (spot_of_name (known_by names.now)) (free_of (known_by names.now)) (read_of (lvalue_of place.now)) i)) }
+{
+    match &place.index {
+        None => Ok(empty(alloc)),
+        Some(index) => prepare(alloc, names, index, i + 1),
+    }
+}
+
+/// The parts of an expression prepared.
+pub fn parts(alloc: Global, names: &Names, e: &Expr, i: u32) -> Result<Piece, NoMemory>
+    requires { i + words_of (expression_of e.now) ≤ 1000 }
+    ensures { IfOk result (λ p. p ≡ unmarked (parts_cells (spot_of_name (known_by names.now)) (free_of (known_by names.now)) (expression_of e.now) i)) }
+{
+    match e {
+        Expr::Number { .. } => Ok(empty(alloc)),
+        Expr::Nil { .. } => Ok(empty(alloc)),
+        Expr::Read(place) => parts_read(alloc, names, place, i),
+        Expr::Binary { left, right, .. } => {
+            let first = prepare(alloc, names, left, i + 1)?;
+            let second = prepare(alloc, names, right, i + 1 + words(left))?;
+            seq(first, second)
+        }
+    }
+}
+
+fn read_register(place: &Place) -> u8
+    ensures value { result ≡ result_of (read_of (lvalue_of place.now)) }
+    ensures known { (result ≡ CONTENT) ⊎ (result ≡ ITEM) }
+{
+    match &place.index {
+        None => CONTENT,
+        Some(_) => ITEM,
+    }
+}
+
+/// The register that has the value of an opened expression.
+pub fn result_register(e: &Expr) -> u8
+    ensures value { result ≡ result_of (expression_of e.now) }
+    ensures low { 5 < result }
+    ensures high { result < 19 }
+    ensures no_target { (result < 11) ⊎ (15 < result) }
+{
+    match e {
+        Expr::Number { .. } => CONTENT,
+        Expr::Nil { .. } => CONTENT,
+        Expr::Read(place) => read_register(place),
+        Expr::Binary { op, .. } => operator_register(*op),
+    }
+}
+
+/// The value of an expression xored into a register.
+pub fn value_piece(alloc: Global, e: &Expr, names: &Names, into: u8) -> Result<Piece, NoMemory>
+    requires register { Target into }
+    requires room { words_of (expression_of e.now) ≤ 1000 }
+    ensures code { IfOk result (λ p. p ≡ unmarked (value_cells (spot_of_name (known_by names.now)) (free_of (known_by names.now)) (expression_of e.now) into)) }
+    ensures law { IfOk result (λ p. ValueLaw (spot_of_name (known_by names.now)) (free_of (known_by names.now)) into (expression_of e.now) p.cells) }
+    ensures size { IfOk result (λ p. length p.cells ≤ 58 * tokens (expression_of e.now)) }
+{
+    let outer = parts(alloc, names, e, 0)?;
+    let opened = open(alloc, names, e, 0)?;
+    let last = xor(alloc, into, result_register(e))?;
+    let middle = enclosed(alloc, opened, last)?;
+    enclosed(alloc, outer, middle)
+}
+
+/// Whether it is true xored into a register.
+pub fn test_piece(alloc: Global, e: &Expr, names: &Names, into: u8) -> Result<Piece, NoMemory>
+    requires register { Target into }
+    requires room { words_of (expression_of e.now) ≤ 1000 }
+    ensures code { IfOk result (λ p. p ≡ unmarked (test_cells (spot_of_name (known_by names.now)) (free_of (known_by names.now)) (expression_of e.now) into)) }
+    ensures law { IfOk result (λ p. TestLaw (spot_of_name (known_by names.now)) (free_of (known_by names.now)) into (expression_of e.now) p.cells) }
+    ensures size { IfOk result (λ p. length p.cells ≤ 58 * tokens (expression_of e.now)) }
+{
+    let outer = parts(alloc, names, e, 0)?;
+    let opened = open(alloc, names, e, 0)?;
+    let told = truth(alloc, TRUTH, result_register(e))?;
+    let opened = seq(opened, told)?;
+    let last = xor(alloc, into, TRUTH)?;
+    let middle = enclosed(alloc, opened, last)?;
+    enclosed(alloc, outer, middle)
+}
