@@ -1,0 +1,6 @@
+pub mod Cells
+pub mod Form
+pub mod Frames
+pub mod Stands
+pub mod Worlds
+pub mod Laws
