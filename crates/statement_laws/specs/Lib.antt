@@ -3,4 +3,5 @@ pub mod Form
 pub mod Frames
 pub mod Stands
 pub mod Worlds
+pub mod Held
 pub mod Laws

@@ -5,6 +5,8 @@
 #![tactic(auto)]
 
 pub mod laws;
+mod pieces;
 mod spot;
 
+pub use pieces::around;
 pub use spot::Spot;
