@@ -1,0 +1,33 @@
+-- Tests between statements: the flag is set, and the frame stays open.
+use Rattle.std.proofs.Common.{◌≡◌, ℕ, Bool, List, [], sym, ap, subst}
+use Rattle.rpp_tree.specs.Tree.{Expression}
+use Rattle.paired_code.specs.declared.part.Symbol.{Symbol}
+use Rattle.paired_code.specs.Machine.{Memory}
+use Rattle.paired_code.specs.Layout.{xor}
+use Rattle.paired_code.specs.Pieces.{Will}
+use Rattle.paired_code.specs.Does.{Meets}
+use Rattle.paired_code.proofs.Laws.{will_more}
+use Rattle.roopl_semantics.specs.Store.{State}
+use Rattle.statement_laws.specs.Form.{World, Scope, TestLaw, registers, bit, test_rates, test_slack, tested, told}
+use Rattle.statement_laws.proofs.Rules.{as_known, meets_as}
+
+abbrev pub mk : (link object frame at at' word flag place : ℕ) → List ℕ → Memory
+mk l o f a b c g p cs = record { regs = registers l o f a b c g p; cells = cs }
+
+-- between statements, with a flag
+pub record Flagged (w : World) (s : Scope) (u : w.Under) (v : Bool) (st : State) (m : Memory) : Type 0 where
+  pub regs_are : m.regs ≡ registers 0 (w.object_of u) (w.frame_of u) 0 0 0 (bit v) 0
+  pub open_frame : w.opens s u [] st m.cells
+
+-- the code of a test xors the truth into the flag, and the frame stays open
+abbrev pub FlagLaw : World → Scope → Expression → List Symbol → Type 0
+FlagLaw w s e p =
+    (n : ℕ) (d : Bool) (u : w.Under) (v : Bool) (st : State) (m : Memory) → Flagged w s u v st m → Will w.im p d m (Meets (λ t m1. Flagged w s u (xor v t) st m1) (test_rates w) n test_slack (told (tested w.setting e st)))
+
+pub test_flags : (w : World) (s : Scope) (e : Expression) (p : List Symbol) → TestLaw w s e p → FlagLaw w s e p
+test_flags w s e p h n d u v st m f =
+    subst (λ z. Will w.im p d z (Meets (λ t m1. Flagged w s u (xor v t) st m1) (test_rates w) n test_slack (told (tested w.setting e st)))) (sym (as_known m _ f.regs_are))
+    (will_more w.im p d _ _ _ (λ o q. meets_as (λ t m1 c said is. record {
+      regs_are = ap (λ z. z.regs) is;
+      open_frame = subst (w.opens s u [] st) (sym (ap (λ z. z.cells) is)) f.open_frame;
+    }) q) (h n d u v st m.cells (w.are_read s u st m.cells f.open_frame)))

@@ -1,0 +1,4 @@
+pub mod Flags
+pub mod Choices
+pub mod Repeats
+pub mod Clauses

@@ -1,0 +1,195 @@
+// A conditional and a loop, one piece after the other.
+ghost use Rattle.std.specs.Prelude.{◌≡◌, ◌+◌, ◌∷◌, ◌++◌, List, [], length, IfOk};
+ghost use Rattle.paired_code.specs.Code.{unmarked};
+ghost use Rattle.paired_code.specs.Layout.{check_cells, branch_cells, loop_cells};
+ghost use Rattle.paired_code.specs.Rows.{line};
+ghost use Rattle.statement_laws.specs.Held.{Holds, HoldsBoth};
+ghost use Rattle.branch_codegen.specs.Branches.{flips, part_code, if_code, check, turn_code, from_code};
+ghost use Rattle.branch_codegen.specs.Laws.{IfCode, FromCode};
+
+use crate::flag::{FI_FAULT, FLAG, LOOP_FAULT};
+use paired_code::{Piece, branch_if, check_zero, plain, seq, turn_while};
+use pisa_isa::{Cell, Op};
+use rpp_words::NoMemory;
+use statement_laws::around;
+use std::alloc::Global;
+
+/// The code of `if test then yes else no fi after`, over the pieces of its tests, which have no marks, and of its blocks.
+#[tactic(auto, using(crate::proofs::Clauses::if_clause, crate::proofs::Clauses::if_length))]
+pub fn conditional(
+    alloc: Global,
+    test: Piece,
+    yes: Piece,
+    no: Piece,
+    after: Piece,
+) -> Result<Piece, NoMemory>
+    requires test_none { test.marks ≡ [] }
+    requires after_none { after.marks ≡ [] }
+    ensures law { IfOk result (λ p. IfCode test.cells yes.cells no.cells after.cells p.cells) }
+    ensures held { IfOk result (λ p. HoldsBoth no yes p) }
+    ensures size { IfOk result (λ p. length p.cells ≡ length test.cells + length yes.cells + length no.cells + length after.cells + 22) }
+{
+    if_piece(alloc, test, yes, no, after)
+}
+
+/// The code of `from entry do first loop again until exit`, over the pieces of its tests, which have no marks, and of its blocks.
+#[tactic(auto, using(crate::proofs::Clauses::from_clause, crate::proofs::Clauses::from_length))]
+pub fn repetition(
+    alloc: Global,
+    entry: Piece,
+    first: Piece,
+    again: Piece,
+    exit: Piece,
+) -> Result<Piece, NoMemory>
+    requires entry_none { entry.marks ≡ [] }
+    requires exit_none { exit.marks ≡ [] }
+    ensures law { IfOk result (λ p. FromCode entry.cells first.cells again.cells exit.cells p.cells) }
+    ensures held { IfOk result (λ p. HoldsBoth again first p) }
+    ensures size { IfOk result (λ p. length p.cells ≡ length entry.cells + length first.cells + length again.cells + length exit.cells + 22) }
+{
+    from_piece(alloc, entry, first, again, exit)
+}
+
+fn flip_piece(alloc: Global) -> Result<Piece, NoMemory>
+    ensures code { IfOk result (λ p. p ≡ unmarked (line (flips ∷ []))) }
+{
+    let cell = Cell {
+        op: Op::Xori,
+        a: FLAG,
+        b: 0,
+        c: 0,
+        imm: 1,
+    };
+    plain(alloc, cell)
+}
+
+fn part_piece(alloc: Global, part: Piece) -> Result<Piece, NoMemory>
+    ensures cells { IfOk result (λ p. p.cells ≡ part_code part.cells) }
+    ensures held { IfOk result (λ p. Holds part p) }
+{
+    around(alloc, flip_piece(alloc)?, part)
+}
+
+#[tactic(auto, using(statement_laws::proofs::Holding::branch_clause))]
+fn chosen_piece(alloc: Global, yes: Piece, no: Piece) -> Result<Piece, NoMemory>
+    ensures cells { IfOk result (λ p. p.cells ≡ branch_cells FLAG (part_code yes.cells) no.cells) }
+    ensures held { IfOk result (λ p. HoldsBoth no yes p) }
+{
+    branch_if(alloc, FLAG, part_piece(alloc, yes)?, no)
+}
+
+fn last_piece(alloc: Global, after: Piece) -> Result<Piece, NoMemory>
+    requires none { after.marks ≡ [] }
+    ensures code { IfOk result (λ p. p ≡ unmarked (after.cells ++ check_cells FLAG FI_FAULT)) }
+{
+    seq(after, check_zero(alloc, FLAG, FI_FAULT)?)
+}
+
+#[tactic(auto, using(statement_laws::proofs::Holding::both_before))]
+fn ended_piece(alloc: Global, yes: Piece, no: Piece, last: Piece) -> Result<Piece, NoMemory>
+    requires none { last.marks ≡ [] }
+    ensures cells { IfOk result (λ p. p.cells ≡ branch_cells FLAG (part_code yes.cells) no.cells ++ last.cells) }
+    ensures held { IfOk result (λ p. HoldsBoth no yes p) }
+{
+    seq(chosen_piece(alloc, yes, no)?, last)
+}
+
+#[tactic(auto, using(statement_laws::proofs::Holding::both_behind))]
+fn tested_piece(
+    alloc: Global,
+    test: Piece,
+    yes: Piece,
+    no: Piece,
+    last: Piece,
+) -> Result<Piece, NoMemory>
+    requires test_none { test.marks ≡ [] }
+    requires last_none { last.marks ≡ [] }
+    ensures cells { IfOk result (λ p. p.cells ≡ test.cells ++ (branch_cells FLAG (part_code yes.cells) no.cells ++ last.cells)) }
+    ensures held { IfOk result (λ p. HoldsBoth no yes p) }
+{
+    seq(test, ended_piece(alloc, yes, no, last)?)
+}
+
+#[tactic(auto, using(statement_laws::proofs::Holding::both_behind))]
+fn if_piece(
+    alloc: Global,
+    test: Piece,
+    yes: Piece,
+    no: Piece,
+    after: Piece,
+) -> Result<Piece, NoMemory>
+    requires test_none { test.marks ≡ [] }
+    requires after_none { after.marks ≡ [] }
+    ensures cells { IfOk result (λ p. p.cells ≡ if_code test.cells yes.cells no.cells after.cells) }
+    ensures held { IfOk result (λ p. HoldsBoth no yes p) }
+{
+    let last = last_piece(alloc, after)?;
+    let tested = tested_piece(alloc, test, yes, no, last)?;
+    seq(check_zero(alloc, FLAG, FI_FAULT)?, tested)
+}
+
+fn exit_piece(alloc: Global, exit: Piece) -> Result<Piece, NoMemory>
+    requires none { exit.marks ≡ [] }
+    ensures code { IfOk result (λ p. p ≡ unmarked (check ++ exit.cells)) }
+{
+    seq(check_zero(alloc, FLAG, LOOP_FAULT)?, exit)
+}
+
+#[tactic(auto, using(statement_laws::proofs::Holding::holds_left))]
+fn left_piece(alloc: Global, first: Piece, exit: Piece) -> Result<Piece, NoMemory>
+    requires none { exit.marks ≡ [] }
+    ensures cells { IfOk result (λ p. p.cells ≡ first.cells ++ (check ++ exit.cells)) }
+    ensures held { IfOk result (λ p. Holds first p) }
+{
+    seq(first, exit_piece(alloc, exit)?)
+}
+
+fn entry_piece(alloc: Global, entry: Piece) -> Result<Piece, NoMemory>
+    requires none { entry.marks ≡ [] }
+    ensures code { IfOk result (λ p. p ≡ unmarked (entry.cells ++ check)) }
+{
+    seq(entry, check_zero(alloc, FLAG, LOOP_FAULT)?)
+}
+
+#[tactic(auto, using(statement_laws::proofs::Holding::behind_clause, crate::proofs::Clauses::turn_cells))]
+fn turn_piece(alloc: Global, entry: Piece, first: Piece, exit: Piece) -> Result<Piece, NoMemory>
+    requires entry_none { entry.marks ≡ [] }
+    requires exit_none { exit.marks ≡ [] }
+    ensures cells { IfOk result (λ p. p.cells ≡ turn_code entry.cells first.cells exit.cells) }
+    ensures held { IfOk result (λ p. Holds first p) }
+{
+    seq(entry_piece(alloc, entry)?, left_piece(alloc, first, exit)?)
+}
+
+#[tactic(auto, using(crate::proofs::Clauses::loop_held))]
+fn turns_piece(
+    alloc: Global,
+    entry: Piece,
+    first: Piece,
+    again: Piece,
+    exit: Piece,
+) -> Result<Piece, NoMemory>
+    requires entry_none { entry.marks ≡ [] }
+    requires exit_none { exit.marks ≡ [] }
+    ensures cells { IfOk result (λ p. p.cells ≡ loop_cells FLAG (turn_code entry.cells first.cells exit.cells) again.cells) }
+    ensures held { IfOk result (λ p. HoldsBoth again first p) }
+{
+    turn_while(alloc, FLAG, turn_piece(alloc, entry, first, exit)?, again)
+}
+
+#[tactic(auto, using(statement_laws::proofs::Holding::both_in))]
+fn from_piece(
+    alloc: Global,
+    entry: Piece,
+    first: Piece,
+    again: Piece,
+    exit: Piece,
+) -> Result<Piece, NoMemory>
+    requires entry_none { entry.marks ≡ [] }
+    requires exit_none { exit.marks ≡ [] }
+    ensures cells { IfOk result (λ p. p.cells ≡ from_code entry.cells first.cells again.cells exit.cells) }
+    ensures held { IfOk result (λ p. HoldsBoth again first p) }
+{
+    let turns = turns_piece(alloc, entry, first, again, exit)?;
+    around(alloc, flip_piece(alloc)?, turns)
+}
