@@ -12,6 +12,8 @@ use Rattle.pisa_cluster.specs.Schedules.{Schedule, IsCluster, IsMade, IsAtStop, 
 use Rattle.pisa_cluster.proofs.Commuting.{slice_get-set_same, set_there}
 use Rattle.pisa_cluster.proofs.Undoing.{made, Back, free_step, drop_next, removed, found_at, replayed-start}
 use lib.Seq.{set-set, set-get_or}
+use lib.ListN.{length-replicate}
+use Rattle.pisa_cluster.proofs.Keeping.{cstep-start}
 use Rattle.std.proofs.lemmas.List.Edits.{length-remove}
 
 pub get_or-same : {X : Type 0} (xs : List X) (i : ℕ) (d e : X) → i < length xs → get_or xs i d ≡ get_or xs i e
@@ -229,3 +231,17 @@ all_rewound c start left done h long same later =
     let none = nil_of c.kept (omega (arith, done, long)) in
     let joint : c.joint ≡ start_of_joint start.joint = sym h.leads ∙ ap (λ k. replay (start_of_joint c.joint) (makers k)) none ∙ same in
     ap₂ (λ j k. record { joint = j; kept = k; next_serial = c.next_serial }) joint none ∙ ap (λ n. record { joint = start_of_joint start.joint; kept = []; next_serial = n }) later
+
+abbrev zero_word : ℕ
+zero_word = 0
+
+-- the same start has as many cells
+pub same_cells : (s t : Joint) → start_of_joint s ≡ start_of_joint t → length s.cells ≡ length t.cells
+same_cells s t same =
+    sym (length-replicate (length s.cells) zero_word) ∙ ap (λ (x : Joint). length x.cells) same ∙ length-replicate (length t.cells) zero_word
+
+pub stepped_cells : (who serial : ℕ) (c d : Schedule) → IsMade who serial c d → length d.joint.cells ≡ length c.joint.cells
+stepped_cells who serial c d m = same_cells d.joint c.joint (ap (λ (x : Schedule). start_of_joint x.joint) m.leads ∙ cstep-start c.joint who)
+
+pub replayed_cells : (c d : Schedule) (kept : List Kept) → d.joint ≡ replay (start_of_joint c.joint) (makers kept) → length d.joint.cells ≡ length c.joint.cells
+replayed_cells c d kept leads = same_cells d.joint c.joint (ap start_of_joint leads ∙ replayed-start c.joint (makers kept))

@@ -103,6 +103,7 @@ impl Cluster {
         ensures answer { IfOk result (λ answer. Moves who answer self.old self.new) }
         ensures refused { IfErr result (λ e. self.new ≡ self.old) }
         ensures processors { length self.new.joint.processors ≡ length self.old.joint.processors }
+        ensures cells { length self.new.joint.cells ≡ length self.old.joint.cells }
     {
         let at = who as usize - 1;
         let serial = self.next_serial;
@@ -130,6 +131,7 @@ impl Cluster {
         requires last { who ≤ length self.old.joint.processors }
         ensures answer { Undoes who result self.old self.new }
         ensures processors { length self.new.joint.processors ≡ length self.old.joint.processors }
+        ensures cells { length self.new.joint.cells ≡ length self.old.joint.cells }
     {
         let Some(at) = last_step(&self.kept, who) else {
             return Undone::Nothing;
@@ -150,6 +152,7 @@ impl Cluster {
         ensures count { result ≡ length self.old.kept }
         ensures rewinds { self.new ≡ rewound self.old }
         ensures processors { length self.new.joint.processors ≡ length self.old.joint.processors }
+        ensures cells { length self.new.joint.cells ≡ length self.old.joint.cells }
     {
         let count = self.kept.len();
         for left in (0..count).rev() {
@@ -168,6 +171,7 @@ impl Cluster {
         } }
         ensures cluster { IsCluster self.new }
         ensures processors { length self.new.joint.processors ≡ length self.old.joint.processors }
+        ensures cells { length self.new.joint.cells ≡ length self.old.joint.cells }
     {
         let step = self.kept.remove(at);
         self.processors[step.who as usize - 1].step_back(&mut self.cells);

@@ -1,8 +1,8 @@
-use Rattle.std.proofs.Common.{◌≡◌, ◌∙◌, ◌-◌, ap, ap₂, sym, subst, remove, slice_set, length, length-set, arith}
+use Rattle.std.proofs.Common.{refl, ◌≡◌, ◌∙◌, ◌-◌, ap, ap₂, sym, subst, remove, slice_set, length, length-set, arith}
 use Rattle.pisa_cluster.specs.Replay.{seen, replay, makers, start_of_joint}
 use Rattle.pisa_cluster.specs.Schedules.{Schedule, IsCluster, IsFree}
 use Rattle.pisa_cluster.proofs.Undoing.{free_step}
-use Rattle.pisa_cluster.proofs.Calls.{back_at, who_low, who_high, is_next, goes_there, seen_next, back_to}
+use Rattle.pisa_cluster.proofs.Calls.{back_at, who_low, who_high, is_next, goes_there, seen_next, back_to, replayed_cells}
 use Rattle.pisa_cluster.proofs.cluster.Cluster.take_back.Goals as goal
 
 pub overflow_sub-step : goal.overflow_sub-step
@@ -57,5 +57,6 @@ returns c =
     record {
       leads = whole ∙ ap (λ (x : Schedule). record x { joint = replay (start_of_joint x.joint) (makers (remove x.kept c.args.at)); kept = remove x.kept c.args.at }) c.self.view_is;
       cluster = subst IsCluster (sym whole) (free_step old c.args.at c.self.invariant free).cluster;
+      cells = ap (λ (x : Schedule). length x.joint.cells) whole ∙ replayed_cells old (record old { joint = s; kept = remove old.kept c.args.at }) (remove old.kept c.args.at) refl ∙ ap (λ (x : Schedule). length x.joint.cells) c.self.view_is;
       processors = length-set c.self.inside.processors.items (c.remove-step.result.who - 1) c.step_back.new.self ∙ ap (λ (x : Schedule). length x.joint.processors) c.self.view_is;
     }

@@ -1,0 +1,6 @@
+pub mod Reading
+pub mod StepsOn
+pub mod EventsOn
+pub mod Lines
+pub mod ImagesOn
+pub mod TextsOn

@@ -1,0 +1,56 @@
+-- The plan of `cluster`.
+use Rattle.std.specs.Prelude.{◌≡◌, ℕ, List, [], ◌∷◌, length, map, Result, Ok, Err}
+use Rattle.rpp_ports.specs.Ports.{Texts}
+use Rattle.pisa_isa.specs.Image.{Segments}
+use Rattle.pisa_image.specs.declared.error.ImageError.{ImageError}
+use Rattle.pisa_image.specs.Reading.{image_at}
+use Rattle.rpp_plan.specs.declared.reading.TheConstants.{MOST_IMAGE}
+use Rattle.rpp_plan.specs.declared.plan.Verdict.TheVariants.{Done, ImageRefused, InputRefused}
+use Rattle.rpp_plan.specs.Files.{Needed, image_file}
+use Rattle.rpp_plan.specs.Plans.{Planned, prints, WithText}
+use Rattle.rpp_plan.specs.Texts.{bad_command_line, image_line}
+use Rattle.cluster_commands.specs.declared.script.Event.{Event}
+use Rattle.cluster_commands.specs.declared.script.TheConstants.{MOST_SCRIPT}
+use Rattle.cluster_commands.specs.declared.error.ScriptError.{ScriptError}
+use Rattle.cluster_commands.specs.declared.error.ScriptError.TheVariants.{BadEvent}
+use Rattle.cluster_commands.specs.declared.error.ScriptError.TheVariants as script
+use Rattle.cluster_commands.specs.ClusterScripts.{events_of}
+use Rattle.cluster_commands.specs.ClusterShown.{IsShown}
+
+abbrev pub script_file : List ℕ → Needed
+script_file name = record { name = name; limit = MOST_SCRIPT }
+
+-- the script is read first, then the images in order
+abbrev pub cluster_files : (script : List ℕ) → (images : List (List ℕ)) → List Needed
+cluster_files script images = script_file script ∷ map image_file images
+
+-- the images that bytes are, or the first refusal
+abbrev pub with_image : Result Segments ImageError → Result (List Segments) ImageError → Result (List Segments) ImageError
+with_image (Err e) rest = Err e
+with_image (Ok image) (Err e) = Err e
+with_image (Ok image) (Ok images) = Ok (image ∷ images)
+
+abbrev pub images_at : List (List ℕ) → Result (List Segments) ImageError
+images_at [] = Ok []
+images_at (bytes ∷ rest) = with_image (image_at bytes) (images_at rest)
+
+-- the first line that asks nothing is told, or what the events print
+abbrev pub IsEventsPlan : Result (List Event) ScriptError → List Segments → (cells : ℕ) → Planned → Type 0
+IsEventsPlan (Err (BadEvent line)) images cells p = p ≡ prints InputRefused (bad_command_line line)
+IsEventsPlan (Err script.NoMemory) images cells p = ⊥
+IsEventsPlan (Ok events) images cells p = (text : List ℕ) × IsShown images cells events text × (p ≡ prints Done text)
+
+-- an image that is refused is told before the script is judged
+abbrev pub IsClusterPlan : Result (List Segments) ImageError → (script : List ℕ) → (cells : ℕ) → Planned → Type 0
+IsClusterPlan (Err e) script cells p = p ≡ prints ImageRefused (image_line e)
+IsClusterPlan (Ok images) script cells p = IsEventsPlan (events_of (length images) script) images cells p
+
+-- P holds of the texts of these images
+abbrev pub WithImages : Texts → List (List ℕ) → (List (List ℕ) → Type 0) → Type 0
+WithImages texts [] P = P []
+WithImages texts (name ∷ names) P = WithText texts name MOST_IMAGE (λ bytes. WithImages texts names (λ rest. P (bytes ∷ rest)))
+
+-- the plan of `cluster` by this script over these images, on so many cells
+abbrev pub ClustersFiles : (script : List ℕ) → (cells : ℕ) → (images : List (List ℕ)) → Texts → Planned → Type 0
+ClustersFiles script cells images texts p =
+    WithText texts script MOST_SCRIPT (λ text. WithImages texts images (λ bytes. IsClusterPlan (images_at bytes) text cells p))

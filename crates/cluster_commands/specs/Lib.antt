@@ -1,0 +1,3 @@
+pub mod ClusterScripts
+pub mod ClusterShown
+pub mod ClusterPlans
