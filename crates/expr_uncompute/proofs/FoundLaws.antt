@@ -1,22 +1,24 @@
 -- Places and values found, for any code that uses them: what stands in the registers then, and what takes it away again.
-use Rattle.std.proofs.Common.{◌≡◌, ℕ, ◌+◌, Bool, List, ◌++◌, refl, sym, ap, subst, arith}
+use Rattle.std.proofs.Common.{◌≡◌, ℕ, ◌+◌, ◌≤◌, Bool, true, false, List, ◌++◌, length, refl, sym, ap, ◌∙◌, subst, arith}
 use Rattle.std.specs.Prelude.{Ok, Err}
 use Rattle.rpp_tree.specs.Tree.{Expression, Lvalue}
 use Rattle.paired_code.specs.declared.part.Symbol.{Symbol}
 use Rattle.paired_code.specs.Machine.{Memory, Image, reg, with_reg}
 use Rattle.paired_code.specs.Pieces.{Trapped, Runs}
 use Rattle.expr_uncompute.specs.declared.Spot.{Spot}
-use Rattle.expr_uncompute.specs.Code.{words, place_words, amount, place, other_place, around, place_cells, fetch_cells}
-use Rattle.expr_uncompute.specs.Number.{number, read_of, place_address}
-use Rattle.expr_uncompute.specs.Steps.{place_steps, fetch_steps}
+use Rattle.expr_uncompute.specs.Code.{words, place_words, amount, place, other_place, around, place_cells, fetch_cells, apart_cells}
+use Rattle.expr_uncompute.specs.Number.{number, read_of, index_of, place_address, shares}
+use Rattle.expr_uncompute.specs.Steps.{place_steps, fetch_steps, apart_steps}
 use Rattle.expr_uncompute.specs.Laws.{bases_of, Ready}
 use Rattle.expr_uncompute.specs.Promises.{SeesIn, CanRun, IsTrap}
-use Rattle.expr_uncompute.proofs.Goes.{Goes, goes_to, traps_around}
+use Rattle.expr_uncompute.proofs.Goes.{Goes, Traps, goes_to, goes_seq, traps_around, traps_then}
+use Rattle.expr_uncompute.proofs.Numbers.{Agree, sees_same}
 use Rattle.expr_uncompute.proofs.Scratch.{keeping, mem}
 use Rattle.expr_uncompute.proofs.Whole.{as_mem}
 use Rattle.expr_uncompute.proofs.PlaceLaws.{FitPlace, placed, place_points, place_goes, place_traps}
-use Rattle.expr_uncompute.proofs.Written.{filled, both_placed}
-use Rattle.expr_uncompute.proofs.Updates.{found_goes, both_found}
+use Rattle.expr_uncompute.proofs.Written.{filled, both_placed, placed_below, placed_length, placed_words}
+use Rattle.expr_uncompute.proofs.KeptApart.{index_seen, shares_same, apart_goes, apart_traps}
+use Rattle.expr_uncompute.proofs.Updates.{found_goes, both_found, placed_is}
 use Rattle.expr_uncompute.proofs.Statements.{fit_from}
 
 -- a value in `amount`, and the addresses of a place and of a second one
@@ -65,3 +67,60 @@ module _ (spot : List ℕ → Spot) (free : ℕ) (m : Memory) where
       → Goes (place_cells spot free target 0 place ++ place_cells spot free other (place_words target) other_place) (place_steps target + place_steps other) m (kept_at 0 a a' (both_placed spot free (bases_of m) target other m.cells) m)
   places_found target other a a' h na na' =
       goes_to refl (sym (as_mem free (place_words target + place_words other) m h.ready)) (shown_as (place_words target + place_words other) h.ready 0 a a' _) (both_found spot free (bases_of m) (reg m) target other m.cells a a' (fit_from spot free m target (place_words other) h.ready h.first) h.second na na')
+
+  -- ---- and the check of arrays
+
+  -- a place whose array is none of those of which two expressions read elements
+  pub place_held : (target : Lvalue) (e e' : Expression) (a : ℕ) → Ready free (place_words target) m → SeesIn spot free m (read_of target) → SeesIn spot free m e → SeesIn spot free m e' → place_address spot (bases_of m) m.cells target ≡ Ok a → shares spot (bases_of m) m.cells target e e' ≡ false
+      → Goes (place_cells spot free target 0 place ++ apart_cells spot target e e') (place_steps target + apart_steps target e e') m (kept_at 0 a 0 (placed spot free (bases_of m) target 0 m.cells) m)
+  place_held target e e' a h s t t' n apart =
+      let ys : List ℕ = placed spot free (bases_of m) target 0 m.cells in
+      let below : Agree (reg m 4 + free) m.cells ys = placed_below spot free (bases_of m) target m.cells in
+      let count : length ys ≡ length m.cells = placed_length spot free (bases_of m) target m.cells in
+      let fits = h.inside in
+      let small = h.small in
+      goes_seq (place_found target a h s n)
+      (goes_to refl (shown_as (place_words target) h 0 a 0 ys) (shown_as (place_words target) h 0 a 0 ys)
+      (apart_goes spot (bases_of m) (reg m 4 + free) (reg m) 0 a 0 ys (placed_words spot free (bases_of m) target m.cells h.words s) (omega arith) (omega arith) target e e' (sees_same spot (bases_of m) (reg m 4 + free) m.cells ys below (read_of target) s) (sees_same spot (bases_of m) (reg m 4 + free) m.cells ys below e t) (sees_same spot (bases_of m) (reg m 4 + free) m.cells ys below e' t') (shares_same spot (bases_of m) (reg m 4 + free) m.cells ys below target e e' s t t' ∙ apart)))
+
+  -- or it is one of them, whatever is to be done with the place
+  pub place_shares : (target : Lvalue) (e e' : Expression) (a : ℕ) (mid : List Symbol) → Ready free (place_words target) m → SeesIn spot free m (read_of target) → SeesIn spot free m e → SeesIn spot free m e' → place_address spot (bases_of m) m.cells target ≡ Ok a → shares spot (bases_of m) m.cells target e e' ≡ true
+      → (im : Image) (d : Bool) → IsTrap im (around (place_cells spot free target 0 place ++ apart_cells spot target e e') mid) d m 16 (place_steps target + apart_steps target e e')
+  place_shares target e e' a mid h s t t' n shared im d =
+      let ys : List ℕ = placed spot free (bases_of m) target 0 m.cells in
+      let below : Agree (reg m 4 + free) m.cells ys = placed_below spot free (bases_of m) target m.cells in
+      let count : length ys ≡ length m.cells = placed_length spot free (bases_of m) target m.cells in
+      let fits = h.inside in
+      let small = h.small in
+      let traps : Traps (apart_cells spot target e e') (apart_steps target e e') 16 (mem (bases_of m) (reg m) (keeping 0 a 0) ys) =
+      apart_traps spot (bases_of m) (reg m 4 + free) (reg m) 0 a 0 ys (placed_words spot free (bases_of m) target m.cells h.words s) (omega arith) (omega arith) target e e' (sees_same spot (bases_of m) (reg m 4 + free) m.cells ys below (read_of target) s) (sees_same spot (bases_of m) (reg m 4 + free) m.cells ys below e t) (sees_same spot (bases_of m) (reg m 4 + free) m.cells ys below e' t') (shares_same spot (bases_of m) (reg m 4 + free) m.cells ys below target e e' s t t' ∙ shared) in
+      (traps_around mid (traps_then (place_found target a h s n) (subst (λ z. Traps (apart_cells spot target e e') (apart_steps target e e') 16 z) (shown_as (place_words target) h 0 a 0 ys) traps))).runs im d
+
+  -- two places, of which the second changes
+  pub places_held : (target other : Lvalue) (a a' : ℕ) → CanRun spot free (place_words target + place_words other) (read_of target) (read_of other) m → place_address spot (bases_of m) m.cells target ≡ Ok a → place_address spot (bases_of m) m.cells other ≡ Ok a' → shares spot (bases_of m) m.cells other (index_of target) (index_of other) ≡ false
+      → Goes ((place_cells spot free target 0 place ++ place_cells spot free other (place_words target) other_place) ++ apart_cells spot other (index_of target) (index_of other)) (place_steps target + place_steps other + apart_steps other (index_of target) (index_of other)) m (kept_at 0 a a' (both_placed spot free (bases_of m) target other m.cells) m)
+  places_held target other a a' h na na' apart =
+      let ys : List ℕ = both_placed spot free (bases_of m) target other m.cells in
+      let k = placed_is spot free (bases_of m) (reg m) target other m.cells (fit_from spot free m target (place_words other) h.ready h.first) h.second in
+      let count = k.count in
+      let fits = h.ready.inside in
+      let small = h.ready.small in
+      let i = index_seen spot (bases_of m) (reg m 4 + free) target m.cells h.first in
+      let j = index_seen spot (bases_of m) (reg m 4 + free) other m.cells h.second in
+      goes_seq (places_found target other a a' h na na')
+      (goes_to refl (shown_as (place_words target + place_words other) h.ready 0 a a' ys) (shown_as (place_words target + place_words other) h.ready 0 a a' ys)
+      (apart_goes spot (bases_of m) (reg m 4 + free) (reg m) 0 a a' ys k.all (omega arith) (omega arith) other (index_of target) (index_of other) (sees_same spot (bases_of m) (reg m 4 + free) m.cells ys k.below (read_of other) h.second) (sees_same spot (bases_of m) (reg m 4 + free) m.cells ys k.below (index_of target) i) (sees_same spot (bases_of m) (reg m 4 + free) m.cells ys k.below (index_of other) j) (shares_same spot (bases_of m) (reg m 4 + free) m.cells ys k.below other (index_of target) (index_of other) h.second i j ∙ apart)))
+
+  pub places_share : (target other : Lvalue) (a a' : ℕ) (mid : List Symbol) → CanRun spot free (place_words target + place_words other) (read_of target) (read_of other) m → place_address spot (bases_of m) m.cells target ≡ Ok a → place_address spot (bases_of m) m.cells other ≡ Ok a' → shares spot (bases_of m) m.cells other (index_of target) (index_of other) ≡ true
+      → (im : Image) (d : Bool) → IsTrap im (around ((place_cells spot free target 0 place ++ place_cells spot free other (place_words target) other_place) ++ apart_cells spot other (index_of target) (index_of other)) mid) d m 16 (place_steps target + place_steps other + apart_steps other (index_of target) (index_of other))
+  places_share target other a a' mid h na na' shared im d =
+      let ys : List ℕ = both_placed spot free (bases_of m) target other m.cells in
+      let k = placed_is spot free (bases_of m) (reg m) target other m.cells (fit_from spot free m target (place_words other) h.ready h.first) h.second in
+      let count = k.count in
+      let fits = h.ready.inside in
+      let small = h.ready.small in
+      let i = index_seen spot (bases_of m) (reg m 4 + free) target m.cells h.first in
+      let j = index_seen spot (bases_of m) (reg m 4 + free) other m.cells h.second in
+      let traps : Traps (apart_cells spot other (index_of target) (index_of other)) (apart_steps other (index_of target) (index_of other)) 16 (mem (bases_of m) (reg m) (keeping 0 a a') ys) =
+      apart_traps spot (bases_of m) (reg m 4 + free) (reg m) 0 a a' ys k.all (omega arith) (omega arith) other (index_of target) (index_of other) (sees_same spot (bases_of m) (reg m 4 + free) m.cells ys k.below (read_of other) h.second) (sees_same spot (bases_of m) (reg m 4 + free) m.cells ys k.below (index_of target) i) (sees_same spot (bases_of m) (reg m 4 + free) m.cells ys k.below (index_of other) j) (shares_same spot (bases_of m) (reg m 4 + free) m.cells ys k.below other (index_of target) (index_of other) h.second i j ∙ shared) in
+      (traps_around mid (traps_then (places_found target other a a' h na na') (subst (λ z. Traps (apart_cells spot other (index_of target) (index_of other)) (apart_steps other (index_of target) (index_of other)) 16 z) (shown_as (place_words target + place_words other) h.ready 0 a a' ys) traps))).runs im d

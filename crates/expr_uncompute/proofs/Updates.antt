@@ -222,12 +222,12 @@ module _ (spot : List ℕ → Spot) (free : ℕ) (b : Bases) where
     other_words (Whole name) ws w s = w
     other_words (Item name index) ws w s = stored_words spot free b index (place_words target) ws w s.2
 
-    record Placed (zs ys : List ℕ) : Type 0 where
-      all : AllWords ys
-      count : length ys ≡ length zs
-      below : Agree low zs ys
+    pub record Placed (zs ys : List ℕ) : Type 0 where
+      pub all : AllWords ys
+      pub count : length ys ≡ length zs
+      pub below : Agree low zs ys
 
-    placed_is : (zs : List ℕ) → FitFrom spot free b target (place_words other) zs → Sees spot b low zs (read_of other) → Placed zs (both_placed spot free b target other zs)
+    pub placed_is : (zs : List ℕ) → FitFrom spot free b target (place_words other) zs → Sees spot b low zs (read_of other) → Placed zs (both_placed spot free b target other zs)
     placed_is zs h s =
         let zs1 : List ℕ = placed spot free b target 0 zs in
         let below1 : Agree low zs zs1 = placed_below spot free b target zs in
