@@ -1,0 +1,12 @@
+pub mod Exchanges
+pub mod Addresses
+pub mod Moves
+pub mod Depth
+pub mod Methods
+pub mod OwnCalls
+pub mod ApartCells
+pub mod ReceiverParts
+pub mod OnCalls
+pub mod LocalBlocks
+pub mod MainPiece
+pub mod Clauses

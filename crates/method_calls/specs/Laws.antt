@@ -1,0 +1,115 @@
+-- What the code of calls, methods, main and blocks with a local variable does, from what their parts do.
+use Rattle.std.specs.Prelude.{◌≡◌, ◌≢◌, ℕ, Bool, false, List, [], ◌∷◌, length, map, Option, Some, None}
+use Rattle.rpp_words.specs.declared.input.FieldWord.{FieldWord}
+use Rattle.rpp_tree.specs.declared.tree.Ident.{Ident}
+use Rattle.rpp_tree.specs.declared.tree.Var.{Var}
+use Rattle.rpp_tree.specs.Tree.{Expression, Null, Whole, Item, Statements, Local, Construct, Call, Procedure}
+use Rattle.pisa_isa.specs.Loaded.{loaded}
+use Rattle.paired_code.specs.declared.part.Symbol.{Symbol}
+use Rattle.paired_code.specs.Machine.{Memory}
+use Rattle.paired_code.specs.Pieces.{Will}
+use Rattle.paired_code.specs.Does.{Meets}
+use Rattle.roopl_semantics.specs.Store.{State}
+use Rattle.roopl_semantics.specs.Value.{Cell}
+use Rattle.roopl_semantics.specs.Execution.{exec, constructed, element_call, element_name}
+use Rattle.roopl_semantics.specs.Source.{starting, main_body}
+use Rattle.roopl_semantics.specs.Layout.{layout}
+use Rattle.statement_laws.specs.declared.spot.Spot.{Spot}
+use Rattle.statement_laws.specs.Form.{World, Scope, with_var, ValueLaw, BlockLaw, StmtLaw, MethodLaw, AllMethods, registers, told}
+use Rattle.statement_laws.specs.Stands.{spot_in}
+use Rattle.statement_laws.specs.Worlds.{Place, rates_of, world_of}
+use Rattle.method_calls.specs.Facts.{Known, FrameFacts, ReceiverFacts, LocalFacts, MainFacts, new_word}
+use Rattle.method_calls.specs.Names.{IsVariable, HasMethod, IsReceiver, IsInit, known_of, receivers_of, slot_of, class_named}
+
+-- ---- blocks with a local variable
+
+-- Its word takes the value and, behind the body, is to be the closing value, or it stops with fault 3; back it is the inverse
+-- statement, where the two values change places. So are the blocks that `construct` and calls on elements mean.
+pub record LocalCode (word : ℕ) (v p x all : List Symbol) : Type 0 where
+  pub law : (place : Place) (s : Scope) (at : ℕ) (var : Var) (value : Expression) (body : Statements) (end_var : Var) (end_value : Expression)
+      → LocalFacts (world_of place) (IsInit place.setting.program)
+      → new_word s ≡ word → end_var.name.text ≡ var.name.text
+      → IsInit place.setting.program s var value → IsInit place.setting.program s var end_value
+      → ValueLaw (world_of place) s value v → ValueLaw (world_of place) s end_value x
+      → BlockLaw (world_of place) (with_var s var) body p
+      → StmtLaw (world_of place) s (Local at var value body end_var end_value) all
+  pub construct : (place : Place) (s : Scope) (at : ℕ) (class : Ident) (var : Var) (body : Statements) (end : Ident)
+      → LocalFacts (world_of place) (IsInit place.setting.program)
+      → new_word s ≡ word → v ≡ x
+      → IsInit place.setting.program s var (Null at) → ValueLaw (world_of place) s (Null at) v
+      → BlockLaw (world_of place) (with_var s var) (constructed at class var.name body) p
+      → StmtLaw (world_of place) s (Construct at class var.name body end) all
+  pub element : (place : Place) (s : Scope) (at : ℕ) (back : Bool) (array : Ident) (index : Expression) (method : Ident) (args : List Ident) (var : Var)
+      → LocalFacts (world_of place) (IsInit place.setting.program)
+      → new_word s ≡ word → v ≡ x → var.name ≡ element_name at
+      → IsInit place.setting.program s var (Null at) → ValueLaw (world_of place) s (Null at) v
+      → BlockLaw (world_of place) (with_var s var) (element_call at back array index method args) p
+      → StmtLaw (world_of place) s (Call at back (Some (Item array index)) method args) all
+
+-- ---- calls
+
+-- no two of these cells are one
+abbrev pub NotAmong : Cell → List Cell → Type 0
+NotAmong c [] = Unit {0}
+NotAmong c (b ∷ cells) = (c ≢ b) × NotAmong c cells
+
+abbrev pub AllApart : List Cell → Type 0
+AllApart [] = Unit {0}
+AllApart (c ∷ cells) = NotAmong c cells × AllApart cells
+
+-- in every open frame of this scope the names are cells apart
+abbrev pub NamesApart : (w : World) → Known w → Scope → List Ident → Type 0
+NamesApart w knows s names =
+    (u : w.Under) (st : State) (cells : List ℕ) → w.opens s u [] st cells
+    → AllApart (map (knows.cell_of s u) names)
+
+abbrev pub AreVariables : (w : World) → Known w → Scope → List Ident → Type 0
+AreVariables w knows s [] = Unit {0}
+AreVariables w knows s (name ∷ names) = knows.IsVariable s name × AreVariables w knows s names
+
+-- A call or uncall on the present object of the method in a slot, with arguments at these spots. It stops with fault 14 where
+-- one more call may not be open, and with fault 15 where an argument does not move back. Which method it is, the class of the
+-- object tells.
+pub record OwnCallCode (back : Bool) (slot : ℕ) (spots : List Spot) (all : List Symbol) : Type 0 where
+  pub law : (place : Place) (routine : ℕ → Ident → ℕ) (s : Scope) (at : ℕ) (name : Ident) (args : List Ident)
+      → FrameFacts (world_of place) (known_of place routine)
+      → HasMethod place.setting.program s s.class name args → slot_of place.setting.program s.class name ≡ slot
+      → AreVariables (world_of place) (known_of place routine) s args
+      → map (spot_in place.setting.program s) args ≡ spots
+      → NamesApart (world_of place) (known_of place routine) s args
+      → StmtLaw (world_of place) s (Call at back None name args) all
+
+-- A call or uncall on the object of a variable at a spot: fault 5 comes before fault 14, where the variable is nil, and fault 15
+-- where it does not move back.
+pub record CallOnCode (back : Bool) (spot : Spot) (slot : ℕ) (spots : List Spot) (all : List Symbol) : Type 0 where
+  pub law : (place : Place) (routine : ℕ → Ident → ℕ) (s : Scope) (at : ℕ) (x name : Ident) (args : List Ident)
+      → FrameFacts (world_of place) (known_of place routine)
+      → ReceiverFacts (world_of place) (known_of place routine) (receivers_of place)
+      → IsReceiver place.setting.program s x name args
+      → slot_of place.setting.program (class_named place.setting.program s x) name ≡ slot
+      → AreVariables (world_of place) (known_of place routine) s args → spot_in place.setting.program s x ≡ spot
+      → map (spot_in place.setting.program s) args ≡ spots
+      → NamesApart (world_of place) (known_of place routine) s (x ∷ args)
+      → StmtLaw (world_of place) s (Call at back (Some (Whole x)) name args) all
+
+-- ---- methods and main
+
+-- a method's body: the link and the place are put by round its block
+pub record MethodCode (p all : List Symbol) : Type 0 where
+  pub law : (place : Place) (routine : ℕ → Ident → ℕ) (s : Scope) (method : Procedure)
+      → FrameFacts (world_of place) (known_of place routine)
+      → BlockLaw (world_of place) s method.body p → MethodLaw (world_of place) s method all
+
+-- a memory whose registers are 0
+abbrev pub quiet : List ℕ → Memory
+quiet cells = record { regs = registers 0 0 0 0 0 0 0 0; cells = cells }
+
+-- The main piece, from the loaded memory: it does what the source says of `main`, and leaves the layout with zero registers.
+pub record MainCode (number : ℕ) (all : List Symbol) : Type 0 where
+  pub law : (place : Place) (routine : ℕ → Ident → ℕ) (input : List FieldWord)
+      → FrameFacts (world_of place) (known_of place routine)
+      → (main : MainFacts (world_of place) place.statics input)
+      → place.routines.number main.main ≡ number → AllMethods (world_of place)
+      → (n : ℕ) → Will place.im all false (quiet (loaded place.statics place.setting.limits input))
+      (Meets (λ st m. m ≡ quiet (layout place.setting.program place.setting.limits place.statics st.store st.log)) (rates_of place.setting) n 900
+      (told (exec place.setting n (main_body place.setting.program) (starting place.setting.program input))))

@@ -1,0 +1,4 @@
+pub mod CallCode
+pub mod Facts
+pub mod Names
+pub mod Laws

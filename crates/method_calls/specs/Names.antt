@@ -1,0 +1,136 @@
+-- What is known of names when code is made, and what stays while a call is open.
+use Rattle.std.specs.Prelude.{◌≡◌, ◌⊎◌, ℕ, ◌+◌, ◌<◌, ◌≤◌, ◌^◌, false, List, [], ◌∷◌, length, map, replicate, slice_index, Some, Result, Ok, Err}
+use Rattle.std.specs.Option.{unwrap_or}
+use Rattle.rpp_tree.specs.declared.tree.Ident.{Ident}
+use Rattle.rpp_tree.specs.declared.tree.Var.{Var}
+use Rattle.rpp_tree.specs.Tree.{Expression, Null, Source}
+use Rattle.class_table.specs.declared.kind.Kind.{Kind}
+use Rattle.class_table.specs.declared.kind.Kind.TheVariants as kind
+use Rattle.class_table.specs.Table.{table_of, slot_in, dispatch_in}
+use Rattle.class_table.specs.Overrides.{parameters_of}
+use Rattle.class_table.specs.Inheritance.{kind_of_var}
+use Rattle.class_table.specs.Expressions.{type_of, variable_type, occurs}
+use Rattle.class_table.specs.Program.{setting_in}
+use Rattle.buddy_book.specs.Place.{place}
+use Rattle.roopl_semantics.specs.Store.{State, object_at, class_of_head}
+use Rattle.roopl_semantics.specs.Layout.{no_placing}
+use Rattle.sound_execution.specs.Plain.{HasWords}
+use Rattle.open_frame.specs.Open.{put_by as put_size, most_variables}
+use Rattle.statement_laws.specs.Form.{Scope}
+use Rattle.statement_laws.specs.Frames.{Caller, Under, cell_in, address_of}
+use Rattle.statement_laws.specs.Stands.{shape_of, spot_in}
+use Rattle.statement_laws.specs.Worlds.{Place, world_of}
+use Rattle.method_calls.specs.Facts.{IsNear, Known, Receivers}
+
+-- ---- variables, methods, receivers
+
+-- a name is a variable or a field, of a type, and stands near
+pub record IsVariable (program : Source) (s : Scope) (name : Ident) : Type 0 where
+  pub kind : Kind
+  pub typed : variable_type (setting_in program (table_of program) s.class) (shape_of program s) name ≡ Ok kind
+  pub near : IsNear (spot_in program s name)
+
+-- names with their types
+abbrev pub AllTyped : Source → Scope → List Ident → List Kind → Type 0
+AllTyped program s [] [] = Unit {0}
+AllTyped program s [] (k ∷ ks) = ⊥
+AllTyped program s (x ∷ names) [] = ⊥
+AllTyped program s (x ∷ names) (k ∷ ks) =
+    (variable_type (setting_in program (table_of program) s.class) (shape_of program s) x ≡ Ok k) × AllTyped program s names ks
+
+-- a method of a class, with arguments of its parameters' types
+pub record HasMethod (program : Source) (s : Scope) (class : ℕ) (name : Ident) (args : List Ident) : Type 0 where
+  pub slot : ℕ
+  pub is_slot : slot_in (table_of program) class name.text ≡ Some slot
+  pub small : slot < 2 ^ 20
+  pub types : AllTyped program s args (map (kind_of_var program) (parameters_of program (dispatch_in (table_of program) class slot)))
+  pub few : length args ≤ 32
+  pub inside : class < length program.classes
+
+-- a variable of a class with the method
+pub record IsReceiver (program : Source) (s : Scope) (x name : Ident) (args : List Ident) : Type 0 where
+  pub class : ℕ
+  pub typed : variable_type (setting_in program (table_of program) s.class) (shape_of program s) x ≡ Ok (kind.Class class)
+  pub near : IsNear (spot_in program s x)
+  pub method : HasMethod program s class name args
+
+-- the slot of a method of a class
+abbrev pub slot_of : Source → ℕ → Ident → ℕ
+slot_of program class name = unwrap_or (slot_in (table_of program) class name.text) 0
+
+-- the class of a variable
+abbrev pub class_of_kind : Kind → ℕ
+class_of_kind (kind.Class class) = class
+class_of_kind _ = 0
+
+abbrev pub class_found : {E : Type 0} → Result Kind E → ℕ
+class_found (Ok k) = class_of_kind k
+class_found (Err e) = 0
+
+abbrev pub class_named : Source → Scope → Ident → ℕ
+class_named program s x = class_found (variable_type (setting_in program (table_of program) s.class) (shape_of program s) x)
+
+-- ---- open calls
+
+-- the frame with a link and a place put by
+abbrev pub put : Under → ℕ → ℕ → Under
+put u link place = record u { put_by = link ∷ slice_index u.put_by 1 ∷ place ∷ replicate 13 0 }
+
+-- the open frame as a frame below
+abbrev pub caller_of : Scope → Under → State → Caller
+caller_of s u st = record { scope = s; frame = st.frame; self = u.self; class = u.class; object = u.object; put_by = u.put_by }
+
+-- while a call on the present object is open
+abbrev pub deeper : Scope → Under → State → Under
+deeper s u st = record { callers = caller_of s u st ∷ u.callers; self = u.self; class = u.class; object = u.object; put_by = replicate put_size 0 }
+
+-- while a call on the object of a name is open: the caller's object is put by in word 1
+abbrev pub deeper_on : Place → Scope → Under → State → ℕ → Under
+deeper_on p s u st name = record {
+  callers = caller_of s u st ∷ u.callers;
+  self = name;
+  class = class_of_head (object_at st.store name).head;
+  object = address_of p.setting p.statics (unwrap_or (place p.setting.limits.heap st.log) no_placing) name;
+  put_by = 0 ∷ u.object ∷ replicate 14 0;
+}
+
+-- what is known at a place, where this is the routine of a method in a class
+abbrev pub known_of : (p : Place) → (ℕ → Ident → ℕ) → Known (world_of p)
+known_of p routine = record {
+  IsVariable = IsVariable p.setting.program;
+  spot = spot_in p.setting.program;
+  IsMethod = λ s name args. HasMethod p.setting.program s s.class name args;
+  slot = λ s name. slot_of p.setting.program s.class name;
+  cell_of = cell_in p.setting p.statics;
+  depth_of = λ u. 1 + length u.callers;
+  self_of = λ u. u.self;
+  class_of = λ u. u.class;
+  put = put;
+  deeper = deeper;
+  routine = routine;
+}
+
+abbrev pub receivers_of : (p : Place) → Receivers (world_of p)
+receivers_of p = record {
+  IsReceiver = IsReceiver p.setting.program;
+  slot_on = λ s x name. slot_of p.setting.program (class_named p.setting.program s x) name;
+  deeper_on = deeper_on p;
+}
+
+-- ---- the value of a new variable
+
+-- the value of a new variable that is an int: an int in which its name does not occur
+pub record IntInit (program : Source) (s : Scope) (var : Var) (e : Expression) : Type 0 where
+  pub is_int : kind_of_var program var ≡ kind.Int
+  pub typed : type_of (setting_in program (table_of program) s.class) (shape_of program s) e ≡ Ok kind.Int
+  pub has_words : HasWords e
+  pub apart : occurs var.name.text e ≡ false
+
+-- any other one begins and ends with nil
+abbrev pub NilInit : Expression → Type 0
+NilInit (Null at) = Unit {0}
+NilInit _ = ⊥
+
+pub record IsInit (program : Source) (s : Scope) (var : Var) (e : Expression) : Type 0 where
+  pub few : length s.vars < most_variables
+  pub value : IntInit program s var e ⊎ NilInit e

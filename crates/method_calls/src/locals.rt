@@ -1,0 +1,97 @@
+// The cells of a block with a local variable, one piece after the other.
+ghost use Rattle.std.specs.Prelude.{◌≡◌, ◌<◌, ◌^◌, ◌+◌, ◌++◌, List, [], ◌∷◌, length, IfOk};
+ghost use Rattle.paired_code.specs.Code.{unmarked};
+ghost use Rattle.paired_code.specs.Layout.{mirror_cells};
+ghost use Rattle.paired_code.specs.Rows.{line};
+ghost use Rattle.statement_laws.specs.Cells.{around};
+ghost use Rattle.statement_laws.specs.Held.{Holds};
+ghost use Rattle.statement_laws.specs.declared.spot.Spot.TheVariants.{Frame};
+ghost use Rattle.method_calls.specs.CallCode.{exch, spot_row, local_open, local_code};
+ghost use Rattle.method_calls.specs.Laws.{LocalCode};
+
+use crate::calls::{bare_around, exch, spot_piece};
+use paired_code::{Piece, check_zero, mirror, plain, seq};
+use rpp_words::NoMemory;
+use statement_laws::Spot;
+use std::alloc::Global;
+
+fn store_piece(alloc: Global, word: u32) -> Result<Piece, NoMemory>
+    requires word { word < 2 ^ 16 }
+    ensures code { IfOk result (λ p. p ≡ unmarked (around (line (spot_row (Frame word))) (line (exch 12 5 ∷ [])))) }
+{
+    bare_around(
+        alloc,
+        spot_piece(alloc, Spot::Frame(word))?,
+        plain(alloc, exch(12, 5))?,
+    )
+}
+
+fn open_piece(alloc: Global, word: u32, value: Piece) -> Result<Piece, NoMemory>
+    requires word { word < 2 ^ 16 }
+    requires none { value.marks ≡ [] }
+    ensures code { IfOk result (λ p. p ≡ unmarked (local_open word value.cells)) }
+{
+    seq(
+        check_zero(alloc, 12, 3)?,
+        seq(value, store_piece(alloc, word)?)?,
+    )
+}
+
+fn close_piece(alloc: Global, word: u32, last: Piece) -> Result<Piece, NoMemory>
+    requires word { word < 2 ^ 16 }
+    requires none { last.marks ≡ [] }
+    ensures code { IfOk result (λ p. p ≡ unmarked (mirror_cells (local_open word last.cells))) }
+{
+    let close = open_piece(alloc, word, last)?;
+    mirror(alloc, &close)
+}
+
+#[tactic(auto, using(statement_laws::proofs::Holding::holds_left))]
+fn ended_piece(alloc: Global, word: u32, body: Piece, last: Piece) -> Result<Piece, NoMemory>
+    requires word { word < 2 ^ 16 }
+    requires none { last.marks ≡ [] }
+    ensures cells { IfOk result (λ p. p.cells ≡ body.cells ++ mirror_cells (local_open word last.cells)) }
+    ensures held { IfOk result (λ p. Holds body p) }
+{
+    seq(body, close_piece(alloc, word, last)?)
+}
+
+#[tactic(auto, using(statement_laws::proofs::Holding::behind_clause))]
+fn local_piece(
+    alloc: Global,
+    word: u32,
+    value: Piece,
+    body: Piece,
+    last: Piece,
+) -> Result<Piece, NoMemory>
+    requires word { word < 2 ^ 16 }
+    requires value_none { value.marks ≡ [] }
+    requires last_none { last.marks ≡ [] }
+    ensures cells { IfOk result (λ p. p.cells ≡ local_code word value.cells body.cells last.cells) }
+    ensures held { IfOk result (λ p. Holds body p) }
+{
+    seq(
+        open_piece(alloc, word, value)?,
+        ended_piece(alloc, word, body, last)?,
+    )
+}
+
+/// The code of a block with a local variable in this word of the frame, over the pieces of its value, its block and the closing
+/// value.
+#[tactic(auto, using(crate::proofs::Clauses::local_clause, crate::proofs::Clauses::local_length))]
+pub fn local_block(
+    alloc: Global,
+    word: u32,
+    value: Piece,
+    body: Piece,
+    last: Piece,
+) -> Result<Piece, NoMemory>
+    requires word { word < 2 ^ 16 }
+    requires value_none { value.marks ≡ [] }
+    requires last_none { last.marks ≡ [] }
+    ensures law { IfOk result (λ p. LocalCode word value.cells body.cells last.cells p.cells) }
+    ensures held { IfOk result (λ p. Holds body p) }
+    ensures size { IfOk result (λ p. length p.cells ≡ length value.cells + length body.cells + length last.cells + 20) }
+{
+    local_piece(alloc, word, value, body, last)
+}
