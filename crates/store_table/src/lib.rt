@@ -1,0 +1,16 @@
+//! The objects and arrays of a run by their names, with the counts of their references and the
+//! blocks that they have of the heap. A layer above may use the readers and the five changes of
+//! `Heap`, each with the change of the definition's store and requests that it stands for.
+#![tactic(auto)]
+
+mod changes;
+mod heap;
+mod object;
+mod requests;
+#[cfg(test)]
+mod tests;
+mod value;
+
+pub use heap::Heap;
+pub use object::{Head, Object};
+pub use value::Value;
