@@ -140,7 +140,7 @@ fn image_of<R: Abort>(
 }
 
 /// The memory of an image for so many open calls, as far as calls look at it.
-fn memory(alloc: Global, image: &Image, deep: u32) -> Result<Words, Fail>
+fn memory<R: Abort>(rt: &R, alloc: Global, image: &Image, deep: u32) -> Result<Words, Fail>
     requires { deep < 2 ^ 10 }
 {
     let mut words = Vec::new(alloc);
@@ -156,6 +156,7 @@ fn memory(alloc: Global, image: &Image, deep: u32) -> Result<Words, Fail>
         };
         words.push(word)?;
     }
+    assert!(rt; words.len() < 1_000_000);
     Ok(Words { words })
 }
 
@@ -240,7 +241,7 @@ fn calls_and_locals(rt: HostRuntime) -> Result<(), Fail> {
     let alloc = rt.alloc();
     for case in CASES {
         let image = image_of(&rt, alloc, &case.act, case.first, case.last)?;
-        let mut words = memory(alloc, &image, case.deep)?;
+        let mut words = memory(&rt, alloc, &image, case.deep)?;
         let (stop, clear) = run(&image, &mut words);
         assert_eq!(rt; stop, Some(case.stop), "{}", case.why);
         assert!(rt; clear == (case.stop == Stop::Finished), "{}", case.why);
