@@ -4,3 +4,4 @@ pub mod EventsOn
 pub mod Lines
 pub mod ImagesOn
 pub mod TextsOn
+pub mod ClusterTargets

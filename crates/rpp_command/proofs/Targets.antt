@@ -2,11 +2,12 @@
 use Rattle.std.proofs.Common.{ℕ, true, false, List, None, Some, inl, inr, option_map, IfSome, subst}
 use Rattle.std.specs.declared.option.Option.{Option}
 use Rattle.rpp_ports.specs.Ports.{Texts}
-use Rattle.rpp_command.specs.Lines.{Asked, Check, Compile, Asm, ListImage, Flip, ShowInverse, Generate, RunImage, Debug, Go, Turn}
+use Rattle.rpp_command.specs.Lines.{Asked, Check, Compile, Asm, ListImage, Flip, ShowInverse, Generate, Cluster, RunImage, Debug, Go, Turn}
 use Rattle.rpp_plan.specs.Plans.{Planned, Written, WritesOnly}
 use Rattle.rpp_command.specs.Plans.{IsPlan}
 use Rattle.rpp_command.specs.Causes.{target_of, KeepsButTarget}
 use Rattle.program_commands.proofs.ProgramTargets.{checks_file_writes, compiles_file_writes, goes_on_writes}
+use Rattle.cluster_commands.proofs.ClusterTargets.{clusters_files_writes}
 use Rattle.text_commands.proofs.TextTargets.{shows_inverse_writes, generates_writes}
 use Rattle.image_commands.proofs.ImageTargets.{assembles_file_writes, lists_file_writes, flips_file_writes, runs_file_writes, debugs_file_writes}
 
@@ -19,6 +20,7 @@ plan_writes (ListImage image text) texts p h = lists_file_writes image text text
 plan_writes (Flip image flipped) texts p h = flips_file_writes image flipped texts p h
 plan_writes (ShowInverse file out) texts p h = shows_inverse_writes file out texts p h
 plan_writes (Generate seed size out) texts p h = generates_writes seed size out texts p h
+plan_writes (Cluster script cells images) texts p h = clusters_files_writes script cells images texts p h
 plan_writes (RunImage image heap deep steps state save) texts p h = runs_file_writes image heap deep steps state save texts p h
 plan_writes (Debug image heap deep script) texts p h = debugs_file_writes image heap deep script texts p h
 plan_writes (Go file heap deep steps input) texts p h = goes_on_writes false file input heap deep steps texts p h

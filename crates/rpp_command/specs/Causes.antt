@@ -2,9 +2,10 @@
 use Rattle.std.specs.Prelude.{◌≡◌, ℕ, List, [], ◌∷◌, ⊤, None, Some}
 use Rattle.std.specs.declared.option.Option.{Option}
 use Rattle.rpp_ports.specs.Ports.{Texts, KeepsOthers}
-use Rattle.rpp_command.specs.Lines.{Asked, Check, Compile, Asm, ListImage, Flip, ShowInverse, Generate, RunImage, Debug, Go, Turn}
+use Rattle.rpp_command.specs.Lines.{Asked, Check, Compile, Asm, ListImage, Flip, ShowInverse, Generate, Cluster, RunImage, Debug, Go, Turn}
 use Rattle.rpp_plan.specs.Files.{Needed, source, assembly, image_file, input_files, state_files}
 use Rattle.image_commands.specs.DebugPlans.{script_file}
+use Rattle.cluster_commands.specs.ClusterPlans.{cluster_files}
 
 -- the files that a line reads, in order
 unfoldable pub files_of : Asked → List Needed
@@ -15,6 +16,7 @@ files_of (ListImage image text) = image_file image ∷ []
 files_of (Flip image flipped) = image_file image ∷ []
 files_of (ShowInverse file out) = source file ∷ []
 files_of (Generate seed size out) = []
+files_of (Cluster script cells images) = cluster_files script images
 files_of (RunImage image heap deep steps state save) = image_file image ∷ state_files state
 files_of (Debug image heap deep script) = image_file image ∷ script_file script ∷ []
 files_of (Go file heap deep steps given) = source file ∷ input_files given
@@ -34,6 +36,7 @@ target_of (ListImage image text) = Some text
 target_of (Flip image flipped) = Some flipped
 target_of (ShowInverse file out) = Some out
 target_of (Generate seed size out) = Some out
+target_of (Cluster script cells images) = None
 target_of (RunImage image heap deep steps state save) = save
 target_of (Debug image heap deep script) = None
 target_of (Go file heap deep steps given) = None

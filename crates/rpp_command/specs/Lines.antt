@@ -1,5 +1,5 @@
 -- What the words ask for, with lists of bytes for texts.
-use Rattle.std.specs.Prelude.{ℕ, Bool, true, false, ◌+◌, ◌-◌, ◌*◌, ◌^◌, ◌<◌, List, [], ◌∷◌, length, None, Some, option_map, if◌then◌else◌, nat_le, nat_lt, ◌&&◌, string_bytes, codes}
+use Rattle.std.specs.Prelude.{ℕ, Bool, true, false, ◌+◌, ◌-◌, ◌*◌, ◌^◌, ◌<◌, List, [], ◌∷◌, length, None, Some, option_map, if◌then◌else◌, nat_le, nat_lt, ◌&&◌, string_bytes, codes, ◌≤◌, map}
 use Rattle.std.specs.Char.{is_ascii_digit}
 use Rattle.std.specs.declared.option.Option.{Option}
 use Rattle.std.specs.Str.{bytes_eq}
@@ -16,6 +16,7 @@ pub data Asked : Type 0 where
   Flip : (image flipped : List ℕ) → Asked
   ShowInverse : (file out : List ℕ) → Asked
   Generate : (seed size : ℕ) (out : List ℕ) → Asked
+  Cluster : (script : List ℕ) (cells : ℕ) (images : List (List ℕ)) → Asked
   RunImage : (image : List ℕ) (heap deep steps : ℕ) (state save : Option (List ℕ)) → Asked
   Debug : (image : List ℕ) (heap deep : ℕ) (script : List ℕ) → Asked
   Go : (file : List ℕ) (heap deep steps : ℕ) (input : Option (List ℕ)) → Asked
@@ -29,6 +30,7 @@ asked (line.List image text) = ListImage (string_bytes image) (string_bytes text
 asked (line.Flip image flipped) = Flip (string_bytes image) (string_bytes flipped)
 asked (line.ShowInverse file out) = ShowInverse (string_bytes file) (string_bytes out)
 asked (line.Generate seed size out) = Generate seed size (string_bytes out)
+asked (line.Cluster script cells images) = Cluster (string_bytes script) cells (map string_bytes images.items)
 asked (line.Run image heap deep steps names) = RunImage (string_bytes image) heap deep steps (state_of_names names) (save_of_names names)
 asked (line.Debug image heap deep script) = Debug (string_bytes image) heap deep (string_bytes script)
 asked (line.Go file heap deep steps input) = Go (string_bytes file) heap deep steps (option_map string_bytes input)
@@ -83,6 +85,20 @@ abbrev pub generate_line_of : List (List ℕ) → Option Asked
 generate_line_of (seed ∷ size ∷ out ∷ []) = generate_with (number_of seed) (items_of (number_of size)) out
 generate_line_of _ = None
 
+-- a number of cells that several processors have in common
+abbrev pub common_of : Option ℕ → Option ℕ
+common_of None = None
+common_of (Some n) = if nat_lt 0 n && nat_le n 65536 then Some n else None
+
+-- a script, a number of cells, and images, of which there are one to eight
+abbrev pub cluster_with : List ℕ → Option ℕ → List (List ℕ) → Option Asked
+cluster_with script (Some cells) images = if nat_lt 0 (length images) && nat_le (length images) 8 then Some (Cluster script cells images) else None
+cluster_with script None images = None
+
+abbrev pub cluster_line_of : List (List ℕ) → Option Asked
+cluster_line_of (script ∷ cells ∷ images) = cluster_with script (common_of (number_of cells)) images
+cluster_line_of _ = None
+
 -- an image, an order of the heap, a depth, and the file of a script
 abbrev pub debug_with : List ℕ → Option ℕ → Option ℕ → List ℕ → Option Asked
 debug_with image (Some heap) (Some deep) script = Some (Debug image heap deep script)
@@ -112,6 +128,7 @@ line_of (name ∷ args) =
     else if bytes_eq name (codes "flip") then files_line_of Flip args
     else if bytes_eq name (codes "show-inverse") then files_line_of ShowInverse args
     else if bytes_eq name (codes "generate") then generate_line_of args
+    else if bytes_eq name (codes "cluster") then cluster_line_of args
     else if bytes_eq name (codes "run") then run_line_of args
     else if bytes_eq name (codes "debug") then debug_line_of args
     else if bytes_eq name (codes "go") then go_line_of false args
@@ -127,6 +144,7 @@ HasShortNumbers (ListImage image text) = Unit {0}
 HasShortNumbers (Flip image flipped) = Unit {0}
 HasShortNumbers (ShowInverse file out) = Unit {0}
 HasShortNumbers (Generate seed size out) = Unit {0}
+HasShortNumbers (Cluster script cells images) = (1 ≤ length images) × (length images ≤ 8) × (1 ≤ cells) × (cells ≤ 65536)
 HasShortNumbers (RunImage image heap deep steps state save) = (heap < 10 ^ 18) × (deep < 10 ^ 18) × (steps < 10 ^ 18)
 HasShortNumbers (Debug image heap deep script) = (heap < 10 ^ 18) × (deep < 10 ^ 18)
 HasShortNumbers (Go file heap deep steps input) = (heap < 10 ^ 18) × (deep < 10 ^ 18) × (steps < 10 ^ 18)

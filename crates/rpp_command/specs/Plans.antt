@@ -5,8 +5,9 @@ use Rattle.rpp_plan.specs.Plans.{Planned}
 use Rattle.image_commands.specs.ImagePlans.{AssemblesFile, ListsFile, FlipsFile, RunsFile}
 use Rattle.image_commands.specs.DebugPlans.{DebugsFile}
 use Rattle.program_commands.specs.ProgramPlans.{ChecksFile, CompilesFile, GoesOn}
+use Rattle.cluster_commands.specs.ClusterPlans.{ClustersFiles}
 use Rattle.text_commands.specs.TextPlans.{ShowsInverse, Generates}
-use Rattle.rpp_command.specs.Lines.{Asked, Check, Compile, Asm, ListImage, Flip, ShowInverse, Generate, RunImage, Debug, Go, Turn}
+use Rattle.rpp_command.specs.Lines.{Asked, Check, Compile, Asm, ListImage, Flip, ShowInverse, Generate, Cluster, RunImage, Debug, Go, Turn}
 
 -- a plan of the line, where the shelf has these texts
 unfoldable pub IsPlan : Asked → Texts → Planned → Type 0
@@ -17,6 +18,7 @@ IsPlan (ListImage image text) = ListsFile image text
 IsPlan (Flip image flipped) = FlipsFile image flipped
 IsPlan (ShowInverse file out) = ShowsInverse file out
 IsPlan (Generate seed size out) = Generates seed size out
+IsPlan (Cluster script cells images) = ClustersFiles script cells images
 IsPlan (RunImage image heap deep steps state save) = RunsFile image heap deep steps state save
 IsPlan (Debug image heap deep script) = DebugsFile image heap deep script
 IsPlan (Go file heap deep steps input) = GoesOn false file input heap deep steps

@@ -1,10 +1,11 @@
 // What the words ask for.
-ghost use Rattle.std.specs.Prelude.{◌≡◌, ◌<◌, ◌^◌, map, option_map, IfOk, IfSome, string_bytes};
-ghost use Rattle.rpp_command.specs.Lines.{asked, line_of, check_line_of, files_line_of, Compile, Asm, ListImage, Flip, ShowInverse, generate_line_of, generate_with as generate_asked, items_of, run_line_of, run_with as run_asked, debug_line_of, debug_with as debug_asked, go_line_of, go_with as go_asked, number_of, HasShortNumbers};
+ghost use Rattle.std.specs.Prelude.{◌≡◌, ◌<◌, ◌≤◌, ◌^◌, map, option_map, IfOk, IfSome, string_bytes};
+ghost use Rattle.rpp_command.specs.Lines.{asked, line_of, check_line_of, files_line_of, Compile, Asm, ListImage, Flip, ShowInverse, generate_line_of, generate_with as generate_asked, items_of, cluster_line_of, cluster_with as cluster_asked, common_of, run_line_of, run_with as run_asked, debug_line_of, debug_with as debug_asked, go_line_of, go_with as go_asked, number_of, HasShortNumbers};
 ghost use Rattle.rpp_plan.specs.Files.{state_of_names, save_of_names};
 
 use rpp_plan::StateNames;
 use rpp_words::NoMemory;
+use std::alloc::Global;
 
 /// A command with its words read.
 #[derive(Debug, Drop)]
@@ -44,6 +45,12 @@ pub enum Line {
         size: u32,
         out: String,
     },
+    /// Carries out a script on several processors: its file, the number of their cells, and the files of their images.
+    Cluster {
+        script: String,
+        cells: u32,
+        images: Vec<String>,
+    },
     /// Runs an image: its file, the order of the heap, the depth, the number of steps, and the files of two states, if
     /// there are such.
     Run {
@@ -81,7 +88,7 @@ pub enum Line {
 
 /// The line that the words are, if they are one.
 #[tactic(auto, unfolding(crate::specs::Lines::line_of))]
-pub fn read_words(words: &[String]) -> Result<Option<Line>, NoMemory>
+pub fn read_words(alloc: Global, words: &[String]) -> Result<Option<Line>, NoMemory>
     ensures line { IfOk result (λ line. option_map asked line ≡ line_of (map string_bytes words.now)) }
     ensures numbers { IfOk result (λ line. IfSome line (λ line. HasShortNumbers (asked line))) }
 {
@@ -96,6 +103,7 @@ pub fn read_words(words: &[String]) -> Result<Option<Line>, NoMemory>
         "flip" => flip_line(args),
         "show-inverse" => show_inverse_line(args),
         "generate" => generate_line(args),
+        "cluster" => cluster_line(alloc, args),
         "run" => run_line(args),
         "debug" => debug_line(args),
         "go" => go_line(args, false),
@@ -206,6 +214,49 @@ fn generate_with(seed: &String, size: &String, out: &String) -> Result<Option<Li
         size,
         out: out.clone()?,
     }))
+}
+
+fn cluster_line(alloc: Global, args: &[String]) -> Result<Option<Line>, NoMemory>
+    ensures line { IfOk result (λ line. option_map asked line ≡ cluster_line_of (map string_bytes args.now)) }
+    ensures numbers { IfOk result (λ line. IfSome line (λ line. HasShortNumbers (asked line))) }
+{
+    let [script, cells, images @ ..] = args else {
+        return Ok(None);
+    };
+    cluster_with(alloc, script, cells, images)
+}
+
+fn cluster_with(
+    alloc: Global,
+    script: &String,
+    cells: &String,
+    images: &[String],
+) -> Result<Option<Line>, NoMemory>
+    ensures line { IfOk result (λ line. option_map asked line ≡ cluster_asked (string_bytes script.now) (common_of (number_of (string_bytes cells.now))) (map string_bytes images.now)) }
+    ensures numbers { IfOk result (λ line. IfSome line (λ line. HasShortNumbers (asked line))) }
+{
+    let Some(cells) = read_common(cells.as_str()) else {
+        return Ok(None);
+    };
+    if images.is_empty() || images.len() > MOST_PROCESSORS {
+        return Ok(None);
+    }
+    Ok(Some(Line::Cluster {
+        script: script.clone()?,
+        cells,
+        images: copies(alloc, images)?,
+    }))
+}
+
+/// The same words once more.
+fn copies(alloc: Global, words: &[String]) -> Result<Vec<String>, NoMemory>
+    ensures { IfOk result (λ copies. map string_bytes copies.items ≡ map string_bytes words.now) }
+{
+    let mut copies = Vec::new(alloc);
+    for word in words {
+        copies.push(word.clone()?)?;
+    }
+    Ok(copies)
 }
 
 fn run_line(args: &[String]) -> Result<Option<Line>, NoMemory>
@@ -341,6 +392,23 @@ fn go_with(
 const MOST_DIGITS: usize = 18;
 
 const MOST_ITEMS: u64 = 800;
+
+// The most processors of a cluster, and the most cells that they have in common.
+const MOST_PROCESSORS: usize = 8;
+const MOST_COMMON: u64 = 65_536;
+
+// The number of cells of a cluster, from 1 to 65,536, that a word is.
+fn read_common(word: &str) -> Option<u32>
+    ensures value { result ≡ common_of (number_of word.now) }
+    ensures within { IfSome result (λ cells. (1 ≤ cells) × (cells ≤ 65536)) }
+{
+    let number = read_number(word)?;
+    if number > 0 && number <= MOST_COMMON {
+        Some(number as u32)
+    } else {
+        None
+    }
+}
 
 // The number of items, from 1 to 800, that a word is.
 fn read_items(word: &str) -> Option<u32>

@@ -10,6 +10,7 @@ ghost use Rattle.rpp_command.specs.Answers.{CarriesOut, Answers, EndsEarly};
 
 use crate::finish::{Broken, finish, say};
 use crate::line::{Line, read_words};
+use cluster_commands::cluster;
 use image_commands::{Room, asm, debug, flip, list, run};
 use pisa_machine::Steps;
 use program_commands::{Request, check, compile_file, go};
@@ -60,7 +61,7 @@ pub fn rooplpp<S: Shelf, K: Sink>(
 
     ensures probes { probes.new.items ≡ probes.old.items }
 {
-    let Ok(line) = read_words(words) else {
+    let Ok(line) = read_words(alloc, words) else {
         return Broken::NoMemory.code();
     };
     match line {
@@ -148,6 +149,11 @@ fn plan_line<S: Shelf, L: Ledger>(
             show_inverse(alloc, shelf, file.as_str(), out.as_str())
         }
         Line::Generate { seed, size, out } => generate(alloc, shelf, *seed, *size, out.as_str()),
+        Line::Cluster {
+            script,
+            cells,
+            images,
+        } => cluster(alloc, shelf, script.as_str(), *cells, images),
         Line::Run {
             image,
             heap,
