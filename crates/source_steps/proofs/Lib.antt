@@ -1,0 +1,6 @@
+pub mod Tables
+pub mod Fuelled
+pub mod LocalRuns
+pub mod Elements
+pub mod Moves
+pub mod Allocated

@@ -1,0 +1,154 @@
+-- How a statement ends.
+use Rattle.std.specs.Prelude.{ℕ, suc, ◌+◌, List, Bool, true, false, not, ◌||◌, nat_eq, length, map, replicate, Option, Some, None, Result, Ok, Err}
+use Rattle.std.specs.Option.{unwrap_or}
+use Rattle.rpp_words.specs.Words.{is_less}
+use Rattle.rpp_tree.specs.Tree.{Expression, Statement, Statements, Source}
+use Rattle.class_table.specs.Classes.{class_number, class_fields, method_slot}
+use Rattle.stmt_inverter.specs.Inverse.{inverse_statement}
+use Rattle.roopl_semantics.specs.Run.{Run, More, ◌>>=◌, give, spend, fault_if}
+use Rattle.roopl_semantics.specs.Store.{State, Value, Word, Nil, Head, OfClass, OfInts, OfObjects, is_nil, number_of, same_value, object_at, zero_values}
+use Rattle.roopl_semantics.specs.Execution.{Setting, statement, exec, closed, counted, one_less, same_cell, is_of_class, all_zero, allocated, freed, moved_out, moved_back, delocal_fault, not_nil_fault, not_same_fault, class_differs_fault, length_differs_fault, length_fault, count_fault, not_empty_fault}
+use Rattle.roopl_semantics.specs.Value.{Cell, Slot, read, written, evaluated, nil_fault}
+use Rattle.store_table.specs.declared.value.Value.{Value as Held}
+use Rattle.store_table.specs.HeapView.{Kept as Heap}
+use Rattle.source_steps.specs.declared.stop.Stop.{Stop}
+use Rattle.source_steps.specs.declared.scope.Scope.{Scope as Chain}
+use Rattle.source_steps.specs.declared.expressions.Setting.{Setting as Here}
+use Rattle.source_steps.specs.Metered.{Metered, metered, Gives}
+use Rattle.source_steps.specs.StateView.{state_of, setting_of}
+
+-- a statement as it stands, or undone
+abbrev pub turned : Bool → Statement → Statement
+turned true s = inverse_statement s
+turned false s = s
+
+-- a call ends in the state and with the fuel that the run gives
+abbrev pub Ends : {E : Type 0} → Here → Chain → Result E Stop → Heap → List Held → ℕ → Metered State → Type 0
+Ends here scope result heap values left run = Gives (λ u. state_of here scope heap values) result left run
+
+-- a statement, with blocks bounded by n
+abbrev pub step : Here → ℕ → Statement → State → Run State
+step here n s st = statement (setting_of here) n (exec (setting_of here) n) s st
+
+-- what a statement comes to with so much fuel
+abbrev pub does : Here → ℕ → ℕ → Statement → State → Metered State
+does here n fuel s st = metered fuel (step here n s st)
+
+-- what a block comes to with so much fuel
+abbrev pub runs : Here → ℕ → ℕ → Statements → State → Metered State
+runs here n fuel body st = metered fuel (exec (setting_of here) n body st)
+
+-- what a statement that holds no block comes to
+abbrev pub does_simply : Here → ℕ → Statement → State → Metered State
+does_simply here fuel s st = metered fuel (statement (setting_of here) 0 (λ body st. More) s st)
+
+-- behind a local's block
+abbrev pub local_end : Setting → Expression → State → Run State
+local_end setting end_value end = do
+  w ← evaluated setting.program end_value end
+  _ ← fault_if delocal_fault (not (same_value (read end (Slot 0)) w))
+  give (closed end)
+
+
+-- behind the places and the check of an `uncopy`
+abbrev pub uncopied : Cell → Cell → State → Run State
+uncopied a b st = do
+  _ ← fault_if nil_fault (is_nil (read st a))
+  _ ← fault_if not_same_fault (not (same_value (read st a) (read st b)) || same_cell a b)
+  give (counted one_less (written st b Nil) (number_of (read st a)))
+
+-- behind the places and the check of a `copy`
+abbrev pub copied : Cell → Cell → State → Run State
+copied a b st = do
+  _ ← fault_if nil_fault (is_nil (read st a))
+  _ ← fault_if not_nil_fault (not (is_nil (read st b)))
+  give (counted suc (written st b (read st a)) (number_of (read st a)))
+
+-- behind the place and the check of a `new` of an object
+abbrev pub made : Setting → List ℕ → Cell → State → Run State
+made setting class cell st = do
+  _ ← fault_if not_nil_fault (not (is_nil (read st cell)))
+  _ ← spend (setting.limits.heap + 1)
+  let number = unwrap_or (class_number setting.program class) 0
+  let cells = zero_values (class_fields setting.program number)
+  allocated setting (length cells) cell (OfClass number) cells st
+
+-- a new object of a class
+abbrev pub new_of : Setting → List ℕ → Cell → State → Run State
+new_of setting class cell st =
+  let number = unwrap_or (class_number setting.program class) 0 in
+  let cells = zero_values (class_fields setting.program number) in
+  allocated setting (length cells) cell (OfClass number) cells st
+
+-- a new array of so many elements, with its cost
+abbrev pub filled : Setting → Cell → (ℕ → Head) → Value → ℕ → State → Run State
+filled setting cell head element n st = do
+  _ ← spend (setting.limits.heap + 1)
+  st' ← allocated setting n cell (head n) (replicate n element) st
+  _ ← spend n
+  give st'
+
+-- behind the place and the length of a `new` of an array
+abbrev pub made_array : Setting → Cell → (ℕ → Head) → Value → Value → State → Run State
+made_array setting cell head element v st = do
+  let n = number_of v
+  _ ← fault_if not_nil_fault (not (is_nil (read st cell)))
+  _ ← fault_if length_fault (is_less n 1)
+  _ ← spend (setting.limits.heap + 1)
+  st' ← allocated setting n cell (head n) (replicate n element) st
+  _ ← spend n
+  give st'
+
+-- behind the other checks of a `delete`
+abbrev pub emptied : Setting → ℕ → Cell → ℕ → State → Run State
+emptied setting cost cell name st = do
+  _ ← spend cost
+  _ ← fault_if not_empty_fault (not (all_zero (object_at st.store name).cells))
+  give (freed setting cell name st)
+
+-- behind the place and the check of a `delete` of an object
+abbrev pub gone : Setting → List ℕ → Cell → State → Run State
+gone setting class cell st = do
+  let name = number_of (read st cell)
+  let object = object_at st.store name
+  _ ← fault_if nil_fault (is_nil (read st cell))
+  _ ← fault_if class_differs_fault (not (is_of_class object.head (class_number setting.program class)))
+  _ ← fault_if count_fault (not (nat_eq object.count 1))
+  _ ← spend (setting.limits.heap + 1)
+  _ ← fault_if not_empty_fault (not (all_zero object.cells))
+  give (freed setting cell name st)
+
+-- behind the place and the length of a `delete` of an array
+abbrev pub gone_array : Setting → Cell → Value → State → Run State
+gone_array setting cell v st = do
+  let name = number_of (read st cell)
+  let array = object_at st.store name
+  _ ← fault_if nil_fault (is_nil (read st cell))
+  _ ← fault_if length_differs_fault (not (nat_eq (length array.cells) (number_of v)))
+  _ ← fault_if count_fault (not (nat_eq array.count 1))
+  _ ← spend (setting.limits.heap + 1 + length array.cells)
+  _ ← fault_if not_empty_fault (not (all_zero array.cells))
+  give (freed setting cell name st)
+
+-- the head of an array of words, or of references to objects of a class
+abbrev pub array_head : Option ℕ → ℕ → Head
+array_head None length = OfInts length
+array_head (Some class) length = OfObjects class length
+
+-- what its elements begin with
+abbrev pub first_element : Option ℕ → Value
+first_element None = Word 0
+first_element (Some class) = Nil
+
+-- the slot of a name, or 0
+abbrev pub slot_or_first : Source → ℕ → List ℕ → ℕ
+slot_or_first program class name = unwrap_or (method_slot program class name) 0
+
+-- a call of no method
+abbrev pub invoked_nothing : List Cell → List Cell → State → Run State
+invoked_nothing receiver args st = moved_back receiver (map (read st) receiver) (moved_out args (moved_out receiver st))
+
+-- a call's direction, as it stands or undone
+abbrev pub call_turned : Bool → Bool → Bool
+call_turned true back = not back
+call_turned false back = back

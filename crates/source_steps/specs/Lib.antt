@@ -1,0 +1,5 @@
+pub mod CellView
+pub mod Metered
+pub mod StateView
+pub mod Apart
+pub mod Ends

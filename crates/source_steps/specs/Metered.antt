@@ -1,0 +1,47 @@
+-- A run with so much fuel.
+use Rattle.std.specs.Prelude.{◌≡◌, ℕ, ◌-◌, Bool, true, false, nat_le, Option, Some, None, if◌then◌else◌}
+use Rattle.std.specs.Prelude.{Result, Ok, Err}
+use Rattle.source_steps.specs.declared.stop.Stop.{Stop}
+use Rattle.source_steps.specs.declared.stop.Stop.TheVariants as stop
+use Rattle.roopl_semantics.specs.Run.{Run, Done, Fault, More}
+
+-- a result or a fault with the fuel that is left, or no fuel is left
+pub data Metered (A : Type 0) : Type 0 where
+  Went : (result : A) (left : ℕ) → Metered A
+  Stopped : (code left : ℕ) → Metered A
+  Out : Metered A
+
+-- fuel after a cost, where there is enough
+abbrev pub left_of : ℕ → ℕ → Option ℕ
+left_of fuel cost = if nat_le cost fuel then Some (fuel - cost) else None
+
+abbrev pub went : {A : Type 0} → A → Option ℕ → Metered A
+went result (Some left) = Went result left
+went result None = Out
+
+abbrev pub stopped : {A : Type 0} → ℕ → Option ℕ → Metered A
+stopped code (Some left) = Stopped code left
+stopped code None = Out
+
+-- what a run comes to with so much fuel
+abbrev pub metered : {A : Type 0} → ℕ → Run A → Metered A
+metered fuel (Done result cost) = went result (left_of fuel cost)
+metered fuel (Fault code cost) = stopped code (left_of fuel cost)
+metered fuel More = Out
+
+-- goes on with the fuel that is left
+abbrev pub chain : {A B : Type 0} → Metered A → (A → ℕ → Metered B) → Metered B
+chain (Went result left) next = next result left
+chain (Stopped code left) next = Stopped code left
+chain Out next = Out
+
+-- a run that stopped so; want of memory says nothing
+abbrev pub Failed : {B : Type 0} → Stop → ℕ → Metered B → Type 0
+Failed (stop.Fault code) left run = run ≡ Stopped code left
+Failed stop.More left run = run ≡ Out
+Failed stop.NoMemory left run = Unit {0}
+
+-- what a call that answered so gave: its value, or why it stopped
+abbrev pub Gives : {A B : Type 0} → (A → B) → Result A Stop → ℕ → Metered B → Type 0
+Gives f (Ok a) left run = run ≡ Went (f a) left
+Gives f (Err why) left run = Failed why left run

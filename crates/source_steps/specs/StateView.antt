@@ -1,0 +1,61 @@
+-- What contracts see of the state of a run.
+use Rattle.std.specs.Prelude.{◌≡◌, ℕ, ◌+◌, nat_lt, if◌then◌else◌, List, [], ◌∷◌, map, length, Result, Ok, Err}
+use Rattle.rpp_tree.specs.declared.tree.Var.{Var}
+use Rattle.rpp_tree.specs.Views.{source_of}
+use Rattle.roopl_semantics.specs.Store.{Value, Name, object_at, Store, Binding, State}
+use Rattle.roopl_semantics.specs.Execution.{Setting, bound}
+use Rattle.roopl_semantics.specs.Value.{Cell, Part, nil_fault, index_fault}
+use Rattle.store_table.specs.declared.value.Value.{Value as Held}
+use Rattle.store_table.specs.ValueView.{value_of, values_of}
+use Rattle.store_table.specs.HeapView.{Kept}
+use Rattle.source_steps.specs.declared.scope.Scope.{Scope as Chain}
+use Rattle.source_steps.specs.declared.scope.Scope.TheVariants as chain
+use Rattle.source_steps.specs.declared.expressions.Setting.{Setting as Here}
+
+-- the names of the variables, the innermost first
+abbrev pub names_of : Chain → List (List ℕ)
+names_of (chain.Params vars) = map (λ var. var.name.text) vars.now
+names_of (chain.Local' name p outer) = name.now ∷ names_of outer
+
+abbrev pub bindings : List (List ℕ) → List Value → List Binding
+bindings [] values = []
+bindings (name ∷ names) [] = []
+bindings (name ∷ names) (v ∷ values) = record { name = name; value = v } ∷ bindings names values
+
+abbrev pub frame_of : Chain → List Held → List Binding
+frame_of scope values = bindings (names_of scope) (values_of values)
+
+-- each variable has a value, and the heap is of the order that the limits say
+pub record IsFramed (here : Here) (scope : Chain) (heap : Kept) (values : List Held) : Type 0 where
+  pub each : length values ≡ length (names_of scope)
+  pub order : heap.order ≡ here.limits.heap
+
+abbrev pub setting_of : Here → Setting
+setting_of here = record { program = source_of here.checked.now; limits = here.limits }
+
+abbrev pub state_of : Here → Chain → Kept → List Held → State
+state_of here scope heap values =
+    record { frame = frame_of scope values; self = here.object; depth = here.depth; store = heap.store; log = heap.log }
+
+-- what a computation gave, or its fault
+abbrev pub seen : {A B : Type 0} → (A → B) → Result A ℕ → Result B ℕ
+seen f (Ok a) = Ok (f a)
+seen f (Err fault) = Err fault
+
+-- the element of an array at an index
+abbrev pub element_in : Store → Value → ℕ → Result Cell ℕ
+element_in store (Name array) index = if nat_lt index (length (object_at store array).cells) then Ok (Part array index) else Err index_fault
+element_in store _ index = Err nil_fault
+
+-- a scope with one more variable of this name
+pub record IsInner (name : List ℕ) (scope inner : Chain) : Type 0 where
+  pub names : names_of inner ≡ name ∷ names_of scope
+
+-- the state in which a method begins on an object, with these values of its variables
+abbrev pub entered : Here → List Var → ℕ → Kept → List Held → State
+entered here params object heap values =
+    record { frame = bound params (values_of values); self = object; depth = 1 + here.depth; store = heap.store; log = heap.log }
+
+-- the values are those of the variables
+pub record OwnValues (params : List Var) (values : List Held) : Type 0 where
+  pub own : map (λ binding. binding.value) (bound params (values_of values)) ≡ values_of values

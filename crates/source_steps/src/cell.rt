@@ -1,0 +1,112 @@
+// Cells: variables of the frame, and fields and elements.
+ghost use Rattle.std.specs.Prelude.{◌≡◌, length, slice_get, slice_set};
+ghost use Rattle.std.specs.Option.{unwrap_or};
+ghost use Rattle.class_table.specs.Classes.{class_fields};
+ghost use Rattle.roopl_semantics.specs.Store.{Nil, class_of_head, object_at};
+ghost use Rattle.roopl_semantics.specs.Value.{read, written, cell_named, value_at, variable_value};
+ghost use Rattle.class_table.specs.Members.{field_of};
+ghost use Rattle.store_table.specs.ValueView.{value_of, values_of};
+ghost use Rattle.source_steps.specs.CellView.{cell_of};
+ghost use Rattle.source_steps.specs.StateView.{IsFramed, names_of, frame_of, state_of, setting_of};
+
+use crate::expressions::Setting;
+use store_table::Heap;
+use crate::scope::{Scope, slot};
+use store_table::Value;
+use rpp_tree::text::Text;
+
+/// What can be read and changed: a variable of the frame, or a field or element.
+#[derive(Clone, Copy, Debug, PartialEq, Eq)]
+pub enum Cell {
+    /// The variable at this place, the innermost at 0.
+    Slot(usize),
+    /// A field or element of an object or array.
+    Part {
+        name: u32,
+        index: usize,
+    },
+}
+
+/// Another value at a place, if there is one.
+#[tactic(auto, using(crate::proofs::Tables::set_past))]
+pub fn put_value(values: &mut Vec<Value>, index: usize, value: Value)
+    ensures { values.new.items ≡ slice_set values.old.items index value }
+{
+    if index < values.len() {
+        values[index] = value;
+    }
+}
+
+/// The value at a place, or nil past the end.
+fn cell_in(cells: &[Value], index: usize) -> Value
+    ensures { value_of result ≡ unwrap_or (slice_get (values_of cells.now) index) Nil }
+{
+    match cells.get(index) {
+        None => Value::Nil,
+        Some(value) => *value,
+    }
+}
+
+/// The value of a variable.
+fn value_of_slot(scope: &Scope, values: &[Value], index: usize) -> Value
+    requires { length values.now ≡ length (names_of scope.now) }
+    ensures { value_of result ≡ value_at (frame_of scope.now values.now) index }
+{
+    cell_in(values, index)
+}
+
+/// What a cell holds.
+pub fn read_cell(setting: &Setting, scope: &Scope, heap: &Heap, values: &[Value], cell: Cell) -> Value
+    requires { IsFramed setting.now scope.now heap.now values.now }
+    ensures { value_of result ≡ read (state_of setting.now scope.now heap.now values.now) (cell_of cell) }
+{
+    match cell {
+        Cell::Slot(index) => value_of_slot(scope, values, index),
+        Cell::Part { name, index } => heap.part(name, index),
+    }
+}
+
+/// The number of a field of the present object.
+fn field_number(setting: &Setting, heap: &Heap, name: &Text) -> usize
+    ensures { result ≡ unwrap_or (field_of (class_fields (setting_of setting.now).program (class_of_head (object_at (heap.now.store) setting.now.object).head)) name.now) 0 }
+{
+    match setting.checked.table().field_of(heap.class_of(setting.object), name) {
+        None => 0,
+        Some(number) => number as usize,
+    }
+}
+
+/// What a name means: the innermost variable of that name, else a field.
+pub fn cell_of_name(setting: &Setting, scope: &Scope, heap: &Heap, values: &[Value], name: &Text) -> Cell
+    requires { IsFramed setting.now scope.now heap.now values.now }
+    ensures { cell_of result ≡ cell_named (setting_of setting.now).program (state_of setting.now scope.now heap.now values.now) name.now }
+{
+    match slot(scope, values, name) {
+        Some(index) => Cell::Slot(index),
+        None => Cell::Part {
+            name: setting.object,
+            index: field_number(setting, heap, name),
+        },
+    }
+}
+
+/// Another value in a cell.
+pub fn write_cell(setting: &Setting, scope: &Scope, heap: &mut Heap, values: &mut Vec<Value>, cell: Cell, value: Value)
+    requires { IsFramed setting.now scope.now heap.old values.old.items }
+    ensures written { state_of setting.now scope.now heap.new values.new.items ≡ written (state_of setting.now scope.now heap.old values.old.items) (cell_of cell) (value_of value) }
+    ensures framed { IsFramed setting.now scope.now heap.new values.new.items }
+{
+    match cell {
+        Cell::Slot(index) => put_value(values, index, value),
+        Cell::Part { name, index } => heap.set_part(name, index, value),
+    }
+}
+
+/// The value of what a name means.
+pub fn variable(setting: &Setting, scope: &Scope, heap: &Heap, values: &[Value], name: &Text) -> Value
+    requires { IsFramed setting.now scope.now heap.now values.now }
+    ensures { value_of result ≡ variable_value (setting_of setting.now).program (state_of setting.now scope.now heap.now values.now) name.now }
+{
+    let cell = cell_of_name(setting, scope, heap, values, name);
+    read_cell(setting, scope, heap, values, cell)
+}

@@ -1,0 +1,88 @@
+// Copies of references.
+ghost use Rattle.std.specs.Prelude.{◌≡◌, ◌≤◌, OnOk, not};
+ghost use Rattle.rpp_tree.specs.Tree.{Copy as CopyTo, Uncopy};
+ghost use Rattle.rpp_tree.specs.Views.{lvalue_of};
+ghost use Rattle.roopl_semantics.specs.Execution.{same_cell};
+ghost use Rattle.source_steps.specs.CellView.{cell_of};
+ghost use Rattle.source_steps.specs.Ends.{Ends, does_simply, copied, uncopied};
+ghost use Rattle.source_steps.specs.Metered.{metered};
+ghost use Rattle.source_steps.specs.StateView.{IsFramed, state_of, setting_of};
+
+use crate::apart::copy_apart;
+use crate::cell::{Cell, read_cell, write_cell};
+use crate::expressions::Setting;
+use crate::scope::Scope;
+use crate::steps::{locate, refuse};
+use crate::stop::Stop;
+use rpp_tree::tree::{Place, VarType};
+use store_table::{Heap, Value};
+
+/// Whether two cells are one.
+fn is_same_cell(a: Cell, b: Cell) -> bool
+    ensures { result ≡ same_cell (cell_of a) (cell_of b) }
+{
+    match (a, b) {
+        (Cell::Slot(a), Cell::Slot(b)) => a == b,
+        (Cell::Part { name: x, index: a }, Cell::Part { name: y, index: b }) => x == y && a == b,
+        (Cell::Slot(_), Cell::Part { .. }) => false,
+        (Cell::Part { .. }, Cell::Slot(_)) => false,
+    }
+}
+
+/// Behind the places of a `copy`: the second of two cells refers to what the first does.
+fn refer(setting: &Setting, scope: &Scope, heap: &mut Heap, values: &mut Vec<Value>, fuel: &mut u64, a: Cell, b: Cell) -> Result<(), Stop>
+    requires { IsFramed setting.now scope.now heap.old values.old.items }
+    ensures ends { Ends setting.now scope.now result heap.new values.new.items fuel.new (metered fuel.old (copied (cell_of a) (cell_of b) (state_of setting.now scope.now heap.old values.old.items))) }
+    ensures framed { OnOk result (IsFramed setting.now scope.now heap.new values.new.items) }
+    ensures less { fuel.new ≤ fuel.old }
+{
+    let first = read_cell(setting, scope, heap, values, a);
+    let second = read_cell(setting, scope, heap, values, b);
+    refuse(fuel, 5, first.is_nil())?;
+    refuse(fuel, 4, !second.is_nil())?;
+    write_cell(setting, scope, heap, values, b, first);
+    heap.raise(first.number())?;
+    Ok(())
+}
+
+/// A `copy`.
+pub fn copy(setting: &Setting, scope: &Scope, heap: &mut Heap, values: &mut Vec<Value>, fuel: &mut u64, at: u32, kind: &VarType, source: &Place, target: &Place) -> Result<(), Stop>
+    requires { IsFramed setting.now scope.now heap.old values.old.items }
+    ensures ends { Ends setting.now scope.now result heap.new values.new.items fuel.new (does_simply setting.now fuel.old (CopyTo at kind.now (lvalue_of source.now) (lvalue_of target.now)) (state_of setting.now scope.now heap.old values.old.items)) }
+    ensures framed { OnOk result (IsFramed setting.now scope.now heap.new values.new.items) }
+    ensures less { fuel.new ≤ fuel.old }
+{
+    let a = locate(setting, scope, heap, values, fuel, source)?;
+    let b = locate(setting, scope, heap, values, fuel, target)?;
+    copy_apart(setting, scope, heap, values, fuel, source, target)?;
+    refer(setting, scope, heap, values, fuel, a, b)
+}
+
+/// The second of two cells becomes nil, where both hold one reference.
+fn take_back(setting: &Setting, scope: &Scope, heap: &mut Heap, values: &mut Vec<Value>, fuel: &mut u64, a: Cell, b: Cell) -> Result<(), Stop>
+    requires { IsFramed setting.now scope.now heap.old values.old.items }
+    ensures ends { Ends setting.now scope.now result heap.new values.new.items fuel.new (metered fuel.old (uncopied (cell_of a) (cell_of b) (state_of setting.now scope.now heap.old values.old.items))) }
+    ensures framed { OnOk result (IsFramed setting.now scope.now heap.new values.new.items) }
+    ensures less { fuel.new ≤ fuel.old }
+{
+    let first = read_cell(setting, scope, heap, values, a);
+    let second = read_cell(setting, scope, heap, values, b);
+    refuse(fuel, 5, first.is_nil())?;
+    refuse(fuel, 10, !first.same(second) || is_same_cell(a, b))?;
+    write_cell(setting, scope, heap, values, b, Value::Nil);
+    heap.lower(first.number());
+    Ok(())
+}
+
+/// An `uncopy`.
+pub fn uncopy(setting: &Setting, scope: &Scope, heap: &mut Heap, values: &mut Vec<Value>, fuel: &mut u64, at: u32, kind: &VarType, source: &Place, target: &Place) -> Result<(), Stop>
+    requires { IsFramed setting.now scope.now heap.old values.old.items }
+    ensures ends { Ends setting.now scope.now result heap.new values.new.items fuel.new (does_simply setting.now fuel.old (Uncopy at kind.now (lvalue_of source.now) (lvalue_of target.now)) (state_of setting.now scope.now heap.old values.old.items)) }
+    ensures framed { OnOk result (IsFramed setting.now scope.now heap.new values.new.items) }
+    ensures less { fuel.new ≤ fuel.old }
+{
+    let a = locate(setting, scope, heap, values, fuel, source)?;
+    let b = locate(setting, scope, heap, values, fuel, target)?;
+    copy_apart(setting, scope, heap, values, fuel, source, target)?;
+    take_back(setting, scope, heap, values, fuel, a, b)
+}

@@ -1,0 +1,28 @@
+//! The steps that statements of the source are made of, and the statements that hold no others:
+//! values and places, updates, swaps, copies, objects that are made and deleted, and the moves of
+//! values into a call and back. A layer above may use that each answers exactly what the meaning
+//! says with so much fuel: the state and the fuel that is left, the fault, or that no fuel is left.
+#![tactic(auto)]
+
+mod apart;
+mod calls;
+mod cell;
+mod copies;
+mod expressions;
+mod locals;
+mod objects;
+mod scope;
+mod simple;
+mod steps;
+mod stop;
+
+pub use calls::{cells_of, move_back, move_out, read_cells, return_values};
+pub use cell::{Cell, cell_of_name, put_value, read_cell};
+pub use copies::{copy, uncopy};
+pub use expressions::Setting;
+pub use locals::{close_local, close_nil, element_place, whole_place};
+pub use objects::{delete_made, delete_object, new_made, new_object, zeros};
+pub use scope::{Scope, inner_scope};
+pub use simple::{swap, turned_call, undone, update};
+pub use steps::{evaluate, is_true, open_value, refuse, spend};
+pub use stop::Stop;

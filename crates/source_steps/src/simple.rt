@@ -1,0 +1,99 @@
+// Statements that hold no others, but for calls and the heap.
+ghost use Rattle.std.specs.Prelude.{◌≡◌, ◌≤◌, OnOk};
+ghost use Rattle.rpp_tree.specs.Tree.{Update, Swap};
+ghost use Rattle.rpp_tree.specs.Views.{expression_of, lvalue_of};
+ghost use Rattle.stmt_inverter.specs.Inverse.{inverse_operator};
+ghost use Rattle.roopl_semantics.specs.Operators.{updated};
+ghost use Rattle.source_steps.specs.Ends.{Ends, does_simply, call_turned};
+ghost use Rattle.source_steps.specs.StateView.{IsFramed, state_of, setting_of};
+
+use crate::cell::{read_cell, write_cell};
+use crate::apart::{swap_apart, update_apart};
+use crate::expressions::Setting;
+use store_table::Heap;
+use crate::scope::Scope;
+use crate::steps::{evaluate, locate};
+use crate::stop::Stop;
+use store_table::Value;
+use rpp_tree::tree::{Expr, Place, UpdateOp};
+use rpp_words::{wrap_add, wrap_sub};
+
+fn update_word(op: UpdateOp, a: u32, b: u32) -> u32
+    ensures { result ≡ updated op a b }
+{
+    match op {
+        UpdateOp::Add => wrap_add(a, b),
+        UpdateOp::Sub => wrap_sub(a, b),
+        UpdateOp::Xor => a ^ b,
+    }
+}
+
+/// An update.
+pub fn update(
+    setting: &Setting,
+    scope: &Scope,
+    heap: &mut Heap,
+    values: &mut Vec<Value>,
+    fuel: &mut u64,
+    at: u32,
+    op: UpdateOp,
+    place: &Place,
+    e: &Expr,
+) -> Result<(), Stop>
+    requires { IsFramed setting.now scope.now heap.old values.old.items }
+    ensures ends { Ends setting.now scope.now result heap.new values.new.items fuel.new (does_simply setting.now fuel.old (Update at op (lvalue_of place.now) (expression_of e.now)) (state_of setting.now scope.now heap.old values.old.items)) }
+    ensures framed { OnOk result (IsFramed setting.now scope.now heap.new values.new.items) }
+    ensures less { fuel.new ≤ fuel.old }
+{
+    let cell = locate(setting, scope, heap, values, fuel, place)?;
+    let value = evaluate(setting, scope, heap, values, fuel, e)?;
+    update_apart(setting, scope, heap, values, fuel, place, e)?;
+    let old = read_cell(setting, scope, heap, values, cell);
+    let word = update_word(op, old.number(), value.number());
+    write_cell(setting, scope, heap, values, cell, Value::Word(word));
+    Ok(())
+}
+
+/// A swap.
+pub fn swap(
+    setting: &Setting,
+    scope: &Scope,
+    heap: &mut Heap,
+    values: &mut Vec<Value>,
+    fuel: &mut u64,
+    at: u32,
+    left: &Place,
+    right: &Place,
+) -> Result<(), Stop>
+    requires { IsFramed setting.now scope.now heap.old values.old.items }
+    ensures ends { Ends setting.now scope.now result heap.new values.new.items fuel.new (does_simply setting.now fuel.old (Swap at (lvalue_of left.now) (lvalue_of right.now)) (state_of setting.now scope.now heap.old values.old.items)) }
+    ensures framed { OnOk result (IsFramed setting.now scope.now heap.new values.new.items) }
+    ensures less { fuel.new ≤ fuel.old }
+{
+    let a = locate(setting, scope, heap, values, fuel, left)?;
+    let b = locate(setting, scope, heap, values, fuel, right)?;
+    swap_apart(setting, scope, heap, values, fuel, left, right)?;
+    let first = read_cell(setting, scope, heap, values, a);
+    let second = read_cell(setting, scope, heap, values, b);
+    write_cell(setting, scope, heap, values, a, second);
+    write_cell(setting, scope, heap, values, b, first);
+    Ok(())
+}
+
+/// The operator of the update that undoes one.
+pub fn undone(op: UpdateOp) -> UpdateOp
+    ensures { result ≡ inverse_operator op }
+{
+    match op {
+        UpdateOp::Add => UpdateOp::Sub,
+        UpdateOp::Sub => UpdateOp::Add,
+        UpdateOp::Xor => UpdateOp::Xor,
+    }
+}
+
+/// The direction of a call, as it stands or undone.
+pub fn turned_call(back: bool, call_back: bool) -> bool
+    ensures { result ≡ call_turned back call_back }
+{
+    if back { !call_back } else { call_back }
+}

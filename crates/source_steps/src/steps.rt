@@ -1,0 +1,104 @@
+// The steps that statements are made of, each with its cost.
+ghost use Rattle.std.specs.Prelude.{◌≡◌, ◌+◌, ◌<◌, ◌≤◌, IfOk, OnOk, MatchResult, ◌∷◌, length, drop};
+ghost use Rattle.rpp_tree.specs.Views.{expression_of, lvalue_of};
+ghost use Rattle.roopl_semantics.specs.Execution.{holds};
+ghost use Rattle.roopl_semantics.specs.Value.{evaluated as evaluated_in, found as found_in};
+ghost use Rattle.roopl_semantics.specs.Run.{spend as spending, fault_if};
+ghost use Rattle.store_table.specs.ValueView.{value_of};
+ghost use Rattle.source_steps.specs.CellView.{cell_of};
+ghost use Rattle.source_steps.specs.Metered.{Gives, metered};
+ghost use Rattle.source_steps.specs.StateView.{IsFramed, state_of, setting_of};
+
+use crate::expressions::{Setting, find, pay, pay_place, value};
+use store_table::Heap;
+use crate::scope::Scope;
+use crate::cell::Cell;
+use crate::stop::Stop;
+use store_table::Value;
+use rpp_tree::tree::{Expr, Place};
+
+/// Counts.
+pub fn spend(fuel: &mut u64, cost: u64) -> Result<(), Stop>
+    ensures gives { Gives (λ u. tt) result fuel.new (metered fuel.old (spending cost)) }
+    ensures less { fuel.new ≤ fuel.old }
+    ensures paid { OnOk result (fuel.new + cost ≡ fuel.old) }
+{
+    if *fuel < cost {
+        return Err(Stop::More);
+    }
+    *fuel -= cost;
+    Ok(())
+}
+
+/// Stops with the fault where the test holds.
+pub fn refuse(fuel: &mut u64, code: u32, test: bool) -> Result<(), Stop>
+    ensures gives { Gives (λ u. tt) result fuel.new (metered fuel.old (fault_if code test)) }
+    ensures same { fuel.new ≡ fuel.old }
+{
+    if test {
+        return Err(Stop::Fault(code));
+    }
+    Ok(())
+}
+
+/// The value of an expression, after the cost of its nodes.
+pub fn evaluate(setting: &Setting, scope: &Scope, heap: &Heap, values: &Vec<Value>, fuel: &mut u64, e: &Expr) -> Result<Value, Stop>
+    requires { IsFramed setting.now scope.now heap.now values.now.items }
+    ensures gives { Gives value_of result fuel.new (metered fuel.old (evaluated_in (setting_of setting.now).program (expression_of e.now) (state_of setting.now scope.now heap.now values.now.items))) }
+    ensures less { fuel.new ≤ fuel.old }
+    ensures some { IfOk result (λ value. fuel.new < fuel.old) }
+{
+    match pay(*fuel, e) {
+        None => Err(Stop::More),
+        Some(left) => {
+            *fuel = left;
+            match value(setting, scope, heap, values, e) {
+                Ok(value) => Ok(value),
+                Err(fault) => Err(Stop::Fault(fault)),
+            }
+        }
+    }
+}
+
+/// The cell of a place, after the cost of its index.
+pub fn locate(setting: &Setting, scope: &Scope, heap: &Heap, values: &Vec<Value>, fuel: &mut u64, place: &Place) -> Result<Cell, Stop>
+    requires { IsFramed setting.now scope.now heap.now values.now.items }
+    ensures gives { Gives cell_of result fuel.new (metered fuel.old (found_in (setting_of setting.now).program (lvalue_of place.now) (state_of setting.now scope.now heap.now values.now.items))) }
+    ensures less { fuel.new ≤ fuel.old }
+{
+    match pay_place(*fuel, place) {
+        None => Err(Stop::More),
+        Some(left) => {
+            *fuel = left;
+            match find(setting, scope, heap, values, place) {
+                Ok(cell) => Ok(cell),
+                Err(fault) => Err(Stop::Fault(fault)),
+            }
+        }
+    }
+}
+
+/// One more value, in front of the others.
+pub fn open_value(values: &mut Vec<Value>, value: Value) -> Result<(), Stop>
+    ensures { MatchResult result (λ u. values.new.items ≡ value ∷ values.old.items) (λ why. why ≡ Stop.NoMemory) }
+{
+    match values.insert(0, value) {
+        Ok(()) => Ok(()),
+        Err(_full) => Err(Stop::NoMemory),
+    }
+}
+
+/// The first value goes.
+pub fn close_value(values: &mut Vec<Value>)
+    requires { 0 < length values.old.items }
+    ensures { values.new.items ≡ drop 1 values.old.items }
+{
+    let _closed = values.remove(0);
+}
+
+/// Whether a test's value is true.
+pub fn is_true(value: Value) -> bool
+    ensures { result ≡ holds (value_of value) }
+{
+    value.number() != 0
+}
