@@ -77,16 +77,29 @@ fn minus(alloc: Global) -> Result<Piece, Fail>
     Ok(plain(alloc, cell)?)
 }
 
-// The flag changes where the difference is below the word of a register.
-fn less(alloc: Global, reg: u8) -> Result<Piece, Fail>
-    requires { reg < 32 }
+// The flag changes where the difference is below 1.
+fn less_than_one(alloc: Global) -> Result<Piece, Fail>
     ensures none { IfOk result (λ p. p.marks ≡ []) }
 {
     let cell = Cell {
         op: Op::Sltx,
         a: 11,
         b: DIFFERENCE,
-        c: reg,
+        c: ONE,
+        imm: 0,
+    };
+    Ok(plain(alloc, cell)?)
+}
+
+// The flag changes where the difference is below 0.
+fn less_than_zero(alloc: Global) -> Result<Piece, Fail>
+    ensures none { IfOk result (λ p. p.marks ≡ []) }
+{
+    let cell = Cell {
+        op: Op::Sltx,
+        a: 11,
+        b: DIFFERENCE,
+        c: ZERO,
         imm: 0,
     };
     Ok(plain(alloc, cell)?)
@@ -111,7 +124,7 @@ fn equals(alloc: Global, word: u32) -> Result<Piece, Fail>
             adds(alloc, ONE, 1)?,
         )?,
     )?;
-    let tests = both(less(alloc, ONE)?, less(alloc, ZERO)?)?;
+    let tests = both(less_than_one(alloc)?, less_than_zero(alloc)?)?;
     let closes = both(
         adds(alloc, ONE, u32::MAX)?,
         both(adds(alloc, DIFFERENCE, word)?, minus(alloc)?)?,

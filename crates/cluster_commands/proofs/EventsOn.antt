@@ -19,7 +19,7 @@ pub nothing_done : (events : List Event) (start : Schedule) (first : List ℕ) �
 nothing_done events start first rest e shows = record { lines = rest; shows = shows; whole = refl }
 
 pub event_done : (events : List Event) (done : ℕ) (start c d : Schedule) (first text new line : List ℕ) (e0 : Event) → done < length events
-  → Shows (get_or events done e0) c line d → new ≡ text ++ line → PrintsOn events done start first c text → PrintsOn events (done + 1) start first d new
+    → Shows (get_or events done e0) c line d → new ≡ text ++ line → PrintsOn events done start first c text → PrintsOn events (done + 1) start first d new
 event_done events done start c d first text new line e0 lt shows new_is on rest e more =
     let next : suc done ≡ done + 1 = omega arith in
     let behind : ShowsAll (drop (suc done) events) d rest e = subst (λ n. ShowsAll (drop n events) d rest e) (sym next) more in

@@ -19,14 +19,14 @@ with_next front image (Ok images) = ap Ok (sym (append_assoc front (image ∷ []
 with_next front image (Err e) = refl
 
 pub image_read : {A : Type 0} (f : A → List ℕ) (items : List A) (i : ℕ) (d : A) (front : List Segments) (image : Segments) (total : Result (List Segments) ImageError) → i < length items
-  → image_at (f (get_or items i d)) ≡ Ok image → with_front front (images_at (map f (drop i items))) ≡ total → with_front (front ++ image ∷ []) (images_at (map f (drop (i + 1) items))) ≡ total
+    → image_at (f (get_or items i d)) ≡ Ok image → with_front front (images_at (map f (drop i items))) ≡ total → with_front (front ++ image ∷ []) (images_at (map f (drop (i + 1) items))) ≡ total
 image_read f items i d front image total lt is so_far =
     sym (with_next front image (images_at (map f (drop (i + 1) items))))
     ∙ ap (λ r. with_front front (with_image r (images_at (map f (drop (i + 1) items))))) (sym is)
     ∙ ap (λ ts. with_front front (images_at ts)) (sym (front_text f items i d lt)) ∙ so_far
 
 refused : {A : Type 0} (f : A → List ℕ) (items : List A) (i : ℕ) (d : A) (front : List Segments) (e : ImageError) (total : Result (List Segments) ImageError) → i < length items
-  → image_at (f (get_or items i d)) ≡ Err e → with_front front (images_at (map f (drop i items))) ≡ total → total ≡ Err e
+    → image_at (f (get_or items i d)) ≡ Err e → with_front front (images_at (map f (drop i items))) ≡ total → total ≡ Err e
 refused f items i d front e total lt is so_far =
     sym so_far ∙ ap (λ ts. with_front front (images_at ts)) (front_text f items i d lt) ∙ ap (λ r. with_front front (with_image r (images_at (map f (drop (i + 1) items))))) is
 
@@ -35,10 +35,10 @@ fails_with NoMemory inner whole go f = tt
 fails_with e inner whole go f = go e f
 
 pub image_refused : {A : Type 0} (f : A → List ℕ) (items : List A) (i : ℕ) (d : A) (front : List Segments) (e : ImageError) (total : Result (List Segments) ImageError) → i < length items
-  → Fails e (image_at (f (get_or items i d))) → with_front front (images_at (map f (drop i items))) ≡ total → Fails e total
+    → Fails e (image_at (f (get_or items i d))) → with_front front (images_at (map f (drop i items))) ≡ total → Fails e total
 image_refused f items i d front e total lt h so_far = fails_with e (image_at (f (get_or items i d))) total (λ r is. refused f items i d front r total lt is so_far) h
 
 pub all_read : {A : Type 0} (f : A → List ℕ) (items : List A) (i : ℕ) (front : List Segments) (total : Result (List Segments) ImageError) → length items ≤ i
-  → with_front front (images_at (map f (drop i items))) ≡ total → total ≡ Ok front
+    → with_front front (images_at (map f (drop i items))) ≡ total → total ≡ Ok front
 all_read {A = A} f items i front total le so_far =
     sym so_far ∙ ap (λ (xs : List A). with_front front (images_at (map f xs))) (drop_of_length-le items le) ∙ ap Ok (append-nil front)

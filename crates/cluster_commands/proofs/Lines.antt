@@ -6,7 +6,7 @@ use Rattle.pisa_cluster.specs.declared.processor.Processor.{Processor}
 use Rattle.cluster_commands.specs.ClusterShown.{processor_line, processor_lines, filled_line, filled_lines}
 
 pub front_processor : (k n : ℕ) (ps : List Processor) (core : Core) → option_map (λ (p : Processor). p.core) (slice_get ps n) ≡ Some core
-  → processor_lines k (drop n ps) ≡ processor_line k core ++ processor_lines (suc k) (drop (suc n) ps)
+    → processor_lines k (drop n ps) ≡ processor_line k core ++ processor_lines (suc k) (drop (suc n) ps)
 front_processor k n [] core h = absurd (cc)
 front_processor k zero (p ∷ ps) core h = ap (λ x. processor_line k x ++ processor_lines (suc k) ps) (same_Some p.core core h)
 front_processor k (suc n) (p ∷ ps) core h = front_processor k n ps core h

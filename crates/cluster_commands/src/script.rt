@@ -41,11 +41,7 @@ pub(crate) fn read_events(
 }
 
 // The events of the lines, which line feeds part.
-fn read_lines(
-    alloc: Global,
-    processors: u32,
-    text: &[u8],
-) -> Result<Vec<Event>, ScriptError>
+fn read_lines(alloc: Global, processors: u32, text: &[u8]) -> Result<Vec<Event>, ScriptError>
     requires { length text.now ≤ MOST_SCRIPT }
     ensures events { Gives (λ events. events.items) result (events_from processors 1 [] (pieces_of 10 text.now)) }
     ensures there { IfOk result (λ events. All (IsEvent processors) events.items) }

@@ -11,6 +11,8 @@ pub use top::rooplpp;
 #[cfg(test)]
 mod check_tests;
 #[cfg(test)]
+mod cluster_tests;
+#[cfg(test)]
 mod debug_tests;
 #[cfg(test)]
 mod image_tests;

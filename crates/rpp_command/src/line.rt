@@ -395,6 +395,7 @@ const MOST_ITEMS: u64 = 800;
 
 // The most processors of a cluster, and the most cells that they have in common.
 const MOST_PROCESSORS: usize = 8;
+
 const MOST_COMMON: u64 = 65_536;
 
 // The number of cells of a cluster, from 1 to 65,536, that a word is.

@@ -47,10 +47,10 @@ pub no_block : (setting : Setting) (size fuel : ℕ) (cell : Cell) (head : Head)
     → metered fuel (allocated setting size cell head cells st) ≡ Stopped heap_full_fault fuel
 no_block setting size fuel cell head cells st old new e o l took =
     ap (λ t. metered fuel (by_full size cell head cells st t))
-      (or_none (nat_lt setting.limits.heap (order_of_cells size)) (is_none (place setting.limits.heap (Taken (2 + count_taken st.log) (order_of_cells size) ∷ st.log))) e
-      ∙ ap (λ h. is_none (place h (Taken (2 + count_taken st.log) (order_of_cells size) ∷ st.log))) (sym o)
-      ∙ ap (λ log. is_none (place old.order (Taken (2 + count_taken log) (order_of_cells size) ∷ log))) (sym l)
-      ∙ took.no_block)
+    (or_none (nat_lt setting.limits.heap (order_of_cells size)) (is_none (place setting.limits.heap (Taken (2 + count_taken st.log) (order_of_cells size) ∷ st.log))) e
+    ∙ ap (λ h. is_none (place h (Taken (2 + count_taken st.log) (order_of_cells size) ∷ st.log))) (sym o)
+    ∙ ap (λ log. is_none (place old.order (Taken (2 + count_taken log) (order_of_cells size) ∷ log))) (sym l)
+    ∙ took.no_block)
     ∙ full_stops size cell head cells st fuel
 
 -- the heap has a block
@@ -58,10 +58,10 @@ pub a_block : (setting : Setting) (fuel name : ℕ) (cell : Cell) (head : Head) 
     → metered fuel (allocated setting (length cells) cell head cells st) ≡ Went (with_new (length cells) cell head cells st) fuel
 a_block setting fuel name cell head cells st old new e o l took =
     ap (λ t. metered fuel (by_full (length cells) cell head cells st t))
-      (or_none (nat_lt setting.limits.heap (order_of_cells (length cells))) (is_none (place setting.limits.heap (Taken (2 + count_taken st.log) (order_of_cells (length cells)) ∷ st.log))) e
-      ∙ ap (λ h. is_none (place h (Taken (2 + count_taken st.log) (order_of_cells (length cells)) ∷ st.log))) (sym o)
-      ∙ ap (λ log. is_none (place old.order (Taken (2 + count_taken log) (order_of_cells (length cells)) ∷ log))) (sym l)
-      ∙ took.has_block)
+    (or_none (nat_lt setting.limits.heap (order_of_cells (length cells))) (is_none (place setting.limits.heap (Taken (2 + count_taken st.log) (order_of_cells (length cells)) ∷ st.log))) e
+    ∙ ap (λ h. is_none (place h (Taken (2 + count_taken st.log) (order_of_cells (length cells)) ∷ st.log))) (sym o)
+    ∙ ap (λ log. is_none (place old.order (Taken (2 + count_taken log) (order_of_cells (length cells)) ∷ log))) (sym l)
+    ∙ took.has_block)
     ∙ room_goes (length cells) cell head cells st fuel
 
 -- the state with the new object, once its name is written
@@ -77,5 +77,5 @@ pub placed_new : (here : Here) (scope : Chain) (fuel name size : ℕ) (cell : Ce
     → metered fuel (allocated (setting_of here) size cell head cells (state_of here scope old values)) ≡ Went after fuel
 placed_new here scope fuel name size cell head cells old new values after s e o took is =
     subst (λ z. nat_lt here.limits.heap (order_of_cells z) ≡ false → metered fuel (allocated (setting_of here) z cell head cells (state_of here scope old values)) ≡ Went after fuel) (sym s)
-      (λ e. a_block (setting_of here) fuel name cell head cells (state_of here scope old values) old new e o refl took
-        ∙ ap (λ s. Went s fuel) (sym (new_state here scope name (length cells) cell head cells old new values refl took) ∙ sym is)) e
+    (λ e. a_block (setting_of here) fuel name cell head cells (state_of here scope old values) old new e o refl took
+    ∙ ap (λ s. Went s fuel) (sym (new_state here scope name (length cells) cell head cells old new values refl took) ∙ sym is)) e

@@ -143,8 +143,8 @@ same_metered fuel More s there back = sym (out_too fuel More s back refl)
 pub enough : (setting : Setting) (fuel n : ℕ) (body : Statements) (st : State) → fuel ≤ n → metered fuel (exec setting n body st) ≡ metered fuel (exec setting fuel body st)
 enough setting fuel n body st h =
     same_metered fuel (exec setting n body st) (exec setting fuel body st)
-        (record { done = λ x cost e l. exec_done_within setting n fuel body st x cost e l; fault = λ code cost e l. exec_fault_within setting n fuel body st code cost e l })
-        (record { done = λ x cost e l. exec_done_within setting fuel n body st x cost e (omega arith); fault = λ code cost e l. exec_fault_within setting fuel n body st code cost e (omega arith) })
+    (record { done = λ x cost e l. exec_done_within setting n fuel body st x cost e l; fault = λ code cost e l. exec_fault_within setting n fuel body st code cost e l })
+    (record { done = λ x cost e l. exec_done_within setting fuel n body st x cost e (omega arith); fault = λ code cost e l. exec_fault_within setting fuel n body st code cost e (omega arith) })
 
 -- the first statement of a block that has fuel for it
 pub block_next : (setting : Setting) (n fuel one left : ℕ) (s : Statement) (rest : Statements) (st end : State) → 1 ≤ n → metered fuel (spend 1) ≡ Went tt one → metered one (statement setting (n - 1) (exec setting (n - 1)) s st) ≡ Went end left → metered fuel (exec setting n (Then s rest) st) ≡ metered left (exec setting (n - 1) rest end)

@@ -22,7 +22,7 @@ opened_state here scope inner heap name v values items i e =
     ap build (ap (λ names. bindings names (map value_of items)) i.names ∙ ap (λ vs. bindings (name ∷ names_of scope) (map value_of vs)) e)
 
 module _ (here : Here) (scope inner : Chain) (n fuel g : ℕ) (name : List ℕ) (value : Expression) (body : Statements) (end_value : Expression) (heap : Heap) (values items : List Held) (v : Held) (i : IsInner name scope inner) (e : items ≡ v ∷ values)
-  (first : metered fuel (evaluated (setting_of here).program value (state_of here scope heap values)) ≡ Went (value_of v) g) where
+    (first : metered fuel (evaluated (setting_of here).program value (state_of here scope heap values)) ≡ Went (value_of v) g) where
   local_body : metered fuel (with_local (setting_of here) (exec (setting_of here) n) name value body end_value (state_of here scope heap values)) ≡ metered g (exec (setting_of here) n body (state_of here inner heap items) >>= local_end (setting_of here) end_value)
   local_body =
       goes fuel g (evaluated (setting_of here).program value (state_of here scope heap values)) (value_of v) (λ v. exec (setting_of here) n body (opened name v (state_of here scope heap values)) >>= local_end (setting_of here) end_value) first

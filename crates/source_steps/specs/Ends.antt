@@ -49,7 +49,6 @@ local_end setting end_value end = do
   _ ← fault_if delocal_fault (not (same_value (read end (Slot 0)) w))
   give (closed end)
 
-
 -- behind the places and the check of an `uncopy`
 abbrev pub uncopied : Cell → Cell → State → Run State
 uncopied a b st = do
@@ -76,9 +75,9 @@ made setting class cell st = do
 -- a new object of a class
 abbrev pub new_of : Setting → List ℕ → Cell → State → Run State
 new_of setting class cell st =
-  let number = unwrap_or (class_number setting.program class) 0 in
-  let cells = zero_values (class_fields setting.program number) in
-  allocated setting (length cells) cell (OfClass number) cells st
+    let number = unwrap_or (class_number setting.program class) 0 in
+    let cells = zero_values (class_fields setting.program number) in
+    allocated setting (length cells) cell (OfClass number) cells st
 
 -- a new array of so many elements, with its cost
 abbrev pub filled : Setting → Cell → (ℕ → Head) → Value → ℕ → State → Run State

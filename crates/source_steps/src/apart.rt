@@ -71,7 +71,14 @@ fn spend_elements(fuel: &mut u64, first: Option<&Expr>, second: &Expr) -> Result
 
 /// Whether an element of an expression is of this array.
 #[cycle(meets)]
-fn meets(setting: &Setting, scope: &Scope, heap: &Heap, values: &[Value], array: Value, e: &Expr) -> bool
+fn meets(
+    setting: &Setting,
+    scope: &Scope,
+    heap: &Heap,
+    values: &[Value],
+    array: Value,
+    e: &Expr,
+) -> bool
     requires { IsFramed setting.now scope.now heap.now values.now }
     ensures { result ≡ meets_in (setting_of setting.now).program (state_of setting.now scope.now heap.now values.now) (value_of array) (expression_of e.now) }
 {
@@ -99,7 +106,15 @@ fn either(a: bool, b: bool) -> bool
 }
 
 /// Whether an element of two expressions is of the array of a name.
-fn shares(setting: &Setting, scope: &Scope, heap: &Heap, values: &[Value], name: &Ident, first: Option<&Expr>, second: &Expr) -> bool
+fn shares(
+    setting: &Setting,
+    scope: &Scope,
+    heap: &Heap,
+    values: &[Value],
+    name: &Ident,
+    first: Option<&Expr>,
+    second: &Expr,
+) -> bool
     requires { IsFramed setting.now scope.now heap.now values.now }
     ensures { result ≡ is_among (setting_of setting.now).program (state_of setting.now scope.now heap.now values.now) name.now (reads_of (option_map (λ e. expression_of e.now) first.entry) ++ elements (expression_of second.now)) }
 {
@@ -115,17 +130,40 @@ fn shares(setting: &Setting, scope: &Scope, heap: &Heap, values: &[Value], name:
 }
 
 /// An element of one array is changed, and the elements of two expressions are read.
-fn reads_apart(setting: &Setting, scope: &Scope, heap: &Heap, values: &Vec<Value>, fuel: &mut u64, name: &Ident, first: Option<&Expr>, second: &Expr) -> Result<(), Stop>
+fn reads_apart(
+    setting: &Setting,
+    scope: &Scope,
+    heap: &Heap,
+    values: &Vec<Value>,
+    fuel: &mut u64,
+    name: &Ident,
+    first: Option<&Expr>,
+    second: &Expr,
+) -> Result<(), Stop>
     requires { IsFramed setting.now scope.now heap.now values.now.items }
     ensures gives { Gives (λ u. tt) result fuel.new (metered fuel.old (kept_apart (setting_of setting.now).program (name.now ∷ []) (reads_of (option_map (λ e. expression_of e.now) first.entry) ++ elements (expression_of second.now)) (state_of setting.now scope.now heap.now values.now.items))) }
     ensures less { fuel.new ≤ fuel.old }
 {
     spend_elements(fuel, first, second)?;
-    refuse(fuel, 16, shares(setting, scope, heap, values, name, first, second) || false)
+    refuse(
+        fuel,
+        16,
+        shares(setting, scope, heap, values, name, first, second) || false,
+    )
 }
 
 /// Elements of two arrays are changed, and those in their indexes are read.
-fn both_apart(setting: &Setting, scope: &Scope, heap: &Heap, values: &Vec<Value>, fuel: &mut u64, name: &Ident, other: &Ident, first: &Expr, second: &Expr) -> Result<(), Stop>
+fn both_apart(
+    setting: &Setting,
+    scope: &Scope,
+    heap: &Heap,
+    values: &Vec<Value>,
+    fuel: &mut u64,
+    name: &Ident,
+    other: &Ident,
+    first: &Expr,
+    second: &Expr,
+) -> Result<(), Stop>
     requires { IsFramed setting.now scope.now heap.now values.now.items }
     ensures gives { Gives (λ u. tt) result fuel.new (metered fuel.old (kept_apart (setting_of setting.now).program (name.now ∷ other.now ∷ []) (elements (expression_of first.now) ++ elements (expression_of second.now)) (state_of setting.now scope.now heap.now values.now.items))) }
     ensures less { fuel.new ≤ fuel.old }
@@ -147,19 +185,43 @@ fn index_of(place: &Place) -> Option<&Expr>
 }
 
 /// The check of an update.
-pub fn update_apart(setting: &Setting, scope: &Scope, heap: &Heap, values: &Vec<Value>, fuel: &mut u64, place: &Place, e: &Expr) -> Result<(), Stop>
+pub fn update_apart(
+    setting: &Setting,
+    scope: &Scope,
+    heap: &Heap,
+    values: &Vec<Value>,
+    fuel: &mut u64,
+    place: &Place,
+    e: &Expr,
+) -> Result<(), Stop>
     requires { IsFramed setting.now scope.now heap.now values.now.items }
     ensures gives { Gives (λ u. tt) result fuel.new (metered fuel.old (kept_apart (setting_of setting.now).program (own_element (lvalue_of place.now)) (index_elements (lvalue_of place.now) ++ elements (expression_of e.now)) (state_of setting.now scope.now heap.now values.now.items))) }
     ensures less { fuel.new ≤ fuel.old }
 {
     match &place.index {
         None => Ok(()),
-        Some(index) => reads_apart(setting, scope, heap, values, fuel, &place.name, Some(index), e),
+        Some(index) => reads_apart(
+            setting,
+            scope,
+            heap,
+            values,
+            fuel,
+            &place.name,
+            Some(index),
+            e,
+        ),
     }
 }
 
 /// The check of a place that `new` or `delete` of an object changes.
-pub fn place_apart(setting: &Setting, scope: &Scope, heap: &Heap, values: &Vec<Value>, fuel: &mut u64, place: &Place) -> Result<(), Stop>
+pub fn place_apart(
+    setting: &Setting,
+    scope: &Scope,
+    heap: &Heap,
+    values: &Vec<Value>,
+    fuel: &mut u64,
+    place: &Place,
+) -> Result<(), Stop>
     requires { IsFramed setting.now scope.now heap.now values.now.items }
     ensures gives { Gives (λ u. tt) result fuel.new (metered fuel.old (kept_apart (setting_of setting.now).program (own_element (lvalue_of place.now)) (index_elements (lvalue_of place.now)) (state_of setting.now scope.now heap.now values.now.items))) }
     ensures less { fuel.new ≤ fuel.old }
@@ -171,7 +233,15 @@ pub fn place_apart(setting: &Setting, scope: &Scope, heap: &Heap, values: &Vec<V
 }
 
 /// The check of a `copy` or an `uncopy`, which changes its target.
-pub fn copy_apart(setting: &Setting, scope: &Scope, heap: &Heap, values: &Vec<Value>, fuel: &mut u64, source: &Place, target: &Place) -> Result<(), Stop>
+pub fn copy_apart(
+    setting: &Setting,
+    scope: &Scope,
+    heap: &Heap,
+    values: &Vec<Value>,
+    fuel: &mut u64,
+    source: &Place,
+    target: &Place,
+) -> Result<(), Stop>
     requires { IsFramed setting.now scope.now heap.now values.now.items }
     ensures gives { Gives (λ u. tt) result fuel.new (metered fuel.old (kept_apart (setting_of setting.now).program (own_element (lvalue_of target.now)) (index_elements (lvalue_of source.now) ++ index_elements (lvalue_of target.now)) (state_of setting.now scope.now heap.now values.now.items))) }
     ensures less { fuel.new ≤ fuel.old }
@@ -180,13 +250,30 @@ pub fn copy_apart(setting: &Setting, scope: &Scope, heap: &Heap, values: &Vec<Va
         None => Ok(()),
         Some(index) => {
             let first = index_of(source);
-            reads_apart(setting, scope, heap, values, fuel, &target.name, first, index)
+            reads_apart(
+                setting,
+                scope,
+                heap,
+                values,
+                fuel,
+                &target.name,
+                first,
+                index,
+            )
         }
     }
 }
 
 /// The check of a swap.
-pub fn swap_apart(setting: &Setting, scope: &Scope, heap: &Heap, values: &Vec<Value>, fuel: &mut u64, left: &Place, right: &Place) -> Result<(), Stop>
+pub fn swap_apart(
+    setting: &Setting,
+    scope: &Scope,
+    heap: &Heap,
+    values: &Vec<Value>,
+    fuel: &mut u64,
+    left: &Place,
+    right: &Place,
+) -> Result<(), Stop>
     requires { IsFramed setting.now scope.now heap.now values.now.items }
     ensures gives { Gives (λ u. tt) result fuel.new (metered fuel.old (kept_apart (setting_of setting.now).program (own_element (lvalue_of left.now) ++ own_element (lvalue_of right.now)) (index_elements (lvalue_of left.now) ++ index_elements (lvalue_of right.now)) (state_of setting.now scope.now heap.now values.now.items))) }
     ensures less { fuel.new ≤ fuel.old }
@@ -195,7 +282,17 @@ pub fn swap_apart(setting: &Setting, scope: &Scope, heap: &Heap, values: &Vec<Va
         None => place_apart(setting, scope, heap, values, fuel, right),
         Some(first) => match &right.index {
             None => place_apart(setting, scope, heap, values, fuel, left),
-            Some(second) => both_apart(setting, scope, heap, values, fuel, &left.name, &right.name, first, second),
+            Some(second) => both_apart(
+                setting,
+                scope,
+                heap,
+                values,
+                fuel,
+                &left.name,
+                &right.name,
+                first,
+                second,
+            ),
         },
     }
 }

@@ -10,17 +10,23 @@ ghost use Rattle.source_steps.specs.StateView.{IsFramed, state_of, setting_of};
 
 use crate::cell::{Cell, cell_of_name, read_cell, write_cell};
 use crate::expressions::Setting;
-use store_table::Heap;
 use crate::scope::Scope;
 use crate::steps::refuse;
 use crate::stop::Stop;
-use store_table::Value;
 use rpp_tree::tree::Ident;
 use rpp_words::NoMemory;
 use std::alloc::Global;
+use store_table::{Heap, Value};
 
 /// The cells of these names, behind some others.
-pub fn name_cells(setting: &Setting, scope: &Scope, heap: &Heap, values: &[Value], cells: &mut Vec<Cell>, names: &[Ident]) -> Result<(), NoMemory>
+pub fn name_cells(
+    setting: &Setting,
+    scope: &Scope,
+    heap: &Heap,
+    values: &[Value],
+    cells: &mut Vec<Cell>,
+    names: &[Ident],
+) -> Result<(), NoMemory>
     requires { IsFramed setting.now scope.now heap.now values.now }
     ensures { OnOk result (map cell_of cells.new.items ≡ map cell_of cells.old.items ++ cells_named (setting_of setting.now) (state_of setting.now scope.now heap.now values.now) names.now) }
 {
@@ -31,7 +37,14 @@ pub fn name_cells(setting: &Setting, scope: &Scope, heap: &Heap, values: &[Value
 }
 
 /// What these cells hold.
-pub fn read_cells(alloc: Global, setting: &Setting, scope: &Scope, heap: &Heap, values: &[Value], cells: &[Cell]) -> Result<Vec<Value>, NoMemory>
+pub fn read_cells(
+    alloc: Global,
+    setting: &Setting,
+    scope: &Scope,
+    heap: &Heap,
+    values: &[Value],
+    cells: &[Cell],
+) -> Result<Vec<Value>, NoMemory>
     requires { IsFramed setting.now scope.now heap.now values.now }
     ensures { IfOk result (λ moved. values_of moved.items ≡ map (read (state_of setting.now scope.now heap.now values.now)) (map cell_of cells.now)) }
 {
@@ -43,7 +56,13 @@ pub fn read_cells(alloc: Global, setting: &Setting, scope: &Scope, heap: &Heap, 
 }
 
 /// The values of these cells move away.
-pub fn move_out(setting: &Setting, scope: &Scope, heap: &mut Heap, values: &mut Vec<Value>, cells: &[Cell])
+pub fn move_out(
+    setting: &Setting,
+    scope: &Scope,
+    heap: &mut Heap,
+    values: &mut Vec<Value>,
+    cells: &[Cell],
+)
     requires { IsFramed setting.now scope.now heap.old values.old.items }
     ensures moved { state_of setting.now scope.now heap.new values.new.items ≡ moved_out (map cell_of cells.now) (state_of setting.now scope.now heap.old values.old.items) }
     ensures framed { IsFramed setting.now scope.now heap.new values.new.items }
@@ -55,7 +74,15 @@ pub fn move_out(setting: &Setting, scope: &Scope, heap: &mut Heap, values: &mut 
 }
 
 /// The values move back, each into a cell that still reads 0 or nil.
-pub fn move_back(setting: &Setting, scope: &Scope, heap: &mut Heap, values: &mut Vec<Value>, fuel: &mut u64, cells: &[Cell], moved: &[Value]) -> Result<(), Stop>
+pub fn move_back(
+    setting: &Setting,
+    scope: &Scope,
+    heap: &mut Heap,
+    values: &mut Vec<Value>,
+    fuel: &mut u64,
+    cells: &[Cell],
+    moved: &[Value],
+) -> Result<(), Stop>
     requires { IsFramed setting.now scope.now heap.old values.old.items }
     ensures ends { Ends setting.now scope.now result heap.new values.new.items fuel.new (metered fuel.old (moved_back (map cell_of cells.now) (values_of moved.now) (state_of setting.now scope.now heap.old values.old.items))) }
     ensures framed { OnOk result (IsFramed setting.now scope.now heap.new values.new.items) }
@@ -76,7 +103,13 @@ pub fn move_back(setting: &Setting, scope: &Scope, heap: &mut Heap, values: &mut
 }
 
 /// The cells of these names.
-pub fn cells_of(setting: &Setting, scope: &Scope, heap: &Heap, values: &Vec<Value>, names: &[Ident]) -> Result<Vec<Cell>, Stop>
+pub fn cells_of(
+    setting: &Setting,
+    scope: &Scope,
+    heap: &Heap,
+    values: &Vec<Value>,
+    names: &[Ident],
+) -> Result<Vec<Cell>, Stop>
     requires { IsFramed setting.now scope.now heap.now values.now.items }
     ensures { MatchResult result (λ cells. map cell_of cells.items ≡ cells_named (setting_of setting.now) (state_of setting.now scope.now heap.now values.now.items) names.now) (λ why. why ≡ Stop.NoMemory) }
 {
@@ -88,7 +121,17 @@ pub fn cells_of(setting: &Setting, scope: &Scope, heap: &Heap, values: &Vec<Valu
 }
 
 /// The values of a receiver and of arguments move back.
-pub fn return_values(setting: &Setting, scope: &Scope, heap: &mut Heap, values: &mut Vec<Value>, fuel: &mut u64, receiver: &[Cell], args: &[Cell], held: &[Value], inside: &[Value]) -> Result<(), Stop>
+pub fn return_values(
+    setting: &Setting,
+    scope: &Scope,
+    heap: &mut Heap,
+    values: &mut Vec<Value>,
+    fuel: &mut u64,
+    receiver: &[Cell],
+    args: &[Cell],
+    held: &[Value],
+    inside: &[Value],
+) -> Result<(), Stop>
     requires framed { IsFramed setting.now scope.now heap.old values.old.items }
     requires same { length held.now ≡ length receiver.now }
     ensures ends { Ends setting.now scope.now result heap.new values.new.items fuel.new (metered fuel.old (moved_back (map cell_of receiver.now ++ map cell_of args.now) (values_of held.now ++ values_of inside.now) (state_of setting.now scope.now heap.old values.old.items))) }

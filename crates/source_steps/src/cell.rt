@@ -10,10 +10,9 @@ ghost use Rattle.source_steps.specs.CellView.{cell_of};
 ghost use Rattle.source_steps.specs.StateView.{IsFramed, names_of, frame_of, state_of, setting_of};
 
 use crate::expressions::Setting;
-use store_table::Heap;
 use crate::scope::{Scope, slot};
-use store_table::Value;
 use rpp_tree::text::Text;
+use store_table::{Heap, Value};
 
 /// What can be read and changed: a variable of the frame, or a field or element.
 #[derive(Clone, Copy, Debug, PartialEq, Eq)]
@@ -21,10 +20,7 @@ pub enum Cell {
     /// The variable at this place, the innermost at 0.
     Slot(usize),
     /// A field or element of an object or array.
-    Part {
-        name: u32,
-        index: usize,
-    },
+    Part { name: u32, index: usize },
 }
 
 /// Another value at a place, if there is one.
@@ -56,7 +52,13 @@ fn value_of_slot(scope: &Scope, values: &[Value], index: usize) -> Value
 }
 
 /// What a cell holds.
-pub fn read_cell(setting: &Setting, scope: &Scope, heap: &Heap, values: &[Value], cell: Cell) -> Value
+pub fn read_cell(
+    setting: &Setting,
+    scope: &Scope,
+    heap: &Heap,
+    values: &[Value],
+    cell: Cell,
+) -> Value
     requires { IsFramed setting.now scope.now heap.now values.now }
     ensures { value_of result ≡ read (state_of setting.now scope.now heap.now values.now) (cell_of cell) }
 {
@@ -70,14 +72,24 @@ pub fn read_cell(setting: &Setting, scope: &Scope, heap: &Heap, values: &[Value]
 fn field_number(setting: &Setting, heap: &Heap, name: &Text) -> usize
     ensures { result ≡ unwrap_or (field_of (class_fields (setting_of setting.now).program (class_of_head (object_at (heap.now.store) setting.now.object).head)) name.now) 0 }
 {
-    match setting.checked.table().field_of(heap.class_of(setting.object), name) {
+    match setting
+        .checked
+        .table()
+        .field_of(heap.class_of(setting.object), name)
+    {
         None => 0,
         Some(number) => number as usize,
     }
 }
 
 /// What a name means: the innermost variable of that name, else a field.
-pub fn cell_of_name(setting: &Setting, scope: &Scope, heap: &Heap, values: &[Value], name: &Text) -> Cell
+pub fn cell_of_name(
+    setting: &Setting,
+    scope: &Scope,
+    heap: &Heap,
+    values: &[Value],
+    name: &Text,
+) -> Cell
     requires { IsFramed setting.now scope.now heap.now values.now }
     ensures { cell_of result ≡ cell_named (setting_of setting.now).program (state_of setting.now scope.now heap.now values.now) name.now }
 {
@@ -91,7 +103,14 @@ pub fn cell_of_name(setting: &Setting, scope: &Scope, heap: &Heap, values: &[Val
 }
 
 /// Another value in a cell.
-pub fn write_cell(setting: &Setting, scope: &Scope, heap: &mut Heap, values: &mut Vec<Value>, cell: Cell, value: Value)
+pub fn write_cell(
+    setting: &Setting,
+    scope: &Scope,
+    heap: &mut Heap,
+    values: &mut Vec<Value>,
+    cell: Cell,
+    value: Value,
+)
     requires { IsFramed setting.now scope.now heap.old values.old.items }
     ensures written { state_of setting.now scope.now heap.new values.new.items ≡ written (state_of setting.now scope.now heap.old values.old.items) (cell_of cell) (value_of value) }
     ensures framed { IsFramed setting.now scope.now heap.new values.new.items }
@@ -103,7 +122,13 @@ pub fn write_cell(setting: &Setting, scope: &Scope, heap: &mut Heap, values: &mu
 }
 
 /// The value of what a name means.
-pub fn variable(setting: &Setting, scope: &Scope, heap: &Heap, values: &[Value], name: &Text) -> Value
+pub fn variable(
+    setting: &Setting,
+    scope: &Scope,
+    heap: &Heap,
+    values: &[Value],
+    name: &Text,
+) -> Value
     requires { IsFramed setting.now scope.now heap.now values.now }
     ensures { value_of result ≡ variable_value (setting_of setting.now).program (state_of setting.now scope.now heap.now values.now) name.now }
 {

@@ -30,7 +30,15 @@ fn is_same_cell(a: Cell, b: Cell) -> bool
 }
 
 /// Behind the places of a `copy`: the second of two cells refers to what the first does.
-fn refer(setting: &Setting, scope: &Scope, heap: &mut Heap, values: &mut Vec<Value>, fuel: &mut u64, a: Cell, b: Cell) -> Result<(), Stop>
+fn refer(
+    setting: &Setting,
+    scope: &Scope,
+    heap: &mut Heap,
+    values: &mut Vec<Value>,
+    fuel: &mut u64,
+    a: Cell,
+    b: Cell,
+) -> Result<(), Stop>
     requires { IsFramed setting.now scope.now heap.old values.old.items }
     ensures ends { Ends setting.now scope.now result heap.new values.new.items fuel.new (metered fuel.old (copied (cell_of a) (cell_of b) (state_of setting.now scope.now heap.old values.old.items))) }
     ensures framed { OnOk result (IsFramed setting.now scope.now heap.new values.new.items) }
@@ -46,7 +54,17 @@ fn refer(setting: &Setting, scope: &Scope, heap: &mut Heap, values: &mut Vec<Val
 }
 
 /// A `copy`.
-pub fn copy(setting: &Setting, scope: &Scope, heap: &mut Heap, values: &mut Vec<Value>, fuel: &mut u64, at: u32, kind: &VarType, source: &Place, target: &Place) -> Result<(), Stop>
+pub fn copy(
+    setting: &Setting,
+    scope: &Scope,
+    heap: &mut Heap,
+    values: &mut Vec<Value>,
+    fuel: &mut u64,
+    at: u32,
+    kind: &VarType,
+    source: &Place,
+    target: &Place,
+) -> Result<(), Stop>
     requires { IsFramed setting.now scope.now heap.old values.old.items }
     ensures ends { Ends setting.now scope.now result heap.new values.new.items fuel.new (does_simply setting.now fuel.old (CopyTo at kind.now (lvalue_of source.now) (lvalue_of target.now)) (state_of setting.now scope.now heap.old values.old.items)) }
     ensures framed { OnOk result (IsFramed setting.now scope.now heap.new values.new.items) }
@@ -59,7 +77,15 @@ pub fn copy(setting: &Setting, scope: &Scope, heap: &mut Heap, values: &mut Vec<
 }
 
 /// The second of two cells becomes nil, where both hold one reference.
-fn take_back(setting: &Setting, scope: &Scope, heap: &mut Heap, values: &mut Vec<Value>, fuel: &mut u64, a: Cell, b: Cell) -> Result<(), Stop>
+fn take_back(
+    setting: &Setting,
+    scope: &Scope,
+    heap: &mut Heap,
+    values: &mut Vec<Value>,
+    fuel: &mut u64,
+    a: Cell,
+    b: Cell,
+) -> Result<(), Stop>
     requires { IsFramed setting.now scope.now heap.old values.old.items }
     ensures ends { Ends setting.now scope.now result heap.new values.new.items fuel.new (metered fuel.old (uncopied (cell_of a) (cell_of b) (state_of setting.now scope.now heap.old values.old.items))) }
     ensures framed { OnOk result (IsFramed setting.now scope.now heap.new values.new.items) }
@@ -75,7 +101,17 @@ fn take_back(setting: &Setting, scope: &Scope, heap: &mut Heap, values: &mut Vec
 }
 
 /// An `uncopy`.
-pub fn uncopy(setting: &Setting, scope: &Scope, heap: &mut Heap, values: &mut Vec<Value>, fuel: &mut u64, at: u32, kind: &VarType, source: &Place, target: &Place) -> Result<(), Stop>
+pub fn uncopy(
+    setting: &Setting,
+    scope: &Scope,
+    heap: &mut Heap,
+    values: &mut Vec<Value>,
+    fuel: &mut u64,
+    at: u32,
+    kind: &VarType,
+    source: &Place,
+    target: &Place,
+) -> Result<(), Stop>
     requires { IsFramed setting.now scope.now heap.old values.old.items }
     ensures ends { Ends setting.now scope.now result heap.new values.new.items fuel.new (does_simply setting.now fuel.old (Uncopy at kind.now (lvalue_of source.now) (lvalue_of target.now)) (state_of setting.now scope.now heap.old values.old.items)) }
     ensures framed { OnOk result (IsFramed setting.now scope.now heap.new values.new.items) }

@@ -11,13 +11,12 @@ ghost use Rattle.source_steps.specs.Metered.{left_of};
 ghost use Rattle.source_steps.specs.StateView.{IsFramed, element_in, state_of, setting_of, seen};
 
 use crate::cell::{Cell, cell_of_name, read_cell};
-use store_table::Heap;
 use crate::scope::Scope;
-use store_table::Value;
 use class_table::Checked;
 use rpp_tree::tree::{BinOp, Expr, Place};
 use rpp_words::{Limits, less, wrap_add, wrap_sub};
 use std::alloc::Global;
+use store_table::{Heap, Value};
 
 /// What an open method stands in: the program and the limits, its object, and how many calls are open.
 #[derive(Clone, Copy)]
@@ -130,7 +129,13 @@ fn element(heap: &Heap, array: Value, index: u32) -> Result<Cell, u32>
 
 /// The value of an expression, or the fault that its evaluation meets first.
 #[cycle(values)]
-pub fn value(setting: &Setting, scope: &Scope, heap: &Heap, values: &[Value], e: &Expr) -> Result<Value, u32>
+pub fn value(
+    setting: &Setting,
+    scope: &Scope,
+    heap: &Heap,
+    values: &[Value],
+    e: &Expr,
+) -> Result<Value, u32>
     requires { IsFramed setting.now scope.now heap.now values.now }
     ensures { seen value_of result ≡ value_in (setting_of setting.now).program (state_of setting.now scope.now heap.now values.now) (expression_of e.now) }
 {
@@ -141,7 +146,12 @@ pub fn value(setting: &Setting, scope: &Scope, heap: &Heap, values: &[Value], e:
             let cell = find(setting, scope, heap, values, place)?;
             Ok(read_cell(setting, scope, heap, values, cell))
         }
-        Expr::Binary { op, left, right, .. } => {
+        Expr::Binary {
+            op,
+            left,
+            right,
+            ..
+        } => {
             let first = value(setting, scope, heap, values, left)?;
             let second = value(setting, scope, heap, values, right)?;
             Ok(combine(*op, first, second))
@@ -151,7 +161,13 @@ pub fn value(setting: &Setting, scope: &Scope, heap: &Heap, values: &[Value], e:
 
 /// The cell that a place means, or the fault that is met.
 #[cycle(values)]
-pub fn find(setting: &Setting, scope: &Scope, heap: &Heap, values: &[Value], place: &Place) -> Result<Cell, u32>
+pub fn find(
+    setting: &Setting,
+    scope: &Scope,
+    heap: &Heap,
+    values: &[Value],
+    place: &Place,
+) -> Result<Cell, u32>
     requires { IsFramed setting.now scope.now heap.now values.now }
     ensures { seen cell_of result ≡ place_in (setting_of setting.now).program (state_of setting.now scope.now heap.now values.now) (lvalue_of place.now) }
 {

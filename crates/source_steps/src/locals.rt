@@ -7,20 +7,27 @@ ghost use Rattle.source_steps.specs.Metered.{metered};
 ghost use Rattle.source_steps.specs.Ends.{Ends, local_end};
 ghost use Rattle.source_steps.specs.StateView.{IsFramed, IsInner, state_of, setting_of};
 
-use crate::cell::read_cell;
+use crate::cell::{Cell, read_cell};
 use crate::expressions::Setting;
-use store_table::Heap;
 use crate::scope::Scope;
 use crate::steps::{close_value, evaluate, refuse, spend};
-use crate::cell::Cell;
 use crate::stop::Stop;
-use store_table::Value;
 use rpp_tree::text::Text;
 use rpp_tree::tree::{Expr, Ident, Place};
 use std::alloc::Global;
+use store_table::{Heap, Value};
 
 /// A local's value is compared with the closing expression's, and the local goes.
-pub fn close_local(setting: &Setting, scope: &Scope, inner: &Scope, name: &Text, heap: &mut Heap, values: &mut Vec<Value>, fuel: &mut u64, end_value: &Expr) -> Result<(), Stop>
+pub fn close_local(
+    setting: &Setting,
+    scope: &Scope,
+    inner: &Scope,
+    name: &Text,
+    heap: &mut Heap,
+    values: &mut Vec<Value>,
+    fuel: &mut u64,
+    end_value: &Expr,
+) -> Result<(), Stop>
     requires framed { IsFramed setting.now inner.now heap.old values.old.items }
     requires inner { IsInner name.now scope.now inner.now }
     ensures ends { Ends setting.now scope.now result heap.new values.new.items fuel.new (metered fuel.old (local_end (setting_of setting.now) (expression_of end_value.now) (state_of setting.now inner.now heap.old values.old.items))) }
@@ -35,7 +42,16 @@ pub fn close_local(setting: &Setting, scope: &Scope, inner: &Scope, name: &Text,
 }
 
 /// The same where the closing expression is `nil`.
-pub fn close_nil(setting: &Setting, scope: &Scope, inner: &Scope, name: &Text, at: u32, heap: &mut Heap, values: &mut Vec<Value>, fuel: &mut u64) -> Result<(), Stop>
+pub fn close_nil(
+    setting: &Setting,
+    scope: &Scope,
+    inner: &Scope,
+    name: &Text,
+    at: u32,
+    heap: &mut Heap,
+    values: &mut Vec<Value>,
+    fuel: &mut u64,
+) -> Result<(), Stop>
     requires framed { IsFramed setting.now inner.now heap.old values.old.items }
     requires inner { IsInner name.now scope.now inner.now }
     ensures ends { Ends setting.now scope.now result heap.new values.new.items fuel.new (metered fuel.old (local_end (setting_of setting.now) (Null at) (state_of setting.now inner.now heap.old values.old.items))) }

@@ -47,7 +47,16 @@ pub fn zeros(alloc: Global, vars: &[Var]) -> Result<Vec<Value>, NoMemory>
 }
 
 /// An object or array with these cells, where the heap has a block for it.
-fn allocate(setting: &Setting, scope: &Scope, heap: &mut Heap, values: &mut Vec<Value>, fuel: &mut u64, cell: Cell, head: Head, cells: Vec<Value>) -> Result<(), Stop>
+fn allocate(
+    setting: &Setting,
+    scope: &Scope,
+    heap: &mut Heap,
+    values: &mut Vec<Value>,
+    fuel: &mut u64,
+    cell: Cell,
+    head: Head,
+    cells: Vec<Value>,
+) -> Result<(), Stop>
     requires framed { IsFramed setting.now scope.now heap.old values.old.items }
     requires small { length cells.items < 2 ^ 31 }
     ensures ends { Ends setting.now scope.now result heap.new values.new.items fuel.new (metered fuel.old (allocated (setting_of setting.now) (length cells.items) (cell_of cell) (head_of head) (values_of cells.items) (state_of setting.now scope.now heap.old values.old.items))) }
@@ -67,7 +76,15 @@ fn allocate(setting: &Setting, scope: &Scope, heap: &mut Heap, values: &mut Vec<
 }
 
 /// Behind the place and the check of a `new` of an object.
-fn make(setting: &Setting, scope: &Scope, heap: &mut Heap, values: &mut Vec<Value>, fuel: &mut u64, cell: Cell, class: &Text) -> Result<(), Stop>
+fn make(
+    setting: &Setting,
+    scope: &Scope,
+    heap: &mut Heap,
+    values: &mut Vec<Value>,
+    fuel: &mut u64,
+    cell: Cell,
+    class: &Text,
+) -> Result<(), Stop>
     requires framed { IsFramed setting.now scope.now heap.old values.old.items }
     ensures ends { Ends setting.now scope.now result heap.new values.new.items fuel.new (metered fuel.old (made (setting_of setting.now) class.now (cell_of cell) (state_of setting.now scope.now heap.old values.old.items))) }
     ensures framed { OnOk result (IsFramed setting.now scope.now heap.new values.new.items) }
@@ -80,7 +97,15 @@ fn make(setting: &Setting, scope: &Scope, heap: &mut Heap, values: &mut Vec<Valu
 }
 
 /// An object of a class, where the heap has a block for it.
-fn allocate_object(setting: &Setting, scope: &Scope, heap: &mut Heap, values: &mut Vec<Value>, fuel: &mut u64, cell: Cell, class: &Text) -> Result<(), Stop>
+fn allocate_object(
+    setting: &Setting,
+    scope: &Scope,
+    heap: &mut Heap,
+    values: &mut Vec<Value>,
+    fuel: &mut u64,
+    cell: Cell,
+    class: &Text,
+) -> Result<(), Stop>
     requires framed { IsFramed setting.now scope.now heap.old values.old.items }
     ensures ends { Ends setting.now scope.now result heap.new values.new.items fuel.new (metered fuel.old (new_of (setting_of setting.now) class.now (cell_of cell) (state_of setting.now scope.now heap.old values.old.items))) }
     ensures framed { OnOk result (IsFramed setting.now scope.now heap.new values.new.items) }
@@ -88,7 +113,16 @@ fn allocate_object(setting: &Setting, scope: &Scope, heap: &mut Heap, values: &m
 {
     let number = class_of_name(setting, class);
     let cells = zeros(setting.alloc, fields_of(setting, number))?;
-    allocate(setting, scope, heap, values, fuel, cell, Head::Class(number), cells)
+    allocate(
+        setting,
+        scope,
+        heap,
+        values,
+        fuel,
+        cell,
+        Head::Class(number),
+        cells,
+    )
 }
 
 /// The number of the class of a name, or 0.
@@ -110,7 +144,16 @@ fn fields_of<'a>(setting: &Setting<'a>, class: u32) -> &'a [Var]
 }
 
 /// `new` of an object.
-pub fn new_object(setting: &Setting, scope: &Scope, heap: &mut Heap, values: &mut Vec<Value>, fuel: &mut u64, at: u32, class: &Ident, place: &Place) -> Result<(), Stop>
+pub fn new_object(
+    setting: &Setting,
+    scope: &Scope,
+    heap: &mut Heap,
+    values: &mut Vec<Value>,
+    fuel: &mut u64,
+    at: u32,
+    class: &Ident,
+    place: &Place,
+) -> Result<(), Stop>
     requires framed { IsFramed setting.now scope.now heap.old values.old.items }
     ensures ends { Ends setting.now scope.now result heap.new values.new.items fuel.new (does_simply setting.now fuel.old (New at (AnObject class.now) (lvalue_of place.now)) (state_of setting.now scope.now heap.old values.old.items)) }
     ensures framed { OnOk result (IsFramed setting.now scope.now heap.new values.new.items) }
@@ -148,7 +191,16 @@ fn elements(alloc: Global, count: u32, value: Value) -> Result<Vec<Value>, NoMem
 }
 
 /// An array of so many elements, where the heap has a block for it.
-fn allocate_array(setting: &Setting, scope: &Scope, heap: &mut Heap, values: &mut Vec<Value>, fuel: &mut u64, cell: Cell, kind: Option<u32>, count: u32) -> Result<(), Stop>
+fn allocate_array(
+    setting: &Setting,
+    scope: &Scope,
+    heap: &mut Heap,
+    values: &mut Vec<Value>,
+    fuel: &mut u64,
+    cell: Cell,
+    kind: Option<u32>,
+    count: u32,
+) -> Result<(), Stop>
     requires framed { IsFramed setting.now scope.now heap.old values.old.items }
     requires small { count < 2 ^ 31 }
     ensures ends { Ends setting.now scope.now result heap.new values.new.items fuel.new (metered fuel.old (allocated (setting_of setting.now) count (cell_of cell) (array_head kind count) (replicate count (first_element kind)) (state_of setting.now scope.now heap.old values.old.items))) }
@@ -159,11 +211,29 @@ fn allocate_array(setting: &Setting, scope: &Scope, heap: &mut Heap, values: &mu
         return Err(Stop::Fault(8));
     }
     let cells = elements(setting.alloc, count, element_of(kind))?;
-    allocate(setting, scope, heap, values, fuel, cell, head_of_array(kind, count), cells)
+    allocate(
+        setting,
+        scope,
+        heap,
+        values,
+        fuel,
+        cell,
+        head_of_array(kind, count),
+        cells,
+    )
 }
 
 /// Behind the place and the length of a `new` of an array.
-fn make_array(setting: &Setting, scope: &Scope, heap: &mut Heap, values: &mut Vec<Value>, fuel: &mut u64, cell: Cell, kind: Option<u32>, size: Value) -> Result<(), Stop>
+fn make_array(
+    setting: &Setting,
+    scope: &Scope,
+    heap: &mut Heap,
+    values: &mut Vec<Value>,
+    fuel: &mut u64,
+    cell: Cell,
+    kind: Option<u32>,
+    size: Value,
+) -> Result<(), Stop>
     requires framed { IsFramed setting.now scope.now heap.old values.old.items }
     ensures ends { Ends setting.now scope.now result heap.new values.new.items fuel.new (metered fuel.old (made_array (setting_of setting.now) (cell_of cell) (array_head kind) (first_element kind) (value_of size) (state_of setting.now scope.now heap.old values.old.items))) }
     ensures framed { OnOk result (IsFramed setting.now scope.now heap.new values.new.items) }
@@ -177,7 +247,16 @@ fn make_array(setting: &Setting, scope: &Scope, heap: &mut Heap, values: &mut Ve
 }
 
 /// An array of so many elements, with its cost.
-fn fill_array(setting: &Setting, scope: &Scope, heap: &mut Heap, values: &mut Vec<Value>, fuel: &mut u64, cell: Cell, kind: Option<u32>, count: u32) -> Result<(), Stop>
+fn fill_array(
+    setting: &Setting,
+    scope: &Scope,
+    heap: &mut Heap,
+    values: &mut Vec<Value>,
+    fuel: &mut u64,
+    cell: Cell,
+    kind: Option<u32>,
+    count: u32,
+) -> Result<(), Stop>
     requires framed { IsFramed setting.now scope.now heap.old values.old.items }
     requires small { count < 2 ^ 31 }
     ensures ends { Ends setting.now scope.now result heap.new values.new.items fuel.new (metered fuel.old (filled (setting_of setting.now) (cell_of cell) (array_head kind) (first_element kind) count (state_of setting.now scope.now heap.old values.old.items))) }
@@ -190,7 +269,16 @@ fn fill_array(setting: &Setting, scope: &Scope, heap: &mut Heap, values: &mut Ve
 }
 
 /// `new` of an array: of words, or of references to objects of a class.
-pub fn new_array(setting: &Setting, scope: &Scope, heap: &mut Heap, values: &mut Vec<Value>, fuel: &mut u64, kind: Option<u32>, place: &Place, size: &Expr) -> Result<(), Stop>
+pub fn new_array(
+    setting: &Setting,
+    scope: &Scope,
+    heap: &mut Heap,
+    values: &mut Vec<Value>,
+    fuel: &mut u64,
+    kind: Option<u32>,
+    place: &Place,
+    size: &Expr,
+) -> Result<(), Stop>
     requires framed { IsFramed setting.now scope.now heap.old values.old.items }
     ensures ends { Ends setting.now scope.now result heap.new values.new.items fuel.new (metered fuel.old (new_array_in (setting_of setting.now) (lvalue_of place.now) (expression_of size.now) (array_head kind) (first_element kind) (state_of setting.now scope.now heap.old values.old.items))) }
     ensures framed { OnOk result (IsFramed setting.now scope.now heap.new values.new.items) }
@@ -202,7 +290,14 @@ pub fn new_array(setting: &Setting, scope: &Scope, heap: &mut Heap, values: &mut
 }
 
 /// The block of what a cell names goes back to the heap.
-fn free(setting: &Setting, scope: &Scope, heap: &mut Heap, values: &mut Vec<Value>, cell: Cell, name: u32) -> Result<(), Stop>
+fn free(
+    setting: &Setting,
+    scope: &Scope,
+    heap: &mut Heap,
+    values: &mut Vec<Value>,
+    cell: Cell,
+    name: u32,
+) -> Result<(), Stop>
     requires framed { IsFramed setting.now scope.now heap.old values.old.items }
     ensures freed { MatchResult result (λ u. state_of setting.now scope.now heap.new values.new.items ≡ freed (setting_of setting.now) (cell_of cell) name (state_of setting.now scope.now heap.old values.old.items)) (λ why. why ≡ Stop.NoMemory) }
     ensures framed { OnOk result (IsFramed setting.now scope.now heap.new values.new.items) }
@@ -217,7 +312,16 @@ fn free(setting: &Setting, scope: &Scope, heap: &mut Heap, values: &mut Vec<Valu
 }
 
 /// Behind the checks of a `delete` but the last: the object goes at this cost, where it is empty.
-fn empty_out(setting: &Setting, scope: &Scope, heap: &mut Heap, values: &mut Vec<Value>, fuel: &mut u64, cell: Cell, name: u32, cells: u32) -> Result<(), Stop>
+fn empty_out(
+    setting: &Setting,
+    scope: &Scope,
+    heap: &mut Heap,
+    values: &mut Vec<Value>,
+    fuel: &mut u64,
+    cell: Cell,
+    name: u32,
+    cells: u32,
+) -> Result<(), Stop>
     requires framed { IsFramed setting.now scope.now heap.old values.old.items }
     ensures ends { Ends setting.now scope.now result heap.new values.new.items fuel.new (metered fuel.old (emptied (setting_of setting.now) ((setting_of setting.now).limits.heap + 1 + cells) (cell_of cell) name (state_of setting.now scope.now heap.old values.old.items))) }
     ensures framed { OnOk result (IsFramed setting.now scope.now heap.new values.new.items) }
@@ -229,7 +333,15 @@ fn empty_out(setting: &Setting, scope: &Scope, heap: &mut Heap, values: &mut Vec
 }
 
 /// Behind the place and the check of a `delete` of an object.
-fn drop_object(setting: &Setting, scope: &Scope, heap: &mut Heap, values: &mut Vec<Value>, fuel: &mut u64, cell: Cell, class: &Text) -> Result<(), Stop>
+fn drop_object(
+    setting: &Setting,
+    scope: &Scope,
+    heap: &mut Heap,
+    values: &mut Vec<Value>,
+    fuel: &mut u64,
+    cell: Cell,
+    class: &Text,
+) -> Result<(), Stop>
     requires framed { IsFramed setting.now scope.now heap.old values.old.items }
     ensures ends { Ends setting.now scope.now result heap.new values.new.items fuel.new (metered fuel.old (gone (setting_of setting.now) class.now (cell_of cell) (state_of setting.now scope.now heap.old values.old.items))) }
     ensures framed { OnOk result (IsFramed setting.now scope.now heap.new values.new.items) }
@@ -245,7 +357,16 @@ fn drop_object(setting: &Setting, scope: &Scope, heap: &mut Heap, values: &mut V
 }
 
 /// `delete` of an object.
-pub fn delete_object(setting: &Setting, scope: &Scope, heap: &mut Heap, values: &mut Vec<Value>, fuel: &mut u64, at: u32, class: &Ident, place: &Place) -> Result<(), Stop>
+pub fn delete_object(
+    setting: &Setting,
+    scope: &Scope,
+    heap: &mut Heap,
+    values: &mut Vec<Value>,
+    fuel: &mut u64,
+    at: u32,
+    class: &Ident,
+    place: &Place,
+) -> Result<(), Stop>
     requires framed { IsFramed setting.now scope.now heap.old values.old.items }
     ensures ends { Ends setting.now scope.now result heap.new values.new.items fuel.new (does_simply setting.now fuel.old (Delete at (AnObject class.now) (lvalue_of place.now)) (state_of setting.now scope.now heap.old values.old.items)) }
     ensures framed { OnOk result (IsFramed setting.now scope.now heap.new values.new.items) }
@@ -257,7 +378,15 @@ pub fn delete_object(setting: &Setting, scope: &Scope, heap: &mut Heap, values: 
 }
 
 /// Behind the place and the length of a `delete` of an array.
-fn drop_array(setting: &Setting, scope: &Scope, heap: &mut Heap, values: &mut Vec<Value>, fuel: &mut u64, cell: Cell, size: Value) -> Result<(), Stop>
+fn drop_array(
+    setting: &Setting,
+    scope: &Scope,
+    heap: &mut Heap,
+    values: &mut Vec<Value>,
+    fuel: &mut u64,
+    cell: Cell,
+    size: Value,
+) -> Result<(), Stop>
     requires framed { IsFramed setting.now scope.now heap.old values.old.items }
     ensures ends { Ends setting.now scope.now result heap.new values.new.items fuel.new (metered fuel.old (gone_array (setting_of setting.now) (cell_of cell) (value_of size) (state_of setting.now scope.now heap.old values.old.items))) }
     ensures framed { OnOk result (IsFramed setting.now scope.now heap.new values.new.items) }
@@ -269,11 +398,28 @@ fn drop_array(setting: &Setting, scope: &Scope, heap: &mut Heap, values: &mut Ve
     refuse(fuel, 5, value.is_nil())?;
     refuse(fuel, 12, length != size.number() as usize)?;
     refuse(fuel, 6, heap.count_of(name) != 1)?;
-    empty_out(setting, scope, heap, values, fuel, cell, name, size.number())
+    empty_out(
+        setting,
+        scope,
+        heap,
+        values,
+        fuel,
+        cell,
+        name,
+        size.number(),
+    )
 }
 
 /// `delete` of an array.
-pub fn delete_array(setting: &Setting, scope: &Scope, heap: &mut Heap, values: &mut Vec<Value>, fuel: &mut u64, place: &Place, size: &Expr) -> Result<(), Stop>
+pub fn delete_array(
+    setting: &Setting,
+    scope: &Scope,
+    heap: &mut Heap,
+    values: &mut Vec<Value>,
+    fuel: &mut u64,
+    place: &Place,
+    size: &Expr,
+) -> Result<(), Stop>
     requires framed { IsFramed setting.now scope.now heap.old values.old.items }
     ensures ends { Ends setting.now scope.now result heap.new values.new.items fuel.new (metered fuel.old (delete_array_in (setting_of setting.now) (lvalue_of place.now) (expression_of size.now) (state_of setting.now scope.now heap.old values.old.items))) }
     ensures framed { OnOk result (IsFramed setting.now scope.now heap.new values.new.items) }
@@ -285,7 +431,16 @@ pub fn delete_array(setting: &Setting, scope: &Scope, heap: &mut Heap, values: &
 }
 
 /// A `new`.
-pub fn new_made(setting: &Setting, scope: &Scope, heap: &mut Heap, values: &mut Vec<Value>, fuel: &mut u64, at: u32, made: &Made, place: &Place) -> Result<(), Stop>
+pub fn new_made(
+    setting: &Setting,
+    scope: &Scope,
+    heap: &mut Heap,
+    values: &mut Vec<Value>,
+    fuel: &mut u64,
+    at: u32,
+    made: &Made,
+    place: &Place,
+) -> Result<(), Stop>
     requires framed { IsFramed setting.now scope.now heap.old values.old.items }
     ensures ends { Ends setting.now scope.now result heap.new values.new.items fuel.new (does_simply setting.now fuel.old (New at (creation_of made.now) (lvalue_of place.now)) (state_of setting.now scope.now heap.old values.old.items)) }
     ensures framed { OnOk result (IsFramed setting.now scope.now heap.new values.new.items) }
@@ -296,13 +451,31 @@ pub fn new_made(setting: &Setting, scope: &Scope, heap: &mut Heap, values: &mut 
         Made::Ints(size) => new_array(setting, scope, heap, values, fuel, None, place, size),
         Made::Objects(class, size) => {
             let number = class_of_name(setting, &class.text);
-            new_array(setting, scope, heap, values, fuel, Some(number), place, size)
+            new_array(
+                setting,
+                scope,
+                heap,
+                values,
+                fuel,
+                Some(number),
+                place,
+                size,
+            )
         }
     }
 }
 
 /// A `delete`.
-pub fn delete_made(setting: &Setting, scope: &Scope, heap: &mut Heap, values: &mut Vec<Value>, fuel: &mut u64, at: u32, made: &Made, place: &Place) -> Result<(), Stop>
+pub fn delete_made(
+    setting: &Setting,
+    scope: &Scope,
+    heap: &mut Heap,
+    values: &mut Vec<Value>,
+    fuel: &mut u64,
+    at: u32,
+    made: &Made,
+    place: &Place,
+) -> Result<(), Stop>
     requires framed { IsFramed setting.now scope.now heap.old values.old.items }
     ensures ends { Ends setting.now scope.now result heap.new values.new.items fuel.new (does_simply setting.now fuel.old (Delete at (creation_of made.now) (lvalue_of place.now)) (state_of setting.now scope.now heap.old values.old.items)) }
     ensures framed { OnOk result (IsFramed setting.now scope.now heap.new values.new.items) }

@@ -3,9 +3,9 @@ ghost use Rattle.std.specs.Prelude.{◌≡◌, ◌<◌, ◌≤◌, map, position
 ghost use Rattle.std.specs.Str.{bytes_eq};
 ghost use Rattle.source_steps.specs.StateView.{names_of, IsInner};
 
-use store_table::Value;
 use rpp_tree::text::Text;
 use rpp_tree::tree::Var;
+use store_table::Value;
 
 /// The variables of an open method by their names, the innermost first.
 #[derive(Clone, Copy)]

@@ -7,16 +7,15 @@ ghost use Rattle.roopl_semantics.specs.Operators.{updated};
 ghost use Rattle.source_steps.specs.Ends.{Ends, does_simply, call_turned};
 ghost use Rattle.source_steps.specs.StateView.{IsFramed, state_of, setting_of};
 
-use crate::cell::{read_cell, write_cell};
 use crate::apart::{swap_apart, update_apart};
+use crate::cell::{read_cell, write_cell};
 use crate::expressions::Setting;
-use store_table::Heap;
 use crate::scope::Scope;
 use crate::steps::{evaluate, locate};
 use crate::stop::Stop;
-use store_table::Value;
 use rpp_tree::tree::{Expr, Place, UpdateOp};
 use rpp_words::{wrap_add, wrap_sub};
+use store_table::{Heap, Value};
 
 fn update_word(op: UpdateOp, a: u32, b: u32) -> u32
     ensures { result ≡ updated op a b }

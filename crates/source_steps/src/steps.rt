@@ -9,13 +9,12 @@ ghost use Rattle.source_steps.specs.CellView.{cell_of};
 ghost use Rattle.source_steps.specs.Metered.{Gives, metered};
 ghost use Rattle.source_steps.specs.StateView.{IsFramed, state_of, setting_of};
 
-use crate::expressions::{Setting, find, pay, pay_place, value};
-use store_table::Heap;
-use crate::scope::Scope;
 use crate::cell::Cell;
+use crate::expressions::{Setting, find, pay, pay_place, value};
+use crate::scope::Scope;
 use crate::stop::Stop;
-use store_table::Value;
 use rpp_tree::tree::{Expr, Place};
+use store_table::{Heap, Value};
 
 /// Counts.
 pub fn spend(fuel: &mut u64, cost: u64) -> Result<(), Stop>
@@ -42,7 +41,14 @@ pub fn refuse(fuel: &mut u64, code: u32, test: bool) -> Result<(), Stop>
 }
 
 /// The value of an expression, after the cost of its nodes.
-pub fn evaluate(setting: &Setting, scope: &Scope, heap: &Heap, values: &Vec<Value>, fuel: &mut u64, e: &Expr) -> Result<Value, Stop>
+pub fn evaluate(
+    setting: &Setting,
+    scope: &Scope,
+    heap: &Heap,
+    values: &Vec<Value>,
+    fuel: &mut u64,
+    e: &Expr,
+) -> Result<Value, Stop>
     requires { IsFramed setting.now scope.now heap.now values.now.items }
     ensures gives { Gives value_of result fuel.new (metered fuel.old (evaluated_in (setting_of setting.now).program (expression_of e.now) (state_of setting.now scope.now heap.now values.now.items))) }
     ensures less { fuel.new ≤ fuel.old }
@@ -61,7 +67,14 @@ pub fn evaluate(setting: &Setting, scope: &Scope, heap: &Heap, values: &Vec<Valu
 }
 
 /// The cell of a place, after the cost of its index.
-pub fn locate(setting: &Setting, scope: &Scope, heap: &Heap, values: &Vec<Value>, fuel: &mut u64, place: &Place) -> Result<Cell, Stop>
+pub fn locate(
+    setting: &Setting,
+    scope: &Scope,
+    heap: &Heap,
+    values: &Vec<Value>,
+    fuel: &mut u64,
+    place: &Place,
+) -> Result<Cell, Stop>
     requires { IsFramed setting.now scope.now heap.now values.now.items }
     ensures gives { Gives cell_of result fuel.new (metered fuel.old (found_in (setting_of setting.now).program (lvalue_of place.now) (state_of setting.now scope.now heap.now values.now.items))) }
     ensures less { fuel.new ≤ fuel.old }

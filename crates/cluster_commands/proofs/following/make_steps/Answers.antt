@@ -7,7 +7,7 @@ use Rattle.cluster_commands.proofs.following.make_steps.Goals as goal
 pub returns-in-Stopped-clause-makes : goal.returns-in-Stopped-clause-makes
 returns-in-Stopped-clause-makes c =
     stopped_at c.args.who c.args.count c.loop-made.made c.in-Stopped.why c.args.cluster.now c.loop-made.cluster c.step.new.self c.loop-made-test.true
-      (subst (λ (answer : Moved). Moves c.args.who answer c.loop-made.cluster c.step.new.self) c.in-Stopped.is c.in_ok-_serial.ensures.answer) c.loop-made.invariant.leads
+    (subst (λ (answer : Moved). Moves c.args.who answer c.loop-made.cluster c.step.new.self) c.in-Stopped.is c.in_ok-_serial.ensures.answer) c.loop-made.invariant.leads
 
 pub loop-made-preserved : goal.loop-made-preserved
 loop-made-preserved c =
@@ -26,4 +26,4 @@ returns-clause-makes c =
     let low = c.loop-made-test.false in
     let high = c.loop-made.auto.made-end in
     all_made c.args.who c.args.count c.args.cluster.now c.loop-made.cluster
-      (subst (λ n. LeadsOn c.args.who c.args.count n c.args.cluster.now c.loop-made.cluster) (omega (arith, low, high)) c.loop-made.invariant.leads)
+    (subst (λ n. LeadsOn c.args.who c.args.count n c.args.cluster.now c.loop-made.cluster) (omega (arith, low, high)) c.loop-made.invariant.leads)

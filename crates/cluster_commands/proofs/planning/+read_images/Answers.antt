@@ -11,10 +11,10 @@ use Rattle.cluster_commands.proofs.planning.+read_images.Goals as goal
 pub returns-clause-text : goal.returns-clause-text
 returns-clause-text g n c =
     text_on c.read_images.result (g.S.Shelf.texts c.args.shelf.now) (g.S.Shelf.texts c.read_file.new.shelf) (string_bytes c.in-Some.name.now) (map string_bytes c.in-Some.rest.now) (map string_bytes c.args.names.now) c.in_ok-bytes.bytes.items
-      (map (λ v. v.items) c.args.texts.now.items) (map (λ v. v.items) c.push.new.self.items) (map (λ v. v.items) c.read_images.new.texts.items)
-      c.in_ok-bytes.ensures.reads.kept (ap (map string_bytes) c.in-Some.ensures.cases.0)
-      (ap (map (λ v. v.items)) c.in_ok-push.ensures.items ∙ map-append (λ v. v.items) c.args.texts.now.items (c.in_ok-bytes.bytes ∷ []))
-      (subst (λ name. IfSome (g.S.Shelf.texts c.args.shelf.now) (λ texts. WithText texts name MOST_IMAGE (λ text. c.in_ok-bytes.bytes.items ≡ text))) c.as_str.ensures.value c.in_ok-bytes.ensures.text) c.read_images.ensures.text
+    (map (λ v. v.items) c.args.texts.now.items) (map (λ v. v.items) c.push.new.self.items) (map (λ v. v.items) c.read_images.new.texts.items)
+    c.in_ok-bytes.ensures.reads.kept (ap (map string_bytes) c.in-Some.ensures.cases.0)
+    (ap (map (λ v. v.items)) c.in_ok-push.ensures.items ∙ map-append (λ v. v.items) c.args.texts.now.items (c.in_ok-bytes.bytes ∷ []))
+    (subst (λ name. IfSome (g.S.Shelf.texts c.args.shelf.now) (λ texts. WithText texts name MOST_IMAGE (λ text. c.in_ok-bytes.bytes.items ≡ text))) c.as_str.ensures.value c.in_ok-bytes.ensures.text) c.read_images.ensures.text
 
 pub returns-clause-reads : goal.returns-clause-reads
 returns-clause-reads g n c =

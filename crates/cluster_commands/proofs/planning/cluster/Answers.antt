@@ -17,6 +17,6 @@ returns-in_err-read_images-clause-reads g c =
 pub returns-clause-plan : goal.returns-clause-plan
 returns-clause-plan g c =
     plan_read (g.S.Shelf.texts c.args.shelf.now) (g.S.Shelf.texts c.read_file.new.shelf) c.args.script.now 65536 (map string_bytes c.args.images.now) c.in_ok-script.script.items (map (λ v. v.items) c.read_images.new.texts.items)
-      (λ text read. IsClusterPlan (images_at read) text c.args.cells (planned c.in_ok-cluster_over.field-0)) c.in_ok-script.ensures.reads.kept c.in_ok-script.ensures.text
-      (subst (λ texts. IfSome (g.S.Shelf.texts c.read_file.new.shelf) (λ told. WithImages told (map string_bytes c.args.images.now) (λ r. map (λ v. v.items) c.read_images.new.texts.items ≡ map (λ v. v.items) texts ++ r))) c.new-texts.ensures.items c.in_ok-read_images.ensures.text)
-      (subst₂ (λ texts script. IsClusterPlan (images_at (map (λ v. v.items) texts)) script c.args.cells (planned c.in_ok-cluster_over.field-0)) c.deref-2.ensures.value c.deref.ensures.value c.in_ok-cluster_over.ensures)
+    (λ text read. IsClusterPlan (images_at read) text c.args.cells (planned c.in_ok-cluster_over.field-0)) c.in_ok-script.ensures.reads.kept c.in_ok-script.ensures.text
+    (subst (λ texts. IfSome (g.S.Shelf.texts c.read_file.new.shelf) (λ told. WithImages told (map string_bytes c.args.images.now) (λ r. map (λ v. v.items) c.read_images.new.texts.items ≡ map (λ v. v.items) texts ++ r))) c.new-texts.ensures.items c.in_ok-read_images.ensures.text)
+    (subst₂ (λ texts script. IsClusterPlan (images_at (map (λ v. v.items) texts)) script c.args.cells (planned c.in_ok-cluster_over.field-0)) c.deref-2.ensures.value c.deref.ensures.value c.in_ok-cluster_over.ensures)

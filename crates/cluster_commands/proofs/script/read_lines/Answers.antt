@@ -23,9 +23,13 @@ returns-in_err-add_line c =
     let items = c.deref-line-items.result.now in
     let l = c.loop-line in
     let all : events_from c.args.processors 1 [] (map text_of items) ≡ events_from c.args.processors 1 [] (pieces 10 c.args.text.now) = ap (λ xs. events_from c.args.processors 1 [] (map text_of xs)) c.deref-line-items.ensures.value ∙ ap (events_from c.args.processors 1 []) c.in_ok-lines.ensures in
-    rw (p.1, p.2) (record { events = fails_with c.in_err-add_line.field-0.0 (with_line c.args.processors l.number l.events.items (text_of (get_or items l.line-index no_line))) (events_from c.args.processors 1 [] (pieces 10 c.args.text.now))
-    (λ r e. sym all ∙ stops c.args.processors text_of l.number l.events.items items l.line-index no_line r (events_from c.args.processors 1 [] (map text_of items)) c.loop-line-test.true e l.invariant.so_far)
-    c.in_err-add_line.ensures.events; there = tt; few = tt })
+    rw (p.1, p.2) (record {
+      events = fails_with c.in_err-add_line.field-0.0 (with_line c.args.processors l.number l.events.items (text_of (get_or items l.line-index no_line))) (events_from c.args.processors 1 [] (pieces 10 c.args.text.now))
+          (λ r e. sym all ∙ stops c.args.processors text_of l.number l.events.items items l.line-index no_line r (events_from c.args.processors 1 [] (map text_of items)) c.loop-line-test.true e l.invariant.so_far)
+          c.in_err-add_line.ensures.events;
+      there = tt;
+      few = tt;
+    })
 
 pub loop-line-preserved : goal.loop-line-preserved
 loop-line-preserved c =

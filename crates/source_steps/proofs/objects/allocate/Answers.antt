@@ -14,9 +14,9 @@ returns-in-Some-clause-ends c =
     let k = c.args.cells.ok.0 in
     let many : c.len.result ≡ length c.args.cells.items = omega arith in
     placed_new c.args.setting.now c.args.scope.now c.args.fuel.now c.in-Some.name (length c.args.cells.items) (cell_of c.args.cell) (head_of c.args.head) (values_of c.args.cells.items) c.args.heap.now c.take.new.self c.args.values.now.items _
-      (sym (length-map c.args.cells.items value_of))
-      (ap (λ o. nat_lt o (order_of_cells (length c.args.cells.items))) (sym c.requires.framed.order)
-        ∙ ap (λ n. nat_lt c.args.heap.now.order (order_of_cells n)) (sym many)
-        ∙ sym c.is_too_large.ensures ∙ c.if-is_too_large.false)
-      c.requires.framed.order
-      (subst (λ r. Took r c.args.heap.now c.take.new.self (head_of c.args.head) (values_of c.args.cells.items)) c.in-Some.is c.in_ok-take.ensures) c.write_cell.ensures.written
+    (sym (length-map c.args.cells.items value_of))
+    (ap (λ o. nat_lt o (order_of_cells (length c.args.cells.items))) (sym c.requires.framed.order)
+    ∙ ap (λ n. nat_lt c.args.heap.now.order (order_of_cells n)) (sym many)
+    ∙ sym c.is_too_large.ensures ∙ c.if-is_too_large.false)
+    c.requires.framed.order
+    (subst (λ r. Took r c.args.heap.now c.take.new.self (head_of c.args.head) (values_of c.args.cells.items)) c.in-Some.is c.in_ok-take.ensures) c.write_cell.ensures.written
