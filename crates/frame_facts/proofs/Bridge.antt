@@ -22,7 +22,7 @@ use Rattle.open_frame.proofs.Addresses.{part_place}
 use Rattle.statement_laws.specs.Form.{Scope, Moved}
 use Rattle.statement_laws.specs.Frames.{Caller, Under, base, stack_base, address_of, value_word, values_of, value_words, frame_words, callers_words, above_words, stack_words, memory, before_stack, OpenFrame}
 use Rattle.frame_facts.proofs.FramesFit.{length_values, length_frame, length_callers}
-use Rattle.statement_laws.specs.Stands.{local_of, shape_of, extra, moved_value, setup, moved_values, Kept, Stands}
+use Rattle.statement_laws.specs.Stands.{local_of, shape_of, extra, moved_value, setup, moved_values, Kept, Reads, Stands}
 
 -- ---- words
 
@@ -47,6 +47,10 @@ overlaid_fills n ws h = overlaid_is (replicate n 0) 0 ws ∙ laid_fills n ws h
 pub shape_names : (program : Rattle.rpp_tree.specs.Tree.Source) (vars : List Var) → map local_name (map (local_of program) vars) ≡ map (λ (var : Var). var.name.text) vars
 shape_names program [] = refl
 shape_names program (v ∷ vars) = ap (λ z. v.name.text ∷ z) (shape_names program vars)
+
+-- an open frame can be read
+abbrev pub reads_of : {setting : Setting} {statics : List ℕ} {s : Scope} {u : Under} {moved : List Moved} {st : State} {cells : List ℕ} → Stands setting statics s u moved st cells → Reads setting statics s u moved st cells
+reads_of h = record { frame = h.frame; keeps = h.keeps; words = h.words }
 
 module _ (setting : Setting) (statics : List ℕ) where
   pub same_memory : (at : Placing) (store : Store) (stack : List ℕ) → length stack ≤ 512 * setting.limits.deep → Rattle.open_frame.specs.Open.memory (setup setting statics) at store stack ≡ memory setting statics at store stack
@@ -91,7 +95,7 @@ module _ (setting : Setting) (statics : List ℕ) where
             let e = length_heap_is x E sh s.class st typed_by k.grounded in
             a ∙ ap (λ j. j + length H) (b ∙ ap (λ j. j + length G) c ∙ d) ∙ ap (λ j. base setting statics + j) e
 
-  module _ (s : Scope) (u : Under) (moved : List Moved) (st : State) (cells : List ℕ) (h : Stands setting statics s u moved st cells) where
+  module _ (s : Scope) (u : Under) (moved : List Moved) (st : State) (cells : List ℕ) (h : Reads setting statics s u moved st cells) where
     pub same_at : h.keeps.placed.at ≡ h.frame.at
     same_at = let e : Some h.keeps.placed.at ≡ Some h.frame.at = sym h.keeps.placed.placed ∙ h.frame.placed in cc
 

@@ -22,6 +22,7 @@ use Rattle.statement_laws.specs.Stands.{shape_of, extra, setup, moved_values, Ke
 use Rattle.frame_facts.proofs.Bridge.{same_memory, same_at, typed, stack_fits, stack}
 use Rattle.frame_facts.proofs.MovesFit.{frame_long}
 use Rattle.frame_facts.proofs.FramePlaces.{all_small, object_low, sound}
+use Rattle.frame_facts.proofs.Bridge.{reads_of}
 
 module _ (setting : Setting) (statics : List ℕ) (few : length statics ≤ 262144) (image : Segments) (has : HasStatics setting.program image) (same : statics ≡ image.statics) where
   -- the object's class is the scope's or inherits from it
@@ -32,10 +33,10 @@ module _ (setting : Setting) (statics : List ℕ) (few : length statics ≤ 2621
   table_read s u moved st cells h slot low =
       let x = setup setting statics in
       let at = h.frame.at in
-      let words = stack setting statics s u moved st cells h in
+      let words = stack setting statics s u moved st cells (reads_of h) in
       let own_in = own_range setting.program u.class s.class (class_above s u moved st h.keeps) h.keeps.class_inside in
-      let fits = stack_fits setting statics s u moved st cells h in
-      let all = frame_long setting statics s u moved st cells h in
+      let fits = stack_fits setting statics s u moved st cells (reads_of h) in
+      let all = frame_long setting statics s u moved st cells (reads_of h) in
       let object = object_low setting statics few s u moved st cells h in
       let small = all_small setting statics few h.keeps.grounded.limits in
       let b : 40 + length statics ≤ base setting statics = base_above x in
@@ -45,13 +46,13 @@ module _ (setting : Setting) (statics : List ℕ) (few : length statics ≤ 2621
       let live = live_object st.store u.self (ap is_some h.keeps.own_is) in
       let head : (object_at st.store u.self).head ≡ OfClass u.class = (let e : Some (object_at st.store u.self).head ≡ Some (OfClass u.class) = sym (ap (Rattle.std.specs.Option.option_map head_of) live) ∙ h.keeps.own_is in cc) in
       let word : slice_index (Rattle.open_frame.specs.Open.memory x at st.store words) (address_of setting statics at u.self) ≡ table_at setting.program u.class =
-      subst (λ (a : Placing). slice_index (Rattle.open_frame.specs.Open.memory x a st.store words) (address_of setting statics a u.self) ≡ table_at setting.program u.class) (same_at setting statics s u moved st cells h)
+      subst (λ (a : Placing). slice_index (Rattle.open_frame.specs.Open.memory x a st.store words) (address_of setting statics a u.self) ≡ table_at setting.program u.class) (same_at setting statics s u moved st cells (reads_of h))
       (read_head x (extra u moved) (shape_of setting.program s) s.class st (sound setting statics few s u moved st cells h) h.keeps.grounded words u.self (ap is_some h.keeps.own_is) ∙ ap (head_word setting.program) head) in
       let object_word : slice_index cells u.object ≡ table_at setting.program u.class = ap (slice_index cells) (sym h.frame.stands.1) ∙ ap (λ c. slice_index c (address_of setting statics at u.self)) shown ∙ word in
       let at_entry : table_at setting.program u.class + 1 + slot ≡ table_at setting.program u.class + (1 + slot) = omega arith in
       let entry_word : slice_index (Rattle.open_frame.specs.Open.memory x at st.store words) (table_at setting.program u.class + 1 + slot) ≡ slice_index (places_of has.places u.class) slot =
-      subst (λ (a : Placing). slice_index (Rattle.open_frame.specs.Open.memory x a st.store words) (table_at setting.program u.class + 1 + slot) ≡ slice_index (places_of has.places u.class) slot) (same_at setting statics s u moved st cells h)
-      (read_table x (extra u moved) (shape_of setting.program s) s.class st (typed setting statics s u moved st cells h) h.keeps.grounded image has same words u.class slot own_in low) in
+      subst (λ (a : Placing). slice_index (Rattle.open_frame.specs.Open.memory x a st.store words) (table_at setting.program u.class + 1 + slot) ≡ slice_index (places_of has.places u.class) slot) (same_at setting statics s u moved st cells (reads_of h))
+      (read_table x (extra u moved) (shape_of setting.program s) s.class st (typed setting statics s u moved st cells (reads_of h)) h.keeps.grounded image has same words u.class slot own_in low) in
       record {
         object_in = omega (arith, all, object);
         small = omega (arith, object_word, small, b, table);

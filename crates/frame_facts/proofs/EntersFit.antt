@@ -39,7 +39,7 @@ module _ (setting : Setting) (statics : List ℕ) where
   HaveKinds store s u (x ∷ names) (k ∷ ks) = (cell_kind setting.program (shape_of setting.program s) store (cell_in setting statics s u x) ≡ Some k) × HaveKinds store s u names ks
 
   -- so what has moved up from them has these types
-  moved_types : (store : Store) (s : Scope) (u : Under) (names : List Ident) (ks : List Kind) (vals : List Value) → HaveKinds store s u names ks → AllMoved setting statics store s u (pairs names vals) → length vals ≡ length names → AllFit setting.program store ks vals
+  pub moved_types : (store : Store) (s : Scope) (u : Under) (names : List Ident) (ks : List Kind) (vals : List Value) → HaveKinds store s u names ks → AllMoved setting statics store s u (pairs names vals) → length vals ≡ length names → AllFit setting.program store ks vals
   moved_types store s u [] [] [] k h e = tt
   moved_types store s u [] [] (v ∷ vals) k h e = absurd (omega (arith, e))
   moved_types store s u [] (x ∷ ks) vals k h e = absurd k
@@ -50,7 +50,7 @@ module _ (setting : Setting) (statics : List ℕ) where
       (subst (λ z. Rattle.sound_execution.specs.Sound.fits setting.program store v z ≡ true) same h.0.fit, moved_types store s u names ks vals k.1 h.1 (let q : suc (length vals) ≡ suc (length names) = e in omega (arith, q)))
 
   -- and back
-  types_moved : (store : Store) (s : Scope) (u : Under) (names : List Ident) (ks : List Kind) (vals : List Value) → HaveKinds store s u names ks → AllFit setting.program store ks vals → AllMoved setting statics store s u (pairs names vals)
+  pub types_moved : (store : Store) (s : Scope) (u : Under) (names : List Ident) (ks : List Kind) (vals : List Value) → HaveKinds store s u names ks → AllFit setting.program store ks vals → AllMoved setting statics store s u (pairs names vals)
   types_moved store s u [] [] vals k h = tt
   types_moved store s u [] (x ∷ ks) vals k h = absurd k
   types_moved store s u (x ∷ names) [] vals k h = absurd k

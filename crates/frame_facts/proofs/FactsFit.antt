@@ -47,6 +47,7 @@ use Rattle.statement_laws.specs.Worlds.{Place, world_of}
 use Rattle.method_calls.specs.Facts.{HasPlace}
 use Rattle.method_calls.specs.Names.{AllTyped, HasMethod, IsVariable, deeper, put, known_of}
 use Rattle.frame_facts.specs.Laws.{Route, IsLinked}
+use Rattle.frame_facts.proofs.Bridge.{reads_of}
 
 pub known : (program : Source) → IsAccepted program → KnowsClasses program
 known program accepted = knows_classes program accepted (program_plain program accepted)
@@ -81,7 +82,7 @@ module _ (place : Place) (routine : ℕ → Ident → ℕ) (linked : IsLinked pl
       here : cell_kind program (shape_of program s) st.store (cell_in setting statics s u x) ≡ Some k
       here =
           ap (cell_kind program (shape_of program s) st.store) (sym (means setting statics s u (moved_values setting statics moved) st cells x h.frame))
-          ∙ variable_fits setting classes (extra u moved) (shape_of program s) (shape_of program s) s.class h.keeps.class_inside (same_means (shape_of program s)) st x k (typed setting statics s u moved st cells h) t.0
+          ∙ variable_fits setting classes (extra u moved) (shape_of program s) (shape_of program s) s.class h.keeps.class_inside (same_means (shape_of program s)) st x k (typed setting statics s u moved st cells (reads_of h)) t.0
 
       by : (r : Option ℕ) → cell_kind program (shape_of program s) store (cell_at setting statics u x r) ≡ cell_kind program (shape_of program s) st.store (cell_at setting statics u x r)
       by (Some i) = refl
@@ -144,7 +145,7 @@ module _ (place : Place) (routine : ℕ → Ident → ℕ) (linked : IsLinked pl
 
   pub as_many : (s : Scope) (u : Under) (st end : State) (cells : List ℕ) (name : Ident) (args : List Ident) → Stands setting statics (scope_of u name) (deeper s u st) [] end cells → HasMethod program s s.class name args → length (map (λ (b : Binding). b.value) end.frame) ≡ length args
   as_many s u st end cells name args o m =
-      length-map end.frame (λ (b : Binding). b.value) ∙ as_many_vars setting statics (scope_of u name) (deeper s u st) [] end cells o
+      length-map end.frame (λ (b : Binding). b.value) ∙ as_many_vars setting statics (scope_of u name) (deeper s u st) [] end cells (reads_of o)
       ∙ sym (many_params s u.class s.class name args (open_above s u st end cells name o) m (open_route s u st end cells name args o m))
 
   pub leaves_out : (s : Scope) (u : Under) (st end : State) (cells : List ℕ) (name : Ident) (args : List Ident) (moved : List Moved) (before : List ℕ) → Stands setting statics s u moved st before → Stands setting statics (scope_of u name) (deeper s u st) [] end cells → HasMethod program s s.class name args
@@ -178,7 +179,7 @@ module _ (place : Place) (routine : ℕ → Ident → ℕ) (linked : IsLinked pl
     depth_is = λ s u moved st cells h. h.frame.depth_is;
     self_is = λ s u moved st cells h. h.frame.self_is;
     class_is = λ s u moved st cells h. class_stays setting statics s u (moved_values setting statics moved) st cells h.frame;
-    means = λ s u moved st cells name h v. cell_is setting statics classes s u moved st cells h name v;
+    means = λ s u moved st cells name h v. cell_is setting statics classes s u moved st cells (reads_of h) name v;
     has_end = λ s u st cells h. frame_end setting statics linked.few s u st cells h;
     moves_in = λ s u moved st cells name h v l room. moves_in setting statics classes s u moved st cells name h v l (let d = h.frame.depth_is in let q = not_full (1 + length u.callers) setting.limits.deep room in omega (arith, d, q));
     moves_back = λ s u v moved st cells name h var. moves_back setting statics classes s u v moved st cells name h var;

@@ -34,9 +34,9 @@ use Rattle.statement_laws.specs.declared.spot.Spot.{Spot}
 use Rattle.statement_laws.specs.declared.spot.Spot.TheVariants.{Field, Frame}
 use Rattle.frame_facts.proofs.FramesFit.{means, class_stays}
 use Rattle.frame_facts.proofs.SlotMoves.{zero_word, other_word, cleared_word}
-use Rattle.statement_laws.specs.Stands.{shape_of, extra, moved_value, moved_values, spot_at, spot_in, Kept, Stands}
+use Rattle.statement_laws.specs.Stands.{shape_of, extra, moved_value, moved_values, spot_at, spot_in, Kept, Reads, Stands}
 use Rattle.rpp_tree.specs.Tree.{Variable}
-use Rattle.frame_facts.proofs.Bridge.{set_words, shape_names, typed, before_long, long_by, as_many_vars}
+use Rattle.frame_facts.proofs.Bridge.{reads_of, set_words, shape_names, typed, before_long, long_by, as_many_vars}
 use Rattle.frame_facts.proofs.KeptMoves.{kept_up, kept_back, counts_up, counts_back}
 use Rattle.frame_facts.proofs.MovesFit.{frame_address, place_of, frame_long, cell_inside, cell_low, frame_read, frame_as, frame_write, up, up_empty, frame_up, up_value, frame_down}
 use Rattle.method_calls.specs.Names.{IsVariable}
@@ -52,7 +52,7 @@ pub same_means : (shape : Rattle.class_table.specs.Scope.Locals) → MeansSame s
 same_means shape = record { same = λ name. refl }
 
 module _ (setting : Setting) (statics : List ℕ) (classes : KnowsClasses setting.program) where
-  module _ (s : Scope) (u : Under) (moved : List Moved) (st : State) (cells : List ℕ) (h : Stands setting statics s u moved st cells) (name : Ident) (var : IsVariable setting.program s name) where
+  module _ (s : Scope) (u : Under) (moved : List Moved) (st : State) (cells : List ℕ) (h : Reads setting statics s u moved st cells) (name : Ident) (var : IsVariable setting.program s name) where
     abbrev pub cell : Cell
     cell = cell_in setting statics s u name
 
@@ -93,32 +93,32 @@ module _ (setting : Setting) (statics : List ℕ) (classes : KnowsClasses settin
 
   -- up
   pub moves_in : (s : Scope) (u : Under) (moved : List Moved) (st : State) (cells : List ℕ) (name : Ident) (h : Stands setting statics s u moved st cells) (var : IsVariable setting.program s name) → length moved < 32 → 1 + st.depth ≤ setting.limits.deep
-      → MovesIn cells (place s u moved st cells h name var) (frame_address setting statics u + (512 + (16 + length moved))) (Stands setting statics s u (record { from = name; value = read st (cell_in setting statics s u name) } ∷ moved) (written st (cell_in setting statics s u name) (cleared (read st (cell_in setting statics s u name)))))
+      → MovesIn cells (place s u moved st cells (reads_of h) name var) (frame_address setting statics u + (512 + (16 + length moved))) (Stands setting statics s u (record { from = name; value = read st (cell_in setting statics s u name) } ∷ moved) (written st (cell_in setting statics s u name) (cleared (read st (cell_in setting statics s u name)))))
   moves_in s u moved st cells name h var few room =
       let c = cell_in setting statics s u name in
       let v = read st c in
-      let has = cell_has s u moved st cells h name var in
+      let has = cell_has s u moved st cells (reads_of h) name var in
       let at = h.frame.at in
-      let where_is = spot_is s u moved st cells h name var in
-      let t = typed setting statics s u moved st cells h in
+      let where_is = spot_is s u moved st cells (reads_of h) name var in
+      let t = typed setting statics s u moved st cells (reads_of h) in
       let k = kept_up setting statics s u moved st t h.keeps c var.kind has name refl in
-      let inside = cell_inside setting statics s u moved st cells h c var.kind has in
-      let low = cell_low setting statics s u moved st cells h c var.kind has in
+      let inside = cell_inside setting statics s u moved st cells (reads_of h) c var.kind has in
+      let low = cell_low setting statics s u moved st cells (reads_of h) c var.kind has in
       let n : length (moved_values setting statics moved) ≡ length moved = length-map moved moved_value in
       let fv : length (moved_values setting statics moved) < 32 = omega (arith, n, few) in
       let up0 = frame_address setting statics u + (512 + (16 + length (moved_values setting statics moved))) in
       let up_same : up0 ≡ frame_address setting statics u + (512 + (16 + length moved)) = ap (λ j. frame_address setting statics u + (512 + (16 + j))) n in
-      let long = before_long setting statics s u moved st cells h in
-      let all = frame_long setting statics s u moved st cells h in
+      let long = before_long setting statics s u moved st cells (reads_of h) in
+      let all = frame_long setting statics s u moved st cells (reads_of h) in
       let d = h.frame.depth_is in
       let vars = h.frame.few in
-      let f1 = frame_write setting statics s u moved st cells h c var.kind (cleared v) has in
+      let f1 = frame_write setting statics s u moved st cells (reads_of h) c var.kind (cleared v) has in
       let long1 = long_by setting statics s u (record { from = name; value = v } ∷ moved) (written st c (cleared v)) k (moved_values setting statics moved) _ f1 in
-      let room1 : 1 + (written st c (cleared v)).depth ≤ setting.limits.deep = subst (λ j. 1 + j ≤ setting.limits.deep) (sym (frame_as setting statics s u moved st cells h c (cleared v)).1) room in
+      let room1 : 1 + (written st c (cleared v)).depth ≤ setting.limits.deep = subst (λ j. 1 + j ≤ setting.limits.deep) (sym (frame_as setting statics s u moved st cells (reads_of h) c (cleared v)).1) room in
       let f2 = frame_up setting statics s u (moved_values setting statics moved) (written st c (cleared v)) _ f1 long1 fv room1 v in
-      let P = place s u moved st cells h name var in
+      let P = place s u moved st cells (reads_of h) name var in
       let first : slice_set cells P 0 ≡ slice_set cells (place_of setting statics at u st c) (value_word setting statics at (cleared v)) = ap (λ a. slice_set cells a 0) where_is ∙ ap (slice_set cells (place_of setting statics at u st c)) (sym (cleared_word setting statics at v)) in
-      let got : slice_index cells P ≡ value_word setting statics at v = ap (slice_index cells) where_is ∙ frame_read setting statics s u moved st cells h c var.kind has in
+      let got : slice_index cells P ≡ value_word setting statics at v = ap (slice_index cells) where_is ∙ frame_read setting statics s u moved st cells (reads_of h) c var.kind has in
       let both : slice_set (slice_set cells P 0) (frame_address setting statics u + (512 + (16 + length moved))) (slice_index cells P) ≡ slice_set (slice_set cells (place_of setting statics at u st c) (value_word setting statics at (cleared v))) up0 (value_word setting statics at v) =
       ap (λ z. slice_set z (frame_address setting statics u + (512 + (16 + length moved))) (slice_index cells P)) first ∙ ap (λ a. slice_set (slice_set cells (place_of setting statics at u st c) (value_word setting statics at (cleared v))) a (slice_index cells P)) (sym up_same) ∙ ap (slice_set (slice_set cells (place_of setting statics at u st c) (value_word setting statics at (cleared v))) up0) got in
       record {
@@ -136,20 +136,20 @@ module _ (setting : Setting) (statics : List ℕ) (classes : KnowsClasses settin
 
   -- and back
   pub moves_back : (s : Scope) (u : Under) (v : Value) (moved : List Moved) (st : State) (cells : List ℕ) (name : Ident) (h : Stands setting statics s u (record { from = name; value = v } ∷ moved) st cells) (var : IsVariable setting.program s name)
-      → MovesBack cells (place s u (record { from = name; value = v } ∷ moved) st cells h name var) (frame_address setting statics u + (512 + (16 + length moved))) (is_zero (read st (cell_in setting statics s u name))) (Stands setting statics s u moved (written st (cell_in setting statics s u name) v))
+      → MovesBack cells (place s u (record { from = name; value = v } ∷ moved) st cells (reads_of h) name var) (frame_address setting statics u + (512 + (16 + length moved))) (is_zero (read st (cell_in setting statics s u name))) (Stands setting statics s u moved (written st (cell_in setting statics s u name) v))
   moves_back s u v moved st cells name h var =
       let x : Moved = record { from = name; value = v } in
       let c = cell_in setting statics s u name in
-      let has = cell_has s u (x ∷ moved) st cells h name var in
+      let has = cell_has s u (x ∷ moved) st cells (reads_of h) name var in
       let at = h.frame.at in
-      let where_is = spot_is s u (x ∷ moved) st cells h name var in
-      let t = typed setting statics s u (x ∷ moved) st cells h in
-      let inside = cell_inside setting statics s u (x ∷ moved) st cells h c var.kind has in
-      let low = cell_low setting statics s u (x ∷ moved) st cells h c var.kind has in
+      let where_is = spot_is s u (x ∷ moved) st cells (reads_of h) name var in
+      let t = typed setting statics s u (x ∷ moved) st cells (reads_of h) in
+      let inside = cell_inside setting statics s u (x ∷ moved) st cells (reads_of h) c var.kind has in
+      let low = cell_low setting statics s u (x ∷ moved) st cells (reads_of h) c var.kind has in
       let vs = moved_values setting statics moved in
       let n : length vs ≡ length moved = length-map moved moved_value in
-      let long = before_long setting statics s u (x ∷ moved) st cells h in
-      let all = frame_long setting statics s u (x ∷ moved) st cells h in
+      let long = before_long setting statics s u (x ∷ moved) st cells (reads_of h) in
+      let all = frame_long setting statics s u (x ∷ moved) st cells (reads_of h) in
       let d = h.frame.depth_is in
       let vars = h.frame.few in
       let few : length moved < 32 = (let k = h.frame.few_vals in let n1 : length (v ∷ vs) ≡ 1 + length vs = omega arith in omega (arith, n, k, n1)) in
@@ -157,9 +157,9 @@ module _ (setting : Setting) (statics : List ℕ) (classes : KnowsClasses settin
       let up0 = frame_address setting statics u + (512 + (16 + length vs)) in
       let up1 = frame_address setting statics u + (512 + (16 + length moved)) in
       let up_same : up0 ≡ up1 = ap (λ j. frame_address setting statics u + (512 + (16 + j))) n in
-      let P = place s u (x ∷ moved) st cells h name var in
+      let P = place s u (x ∷ moved) st cells (reads_of h) name var in
       let apart : P ≢ up1 = λ e. omega (arith, e, where_is, low, vars) in
-      let got : slice_index cells P ≡ value_word setting statics at (read st c) = ap (slice_index cells) where_is ∙ frame_read setting statics s u (x ∷ moved) st cells h c var.kind has in
+      let got : slice_index cells P ≡ value_word setting statics at (read st c) = ap (slice_index cells) where_is ∙ frame_read setting statics s u (x ∷ moved) st cells (reads_of h) c var.kind has in
       let high : slice_index cells up1 ≡ value_word setting statics at v = ap (slice_index cells) (sym up_same) ∙ up_value setting statics s u v vs st cells h.frame long in
       let pos : 0 < base setting statics = (let q : 40 + length statics ≤ base setting statics = Rattle.open_frame.proofs.Memory.base_above (Rattle.statement_laws.specs.Stands.setup setting statics) in omega (arith, q)) in
       let untouched : is_zero (read st c) ≡ true → slice_index cells P ≡ 0 = λ e. got ∙ zero_word setting statics at (read st c) e in
@@ -171,7 +171,7 @@ module _ (setting : Setting) (statics : List ℕ) (classes : KnowsClasses settin
         untouched = untouched;
         back = λ e.
             let k = kept_back setting statics s u x moved st t h.keeps e in
-            let f1 = frame_write setting statics s u (x ∷ moved) st cells h c var.kind v has in
+            let f1 = frame_write setting statics s u (x ∷ moved) st cells (reads_of h) c var.kind v has in
             let st1 = written st c v in
             let long1 = long_by setting statics s u moved st1 k (v ∷ vs) _ f1 in
             let f2 = frame_down setting statics s u v vs st1 _ f1 long1 in

@@ -25,6 +25,7 @@ use Rattle.frame_facts.proofs.Bridge.{set_words, same_memory, same_at, typed, st
 use Rattle.frame_facts.proofs.MovesFit.{class_at, frame_address, frame_long}
 use Rattle.frame_facts.proofs.FactsMoves.{set_apart}
 use Rattle.statement_laws.specs.Worlds.{IsFresh}
+use Rattle.frame_facts.proofs.Bridge.{reads_of}
 
 module _ (setting : Setting) (statics : List ℕ) (few : length statics ≤ 262144) where
   pub all_small : IsLimits setting.limits → stack_base setting statics + 512 * setting.limits.deep ≤ 2 ^ 23
@@ -36,7 +37,7 @@ module _ (setting : Setting) (statics : List ℕ) (few : length statics ≤ 2621
 
     -- the object stands before the stack
     pub object_low : u.object + 2 ≤ stack_base setting statics
-    object_low = subst (λ o. o + 2 ≤ stack_base setting statics) h.frame.stands.1 (subst (λ (a : Placing). address_of setting statics a u.self + 2 ≤ stack_base setting statics) (same_at setting statics s u moved st cells h) (by (nat_eq u.self main_name) refl))
+    object_low = subst (λ o. o + 2 ≤ stack_base setting statics) h.frame.stands.1 (subst (λ (a : Placing). address_of setting statics a u.self + 2 ≤ stack_base setting statics) (same_at setting statics s u moved st cells (reads_of h)) (by (nat_eq u.self main_name) refl))
       where
         by : (b : Bool) → nat_eq u.self main_name ≡ b → (if b then statics_at else base setting statics + block_of h.keeps.placed.at.blocks u.self) + 2 ≤ stack_base setting statics
         by true e = let q : 40 + length statics ≤ base setting statics = base_above (setup setting statics) in let r : 2 ≤ length statics = (let z = h.keeps.grounded.room in omega (arith, z)) in omega (arith, q, r)
@@ -48,7 +49,7 @@ module _ (setting : Setting) (statics : List ℕ) (few : length statics ≤ 2621
     -- the word of the object is its class's table
     abbrev pub sound : Sound setting (extra u moved) (shape_of setting.program s) s.class st
     sound =
-        let t = typed setting statics s u moved st cells h in
+        let t = typed setting statics s u moved st cells (reads_of h) in
         record {
           names = t.names;
           variables = t.variables;
@@ -105,18 +106,18 @@ module _ (setting : Setting) (statics : List ℕ) (few : length statics ≤ 2621
   }
 
   words_inside : (s : Scope) (u : Under) (st : State) (cells : List ℕ) (h : Stands setting statics s u [] st cells) → frame_address setting statics u + 2 < length cells
-  words_inside s u st cells h = let l = frame_long setting statics s u [] st cells h in let d = h.frame.depth_is in let i = h.frame.in_depth in omega (arith, l, d, i)
+  words_inside s u st cells h = let l = frame_long setting statics s u [] st cells (reads_of h) in let d = h.frame.depth_is in let i = h.frame.in_depth in omega (arith, l, d, i)
 
   pub saves : (s : Scope) (u : Under) (st : State) (cells : List ℕ) → Stands setting statics s u [] st cells → IsFresh u → HasWords cells (frame_address setting statics u) 0 0
   saves s u st cells h f = record {
     words_in = words_inside s u st cells h;
-    link_word = link_word setting statics s u [] st cells h.frame 0 (slice_index u.put_by 1) 0 (replicate 13 0) f.is (before_long setting statics s u [] st cells h);
-    place_word = place_word setting statics s u [] st cells h.frame 0 (slice_index u.put_by 1) 0 (replicate 13 0) f.is (before_long setting statics s u [] st cells h);
+    link_word = link_word setting statics s u [] st cells h.frame 0 (slice_index u.put_by 1) 0 (replicate 13 0) f.is (before_long setting statics s u [] st cells (reads_of h));
+    place_word = place_word setting statics s u [] st cells h.frame 0 (slice_index u.put_by 1) 0 (replicate 13 0) f.is (before_long setting statics s u [] st cells (reads_of h));
   }
 
   pub puts : (s : Scope) (u : Under) (st : State) (cells : List ℕ) (link place : ℕ) → Stands setting statics s u [] st cells → IsFresh u → link < 2 ^ 32 → place < 2 ^ 32 → Stands setting statics s (put u link place) [] st (slice_set (slice_set cells (frame_address setting statics u) link) (frame_address setting statics u + 2) place)
   puts s u st cells link place h f lw pw = record {
-    frame = put_opens setting statics s u [] st cells h.frame 0 (slice_index u.put_by 1) 0 (replicate 13 0) f.is (before_long setting statics s u [] st cells h) link place;
+    frame = put_opens setting statics s u [] st cells h.frame 0 (slice_index u.put_by 1) 0 (replicate 13 0) f.is (before_long setting statics s u [] st cells (reads_of h)) link place;
     keeps = kept_put s u st link place h.keeps;
     counts = h.counts;
     words = set_words (slice_set cells (frame_address setting statics u) link) (frame_address setting statics u + 2) place (set_words cells (frame_address setting statics u) link h.words lw) pw;
@@ -125,15 +126,15 @@ module _ (setting : Setting) (statics : List ℕ) (few : length statics ≤ 2621
   pub put_words : (s : Scope) (u : Under) (st : State) (cells : List ℕ) (link place : ℕ) → Stands setting statics s (put u link place) [] st cells → HasWords cells (frame_address setting statics u) link place
   put_words s u st cells link place h = record {
     words_in = words_inside s (put u link place) st cells h;
-    link_word = link_word setting statics s (put u link place) [] st cells h.frame link (slice_index u.put_by 1) place (replicate 13 0) refl (before_long setting statics s (put u link place) [] st cells h);
-    place_word = place_word setting statics s (put u link place) [] st cells h.frame link (slice_index u.put_by 1) place (replicate 13 0) refl (before_long setting statics s (put u link place) [] st cells h);
+    link_word = link_word setting statics s (put u link place) [] st cells h.frame link (slice_index u.put_by 1) place (replicate 13 0) refl (before_long setting statics s (put u link place) [] st cells (reads_of h));
+    place_word = place_word setting statics s (put u link place) [] st cells h.frame link (slice_index u.put_by 1) place (replicate 13 0) refl (before_long setting statics s (put u link place) [] st cells (reads_of h));
   }
 
   pub puts_back : (s : Scope) (u : Under) (st : State) (cells : List ℕ) (link place : ℕ) → Stands setting statics s (put u link place) [] st cells → IsFresh u → Stands setting statics s u [] st (slice_set (slice_set cells (frame_address setting statics u + 2) 0) (frame_address setting statics u) 0)
   puts_back s u st cells link place h f =
       let F = frame_address setting statics u in
       let o : OpenFrame setting statics s (record u { put_by = 0 ∷ slice_index u.put_by 1 ∷ 0 ∷ replicate 13 0 }) [] st (slice_set (slice_set cells F 0) (F + 2) 0) =
-      put_opens setting statics s (put u link place) [] st cells h.frame link (slice_index u.put_by 1) place (replicate 13 0) refl (before_long setting statics s (put u link place) [] st cells h) 0 0 in
+      put_opens setting statics s (put u link place) [] st cells h.frame link (slice_index u.put_by 1) place (replicate 13 0) refl (before_long setting statics s (put u link place) [] st cells (reads_of h)) 0 0 in
       let c : slice_set (slice_set cells F 0) (F + 2) 0 ≡ slice_set (slice_set cells (F + 2) 0) F 0 = set_apart cells F (F + 2) 0 0 (λ e. omega (arith, e)) in
       record {
         frame = subst (OpenFrame setting statics s u [] st) c (subst (λ p. OpenFrame setting statics s (record u { put_by = p }) [] st (slice_set (slice_set cells F 0) (F + 2) 0)) (sym f.is) o);

@@ -1,6 +1,6 @@
 -- The relation of specs/Frames has the facts that calls need of entering and leaving frames.
 use Rattle.std.proofs.Common.{◌≡◌, ℕ, suc, ◌+◌, ◌-◌, ◌*◌, ◌^◌, ◌<◌, ◌≤◌, true, false, List, [], ◌∷◌, ◌++◌, length, map, replicate, Option, Some, None, refl, sym, ap, ◌∙◌, subst, arith, append-nil, append_assoc, length-append}
-use Rattle.std.specs.Prelude.{position}
+use Rattle.std.specs.Prelude.{position, slice_index, slice_set}
 use Rattle.std.specs.Str.{bytes_eq}
 use Rattle.std.proofs.lemmas.List.{length-replicate, replicate-append-replicate}
 use Rattle.std.specs.Option.{unwrap_or}
@@ -69,7 +69,7 @@ module _ (setting : Setting) (statics : List ℕ) where
       sym (fill_more N (x ++ ws) k (omega (arith, l, lx, room, h))) ∙ ap (filled_to setting statics N) (append_assoc x ws (replicate k 0))
 
   -- the same words, seen from the frame below and from the frame above
-  same_stack : (s : Scope) (u : Under) (st : State) (at : Placing) (store : Rattle.roopl_semantics.specs.Store.Store) (vs : List Value) → CallersStand setting statics at store u.callers → length u.put_by ≡ 16 → length st.frame ≤ 48 → length vs ≤ 48 → 2 + length u.callers ≤ setting.limits.deep → filled_to setting statics N (stack_words setting statics at u st.frame vs) ≡ filled_to setting statics N (callers_words setting statics at (caller_of s u st ∷ u.callers) ++ (frame_words setting statics at (replicate 16 0) vs ++ []))
+  pub same_stack : (s : Scope) (u : Under) (st : State) (at : Placing) (store : Rattle.roopl_semantics.specs.Store.Store) (vs : List Value) → CallersStand setting statics at store u.callers → length u.put_by ≡ 16 → length st.frame ≤ 48 → length vs ≤ 48 → 2 + length u.callers ≤ setting.limits.deep → filled_to setting statics N (stack_words setting statics at u st.frame vs) ≡ filled_to setting statics N (callers_words setting statics at (caller_of s u st ∷ u.callers) ++ (frame_words setting statics at (replicate 16 0) vs ++ []))
   same_stack s u st at store vs stand long few many room =
       let a = callers_words setting statics at u.callers in
       let o = frame_words setting statics at u.put_by (values_of setting statics st.frame) in
@@ -81,12 +81,12 @@ module _ (setting : Setting) (statics : List ℕ) where
       ∙ above_frame at (a ++ o) vs many fits
       ∙ ap (λ z. filled_to setting statics N ((a ++ o) ++ z)) (sym (append-nil (frame_words setting statics at (replicate 16 0) vs)))
 
-  bound_names : (params : List Var) (vals : List Value) → length vals ≡ length params → map (λ binding. binding.name) (bound params vals) ≡ map (λ var. var.name.text) params
+  pub bound_names : (params : List Var) (vals : List Value) → length vals ≡ length params → map (λ binding. binding.name) (bound params vals) ≡ map (λ var. var.name.text) params
   bound_names [] vals e = refl
   bound_names (p ∷ params) [] e = absurd (omega (arith, e))
   bound_names (p ∷ params) (v ∷ vals) e = ap (λ l. p.name.text ∷ l) (bound_names params vals (let q : suc (length vals) ≡ suc (length params) = e in omega (arith, q)))
 
-  bound_values : (params : List Var) (vals : List Value) → length vals ≡ length params → values_of setting statics (bound params vals) ≡ vals
+  pub bound_values : (params : List Var) (vals : List Value) → length vals ≡ length params → values_of setting statics (bound params vals) ≡ vals
   bound_values [] [] e = refl
   bound_values [] (v ∷ vals) e = absurd (omega (arith, e))
   bound_values (p ∷ params) [] e = absurd (omega (arith, e))
@@ -96,7 +96,7 @@ module _ (setting : Setting) (statics : List ℕ) where
   callee_of params vals st = record { frame = bound params vals; self = st.self; depth = 1 + st.depth; store = st.store; log = st.log }
 
   -- a frame with all arguments above it is the callee's open frame
-  pub enters : (s s' : Scope) (u : Under) (vals : List Value) (st : State) (cells : List ℕ) → OpenFrame setting statics s u vals st cells → length vals ≡ length s'.vars → 1 + st.depth ≤ setting.limits.deep → OpenFrame setting statics s' (deeper s u st) [] (callee_of s'.vars vals st) cells
+  abbrev pub enters : (s s' : Scope) (u : Under) (vals : List Value) (st : State) (cells : List ℕ) → OpenFrame setting statics s u vals st cells → length vals ≡ length s'.vars → 1 + st.depth ≤ setting.limits.deep → OpenFrame setting statics s' (deeper s u st) [] (callee_of s'.vars vals st) cells
   enters s s' u vals st cells h many room =
       let d = h.depth_is in
       let few = h.few_vals in
@@ -126,7 +126,7 @@ module _ (setting : Setting) (statics : List ℕ) where
   fits_above (v ∷ vals) depth h = h
 
   -- and where it ends, so is the frame below again, with the values above it
-  pub leaves : (s s' : Scope) (u : Under) (vals : List Value) (st end : State) (before cells : List ℕ) → OpenFrame setting statics s u vals st before → OpenFrame setting statics s' (deeper s u st) [] end cells → length s'.vars ≤ 32 → OpenFrame setting statics s u (values_of setting statics end.frame) (record st { store = end.store; log = end.log }) cells
+  abbrev pub leaves : (s s' : Scope) (u : Under) (vals : List Value) (st end : State) (before cells : List ℕ) → OpenFrame setting statics s u vals st before → OpenFrame setting statics s' (deeper s u st) [] end cells → length s'.vars ≤ 32 → OpenFrame setting statics s u (values_of setting statics end.frame) (record st { store = end.store; log = end.log }) cells
   leaves s s' u vals st end before cells h o few =
       let many : length end.frame ≡ length s'.vars = sym (length_map (λ (b : Binding). b.name) end.frame) ∙ ap (length {A = List ℕ}) o.names_are ∙ length_map (λ (v : Var). v.name.text) s'.vars in
       let lv = length_map (λ (b : Binding). b.value) end.frame in
@@ -169,21 +169,21 @@ module _ (setting : Setting) (statics : List ℕ) where
   abbrev pub frame_at : Under → ℕ
   frame_at u = Rattle.statement_laws.specs.Frames.stack_base setting statics + 512 * length u.callers
 
-  stack_base_cell : (at : Placing) (store : Rattle.roopl_semantics.specs.Store.Store) (stack : List ℕ) → Rattle.std.specs.Prelude.slice_index (memory setting statics at store stack) 3 ≡ Rattle.statement_laws.specs.Frames.stack_base setting statics
+  stack_base_cell : (at : Placing) (store : Rattle.roopl_semantics.specs.Store.Store) (stack : List ℕ) → slice_index (memory setting statics at store stack) 3 ≡ Rattle.statement_laws.specs.Frames.stack_base setting statics
   stack_base_cell at store stack = refl
 
-  stack_end_cell : (at : Placing) (store : Rattle.roopl_semantics.specs.Store.Store) (stack : List ℕ) → Rattle.std.specs.Prelude.slice_index (memory setting statics at store stack) 4 ≡ Rattle.statement_laws.specs.Frames.stack_base setting statics + N
+  stack_end_cell : (at : Placing) (store : Rattle.roopl_semantics.specs.Store.Store) (stack : List ℕ) → slice_index (memory setting statics at store stack) 4 ≡ Rattle.statement_laws.specs.Frames.stack_base setting statics + N
   stack_end_cell at store stack = refl
 
-  pub base_is : (s : Scope) (u : Under) (vals : List Value) (st : State) (cells : List ℕ) → OpenFrame setting statics s u vals st cells → length u.callers ≡ 0 → Rattle.std.specs.Prelude.slice_index cells 3 ≡ frame_at u
+  pub base_is : (s : Scope) (u : Under) (vals : List Value) (st : State) (cells : List ℕ) → OpenFrame setting statics s u vals st cells → length u.callers ≡ 0 → slice_index cells 3 ≡ frame_at u
   base_is s u vals st cells h none =
-      ap (λ l. Rattle.std.specs.Prelude.slice_index l 3) h.cells_are ∙ stack_base_cell h.at st.store (stack_words setting statics h.at u st.frame vals)
+      ap (λ l. slice_index l 3) h.cells_are ∙ stack_base_cell h.at st.store (stack_words setting statics h.at u st.frame vals)
       ∙ (let z : Rattle.statement_laws.specs.Frames.stack_base setting statics ≡ Rattle.statement_laws.specs.Frames.stack_base setting statics + 512 * length u.callers = omega (arith, none) in z)
 
   -- the stack's end tells the depth
   pub has_end : (s : Scope) (u : Under) (st : State) (cells : List ℕ) → OpenFrame setting statics s u [] st cells → Rattle.statement_laws.specs.Frames.stack_base setting statics + N < 2 ^ 31 → Rattle.method_calls.specs.Facts.HasEnd cells (frame_at u) (Rattle.std.specs.Prelude.not (Rattle.std.specs.Prelude.nat_lt (1 + length u.callers) setting.limits.deep))
   has_end s u st cells h small =
-      let e = ap (λ l. Rattle.std.specs.Prelude.slice_index l 4) h.cells_are ∙ stack_end_cell h.at st.store (stack_words setting statics h.at u st.frame []) in
+      let e = ap (λ l. slice_index l 4) h.cells_are ∙ stack_end_cell h.at st.store (stack_words setting statics h.at u st.frame []) in
       let d = h.depth_is in
       let i = h.in_depth in
       record {
@@ -212,11 +212,11 @@ module _ (setting : Setting) (statics : List ℕ) where
 
   -- ---- what is put by
 
-  get_in : (xs ys : List ℕ) (y : ℕ) → Rattle.std.specs.Prelude.slice_index (xs ++ (y ∷ ys)) (length xs) ≡ y
+  pub get_in : (xs ys : List ℕ) (y : ℕ) → slice_index (xs ++ (y ∷ ys)) (length xs) ≡ y
   get_in [] ys y = refl
   get_in (x ∷ xs) ys y = get_in xs ys y
 
-  set_in : (xs ys : List ℕ) (y z : ℕ) → Rattle.std.specs.Prelude.slice_set (xs ++ (y ∷ ys)) (length xs) z ≡ xs ++ (z ∷ ys)
+  pub set_in : (xs ys : List ℕ) (y z : ℕ) → slice_set (xs ++ (y ∷ ys)) (length xs) z ≡ xs ++ (z ∷ ys)
   set_in [] ys y z = refl
   set_in (x ∷ xs) ys y z = ap (λ l. x ∷ l) (set_in xs ys y z)
 
@@ -231,7 +231,7 @@ module _ (setting : Setting) (statics : List ℕ) where
     abbrev top : List ℕ
     top = high ++ replicate (N - (length (callers_words setting statics at u.callers) + (3 + length high))) 0
 
-    split : (l p : ℕ) → u.put_by ≡ l ∷ o ∷ p ∷ more → memory setting statics at store (stack_words setting statics at u frame vals) ≡ low ++ (l ∷ o ∷ p ∷ top)
+    pub split : (l p : ℕ) → u.put_by ≡ l ∷ o ∷ p ∷ more → memory setting statics at store (stack_words setting statics at u frame vals) ≡ low ++ (l ∷ o ∷ p ∷ top)
     split l p e =
         let b = Rattle.statement_laws.specs.Frames.before_stack setting statics at store in
         let a = callers_words setting statics at u.callers in
@@ -251,33 +251,69 @@ module _ (setting : Setting) (statics : List ℕ) where
     abbrev over_it : List ℕ
     over_it = top h.at st.store u st.frame vals o more
 
-    place_is : length under_it ≡ frame_at u
+    pub place_is : length under_it ≡ frame_at u
     place_is = length-append (Rattle.statement_laws.specs.Frames.before_stack setting statics h.at st.store) (callers_words setting statics h.at u.callers) ∙ ap (λ k. k + length (callers_words setting statics h.at u.callers)) long ∙ ap (λ k. Rattle.statement_laws.specs.Frames.stack_base setting statics + k) (length_callers h.at st.store u.callers h.callers_stand)
 
     place_two : length (under_it ++ (l ∷ o ∷ [])) ≡ frame_at u + 2
     place_two = length-append under_it (l ∷ o ∷ []) ∙ ap (λ k. k + 2) place_is
 
-    shown : cells ≡ under_it ++ (l ∷ o ∷ p ∷ over_it)
+    pub shown : cells ≡ under_it ++ (l ∷ o ∷ p ∷ over_it)
     shown = h.cells_are ∙ split h.at st.store u st.frame vals o more l p e
 
-    pub link_word : Rattle.std.specs.Prelude.slice_index cells (frame_at u) ≡ l
-    link_word = ap (λ c. Rattle.std.specs.Prelude.slice_index c (frame_at u)) shown ∙ ap (Rattle.std.specs.Prelude.slice_index (under_it ++ (l ∷ o ∷ p ∷ over_it))) (sym place_is) ∙ get_in under_it (o ∷ p ∷ over_it) l
+    pub link_word : slice_index cells (frame_at u) ≡ l
+    link_word = ap (λ c. slice_index c (frame_at u)) shown ∙ ap (slice_index (under_it ++ (l ∷ o ∷ p ∷ over_it))) (sym place_is) ∙ get_in under_it (o ∷ p ∷ over_it) l
 
     two_in : under_it ++ (l ∷ o ∷ p ∷ over_it) ≡ (under_it ++ (l ∷ o ∷ [])) ++ (p ∷ over_it)
     two_in = sym (append_assoc under_it (l ∷ o ∷ []) (p ∷ over_it))
 
-    pub place_word : Rattle.std.specs.Prelude.slice_index cells (frame_at u + 2) ≡ p
-    place_word = ap (λ c. Rattle.std.specs.Prelude.slice_index c (frame_at u + 2)) (shown ∙ two_in) ∙ ap (Rattle.std.specs.Prelude.slice_index ((under_it ++ (l ∷ o ∷ [])) ++ (p ∷ over_it))) (sym place_two) ∙ get_in (under_it ++ (l ∷ o ∷ [])) over_it p
+    pub place_word : slice_index cells (frame_at u + 2) ≡ p
+    place_word = ap (λ c. slice_index c (frame_at u + 2)) (shown ∙ two_in) ∙ ap (slice_index ((under_it ++ (l ∷ o ∷ [])) ++ (p ∷ over_it))) (sym place_two) ∙ get_in (under_it ++ (l ∷ o ∷ [])) over_it p
+
+    pub place_one : length (under_it ++ (l ∷ [])) ≡ frame_at u + 1
+    place_one = length-append under_it (l ∷ []) ∙ ap (λ k. k + 1) place_is
+
+    pub one_in : under_it ++ (l ∷ o ∷ p ∷ over_it) ≡ (under_it ++ (l ∷ [])) ++ (o ∷ p ∷ over_it)
+    one_in = sym (append_assoc under_it (l ∷ []) (o ∷ p ∷ over_it))
+
+    pub object_word : slice_index cells (frame_at u + 1) ≡ o
+    object_word =
+        ap (λ c. slice_index c (frame_at u + 1)) (shown ∙ one_in)
+        ∙ ap (slice_index ((under_it ++ (l ∷ [])) ++ (o ∷ p ∷ over_it))) (sym place_one)
+        ∙ get_in (under_it ++ (l ∷ [])) (p ∷ over_it) o
+
+    -- another object is put by
+    abbrev pub put_object : (o' : ℕ) → OpenFrame setting statics s (record u { put_by = l ∷ o' ∷ p ∷ more }) vals st (slice_set cells (frame_at u + 1) o')
+    put_object o' =
+        let both : slice_set cells (frame_at u + 1) o' ≡ under_it ++ (l ∷ o' ∷ p ∷ over_it) =
+        ap (λ c. slice_set c (frame_at u + 1) o') (shown ∙ one_in)
+        ∙ ap (λ i. slice_set ((under_it ++ (l ∷ [])) ++ (o ∷ p ∷ over_it)) i o') (sym place_one)
+        ∙ set_in (under_it ++ (l ∷ [])) (p ∷ over_it) o o'
+        ∙ append_assoc under_it (l ∷ []) (o' ∷ p ∷ over_it) in
+        record {
+          at = h.at;
+          placed = h.placed;
+          cells_are = both ∙ sym (split h.at st.store (record u { put_by = l ∷ o' ∷ p ∷ more }) st.frame vals o' more l p refl);
+          names_are = h.names_are;
+          self_is = h.self_is;
+          stands = h.stands;
+          callers_stand = h.callers_stand;
+          depth_is = h.depth_is;
+          in_depth = h.in_depth;
+          put_long = (let q = h.put_long in let z : length (l ∷ o ∷ p ∷ more) ≡ 16 = sym (ap (length {A = ℕ}) e) ∙ q in z);
+          few = h.few;
+          few_vals = h.few_vals;
+          above_fits = h.above_fits;
+        }
 
     -- another link and another place are put by
-    pub put_opens : (l' p' : ℕ) → OpenFrame setting statics s (record u { put_by = l' ∷ o ∷ p' ∷ more }) vals st (Rattle.std.specs.Prelude.slice_set (Rattle.std.specs.Prelude.slice_set cells (frame_at u) l') (frame_at u + 2) p')
+    pub put_opens : (l' p' : ℕ) → OpenFrame setting statics s (record u { put_by = l' ∷ o ∷ p' ∷ more }) vals st (slice_set (slice_set cells (frame_at u) l') (frame_at u + 2) p')
     put_opens l' p' =
-        let first : Rattle.std.specs.Prelude.slice_set cells (frame_at u) l' ≡ under_it ++ (l' ∷ o ∷ p ∷ over_it) =
-        ap (λ c. Rattle.std.specs.Prelude.slice_set c (frame_at u) l') shown ∙ ap (λ i. Rattle.std.specs.Prelude.slice_set (under_it ++ (l ∷ o ∷ p ∷ over_it)) i l') (sym place_is) ∙ set_in under_it (o ∷ p ∷ over_it) l l' in
+        let first : slice_set cells (frame_at u) l' ≡ under_it ++ (l' ∷ o ∷ p ∷ over_it) =
+        ap (λ c. slice_set c (frame_at u) l') shown ∙ ap (λ i. slice_set (under_it ++ (l ∷ o ∷ p ∷ over_it)) i l') (sym place_is) ∙ set_in under_it (o ∷ p ∷ over_it) l l' in
         let long2 : length (under_it ++ (l' ∷ o ∷ [])) ≡ frame_at u + 2 = length-append under_it (l' ∷ o ∷ []) ∙ ap (λ k. k + 2) place_is in
-        let both : Rattle.std.specs.Prelude.slice_set (Rattle.std.specs.Prelude.slice_set cells (frame_at u) l') (frame_at u + 2) p' ≡ under_it ++ (l' ∷ o ∷ p' ∷ over_it) =
-        ap (λ c. Rattle.std.specs.Prelude.slice_set c (frame_at u + 2) p') (first ∙ sym (append_assoc under_it (l' ∷ o ∷ []) (p ∷ over_it)))
-        ∙ ap (λ i. Rattle.std.specs.Prelude.slice_set ((under_it ++ (l' ∷ o ∷ [])) ++ (p ∷ over_it)) i p') (sym long2)
+        let both : slice_set (slice_set cells (frame_at u) l') (frame_at u + 2) p' ≡ under_it ++ (l' ∷ o ∷ p' ∷ over_it) =
+        ap (λ c. slice_set c (frame_at u + 2) p') (first ∙ sym (append_assoc under_it (l' ∷ o ∷ []) (p ∷ over_it)))
+        ∙ ap (λ i. slice_set ((under_it ++ (l' ∷ o ∷ [])) ++ (p ∷ over_it)) i p') (sym long2)
         ∙ set_in (under_it ++ (l' ∷ o ∷ [])) over_it p p'
         ∙ append_assoc under_it (l' ∷ o ∷ []) (p' ∷ over_it) in
         record {

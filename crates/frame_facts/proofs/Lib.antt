@@ -11,4 +11,6 @@ pub mod FactsFit
 pub mod LocalsFit
 pub mod MainFit
 pub mod StaticsWords
+pub mod OnEnters
+pub mod ReceiversFit
 pub mod Stated

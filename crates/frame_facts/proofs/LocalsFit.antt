@@ -50,6 +50,7 @@ use Rattle.method_calls.specs.Names.{IsNull, NilInit, IsInit}
 use Rattle.frame_facts.specs.Laws.{most_statics}
 use Rattle.frame_facts.proofs.FactsFit.{known}
 use Rattle.frame_facts.proofs.SlotMoves.{new_free}
+use Rattle.frame_facts.proofs.Bridge.{reads_of}
 
 -- ---- a variable that does not occur is not read
 
@@ -176,7 +177,7 @@ module _ (place : Place) (accepted : IsAccepted place.setting.program) (few : le
   -- the value of an int is a word
   pub int_init : (s : Scope) (u : Under) (st : State) (cells : List ℕ) (var : Var) (e : Expression) → Stands setting statics s u [] st cells → IntInit program s var e → (v : Value) → value program st e ≡ Ok v → IsInt v
   int_init s u st cells var e h t v q =
-      let f = value_fits setting classes (extra u []) (shape_of program s) (shape_of program s) s.class h.keeps.class_inside (same_means (shape_of program s)) st e kind.Int (typed setting statics s u [] st cells h) t.has_words t.typed in
+      let f = value_fits setting classes (extra u []) (shape_of program s) (shape_of program s) s.class h.keeps.class_inside (same_means (shape_of program s)) st e kind.Int (typed setting statics s u [] st cells (reads_of h)) t.has_words t.typed in
       int_value program st.store v (subst (ValueFits program st.store kind.Int) q f)
 
   new_int : (st : State) (var : Var) (v : Value) → kind_of_var program var ≡ kind.Int → IsInt v → IsNew st var v
@@ -207,7 +208,7 @@ module _ (place : Place) (accepted : IsAccepted place.setting.program) (few : le
   declared s u st cells var v h few_here new =
       let k = h.keeps in
       let b : Binding = record { name = var.name.text; value = v } in
-      let n = as_many_vars setting statics s u [] st cells h in
+      let n = as_many_vars setting statics s u [] st cells (reads_of h) in
       let few_vars : length st.frame < 48 = omega (arith, n, few_here) in
       let x = w.word_of u st v in
       let word_is : x ≡ value_word setting statics h.frame.at v = ap (λ a. value_word setting statics a v) (placing_is s u [] st cells h.frame) in
@@ -220,7 +221,7 @@ module _ (place : Place) (accepted : IsAccepted place.setting.program) (few : le
           cells_are =
               ap (λ a. slice_set cells a x) place_same ∙ ap (slice_set cells (frame_address setting statics u + (16 + length st.frame))) word_is
               ∙ ap (λ c. slice_set c (frame_address setting statics u + (16 + length st.frame)) (value_word setting statics h.frame.at v)) h.frame.cells_are
-              ∙ new_set setting statics h.frame.at st.store u h.frame.put_long (callers_long setting statics s u [] st cells h) (before_long setting statics s u [] st cells h) st.frame few_vars b;
+              ∙ new_set setting statics h.frame.at st.store u h.frame.put_long (callers_long setting statics s u [] st cells (reads_of h)) (before_long setting statics s u [] st cells (reads_of h)) st.frame few_vars b;
           names_are = ap (λ l. var.name.text ∷ l) h.frame.names_are;
           self_is = h.frame.self_is;
           stands = h.frame.stands;
@@ -282,7 +283,7 @@ module _ (place : Place) (accepted : IsAccepted place.setting.program) (few : le
         let k = h.keeps in
         let b : Binding = record { name = var.name.text; value = v } in
         let st1 : State = record st { frame = b ∷ rest } in
-        let n : suc (length rest) ≡ suc (length s.vars) = as_many_vars setting statics (with_var s var) u [] st1 cells h in
+        let n : suc (length rest) ≡ suc (length s.vars) = as_many_vars setting statics (with_var s var) u [] st1 cells (reads_of h) in
         let n' : length rest ≡ length s.vars = omega (arith, n) in
         let few_vars : length rest < 48 = (let q : suc (length rest) ≤ 48 = h.frame.few in omega (arith, q)) in
         let place_same : word_place u s ≡ frame_address setting statics u + (16 + length rest) = ap (λ j. frame_address setting statics u + (16 + j)) (sym n') in
@@ -292,7 +293,7 @@ module _ (place : Place) (accepted : IsAccepted place.setting.program) (few : le
             placed = h.frame.placed;
             cells_are =
                 ap (λ a. slice_set cells a 0) place_same ∙ ap (λ c. slice_set c (frame_address setting statics u + (16 + length rest)) 0) h.frame.cells_are
-                ∙ new_clear setting statics h.frame.at st.store u h.frame.put_long (callers_long setting statics (with_var s var) u [] st1 cells h) (before_long setting statics (with_var s var) u [] st1 cells h) rest few_vars b;
+                ∙ new_clear setting statics h.frame.at st.store u h.frame.put_long (callers_long setting statics (with_var s var) u [] st1 cells (reads_of h)) (before_long setting statics (with_var s var) u [] st1 cells (reads_of h)) rest few_vars b;
             names_are = tails h.frame.names_are;
             self_is = h.frame.self_is;
             stands = h.frame.stands;
@@ -445,20 +446,20 @@ module _ (place : Place) (accepted : IsAccepted place.setting.program) (few : le
   local_facts = record {
     frame_small = λ s u moved st cells h. frame_small setting statics few s u moved st cells h;
     few_vars = λ s var e is. (let q = is.few in omega (arith, q));
-    free_in = λ s u st cells var e h is. (let l = frame_long setting statics s u [] st cells h in let d = h.frame.depth_is in let i = h.frame.in_depth in let q = is.few in omega (arith, l, d, i, q));
+    free_in = λ s u st cells var e h is. (let l = frame_long setting statics s u [] st cells (reads_of h) in let d = h.frame.depth_is in let i = h.frame.in_depth in let q = is.few in omega (arith, l, d, i, q));
     free_word = λ s u st cells var e h is.
-        let n = as_many_vars setting statics s u [] st cells h in
+        let n = as_many_vars setting statics s u [] st cells (reads_of h) in
         let few_vars : length st.frame < 48 = (let q = is.few in omega (arith, n, q)) in
         ap (λ j. slice_index cells (frame_address setting statics u + (16 + j))) (sym n)
         ∙ ap (λ c. slice_index c (frame_address setting statics u + (16 + length st.frame))) h.frame.cells_are
-        ∙ new_free setting statics h.frame.at st.store u h.frame.put_long (callers_long setting statics s u [] st cells h) (before_long setting statics s u [] st cells h) st.frame few_vars;
+        ∙ new_free setting statics h.frame.at st.store u h.frame.put_long (callers_long setting statics s u [] st cells (reads_of h)) (before_long setting statics s u [] st cells (reads_of h)) st.frame few_vars;
     declares = λ s u st cells var e v c h is t.
         declared s u st cells var v h is.few (new_value s u st cells var e h is v (told_ok (nodes e) (value program st e) v c t));
-    var_in = λ s u st cells var e h is. (let l = frame_long setting statics (with_var s var) u [] st cells h in let d = h.frame.depth_is in let i = h.frame.in_depth in let q = is.few in omega (arith, l, d, i, q));
+    var_in = λ s u st cells var e h is. (let l = frame_long setting statics (with_var s var) u [] st cells (reads_of h) in let d = h.frame.depth_is in let i = h.frame.in_depth in let q = is.few in omega (arith, l, d, i, q));
     var_word = λ s u st cells var e h is.
-        let n : length st.frame ≡ suc (length s.vars) = as_many_vars setting statics (with_var s var) u [] st cells h in
+        let n : length st.frame ≡ suc (length s.vars) = as_many_vars setting statics (with_var s var) u [] st cells (reads_of h) in
         let p : word_place u s ≡ frame_address setting statics u + (16 + (length st.frame - 1 - 0)) = omega (arith, n) in
-        ap (slice_index cells) p ∙ frame_read setting statics (with_var s var) u [] st cells h (Slot 0) (kind_of_var program var) refl
+        ap (slice_index cells) p ∙ frame_read setting statics (with_var s var) u [] st cells (reads_of h) (Slot 0) (kind_of_var program var) refl
         ∙ ap (λ a. value_word setting statics a (read st (Slot 0))) (sym (placing_is (with_var s var) u [] st cells h.frame));
     undeclares = λ s u st cells var e h is. goes s u st cells var h;
     closes = λ s u st cells var e v c h is t same. closes s u st cells var h e is v c t same;

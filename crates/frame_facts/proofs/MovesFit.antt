@@ -17,7 +17,7 @@ use Rattle.statement_laws.specs.Form.{Scope, Moved}
 use Rattle.statement_laws.specs.Frames.{Caller, Under, base, stack_base, address_of, value_word, values_of, frame_words, callers_words, above_words, stack_words, memory, before_stack, StandsAt, CallersStand, OpenFrame}
 use Rattle.frame_facts.proofs.FramesFit.{frame_at, fits_above}
 use Rattle.frame_facts.proofs.SlotMoves.{slot_set, slot_get, above_set, above_get, above_clear, above_zero_word, above_in, until, below, length_with, names_with}
-use Rattle.statement_laws.specs.Stands.{shape_of, extra, moved_value, moved_values, CallersFit, Kept, Stands}
+use Rattle.statement_laws.specs.Stands.{shape_of, extra, moved_value, moved_values, CallersFit, Kept, Reads}
 use Rattle.frame_facts.proofs.Bridge.{typed, stack_fits, callers_long, own_long, before_long, part_low, part_read, part_write, as_many_vars}
 
 pub class_at : (store : Store) (n c : ℕ) → head_named store n ≡ Some (OfClass c) → class_of_head (object_at store n).head ≡ c
@@ -40,7 +40,7 @@ module _ (setting : Setting) (statics : List ℕ) where
   place_of at u st (Slot i) = frame_address u + (16 + (length st.frame - 1 - i))
   place_of at u st (Part n i) = address_of setting statics at n + (2 + i)
 
-  module _ (s : Scope) (u : Under) (moved : List Moved) (st : State) (cells : List ℕ) (h : Stands setting statics s u moved st cells) where
+  module _ (s : Scope) (u : Under) (moved : List Moved) (st : State) (cells : List ℕ) (h : Reads setting statics s u moved st cells) where
     abbrev vs : List Value
     vs = moved_values setting statics moved
 

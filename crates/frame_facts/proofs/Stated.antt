@@ -1,14 +1,18 @@
 -- The laws in the form of their statements.
 use Rattle.std.proofs.Common.{◌≡◌, ℕ, ◌<◌, ◌≤◌, List, length, subst, arith}
 use Rattle.roopl_semantics.proofs.MainPlace.{class_inside}
-use Rattle.frame_facts.specs.Laws.{FramesAreOpen, LocalsAreOpen, MainIsOpen, most_statics}
+use Rattle.frame_facts.specs.Laws.{FramesAreOpen, ReceiversAreOpen, LocalsAreOpen, MainIsOpen, most_statics}
 use Rattle.frame_facts.proofs.FactsFit.{frame_facts}
+use Rattle.frame_facts.proofs.ReceiversFit.{receiver_facts}
 use Rattle.frame_facts.proofs.LocalsFit.{local_facts}
 use Rattle.frame_facts.proofs.MainFit.{main_facts}
 use Rattle.frame_facts.proofs.StaticsWords.{statics_words}
 
 pub frames_are_open : FramesAreOpen
 frames_are_open place routine linked = frame_facts place routine linked
+
+pub receivers_are_open : ReceiversAreOpen
+receivers_are_open place routine linked = receiver_facts place routine linked
 
 pub locals_are_open : LocalsAreOpen
 locals_are_open place accepted few = local_facts place accepted few

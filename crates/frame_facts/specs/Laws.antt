@@ -15,8 +15,8 @@ use Rattle.roopl_semantics.specs.Layout.{HasStatics}
 use Rattle.roopl_semantics.specs.Source.{IsValid, main_body}
 use Rattle.statement_laws.specs.Form.{Routines}
 use Rattle.statement_laws.specs.Worlds.{Place, world_of}
-use Rattle.method_calls.specs.Facts.{FrameFacts, LocalFacts, MainFacts}
-use Rattle.method_calls.specs.Names.{known_of, IsInit}
+use Rattle.method_calls.specs.Facts.{FrameFacts, ReceiverFacts, LocalFacts, MainFacts}
+use Rattle.method_calls.specs.Names.{known_of, receivers_of, IsInit}
 
 -- the most static cells that an image of the compiler has
 abbrev pub most_statics : ℕ
@@ -53,6 +53,12 @@ abbrev pub FramesAreOpen : Type 0
 FramesAreOpen =
     (place : Place) (routine : ℕ → Ident → ℕ) → IsLinked place routine
     → FrameFacts (world_of place) (known_of place routine)
+
+-- and what calls on the object of a variable take beside
+abbrev pub ReceiversAreOpen : Type 0
+ReceiversAreOpen =
+    (place : Place) (routine : ℕ → Ident → ℕ) → IsLinked place routine
+    → ReceiverFacts (world_of place) (known_of place routine) (receivers_of place)
 
 -- and what blocks with a local variable take, of any type
 abbrev pub LocalsAreOpen : Type 0

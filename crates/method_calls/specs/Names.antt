@@ -1,5 +1,5 @@
 -- What is known of names when code is made, and what stays while a call is open.
-use Rattle.std.specs.Prelude.{◌≡◌, ◌⊎◌, ℕ, ◌+◌, ◌<◌, ◌≤◌, ◌^◌, false, List, [], ◌∷◌, length, map, replicate, slice_index, Some, Result, Ok, Err}
+use Rattle.std.specs.Prelude.{◌≡◌, ◌⊎◌, ℕ, ◌+◌, ◌<◌, ◌≤◌, ◌^◌, true, false, List, [], ◌∷◌, length, map, replicate, slice_index, Some, Result, Ok, Err}
 use Rattle.std.specs.Option.{unwrap_or}
 use Rattle.rpp_tree.specs.declared.tree.Ident.{Ident}
 use Rattle.rpp_tree.specs.declared.tree.Var.{Var}
@@ -8,7 +8,7 @@ use Rattle.class_table.specs.declared.kind.Kind.{Kind}
 use Rattle.class_table.specs.declared.kind.Kind.TheVariants as kind
 use Rattle.class_table.specs.Table.{table_of, slot_in, dispatch_in}
 use Rattle.class_table.specs.Overrides.{parameters_of}
-use Rattle.class_table.specs.Inheritance.{kind_of_var}
+use Rattle.class_table.specs.Inheritance.{is_or_inherits, kind_of_var}
 use Rattle.class_table.specs.Expressions.{is_int, type_of, variable_type, occurs}
 use Rattle.class_table.specs.Program.{setting_in}
 use Rattle.buddy_book.specs.Place.{place}
@@ -115,6 +115,7 @@ receivers_of p = record {
   IsReceiver = IsReceiver p.setting.program;
   slot_on = λ s x name. slot_of p.setting.program (class_named p.setting.program s x) name;
   deeper_on = deeper_on p;
+  IsFor = λ s x class. is_or_inherits p.setting.program class (class_named p.setting.program s x) ≡ true;
 }
 
 -- ---- the value of a new variable
