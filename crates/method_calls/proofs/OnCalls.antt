@@ -182,6 +182,9 @@ module _ (w : World) (knows : Known w) (f : FrameFacts w knows) (on : Receivers 
     known_routine : r < w.routines.count
     known_routine = g.routine_on s u st caller cs x name args h is there refl
 
+    suits : on.IsFor s x (knows.class_of deep)
+    suits = g.is_for s u st caller cs x name args h is there refl
+
     place_small : place < 2 ^ 32
     place_small = let t = (f.placed r known_routine).small in omega arith
 
@@ -204,7 +207,7 @@ module _ (w : World) (knows : Known w) (f : FrameFacts w knows) (on : Receivers 
     rw_small = f.object_small (w.routines.scope r) deep [] callee in_cells entered
 
     has_place : HasPlace in_cells (w.object_of deep) slot place
-    has_place = g.place_on s u caller callee in_cells x name args n_of entered is
+    has_place = g.place_on s u caller callee in_cells x name args n_of entered is suits
 
     fetched : (cs2 : List ℕ) → HasPlace cs2 (w.object_of deep) slot place → Will w.im (line (fetch_row slot)) false (mk 0 (w.object_of deep) (fr + 512) 0 0 0 0 0 cs2) (λ o. o ≡ Done (mk 0 (w.object_of deep) (fr + 512) 0 0 0 0 place cs2) 13)
     fetched cs2 p = will_fetch w.im (w.object_of deep) (fr + 512) slot place cs2 p.object_in p.small (g.slot_small s x name args is) p.entry_in p.entry place_small rw_small
@@ -258,7 +261,7 @@ module _ (w : World) (knows : Known w) (f : FrameFacts w knows) (on : Receivers 
       m0 = mk 0 (w.object_of deep) (fr + 512) 0 0 0 0 place cs2
 
       comes : ComesBack cs2 at up ob (w.object_of deep) (is_zero (read (home end) c)) (w.opens s u (pairs args (values end)) (written (home end) c (Name n_of)))
-      comes = g.leaves_on s u moved_st caller end cs2 x name args n_of (pairs args vals) moved.cells moved.up refl o is
+      comes = g.leaves_on s u moved_st caller end cs2 x name args n_of (pairs args vals) moved.cells moved.up refl o is suits
 
       still_in : at < length (out_cells cs2)
       still_in = let l = comes.at_in in omega (arith, length-set cs2 up 0)
@@ -270,7 +273,7 @@ module _ (w : World) (knows : Known w) (f : FrameFacts w knows) (on : Receivers 
       lowered : Will w.im (onto_code ++ last_row) true m0 (λ q. q ≡ Done (mk 0 ob fr 0 0 (w.object_of deep) 0 0 (out_cells cs2)) 21)
       lowered =
           let word = w.object_of deep in
-          let p = g.place_on s u caller end cs2 x name args n_of o is in
+          let p = g.place_on s u caller end cs2 x name args n_of o is suits in
           let down : Will w.im (line (addi 4 512 ∷ [])) true (mk 0 word (fr + 512) 0 0 0 0 0 cs2) (λ q. q ≡ Done (mk 0 word fr 0 0 0 0 0 cs2) 1) =
           will_row w.im true (addi 4 512 ∷ []) 1 _ _ (next refl (omega arith) (ap (λ v. Done (mk 0 word v 0 0 0 0 0 cs2) 1) (less_is (fr + 512) 512 fr refl (let t = frame_small in omega arith))) here) in
           let both : Will w.im last_row true m0 (λ q. q ≡ Done (mk 0 word fr 0 0 0 0 0 cs2) 14) =
@@ -292,7 +295,7 @@ module _ (w : World) (knows : Known w) (f : FrameFacts w knows) (on : Receivers 
           let taken : Will w.im (take_code sp ++ (onto_code ++ last_row)) true m0 (λ q. q ≡ Done (mk 0 ob fr 0 0 0 0 0 cs3) 30) =
           will_two_back w.im (take_code sp) (onto_code ++ last_row) m0 (mk 0 ob fr 0 0 word 0 0 (out_cells cs2)) 21 _ lowered
           (will_more w.im _ true _ _ _ (λ o q. ap (after 21) q) (gives_back w.im ob fr sp (out_cells cs2) still_in low word (same_word ∙ comes.untouched z))) in
-          let many = g.as_many_on s u caller end cs2 x name args n_of o is in
+          let many = g.as_many_on s u caller end cs2 x name args n_of o is suits in
           let there_again = g.is_there s u (pairs args (values end)) (home end) (Name n_of) cs3 x name args opens1 is in
           will_two_back w.im (moves_code (knows.spot s) args) (take_code sp ++ (onto_code ++ last_row)) m0 (mk 0 ob fr 0 0 0 0 0 cs3) 30 Moved taken
           (will_more w.im _ true _ _ _ (λ o q. meets_told _ _ (sym said) (meets_later 30 (meets_as (λ a m k e i. record { opened_again = i; receiver = stays cells (values end) home1 a k c not_arg e ∙ there_again }) q)))

@@ -259,11 +259,12 @@ pub record ComesBack (cells : List ℕ) (at up object word : ℕ) (free : Bool) 
   pub back : free ≡ true → After (slice_set (slice_set cells up 0) at word)
 
 -- what is known of receivers: a variable x whose class has the method, with so many arguments; the method's slot; what stays
--- while the call is open
+-- while the call is open; and that an object of a class may stand in the variable
 pub record Receivers (w : World) : Type 1 where
   pub IsReceiver : Scope → Ident → Ident → List Ident → Type 0
   pub slot_on : Scope → Ident → Ident → ℕ
   pub deeper_on : Scope → w.Under → State → ℕ → w.Under
+  pub IsFor : Scope → Ident → ℕ → Type 0
 
 -- what a call on the object of a variable needs beside
 pub record ReceiverFacts (w : World) (knows : Known w) (on : Receivers w) : Type 0 where
@@ -294,7 +295,11 @@ pub record ReceiverFacts (w : World) (knows : Known w) (on : Receivers w) : Type
   pub is_there : (s : Scope) (u : w.Under) (vals : List Moved) (st : State) (v : Value) (cells : List ℕ) (x name : Ident) (args : List Ident)
       → w.opens s u vals (written st (knows.cell_of s u x) v) cells → on.IsReceiver s x name args
       → read (written st (knows.cell_of s u x) v) (knows.cell_of s u x) ≡ v
-  -- which method it is
+  -- which method it is, of an object that may stand in the variable
+  pub is_for : (s : Scope) (u : w.Under) (st caller : State) (cells : List ℕ) (x name : Ident) (args : List Ident)
+      → w.opens s u [] st cells → on.IsReceiver s x name args → is_nil (read st (knows.cell_of s u x)) ≡ false
+      → caller ≡ out_from (knows.cell_of s u x ∷ map (knows.cell_of s u) args) st
+      → on.IsFor s x (knows.class_of (on.deeper_on s u caller (number_of (read st (knows.cell_of s u x)))))
   pub class_on : (s : Scope) (u : w.Under) (st caller : State) (cells : List ℕ) (x name : Ident) (args : List Ident)
       → w.opens s u [] st cells → on.IsReceiver s x name args → is_nil (read st (knows.cell_of s u x)) ≡ false
       → caller ≡ out_from (knows.cell_of s u x ∷ map (knows.cell_of s u) args) st
@@ -321,14 +326,15 @@ pub record ReceiverFacts (w : World) (knows : Known w) (on : Receivers w) : Type
       → w.opens s u vals st0 before
       → st ≡ written st0 (knows.cell_of s u x) (cleared (read st0 (knows.cell_of s u x)))
       → w.opens (w.routines.scope (knows.routine (knows.class_of (on.deeper_on s u st n)) name)) (on.deeper_on s u st n) [] end cells
-      → on.IsReceiver s x name args
+      → on.IsReceiver s x name args → on.IsFor s x (knows.class_of (on.deeper_on s u st n))
       → ComesBack cells (address (w.object_of u) (w.frame_of u) (knows.spot s x)) (w.frame_of u + (512 + 1)) (w.object_of u) (w.object_of (on.deeper_on s u st n)) (is_zero (read (record st { store = end.store; log = end.log }) (knows.cell_of s u x)))
       (w.opens s u (pairs args (map (λ binding. binding.value) end.frame)) (written (record st { store = end.store; log = end.log }) (knows.cell_of s u x) (Name n)))
   pub as_many_on : (s : Scope) (u : w.Under) (st end : State) (cells : List ℕ) (x name : Ident) (args : List Ident) (n : ℕ)
       → w.opens (w.routines.scope (knows.routine (knows.class_of (on.deeper_on s u st n)) name)) (on.deeper_on s u st n) [] end cells
-      → on.IsReceiver s x name args → length (map (λ binding. binding.value) end.frame) ≡ length args
+      → on.IsReceiver s x name args → on.IsFor s x (knows.class_of (on.deeper_on s u st n))
+      → length (map (λ binding. binding.value) end.frame) ≡ length args
   pub place_on :
       (s : Scope) (u : w.Under) (st end : State) (cells : List ℕ) (x name : Ident) (args : List Ident) (n : ℕ)
       → w.opens (w.routines.scope (knows.routine (knows.class_of (on.deeper_on s u st n)) name)) (on.deeper_on s u st n) [] end cells
-      → on.IsReceiver s x name args
+      → on.IsReceiver s x name args → on.IsFor s x (knows.class_of (on.deeper_on s u st n))
       → HasPlace cells (w.object_of (on.deeper_on s u st n)) (on.slot_on s x name) (w.routines.top (knows.routine (knows.class_of (on.deeper_on s u st n)) name) + 1)

@@ -1,5 +1,5 @@
 -- What is known of names when code is made, and what stays while a call is open.
-use Rattle.std.specs.Prelude.{◌≡◌, ◌⊎◌, ℕ, ◌+◌, ◌<◌, ◌≤◌, ◌^◌, false, List, [], ◌∷◌, length, map, replicate, slice_index, Some, Result, Ok, Err}
+use Rattle.std.specs.Prelude.{◌≡◌, ◌⊎◌, ℕ, ◌+◌, ◌<◌, ◌≤◌, ◌^◌, true, false, List, [], ◌∷◌, length, map, replicate, slice_index, Some, Result, Ok, Err}
 use Rattle.std.specs.Option.{unwrap_or}
 use Rattle.rpp_tree.specs.declared.tree.Ident.{Ident}
 use Rattle.rpp_tree.specs.declared.tree.Var.{Var}
@@ -8,8 +8,8 @@ use Rattle.class_table.specs.declared.kind.Kind.{Kind}
 use Rattle.class_table.specs.declared.kind.Kind.TheVariants as kind
 use Rattle.class_table.specs.Table.{table_of, slot_in, dispatch_in}
 use Rattle.class_table.specs.Overrides.{parameters_of}
-use Rattle.class_table.specs.Inheritance.{kind_of_var}
-use Rattle.class_table.specs.Expressions.{type_of, variable_type, occurs}
+use Rattle.class_table.specs.Inheritance.{is_or_inherits, kind_of_var}
+use Rattle.class_table.specs.Expressions.{is_int, type_of, variable_type, occurs}
 use Rattle.class_table.specs.Program.{setting_in}
 use Rattle.buddy_book.specs.Place.{place}
 use Rattle.roopl_semantics.specs.Store.{State, object_at, class_of_head}
@@ -115,6 +115,7 @@ receivers_of p = record {
   IsReceiver = IsReceiver p.setting.program;
   slot_on = λ s x name. slot_of p.setting.program (class_named p.setting.program s x) name;
   deeper_on = deeper_on p;
+  IsFor = λ s x class. is_or_inherits p.setting.program class (class_named p.setting.program s x) ≡ true;
 }
 
 -- ---- the value of a new variable
@@ -126,11 +127,15 @@ pub record IntInit (program : Source) (s : Scope) (var : Var) (e : Expression) :
   pub has_words : HasWords e
   pub apart : occurs var.name.text e ≡ false
 
+abbrev pub IsNull : Expression → Type 0
+IsNull (Null at) = Unit {0}
+IsNull _ = ⊥
+
 -- any other one begins and ends with nil
-abbrev pub NilInit : Expression → Type 0
-NilInit (Null at) = Unit {0}
-NilInit _ = ⊥
+pub record NilInit (program : Source) (var : Var) (e : Expression) : Type 0 where
+  pub no_int : is_int (kind_of_var program var) ≡ false
+  pub null : IsNull e
 
 pub record IsInit (program : Source) (s : Scope) (var : Var) (e : Expression) : Type 0 where
   pub few : length s.vars < most_variables
-  pub value : IntInit program s var e ⊎ NilInit e
+  pub value : IntInit program s var e ⊎ NilInit program var e

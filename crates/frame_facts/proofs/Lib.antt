@@ -1,0 +1,16 @@
+pub mod FramesFit
+pub mod SlotMoves
+pub mod Bridge
+pub mod KeptMoves
+pub mod MovesFit
+pub mod FactsMoves
+pub mod EntersFit
+pub mod FramePlaces
+pub mod ClassPlaces
+pub mod FactsFit
+pub mod LocalsFit
+pub mod MainFit
+pub mod StaticsWords
+pub mod OnEnters
+pub mod ReceiversFit
+pub mod Stated
