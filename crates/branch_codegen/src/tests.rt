@@ -1,7 +1,7 @@
 ghost use Rattle.std.specs.Prelude.{◌≡◌, ◌<◌, ◌^◌, List, [], length, IfOk};
 
 use crate::{conditional, repetition};
-use paired_code::{Piece, cells_of, link, mirror, plain, seq};
+use paired_code::{Piece, cells_of, link, marks_in, mirror, plain, seq};
 use pisa_isa::{Cell, Cells, Core, Image, Op, Stop, step};
 use std::alloc::Global;
 use std::process::Abort;
@@ -176,7 +176,12 @@ fn repeats(alloc: Global, entry: Option<u32>, exit: u32) -> Result<Piece, Fail> 
 fn image_of<R: Abort>(rt: &R, alloc: Global, piece: Piece, back: bool) -> Result<Image, Fail> {
     let main = if back { mirror(alloc, &piece)? } else { piece };
     assert!(rt; cells_of(&main).len() < 100);
-    Ok(link(alloc, main, Vec::new(alloc), Vec::new(alloc))?)
+    assert!(rt; marks_in(&main).len() < 100);
+    Ok(
+        link(alloc, main, Vec::new(alloc), Vec::new(alloc))?
+            .into_parts()
+            .0,
+    )
 }
 
 /// Why the run from this x stops, if it does within 2,000 steps, with the last x.

@@ -1,36 +1,37 @@
 -- Images, one after the other.
-use Rattle.std.proofs.Common.{◌≡◌, ◌∙◌, sym, ap, refl, ℕ, suc, ◌+◌, ◌<◌, ◌≤◌, List, [], ◌∷◌, ◌++◌, length, map, get_or, drop, drop-cons, drop_of_length-le, append_assoc, append-nil, Result, Ok, Err, add-one, arith}
+use Rattle.std.proofs.Common.{◌≡◌, ◌∙◌, sym, ap, refl, ℕ, ◌+◌, ◌<◌, ◌≤◌, List, [], ◌∷◌, ◌++◌, length, map, get_or, drop, drop_of_length-le, append_assoc, append-nil, Result, Ok, Err, arith}
 use Rattle.pisa_isa.specs.Image.{Segments}
+use Rattle.pisa_isa.specs.Notes.{NotedImage}
 use Rattle.pisa_image.specs.declared.error.ImageError.{ImageError}
 use Rattle.pisa_image.specs.declared.error.ImageError.TheVariants.{NotOneToOne, NoStart, NoFinish, ImageTruncated, ImageMagic, ImageField, ImageTrailing, NoMemory}
 use Rattle.pisa_image.specs.Reading.{image_at, Fails}
 use Rattle.cluster_commands.specs.ClusterPlans.{with_image, images_at}
+use Rattle.cluster_commands.proofs.Fronts.{front_line}
 
 -- images in front of what is read
 abbrev pub with_front : List Segments → Result (List Segments) ImageError → Result (List Segments) ImageError
 with_front front (Ok images) = Ok (front ++ images)
 with_front front (Err e) = Err e
 
-front_text : {A : Type 0} (f : A → List ℕ) (items : List A) (i : ℕ) (d : A) → i < length items → map f (drop i items) ≡ f (get_or items i d) ∷ map f (drop (i + 1) items)
-front_text f items i d more = rw (add-one, drop-cons items i d) refl
+with_next : (front : List Segments) (n : NotedImage) (rest : Result (List Segments) ImageError) → with_front front (with_image (Ok n) rest) ≡ with_front (front ++ n.image ∷ []) rest
+with_next front n (Ok images) = ap Ok (sym (append_assoc front (n.image ∷ []) images))
+with_next front n (Err e) = refl
 
-with_next : (front : List Segments) (image : Segments) (rest : Result (List Segments) ImageError) → with_front front (with_image (Ok image) rest) ≡ with_front (front ++ image ∷ []) rest
-with_next front image (Ok images) = ap Ok (sym (append_assoc front (image ∷ []) images))
-with_next front image (Err e) = refl
-
-pub image_read : {A : Type 0} (f : A → List ℕ) (items : List A) (i : ℕ) (d : A) (front : List Segments) (image : Segments) (total : Result (List Segments) ImageError) → i < length items
-    → image_at (f (get_or items i d)) ≡ Ok image → with_front front (images_at (map f (drop i items))) ≡ total → with_front (front ++ image ∷ []) (images_at (map f (drop (i + 1) items))) ≡ total
-image_read f items i d front image total lt is so_far =
-    sym (with_next front image (images_at (map f (drop (i + 1) items))))
+pub image_read : {A : Type 0} (f : A → List ℕ) (items : List A) (i : ℕ) (d : A) (front : List Segments) (n : NotedImage) (image : Segments)
+    (total : Result (List Segments) ImageError) → i < length items → image_at (f (get_or items i d)) ≡ Ok n → image ≡ n.image
+    → with_front front (images_at (map f (drop i items))) ≡ total → with_front (front ++ image ∷ []) (images_at (map f (drop (i + 1) items))) ≡ total
+image_read f items i d front n image total lt is same so_far =
+    ap (λ m. with_front (front ++ m ∷ []) (images_at (map f (drop (i + 1) items)))) same
+    ∙ sym (with_next front n (images_at (map f (drop (i + 1) items))))
     ∙ ap (λ r. with_front front (with_image r (images_at (map f (drop (i + 1) items))))) (sym is)
-    ∙ ap (λ ts. with_front front (images_at ts)) (sym (front_text f items i d lt)) ∙ so_far
+    ∙ ap (λ ts. with_front front (images_at ts)) (sym (front_line f items i d lt)) ∙ so_far
 
 refused : {A : Type 0} (f : A → List ℕ) (items : List A) (i : ℕ) (d : A) (front : List Segments) (e : ImageError) (total : Result (List Segments) ImageError) → i < length items
     → image_at (f (get_or items i d)) ≡ Err e → with_front front (images_at (map f (drop i items))) ≡ total → total ≡ Err e
 refused f items i d front e total lt is so_far =
-    sym so_far ∙ ap (λ ts. with_front front (images_at ts)) (front_text f items i d lt) ∙ ap (λ r. with_front front (with_image r (images_at (map f (drop (i + 1) items))))) is
+    sym so_far ∙ ap (λ ts. with_front front (images_at ts)) (front_line f items i d lt) ∙ ap (λ r. with_front front (with_image r (images_at (map f (drop (i + 1) items))))) is
 
-pub fails_with : (e : ImageError) (inner : Result Segments ImageError) (whole : Result (List Segments) ImageError) → ((r : ImageError) → inner ≡ Err r → whole ≡ Err r) → Fails e inner → Fails e whole
+pub fails_with : (e : ImageError) (inner : Result NotedImage ImageError) (whole : Result (List Segments) ImageError) → ((r : ImageError) → inner ≡ Err r → whole ≡ Err r) → Fails e inner → Fails e whole
 fails_with NoMemory inner whole go f = tt
 fails_with e inner whole go f = go e f
 

@@ -1,5 +1,5 @@
 -- Reading the lines of a script one after the other, as a loop does.
-use Rattle.std.proofs.Common.{◌≡◌, ◌∙◌, refl, sym, ap, ℕ, ◌+◌, ◌<◌, ◌≤◌, List, [], ◌∷◌, length, map, drop, get_or, length-drop, Result, Ok, Err, add-one, drop-cons, arith}
+use Rattle.std.proofs.Common.{◌≡◌, ◌∙◌, refl, sym, ap, ℕ, ◌+◌, ◌<◌, ◌≤◌, List, [], ◌∷◌, length, map, drop, get_or, length-drop, Result, Ok, Err, arith}
 use Rattle.std.proofs.lemmas.List.{nil_from_length, length-map}
 use Rattle.std.proofs.lemmas.List.Splits.{length-slice_split}
 use Rattle.std.proofs.lemmas.List.Sums.{count_by-le-length}
@@ -9,13 +9,11 @@ use Rattle.cluster_commands.specs.declared.error.ScriptError.{ScriptError}
 use Rattle.cluster_commands.specs.declared.error.ScriptError.TheVariants.{BadEvent, NoMemory}
 use Rattle.cluster_commands.specs.ClusterScripts.{with_line, events_from, Fails}
 use Rattle.machine_texts.specs.Lines.{pieces}
+use Rattle.cluster_commands.proofs.Fronts.{front_line}
 
 pub fails_with : (e : ScriptError) (inner whole : Result (List Event) ScriptError) → ((r : ScriptError) → inner ≡ Err r → whole ≡ Err r) → Fails e inner → Fails e whole
 fails_with NoMemory inner whole go f = tt
 fails_with (BadEvent line) inner whole go f = go (BadEvent line) f
-
-front_line : {A : Type 0} (f : A → List ℕ) (items : List A) (i : ℕ) (d : A) → i < length items → map f (drop i items) ≡ f (get_or items i d) ∷ map f (drop (i + 1) items)
-front_line f items i d more = rw (add-one, drop-cons items i d) refl
 
 line_read : (processors : ℕ) (line : ℕ) (commands more : List Event) (text : List ℕ) (texts : List (List ℕ)) → with_line processors line commands text ≡ Ok more
     → events_from processors line commands (text ∷ texts) ≡ events_from processors (line + 1) more texts

@@ -2,6 +2,7 @@
 use Rattle.std.specs.Prelude.{◌≡◌, ℕ, List, [], ◌∷◌, length, map, Result, Ok, Err}
 use Rattle.rpp_ports.specs.Ports.{Texts}
 use Rattle.pisa_isa.specs.Image.{Segments}
+use Rattle.pisa_isa.specs.Notes.{NotedImage}
 use Rattle.pisa_image.specs.declared.error.ImageError.{ImageError}
 use Rattle.pisa_image.specs.Reading.{image_at}
 use Rattle.rpp_plan.specs.declared.reading.TheConstants.{MOST_IMAGE}
@@ -25,10 +26,10 @@ abbrev pub cluster_files : (script : List ℕ) → (images : List (List ℕ)) �
 cluster_files script images = script_file script ∷ map image_file images
 
 -- the images that bytes are, or the first refusal
-abbrev pub with_image : Result Segments ImageError → Result (List Segments) ImageError → Result (List Segments) ImageError
+abbrev pub with_image : Result NotedImage ImageError → Result (List Segments) ImageError → Result (List Segments) ImageError
 with_image (Err e) rest = Err e
-with_image (Ok image) (Err e) = Err e
-with_image (Ok image) (Ok images) = Ok (image ∷ images)
+with_image (Ok noted) (Err e) = Err e
+with_image (Ok noted) (Ok images) = Ok (noted.image ∷ images)
 
 abbrev pub images_at : List (List ℕ) → Result (List Segments) ImageError
 images_at [] = Ok []

@@ -12,8 +12,7 @@ use Rattle.pisa_cluster.specs.declared.cluster.Moved.{Moved}
 use Rattle.pisa_cluster.specs.declared.cluster.Moved.TheVariants.{Made, Stopped}
 use Rattle.pisa_cluster.specs.declared.cluster.Undone.{Undone}
 use Rattle.pisa_cluster.specs.declared.cluster.Undone.TheVariants.{Done, Nothing, Blocked}
-use Rattle.pisa_cluster.specs.Replay.{begun}
-use Rattle.pisa_cluster.specs.Schedules.{Schedule, Moves, Undoes, rewound}
+use Rattle.pisa_cluster.specs.Schedules.{Schedule, first_schedule, Moves, Undoes, rewound}
 use Rattle.cluster_commands.specs.declared.script.Event.{Event}
 use Rattle.cluster_commands.specs.declared.script.Event.TheVariants.{Step, Undo, Rewind}
 
@@ -92,10 +91,6 @@ filled_lines number (word ∷ words) = filled_line number word ++ filled_lines (
 -- how a cluster stands
 abbrev pub end_shown : Schedule → List ℕ
 end_shown c = (kept_line (length c.kept) ++ processor_lines 1 c.joint.processors) ++ filled_lines 0 c.joint.cells
-
--- the cluster of these images on so many cells, at its start
-abbrev pub first_schedule : List Segments → (cells : ℕ) → Schedule
-first_schedule images cells = record { joint = begun images cells; kept = []; next_serial = 1 }
 
 -- what events print from the start on, and then how the cluster stands
 pub record IsShown (images : List Segments) (cells : ℕ) (events : List Event) (text : List ℕ) : Type 0 where

@@ -4,7 +4,8 @@ ghost use Rattle.pisa_image.specs.Reading.{Gives};
 ghost use Rattle.rpp_plan.specs.Files.{OnlyReads, image_file};
 ghost use Rattle.rpp_plan.specs.Plans.{planned, GivesPlan};
 ghost use Rattle.cluster_commands.specs.ClusterScripts.{IsEvent, events_of};
-ghost use Rattle.cluster_commands.specs.ClusterShown.{IsShown, first_schedule};
+ghost use Rattle.cluster_commands.specs.ClusterShown.{IsShown};
+ghost use Rattle.pisa_cluster.specs.Schedules.{first_schedule};
 ghost use Rattle.cluster_commands.specs.ClusterPlans.{cluster_files, images_at, WithImages, IsEventsPlan, IsClusterPlan, ClustersFiles};
 
 use crate::error::ScriptError;
@@ -90,7 +91,8 @@ fn judge_images(alloc: Global, texts: &[Vec<u8>]) -> Result<Vec<Image>, ImageErr
 {
     let mut images = Vec::new(alloc);
     for text in texts {
-        images.push(read_image(alloc, text)?)?;
+        let noted = read_image(alloc, text)?;
+        images.push(noted.into_parts().0)?;
     }
     Ok(images)
 }

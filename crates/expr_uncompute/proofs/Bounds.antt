@@ -7,7 +7,7 @@ use Rattle.rpp_tree.specs.Tree.{Expression, Number, Null, Variable, Element, Bin
 use Rattle.paired_code.specs.declared.part.Symbol.{Symbol}
 use Rattle.paired_code.specs.Layout.{mirror_cells, check_cells}
 use Rattle.paired_code.proofs.Mirrored.{length_mirror}
-use Rattle.expr_uncompute.specs.declared.Spot.{Spot}
+use Rattle.statement_laws.specs.declared.spot.Spot.{Spot}
 use Rattle.roopl_semantics.specs.Elements.{elements, index_elements, own_element, read_cost}
 use Rattle.expr_uncompute.specs.Number.{index_of}
 use Rattle.expr_uncompute.specs.Code
@@ -175,8 +175,8 @@ module _ (spot : List ℕ → Spot) (free : ℕ) where
   operand_cells (Number at word) i into = omega arith
   operand_cells (Null at) i into = omega arith
   operand_cells (Variable name) i into = let h = copy_cells (spot name.text) into in omega arith
-  operand_cells (Element name index) i into = let h = copy_cells (Rattle.expr_uncompute.specs.declared.Spot.TheVariants.Frame (free + i)) into in omega arith
-  operand_cells (Binary at o left right) i into = let h = copy_cells (Rattle.expr_uncompute.specs.declared.Spot.TheVariants.Frame (free + i)) into in omega arith
+  operand_cells (Element name index) i into = let h = copy_cells (Rattle.statement_laws.specs.declared.spot.Spot.TheVariants.Frame (free + i)) into in omega arith
+  operand_cells (Binary at o left right) i into = let h = copy_cells (Rattle.statement_laws.specs.declared.spot.Spot.TheVariants.Frame (free + i)) into in omega arith
 
   operator_cells : (o : BinOp) → length (Code.operator_cells o) ≤ 5
   operator_cells op.Add = omega arith
@@ -238,19 +238,19 @@ module _ (spot : List ℕ → Spot) (free : ℕ) where
   prepare_cells (Variable name) i = omega arith
   prepare_cells (Element name index) i =
       let whole : Expression = Element name index in
-      let s = Code.store_cells (Rattle.expr_uncompute.specs.declared.Spot.TheVariants.Frame (free + i)) Code.item in
+      let s = Code.store_cells (Rattle.statement_laws.specs.declared.spot.Spot.TheVariants.Frame (free + i)) Code.item in
       let a = prepare_cells index (i + 1) in
       let c = open_cells whole i in
-      omega (arith, length-append (Code.prepare_cells spot free index (i + 1)) (Code.around (Code.open_cells spot free whole i) s), length_around (Code.open_cells spot free whole i) s, store_cells (Rattle.expr_uncompute.specs.declared.Spot.TheVariants.Frame (free + i)) Code.item)
+      omega (arith, length-append (Code.prepare_cells spot free index (i + 1)) (Code.around (Code.open_cells spot free whole i) s), length_around (Code.open_cells spot free whole i) s, store_cells (Rattle.statement_laws.specs.declared.spot.Spot.TheVariants.Frame (free + i)) Code.item)
   prepare_cells (Binary at o left right) i =
       let whole : Expression = Binary at o left right in
-      let s = Code.store_cells (Rattle.expr_uncompute.specs.declared.Spot.TheVariants.Frame (free + i)) (Code.operator_result o) in
+      let s = Code.store_cells (Rattle.statement_laws.specs.declared.spot.Spot.TheVariants.Frame (free + i)) (Code.operator_result o) in
       let p = Code.prepare_cells spot free left (i + 1) in
       let r = Code.prepare_cells spot free right (i + 1 + Code.words left) in
       let a = prepare_cells left (i + 1) in
       let d = prepare_cells right (i + 1 + Code.words left) in
       let c = open_cells whole i in
-      omega (arith, length-append (p ++ r) (Code.around (Code.open_cells spot free whole i) s), length-append p r, length_around (Code.open_cells spot free whole i) s, store_cells (Rattle.expr_uncompute.specs.declared.Spot.TheVariants.Frame (free + i)) (Code.operator_result o))
+      omega (arith, length-append (p ++ r) (Code.around (Code.open_cells spot free whole i) s), length-append p r, length_around (Code.open_cells spot free whole i) s, store_cells (Rattle.statement_laws.specs.declared.spot.Spot.TheVariants.Frame (free + i)) (Code.operator_result o))
 
   -- the parts and the opened node, with room for nine cells
   both_cells : (e : Expression) (i : ℕ) → length (Code.parts_cells spot free e i) + length (Code.open_cells spot free e i) + 9 ≤ 29 * tokens e

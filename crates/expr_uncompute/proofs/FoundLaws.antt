@@ -5,7 +5,7 @@ use Rattle.rpp_tree.specs.Tree.{Expression, Lvalue}
 use Rattle.paired_code.specs.declared.part.Symbol.{Symbol}
 use Rattle.paired_code.specs.Machine.{Memory, Image, reg, with_reg}
 use Rattle.paired_code.specs.Pieces.{Trapped, Runs}
-use Rattle.expr_uncompute.specs.declared.Spot.{Spot}
+use Rattle.statement_laws.specs.declared.spot.Spot.{Spot}
 use Rattle.expr_uncompute.specs.Code.{words, place_words, amount, place, other_place, around, place_cells, fetch_cells, apart_cells}
 use Rattle.expr_uncompute.specs.Number.{number, read_of, index_of, place_address, shares}
 use Rattle.expr_uncompute.specs.Steps.{place_steps, fetch_steps, apart_steps}

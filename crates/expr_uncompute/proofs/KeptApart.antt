@@ -6,7 +6,7 @@ use Rattle.rpp_tree.specs.Tree.{Expression, Number, Null, Variable, Element, Bin
 use Rattle.pisa_isa.specs.Table.{word_of as word_of_truth}
 use Rattle.paired_code.specs.Machine.{Memory}
 use Rattle.roopl_semantics.specs.Operators.{truth_word}
-use Rattle.expr_uncompute.specs.declared.Spot.{Spot}
+use Rattle.statement_laws.specs.declared.spot.Spot.{Spot}
 use Rattle.expr_uncompute.specs.Number.{Bases, address_of, word_of, read_of, index_of, reads_array, shares, swap_shares, Sees}
 use Rattle.expr_uncompute.specs.Code.{content, outcome, left_operand, reach_cells, copy_cells, compare_cells, compare_all, apart_cells, both_apart_cells, sltx, xori}
 use Rattle.expr_uncompute.specs.Steps.{compare_steps, apart_steps, both_apart_steps}

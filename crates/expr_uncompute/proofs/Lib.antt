@@ -1,5 +1,3 @@
-pub mod Parameters
-pub mod Fields
 pub mod Goes
 pub mod Comparing
 pub mod Scratch

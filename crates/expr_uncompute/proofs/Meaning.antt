@@ -9,7 +9,7 @@ use Rattle.rpp_tree.specs.Tree.{Expression, Number, Null, Variable, Element, Bin
 use Rattle.roopl_semantics.specs.Operators.{operated, truth_word}
 use Rattle.roopl_semantics.specs.Store.{Value, Word, Nil, Name, State, number_of, object_at}
 use Rattle.roopl_semantics.specs.Value.{Part, variable_value, read_cell, value, cell_of, element_cell, element_of, combined as combined_values}
-use Rattle.expr_uncompute.specs.declared.Spot.{Spot}
+use Rattle.statement_laws.specs.declared.spot.Spot.{Spot}
 use Rattle.expr_uncompute.specs.Number.{Bases, word_of, number, place_address, element_address, element_at, word_in, combined}
 use Rattle.expr_uncompute.specs.Means.{is_equation, shown, shown_result, cell_result, AreOperands, words, compared, OperandsOf, IsInt, StandsArray, Means, MeansPlace}
 use Rattle.expr_uncompute.proofs.Numbers.{element_nil, element_inside, element_past}

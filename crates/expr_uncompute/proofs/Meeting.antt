@@ -12,7 +12,7 @@ use Rattle.roopl_semantics.specs.Operators.{is_true, truth_word}
 use Rattle.roopl_semantics.specs.Store.{Value, State}
 use Rattle.roopl_semantics.specs.Value.{value}
 use Rattle.roopl_semantics.specs.Execution.{holds}
-use Rattle.expr_uncompute.specs.declared.Spot.{Spot}
+use Rattle.statement_laws.specs.declared.spot.Spot.{Spot}
 use Rattle.expr_uncompute.specs.Code.{words}
 use Rattle.expr_uncompute.specs.Steps.{value_steps, test_steps}
 use Rattle.expr_uncompute.specs.Laws.{bases_of, Ready, Xored, truth_of}

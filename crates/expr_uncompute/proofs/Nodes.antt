@@ -6,8 +6,8 @@ use Rattle.rpp_tree.specs.declared.tree.BinOp.{BinOp}
 use Rattle.rpp_tree.specs.declared.tree.BinOp.TheVariants as op
 use Rattle.rpp_tree.specs.declared.tree.Ident.{Ident}
 use Rattle.rpp_tree.specs.Tree.{Expression, Element, Binary}
-use Rattle.expr_uncompute.specs.declared.Spot.{Spot}
-use Rattle.expr_uncompute.specs.declared.Spot.TheVariants.{Frame}
+use Rattle.statement_laws.specs.declared.spot.Spot.{Spot}
+use Rattle.statement_laws.specs.declared.spot.Spot.TheVariants.{Frame}
 use Rattle.expr_uncompute.specs.Code.{words, content, item, around, open_cells, store_cells, operator_result}
 use Rattle.expr_uncompute.specs.Number.{Bases, given, word_of, number, element_at, Sees}
 use Rattle.expr_uncompute.specs.Steps.{open_steps, around_steps}

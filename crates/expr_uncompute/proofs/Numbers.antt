@@ -10,7 +10,7 @@ use Rattle.rpp_tree.specs.declared.tree.BinOp.{BinOp}
 use Rattle.rpp_tree.specs.declared.tree.BinOp.TheVariants as op
 use Rattle.rpp_tree.specs.Tree.{Expression, Number, Null, Variable, Element, Binary}
 use Rattle.roopl_semantics.specs.Operators.{operated}
-use Rattle.expr_uncompute.specs.declared.Spot.{Spot}
+use Rattle.statement_laws.specs.declared.spot.Spot.{Spot}
 use Rattle.expr_uncompute.specs.Number.{Bases, element_address, element_at, word_in, combined, word_of, number, IsArray, Sees}
 use Rattle.expr_uncompute.proofs.Comparing.{truth_small}
 

@@ -4,8 +4,8 @@ use Rattle.std.specs.Prelude.{slice_index, slice_set, Result, Ok, Err}
 use Rattle.rpp_tree.specs.Tree.{Expression, Number, Null, Variable, Element, Binary}
 use Rattle.paired_code.specs.Machine.{reg}
 use Rattle.roopl_semantics.specs.Operators.{operated}
-use Rattle.expr_uncompute.specs.declared.Spot.{Spot}
-use Rattle.expr_uncompute.specs.declared.Spot.TheVariants.{Frame}
+use Rattle.statement_laws.specs.declared.spot.Spot.{Spot}
+use Rattle.statement_laws.specs.declared.spot.Spot.TheVariants.{Frame}
 use Rattle.expr_uncompute.specs.Code.{words, left_operand, right_operand, content, item, operand_cells, checked_cells, open_cells, point_cells, exch, result_of}
 use Rattle.expr_uncompute.specs.Number.{Bases, address_of, given, word_of, number, element_at, IsArray, Sees}
 use Rattle.expr_uncompute.specs.Steps.{operand_steps, checked_steps, open_steps}

@@ -5,9 +5,10 @@ use Rattle.rpp_tree.specs.declared.tree.Ident.{Ident}
 use Rattle.rpp_tree.specs.Tree.{Expression, Number, Null, Variable, Element, Binary, Lvalue, Whole, Item}
 use Rattle.paired_code.specs.Layout.{mirror_cells}
 use Rattle.paired_code.specs.declared.part.Symbol.{Symbol}
-use Rattle.expr_uncompute.specs.declared.Spot.{Spot}
-use Rattle.expr_uncompute.specs.declared.Spot.TheVariants.{Field, Frame}
-use Rattle.expr_uncompute.specs.Code.{xor, addi, amount, place, other_place, right_operand, around, base_of, offset_of, checked_cells, point_cells, open_cells, fetch_cells, place_words, place_cells, result_of}
+use Rattle.statement_laws.specs.declared.spot.Spot.{Spot}
+use Rattle.statement_laws.specs.declared.spot.Spot.TheVariants.{Field, Frame}
+use Rattle.expr_uncompute.specs.Code.{xor, addi, amount, place, other_place, right_operand, around, base_of, checked_cells, point_cells, open_cells, fetch_cells, place_words, place_cells, result_of}
+use Rattle.method_scope.specs.Visible.{offset_of}
 use Rattle.expr_uncompute.specs.Number.{Bases, address_of, given, word_of, number, place_address, read_of, Sees}
 use Rattle.expr_uncompute.specs.Steps.{checked_steps, open_steps, fetch_steps, place_steps}
 use Rattle.expr_uncompute.proofs.Goes.{Goes, Traps, goes_seq, goes_cons, goes_to, goes_around, goes_set, goes_addi, traps_first, traps_then, traps_more}

@@ -7,8 +7,8 @@ use Rattle.rpp_tree.specs.Tree.{Expression, Number, Null, Variable, Element, Bin
 use Rattle.paired_code.specs.Machine.{Memory}
 use Rattle.paired_code.specs.Layout.{mirror_cells}
 use Rattle.paired_code.specs.declared.part.Symbol.{Symbol}
-use Rattle.expr_uncompute.specs.declared.Spot.{Spot}
-use Rattle.expr_uncompute.specs.declared.Spot.TheVariants.{Frame}
+use Rattle.statement_laws.specs.declared.spot.Spot.{Spot}
+use Rattle.statement_laws.specs.declared.spot.Spot.TheVariants.{Frame}
 use Rattle.expr_uncompute.specs.Code.{words, item, point_cells, exch, right_operand, open_cells, store_cells, prepare_cells, parts_cells, operator_result}
 use Rattle.expr_uncompute.specs.Number.{Bases, given, word_of, number, element_at, word_in, Sees}
 use Rattle.expr_uncompute.specs.Steps.{open_steps, prepare_steps, parts_steps}

@@ -3,9 +3,10 @@ use Rattle.std.proofs.Common.{◌≡◌, ℕ, ◌+◌, ◌^◌, ◌<◌, ◌≤�
 use Rattle.std.specs.Prelude.{slice_index, slice_set}
 use Rattle.std.proofs.lemmas.List.{get_or-set_same, set-set}
 use Rattle.paired_code.specs.Machine.{Memory}
-use Rattle.expr_uncompute.specs.declared.Spot.{Spot}
-use Rattle.expr_uncompute.specs.declared.Spot.TheVariants.{Field, Frame}
-use Rattle.expr_uncompute.specs.Code.{address, content, left_operand, right_operand, item, outcome, truth, xor, xori, base_of, offset_of, reach_cells, copy_cells, store_cells}
+use Rattle.statement_laws.specs.declared.spot.Spot.{Spot}
+use Rattle.statement_laws.specs.declared.spot.Spot.TheVariants.{Field, Frame}
+use Rattle.expr_uncompute.specs.Code.{address, content, left_operand, right_operand, item, outcome, truth, xor, xori, base_of, reach_cells, copy_cells, store_cells}
+use Rattle.method_scope.specs.Visible.{offset_of}
 use Rattle.expr_uncompute.specs.Number.{Bases, address_of}
 use Rattle.expr_uncompute.proofs.Goes.{Goes, goes_seq, goes_cons, goes_around, goes_to, goes_set, goes_addi, goes_exch}
 use Rattle.expr_uncompute.proofs.Scratch.{Scratch, mem}

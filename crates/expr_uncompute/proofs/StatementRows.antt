@@ -17,7 +17,7 @@ use Rattle.roopl_semantics.specs.Store.{Value, Word, State, number_of}
 use Rattle.roopl_semantics.specs.Value.{Cell, read, written, value, cell_of}
 use Rattle.roopl_semantics.specs.Elements.{elements, index_elements, own_element, share_array, read_cost, shared_array_fault}
 use Rattle.roopl_semantics.specs.Execution.{Setting, Runner, statement}
-use Rattle.expr_uncompute.specs.declared.Spot.{Spot}
+use Rattle.statement_laws.specs.declared.spot.Spot.{Spot}
 use Rattle.expr_uncompute.specs.Code.{words, place_words}
 use Rattle.expr_uncompute.specs.Number.{read_of, index_of, update_shares, swap_shares}
 use Rattle.expr_uncompute.specs.Steps.{place_steps, fetch_steps, apart_steps, both_apart_steps, update_steps, swap_steps}

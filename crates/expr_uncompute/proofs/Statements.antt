@@ -13,7 +13,7 @@ use Rattle.paired_code.specs.Machine.{Memory, Image, reg}
 use Rattle.paired_code.specs.Pieces.{Done, Trapped, Runs}
 use Rattle.paired_code.specs.declared.part.Symbol.{Symbol}
 use Rattle.roopl_semantics.specs.Operators.{updated}
-use Rattle.expr_uncompute.specs.declared.Spot.{Spot}
+use Rattle.statement_laws.specs.declared.spot.Spot.{Spot}
 use Rattle.expr_uncompute.specs.Code.{words, place_words, update_cells, swap_cells}
 use Rattle.expr_uncompute.specs.Number.{Bases, number, read_of, index_of, place_address, update_shares, swap_shares, Sees, SamePlace}
 use Rattle.expr_uncompute.specs.Steps.{place_steps, fetch_steps, apart_steps, both_apart_steps, update_steps, swap_steps}

@@ -3,8 +3,8 @@ use Rattle.std.proofs.Common.{◌≡◌, ◌≢◌, ℕ, ◌+◌, ◌<◌, ◌�
 use Rattle.std.specs.Prelude.{slice_index, slice_set, Ok}
 use Rattle.std.proofs.lemmas.List.{get_or-set_same, get_or-set_other}
 use Rattle.rpp_tree.specs.Tree.{Expression, Number, Null, Variable, Element, Binary}
-use Rattle.expr_uncompute.specs.declared.Spot.{Spot}
-use Rattle.expr_uncompute.specs.declared.Spot.TheVariants.{Frame}
+use Rattle.statement_laws.specs.declared.spot.Spot.{Spot}
+use Rattle.statement_laws.specs.declared.spot.Spot.TheVariants.{Frame}
 use Rattle.expr_uncompute.specs.Code.{words}
 use Rattle.expr_uncompute.specs.Number.{Bases, address_of, given, word_of, number, Sees, Same}
 use Rattle.expr_uncompute.proofs.Numbers.{Agree, number_same, sees_same}

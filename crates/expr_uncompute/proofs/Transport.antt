@@ -10,7 +10,7 @@ use Rattle.roopl_semantics.specs.Store.{Value, Word, Nil, Name, State, number_of
 use Rattle.roopl_semantics.specs.Value.{Cell, Slot, Part, cell_named, variable_value, read, written, value, cell_of}
 use Rattle.roopl_semantics.specs.Elements.{elements, index_elements, own_element, share_array}
 use Rattle.roopl_semantics.specs.Execution.{Setting}
-use Rattle.expr_uncompute.specs.declared.Spot.{Spot}
+use Rattle.statement_laws.specs.declared.spot.Spot.{Spot}
 use Rattle.expr_uncompute.specs.Code.{words, place_words}
 use Rattle.expr_uncompute.specs.Number.{Bases, address_of, word_of, read_of, index_of, place_address, update_shares, swap_shares, Sees}
 use Rattle.expr_uncompute.specs.Laws.{bases_of, swapped_at}

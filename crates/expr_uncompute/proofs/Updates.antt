@@ -9,7 +9,7 @@ use Rattle.rpp_tree.specs.Tree.{Expression, Lvalue, Whole, Item}
 use Rattle.paired_code.specs.Machine.{Memory}
 use Rattle.paired_code.specs.declared.part.Symbol.{Symbol}
 use Rattle.roopl_semantics.specs.Operators.{updated}
-use Rattle.expr_uncompute.specs.declared.Spot.{Spot}
+use Rattle.statement_laws.specs.declared.spot.Spot.{Spot}
 use Rattle.expr_uncompute.specs.Code.{words, content, amount, place, other_place, first_word, second_word, exch, update_cell, place_words, place_cells, fetch_cells, apart_cells, both_apart_cells, update_cells, swap_cells}
 use Rattle.expr_uncompute.specs.Number.{Bases, number, word_of, element_at, read_of, index_of, place_address, update_shares, swap_shares, Sees, Same, SamePlace}
 use Rattle.expr_uncompute.specs.Steps.{place_steps, fetch_steps, apart_steps, both_apart_steps, update_steps, swap_steps}

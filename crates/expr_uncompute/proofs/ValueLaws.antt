@@ -8,7 +8,7 @@ use Rattle.rpp_tree.specs.Tree.{Expression, Number, Null, Variable, Element, Bin
 use Rattle.paired_code.specs.Machine.{reg}
 use Rattle.paired_code.specs.declared.part.Symbol.{Symbol}
 use Rattle.roopl_semantics.specs.Operators.{is_true, truth_word}
-use Rattle.expr_uncompute.specs.declared.Spot.{Spot}
+use Rattle.statement_laws.specs.declared.spot.Spot.{Spot}
 use Rattle.expr_uncompute.specs.Code.{truth, around, xor, truth_cells, open_cells, parts_cells, result_of, operator_result}
 use Rattle.expr_uncompute.specs.Number.{Bases, number}
 use Rattle.expr_uncompute.specs.Steps.{open_steps, parts_steps, value_steps, test_steps}

@@ -6,7 +6,7 @@ use Rattle.paired_code.specs.Machine.{Memory, Image, reg, with_reg}
 use Rattle.paired_code.specs.Pieces.{Done, Trapped, Runs}
 use Rattle.paired_code.specs.declared.part.Symbol.{Symbol}
 use Rattle.roopl_semantics.specs.Operators.{is_true, truth_word}
-use Rattle.expr_uncompute.specs.declared.Spot.{Spot}
+use Rattle.statement_laws.specs.declared.spot.Spot.{Spot}
 use Rattle.expr_uncompute.specs.Code.{Target, words, truth, xor, truth_cells, value_cells, test_cells, result_of}
 use Rattle.expr_uncompute.specs.Number.{Bases, number, Sees}
 use Rattle.expr_uncompute.specs.Steps.{value_steps, test_steps}

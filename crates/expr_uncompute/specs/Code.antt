@@ -10,9 +10,10 @@ use Rattle.pisa_isa.specs.declared.cell.Op.TheVariants.{Add, Sub, Xor, Addi, Xor
 use Rattle.paired_code.specs.declared.part.Symbol.{Symbol}
 use Rattle.paired_code.specs.declared.part.Symbol.TheVariants.{Own}
 use Rattle.paired_code.specs.Layout.{mirror_cells, check_cells}
-use Rattle.expr_uncompute.specs.declared.Spot.{Spot}
+use Rattle.statement_laws.specs.declared.spot.Spot.{Spot}
+use Rattle.statement_laws.specs.declared.spot.Spot.TheVariants.{Field, Frame}
+use Rattle.method_scope.specs.Visible.{offset_of}
 use Rattle.expr_uncompute.specs.Number.{index_of}
-use Rattle.expr_uncompute.specs.declared.Spot.TheVariants.{Field, Frame}
 
 -- ---- the registers
 
@@ -130,10 +131,6 @@ around w mid = w ++ (mid ++ mirror_cells w)
 abbrev pub base_of : Spot → ℕ
 base_of (Field i) = object
 base_of (Frame i) = frame
-
-abbrev pub offset_of : Spot → ℕ
-offset_of (Field i) = 2 + i
-offset_of (Frame i) = i
 
 -- the address of a spot in `address`, and its word in `content`
 abbrev pub reach_cells : Spot → List Symbol

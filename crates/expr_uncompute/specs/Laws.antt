@@ -8,7 +8,7 @@ use Rattle.paired_code.specs.Machine.{Memory, Image, reg, with_reg}
 use Rattle.paired_code.specs.Pieces.{Done, Trapped, Runs}
 use Rattle.roopl_semantics.specs.Operators.{is_true, truth_word, updated}
 use Rattle.expr_uncompute.specs.Code.{object, frame}
-use Rattle.expr_uncompute.specs.declared.Spot.{Spot}
+use Rattle.statement_laws.specs.declared.spot.Spot.{Spot}
 use Rattle.expr_uncompute.specs.Number.{Bases, read_of, update_shares, swap_shares, Sees, Same, SamePlace}
 
 -- a register that code of expressions uses for itself

@@ -3,8 +3,8 @@ use Rattle.std.specs.Prelude.{◌≡◌, ◌≢◌, ℕ, ◌+◌, ◌^◌, ◌<�
 use Rattle.rpp_tree.specs.declared.tree.BinOp.{BinOp}
 use Rattle.rpp_tree.specs.Tree.{Expression, Number, Null, Variable, Element, Binary, Lvalue, Whole, Item}
 use Rattle.roopl_semantics.specs.Operators.{operated}
-use Rattle.expr_uncompute.specs.declared.Spot.{Spot}
-use Rattle.expr_uncompute.specs.declared.Spot.TheVariants.{Field, Frame}
+use Rattle.statement_laws.specs.declared.spot.Spot.{Spot}
+use Rattle.statement_laws.specs.declared.spot.Spot.TheVariants.{Field, Frame}
 
 -- the addresses of the present object and of the open frame
 pub record Bases : Type 0 where

@@ -2,23 +2,24 @@
 ghost use Rattle.std.specs.Prelude.{◌≡◌, ◌<◌, ◌^◌, [], ◌∷◌, ◌++◌, IfOk};
 ghost use Rattle.rpp_tree.specs.Views.{expression_of, lvalue_of};
 ghost use Rattle.paired_code.specs.Code.{unmarked};
-ghost use Rattle.expr_uncompute.specs.Code.{offset_of, sltx as sltx_cell, xori as xori_cell, compare_cells, compare_all as cells_of_all, apart_cells, both_apart_cells};
+ghost use Rattle.expr_uncompute.specs.Code.{sltx as sltx_cell, xori as xori_cell, compare_cells, compare_all as cells_of_all, apart_cells, both_apart_cells};
+ghost use Rattle.method_scope.specs.Visible.{offset_of, spot_of as spot_of_name, known_by};
 ghost use Rattle.expr_uncompute.specs.Number.{read_of, index_of};
-ghost use Rattle.expr_uncompute.specs.Visible.{spot_of as spot_of_name, known_by};
 
-use crate::Spot;
 use crate::cells::{enclosed, sltx, xori};
-use crate::known::Names;
-use crate::names::spot_of;
 use crate::rows::{CONTENT, LEFT, OUTCOME, copy, reached};
+use method_scope::{Names, spot_of};
 use paired_code::{Piece, check_zero, empty, seq};
 use rpp_tree::tree::{Expr, Place};
 use rpp_words::NoMemory;
+use statement_laws::Spot;
 use std::alloc::Global;
 
 // Whether two words are the same.
 fn same_row(alloc: Global) -> Result<Piece, NoMemory>
-    ensures { IfOk result (λ p. p ≡ unmarked (sltx_cell OUTCOME LEFT CONTENT ∷ sltx_cell OUTCOME CONTENT LEFT ∷ xori_cell OUTCOME 1 ∷ [])) }
+    ensures { IfOk result (λ p.
+        p ≡ unmarked (sltx_cell OUTCOME LEFT CONTENT ∷ sltx_cell OUTCOME CONTENT LEFT ∷ xori_cell
+            OUTCOME 1 ∷ [])) }
 {
     let below = sltx(alloc, OUTCOME, LEFT, CONTENT)?;
     let above = sltx(alloc, OUTCOME, CONTENT, LEFT)?;
@@ -46,7 +47,9 @@ fn compare(alloc: Global, x: Spot, y: Spot) -> Result<Piece, NoMemory>
 #[cycle(compared)]
 fn compare_all(alloc: Global, names: &Names, changed: Spot, e: &Expr) -> Result<Piece, NoMemory>
     requires { offset_of changed < 2 ^ 32 }
-    ensures { IfOk result (λ p. p ≡ unmarked (cells_of_all (spot_of_name (known_by names.now)) changed (expression_of e.now))) }
+    ensures { IfOk result (λ p.
+        p ≡ unmarked (cells_of_all (spot_of_name (known_by names.now)) changed
+            (expression_of e.now))) }
 {
     match e {
         Expr::Number { .. } => Ok(empty(alloc)),
@@ -68,7 +71,9 @@ fn compare_read(
     place: &Place,
 ) -> Result<Piece, NoMemory>
     requires { offset_of changed < 2 ^ 32 }
-    ensures { IfOk result (λ p. p ≡ unmarked (cells_of_all (spot_of_name (known_by names.now)) changed (read_of (lvalue_of place.now)))) }
+    ensures { IfOk result (λ p.
+        p ≡ unmarked (cells_of_all (spot_of_name (known_by names.now)) changed
+            (read_of (lvalue_of place.now)))) }
 {
     match &place.index {
         None => Ok(empty(alloc)),
@@ -88,7 +93,9 @@ fn compare_index(
     place: &Place,
 ) -> Result<Piece, NoMemory>
     requires { offset_of changed < 2 ^ 32 }
-    ensures { IfOk result (λ p. p ≡ unmarked (cells_of_all (spot_of_name (known_by names.now)) changed (index_of (lvalue_of place.now)))) }
+    ensures { IfOk result (λ p.
+        p ≡ unmarked (cells_of_all (spot_of_name (known_by names.now)) changed
+            (index_of (lvalue_of place.now)))) }
 {
     match &place.index {
         None => Ok(empty(alloc)),
@@ -98,7 +105,9 @@ fn compare_index(
 
 /// The check of an update: the place against its index and the value.
 pub fn apart(alloc: Global, names: &Names, place: &Place, value: &Expr) -> Result<Piece, NoMemory>
-    ensures { IfOk result (λ p. p ≡ unmarked (apart_cells (spot_of_name (known_by names.now)) (lvalue_of place.now) (index_of (lvalue_of place.now)) (expression_of value.now))) }
+    ensures { IfOk result (λ p.
+        p ≡ unmarked (apart_cells (spot_of_name (known_by names.now)) (lvalue_of place.now)
+            (index_of (lvalue_of place.now)) (expression_of value.now))) }
 {
     match &place.index {
         None => Ok(empty(alloc)),
@@ -119,7 +128,9 @@ fn apart_from(
     left: &Place,
     right: &Place,
 ) -> Result<Piece, NoMemory>
-    ensures { IfOk result (λ p. p ≡ unmarked (apart_cells (spot_of_name (known_by names.now)) (lvalue_of changed.now) (index_of (lvalue_of left.now)) (index_of (lvalue_of right.now)))) }
+    ensures { IfOk result (λ p.
+        p ≡ unmarked (apart_cells (spot_of_name (known_by names.now)) (lvalue_of changed.now)
+            (index_of (lvalue_of left.now)) (index_of (lvalue_of right.now)))) }
 {
     match &changed.index {
         None => Ok(empty(alloc)),
@@ -139,7 +150,9 @@ pub fn both_apart(
     left: &Place,
     right: &Place,
 ) -> Result<Piece, NoMemory>
-    ensures { IfOk result (λ p. p ≡ unmarked (both_apart_cells (spot_of_name (known_by names.now)) (lvalue_of left.now) (lvalue_of right.now))) }
+    ensures { IfOk result (λ p.
+        p ≡ unmarked (both_apart_cells (spot_of_name (known_by names.now)) (lvalue_of left.now)
+            (lvalue_of right.now))) }
 {
     let first = apart_from(alloc, names, left, left, right)?;
     let second = apart_from(alloc, names, right, left, right)?;

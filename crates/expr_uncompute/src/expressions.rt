@@ -6,11 +6,11 @@ ghost use Rattle.roopl_semantics.specs.Elements.{elements, index_elements, own_e
 ghost use Rattle.expr_uncompute.specs.Code.{Target, words as words_of, place_words as words_of_place};
 ghost use Rattle.expr_uncompute.specs.Promises.{ValueLaw, TestLaw, UpdateLaw, SwapLaw};
 ghost use Rattle.expr_uncompute.specs.Steps.{value_steps, test_steps, update_steps, swap_steps, tokens, place_tokens};
-ghost use Rattle.expr_uncompute.specs.Visible.{spot_of, free_of, known_in};
+ghost use Rattle.method_scope.specs.Visible.{spot_of, free_of, known_in};
 
 use crate::places::{swap_piece, update_piece};
-use crate::scope::Scope;
 use crate::values::{test_piece, value_piece};
+use method_scope::Scope;
 use paired_code::Piece;
 use rpp_tree::tree::{Expr, Place, UpdateOp};
 use rpp_words::NoMemory;
@@ -25,7 +25,9 @@ use std::alloc::Global;
 pub fn value_code(alloc: Global, e: &Expr, scope: &Scope, into: u8) -> Result<Piece, NoMemory>
     requires register { Target into }
     requires room { words_of (expression_of e.now) ≤ 1000 }
-    ensures law { IfOk result (λ p. ValueLaw (spot_of (known_in scope.now)) (free_of (known_in scope.now)) into (expression_of e.now) p.cells) }
+    ensures law { IfOk result (λ p.
+        ValueLaw (spot_of (known_in scope.now)) (free_of (known_in scope.now)) into
+            (expression_of e.now) p.cells) }
     ensures marks { IfOk result (λ p. p.marks ≡ []) }
     ensures steps { value_steps (expression_of e.now) ≤ 162 * nodes (expression_of e.now) }
     ensures size { IfOk result (λ p. length p.cells ≤ 58 * tokens (expression_of e.now)) }
@@ -38,7 +40,9 @@ pub fn value_code(alloc: Global, e: &Expr, scope: &Scope, into: u8) -> Result<Pi
 pub fn test_code(alloc: Global, e: &Expr, scope: &Scope, into: u8) -> Result<Piece, NoMemory>
     requires register { Target into }
     requires room { words_of (expression_of e.now) ≤ 1000 }
-    ensures law { IfOk result (λ p. TestLaw (spot_of (known_in scope.now)) (free_of (known_in scope.now)) into (expression_of e.now) p.cells) }
+    ensures law { IfOk result (λ p.
+        TestLaw (spot_of (known_in scope.now)) (free_of (known_in scope.now)) into
+            (expression_of e.now) p.cells) }
     ensures marks { IfOk result (λ p. p.marks ≡ []) }
     ensures steps { test_steps (expression_of e.now) ≤ 162 * nodes (expression_of e.now) }
     ensures size { IfOk result (λ p. length p.cells ≤ 58 * tokens (expression_of e.now)) }
@@ -58,11 +62,19 @@ pub fn update_code(
     value: &Expr,
     scope: &Scope,
 ) -> Result<Piece, NoMemory>
-    requires room { words_of_place (lvalue_of place.now) + words_of (expression_of value.now) ≤ 1000 }
-    ensures law { IfOk result (λ p. UpdateLaw (spot_of (known_in scope.now)) (free_of (known_in scope.now)) op (lvalue_of place.now) (expression_of value.now) p.cells) }
+    requires room { words_of_place (lvalue_of place.now) + words_of (expression_of value.now) ≤
+            1000 }
+    ensures law { IfOk result (λ p.
+        UpdateLaw (spot_of (known_in scope.now)) (free_of (known_in scope.now)) op
+            (lvalue_of place.now) (expression_of value.now) p.cells) }
     ensures marks { IfOk result (λ p. p.marks ≡ []) }
-    ensures steps { update_steps (lvalue_of place.now) (expression_of value.now) ≤ 162 * (1 + index_nodes (lvalue_of place.now) + nodes (expression_of value.now) + read_cost (own_element (lvalue_of place.now)) (index_elements (lvalue_of place.now) ++ elements (expression_of value.now))) }
-    ensures size { IfOk result (λ p. length p.cells ≤ 80 * (place_tokens (lvalue_of place.now) + 1 + tokens (expression_of value.now))) }
+    ensures steps { update_steps (lvalue_of place.now) (expression_of value.now) ≤ 162 *
+            (1 + index_nodes (lvalue_of place.now) + nodes (expression_of value.now) + read_cost
+            (own_element (lvalue_of place.now))
+            (index_elements (lvalue_of place.now) ++ elements (expression_of value.now))) }
+    ensures size { IfOk result (λ p.
+        length p.cells ≤ 80 * (place_tokens (lvalue_of place.now) + 1 + tokens
+            (expression_of value.now))) }
 {
     let names = scope.names();
     update_piece(alloc, op, place, value, &names)
@@ -76,11 +88,19 @@ pub fn swap_code(
     right: &Place,
     scope: &Scope,
 ) -> Result<Piece, NoMemory>
-    requires room { words_of_place (lvalue_of left.now) + words_of_place (lvalue_of right.now) ≤ 1000 }
-    ensures law { IfOk result (λ p. SwapLaw (spot_of (known_in scope.now)) (free_of (known_in scope.now)) (lvalue_of left.now) (lvalue_of right.now) p.cells) }
+    requires room { words_of_place (lvalue_of left.now) + words_of_place (lvalue_of right.now) ≤
+            1000 }
+    ensures law { IfOk result (λ p.
+        SwapLaw (spot_of (known_in scope.now)) (free_of (known_in scope.now)) (lvalue_of left.now)
+            (lvalue_of right.now) p.cells) }
     ensures marks { IfOk result (λ p. p.marks ≡ []) }
-    ensures steps { swap_steps (lvalue_of left.now) (lvalue_of right.now) ≤ 304 * (1 + index_nodes (lvalue_of left.now) + index_nodes (lvalue_of right.now) + read_cost (own_element (lvalue_of left.now) ++ own_element (lvalue_of right.now)) (index_elements (lvalue_of left.now) ++ index_elements (lvalue_of right.now))) }
-    ensures size { IfOk result (λ p. length p.cells ≤ 102 * (place_tokens (lvalue_of left.now) + 1 + place_tokens (lvalue_of right.now))) }
+    ensures steps { swap_steps (lvalue_of left.now) (lvalue_of right.now) ≤ 304 *
+            (1 + index_nodes (lvalue_of left.now) + index_nodes (lvalue_of right.now) + read_cost
+            (own_element (lvalue_of left.now) ++ own_element (lvalue_of right.now))
+            (index_elements (lvalue_of left.now) ++ index_elements (lvalue_of right.now))) }
+    ensures size { IfOk result (λ p.
+        length p.cells ≤ 102 * (place_tokens (lvalue_of left.now) + 1 + place_tokens
+            (lvalue_of right.now))) }
 {
     let names = scope.names();
     swap_piece(alloc, left, right, &names)

@@ -7,22 +7,12 @@
 mod apart;
 mod cells;
 mod expressions;
-mod known;
-mod names;
 mod places;
 mod rows;
-mod scope;
 #[cfg(test)]
 mod tests;
 mod values;
 
 pub use expressions::{swap_code, test_code, update_code, value_code};
+pub use method_scope::{Scope, Spot};
 pub use rows::{FRAME, OBJECT};
-pub use scope::Scope;
-
-/// Where a variable stands: a field of the present object by its number, or a word of the open frame.
-#[derive(Clone, Copy, PartialEq, Eq, Debug)]
-pub enum Spot {
-    Field(u32),
-    Frame(u32),
-}

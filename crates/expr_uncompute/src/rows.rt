@@ -1,13 +1,14 @@
 // Words of memory, operators and checks.
 ghost use Rattle.std.specs.Prelude.{◌≡◌, ◌≢◌, ◌<◌, ◌≤◌, ◌+◌, ◌^◌, [], ◌∷◌, ◌++◌, IfOk};
 ghost use Rattle.paired_code.specs.Code.{unmarked};
-ghost use Rattle.expr_uncompute.specs.Code.{base_of, offset_of, reach_cells, copy_cells, store_cells, truth_cells as truth_of, operator_cells, operator_result, nil_check as nil_cells, index_check as index_cells, point_cells};
+ghost use Rattle.expr_uncompute.specs.Code.{sltx as sltx_cell, xori as xori_cell, base_of, reach_cells, copy_cells, store_cells, truth_cells as truth_of, operator_cells, operator_result, nil_check as nil_cells, index_check as index_cells, point_cells};
+ghost use Rattle.method_scope.specs.Visible.{offset_of};
 
-use crate::Spot;
 use crate::cells::{add, addi, andx, enclosed, exch, orx, sltx, sub, xor, xori};
 use paired_code::{Piece, check_zero, empty, seq};
 use rpp_tree::tree::BinOp;
 use rpp_words::NoMemory;
+use statement_laws::Spot;
 use std::alloc::Global;
 
 /// The register that holds the address of the present object.
@@ -106,7 +107,8 @@ pub fn truth(alloc: Global, into: u8, from: u8) -> Result<Piece, NoMemory>
 
 fn both_truths(alloc: Global, last: Piece) -> Result<Piece, NoMemory>
     requires { last.marks ≡ [] }
-    ensures { IfOk result (λ p. p ≡ unmarked (truth_of LEFT_TRUTH LEFT ++ (truth_of RIGHT_TRUTH RIGHT ++ last.cells))) }
+    ensures { IfOk result (λ p.
+        p ≡ unmarked (truth_of LEFT_TRUTH LEFT ++ (truth_of RIGHT_TRUTH RIGHT ++ last.cells))) }
 {
     let left = truth(alloc, LEFT_TRUTH, LEFT)?;
     let right = truth(alloc, RIGHT_TRUTH, RIGHT)?;
@@ -116,14 +118,15 @@ fn both_truths(alloc: Global, last: Piece) -> Result<Piece, NoMemory>
 
 fn negated(alloc: Global, test: Piece) -> Result<Piece, NoMemory>
     requires { test.marks ≡ [] }
-    ensures { IfOk result (λ p. p ≡ unmarked (test.cells ++ Rattle.expr_uncompute.specs.Code.xori OUTCOME 1 ∷ [])) }
+    ensures { IfOk result (λ p. p ≡ unmarked (test.cells ++ xori_cell OUTCOME 1 ∷ [])) }
 {
     let flip = xori(alloc, OUTCOME, 1)?;
     seq(test, flip)
 }
 
 fn differ(alloc: Global) -> Result<Piece, NoMemory>
-    ensures { IfOk result (λ p. p ≡ unmarked (Rattle.expr_uncompute.specs.Code.sltx OUTCOME LEFT RIGHT ∷ Rattle.expr_uncompute.specs.Code.sltx OUTCOME RIGHT LEFT ∷ [])) }
+    ensures { IfOk result (λ p.
+        p ≡ unmarked (sltx_cell OUTCOME LEFT RIGHT ∷ sltx_cell OUTCOME RIGHT LEFT ∷ [])) }
 {
     let first = sltx(alloc, OUTCOME, LEFT, RIGHT)?;
     let second = sltx(alloc, OUTCOME, RIGHT, LEFT)?;
@@ -184,7 +187,8 @@ pub fn operator_register(op: BinOp) -> u8
 }
 
 fn nil_row(alloc: Global) -> Result<Piece, NoMemory>
-    ensures { IfOk result (λ p. p ≡ unmarked (Rattle.expr_uncompute.specs.Code.sltx OUTCOME NOUGHT RIGHT ∷ Rattle.expr_uncompute.specs.Code.xori OUTCOME 1 ∷ [])) }
+    ensures { IfOk result (λ p.
+        p ≡ unmarked (sltx_cell OUTCOME NOUGHT RIGHT ∷ xori_cell OUTCOME 1 ∷ [])) }
 {
     let test = sltx(alloc, OUTCOME, NOUGHT, RIGHT)?;
     negated(alloc, test)
@@ -200,7 +204,9 @@ pub fn nil_check(alloc: Global) -> Result<Piece, NoMemory>
 }
 
 fn index_row(alloc: Global) -> Result<Piece, NoMemory>
-    ensures { IfOk result (λ p. p ≡ unmarked (Rattle.expr_uncompute.specs.Code.sltx OUTCOME LEFT CONTENT ∷ Rattle.expr_uncompute.specs.Code.sltx OUTCOME LEFT NOUGHT ∷ Rattle.expr_uncompute.specs.Code.xori OUTCOME 1 ∷ [])) }
+    ensures { IfOk result (λ p.
+        p ≡ unmarked (sltx_cell OUTCOME LEFT CONTENT ∷ sltx_cell OUTCOME LEFT NOUGHT ∷ xori_cell
+            OUTCOME 1 ∷ [])) }
 {
     let below = sltx(alloc, OUTCOME, LEFT, CONTENT)?;
     let negative = sltx(alloc, OUTCOME, LEFT, NOUGHT)?;

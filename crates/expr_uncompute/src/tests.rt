@@ -2,10 +2,10 @@ ghost use Rattle.std.specs.Prelude.{◌≡◌, ◌<◌, ◌≤◌, ◌+◌, ◌^
 ghost use Rattle.rpp_tree.specs.Views.{expression_of, lvalue_of};
 ghost use Rattle.expr_uncompute.specs.Code.{words as words_of, place_words as words_of_place};
 
-use crate::known::Names;
 use crate::places::{swap_piece, update_piece};
 use crate::values::{test_piece, value_piece};
-use paired_code::{Piece, cells_of, link, mirror};
+use method_scope::Names;
+use paired_code::{Piece, cells_of, link, marks_in, mirror};
 use pisa_isa::{Cells, Core, Image, Stop, step};
 use rpp_tree::{BinOp, Expr, Ident, Place, Text, UpdateOp, Var, VarType};
 use std::alloc::{AllocError, Global};
@@ -74,7 +74,9 @@ fn element(alloc: Global, name: &str, index: Expr) -> Result<Expr, AllocError>
 }
 
 fn both(alloc: Global, op: BinOp, left: Expr, right: Expr) -> Result<Expr, AllocError>
-    ensures { IfOk result (λ e. words_of (expression_of e) ≡ 1 + (words_of (expression_of left) + words_of (expression_of right))) }
+    ensures { IfOk result (λ e.
+        words_of (expression_of e) ≡ 1 + (words_of (expression_of left) + words_of
+        (expression_of right))) }
 {
     Ok(Expr::Binary {
         at: 0,
@@ -86,7 +88,12 @@ fn both(alloc: Global, op: BinOp, left: Expr, right: Expr) -> Result<Expr, Alloc
 
 fn image_of<R: Abort>(rt: &R, alloc: Global, main: Piece) -> Result<Image, Fail> {
     assert!(rt; cells_of(&main).len() < 10000);
-    Ok(link(alloc, main, Vec::new(alloc), Vec::new(alloc))?)
+    assert!(rt; marks_in(&main).len() < 1000);
+    Ok(
+        link(alloc, main, Vec::new(alloc), Vec::new(alloc))?
+            .into_parts()
+            .0,
+    )
 }
 
 /// 200 cells: the frame at 100 has a in word 16, bb in 17, in 18 and 20 the array at 50, nil in 19,

@@ -6,20 +6,19 @@ ghost use Rattle.expr_uncompute.specs.Code.{Target, words as words_of, place_wor
 ghost use Rattle.expr_uncompute.specs.Number.{read_of};
 ghost use Rattle.expr_uncompute.specs.Promises.{ValueLaw, TestLaw};
 ghost use Rattle.expr_uncompute.specs.Steps.{tokens};
-ghost use Rattle.expr_uncompute.specs.Visible.{spot_of as spot_of_name, free_of, known_by};
+ghost use Rattle.method_scope.specs.Visible.{spot_of as spot_of_name, free_of, known_by};
 
-use crate::Spot;
 use crate::cells::{enclosed, exch, xor, xori};
-use crate::known::Names;
-use crate::names::{free, spot_of};
 use crate::rows::{
     CONTENT, LEFT, RIGHT, copy, index_check, nil_check, operator, operator_register, point,
     reached, store, truth,
 };
+use method_scope::{Names, free_word, spot_of};
 use paired_code::{Piece, empty, seq};
 use rpp_tree::Text;
 use rpp_tree::tree::{Expr, Place};
 use rpp_words::NoMemory;
+use statement_laws::Spot;
 use std::alloc::Global;
 
 /// An element.
@@ -68,7 +67,7 @@ fn home(names: &Names, i: u32) -> Spot
     requires { i ≤ 2000 }
     ensures { result ≡ Spot.Frame (free_of (known_by names.now) + i) }
 {
-    Spot::Frame(free(names) + i)
+    Spot::Frame(free_word(names) + i)
 }
 
 fn operand_read(
@@ -81,7 +80,9 @@ fn operand_read(
     requires room { i ≤ 2000 }
     requires register { into < 32 }
     requires apart { into ≢ CONTENT }
-    ensures { IfOk result (λ p. p ≡ unmarked (operand_cells (spot_of_name (known_by names.now)) (free_of (known_by names.now)) (read_of (lvalue_of place.now)) i into)) }
+    ensures { IfOk result (λ p.
+        p ≡ unmarked (operand_cells (spot_of_name (known_by names.now))
+            (free_of (known_by names.now)) (read_of (lvalue_of place.now)) i into)) }
 {
     match &place.index {
         None => copy(alloc, spot_of(names, &place.name.text), into),
@@ -94,7 +95,9 @@ pub fn operand(alloc: Global, names: &Names, e: &Expr, i: u32, into: u8) -> Resu
     requires room { i ≤ 2000 }
     requires register { into < 32 }
     requires apart { into ≢ CONTENT }
-    ensures { IfOk result (λ p. p ≡ unmarked (operand_cells (spot_of_name (known_by names.now)) (free_of (known_by names.now)) (expression_of e.now) i into)) }
+    ensures { IfOk result (λ p.
+        p ≡ unmarked (operand_cells (spot_of_name (known_by names.now))
+            (free_of (known_by names.now)) (expression_of e.now) i into)) }
 {
     match e {
         Expr::Number { word, .. } => xori(alloc, into, *word),
@@ -121,7 +124,9 @@ pub fn checked(
     i: u32,
 ) -> Result<Piece, NoMemory>
     requires { i ≤ 2000 }
-    ensures { IfOk result (λ p. p ≡ unmarked (checked_of (spot_of_name (known_by names.now)) (free_of (known_by names.now)) name.now (expression_of index.now) i)) }
+    ensures { IfOk result (λ p.
+        p ≡ unmarked (checked_of (spot_of_name (known_by names.now)) (free_of (known_by names.now))
+            name.now (expression_of index.now) i)) }
 {
     let first = operand(alloc, names, index, i, LEFT)?;
     let array = copy(alloc, spot_of(names, name), RIGHT)?;
@@ -132,7 +137,9 @@ pub fn checked(
 
 fn open_read(alloc: Global, names: &Names, place: &Place, i: u32) -> Result<Piece, NoMemory>
     requires { i ≤ 1000 }
-    ensures { IfOk result (λ p. p ≡ unmarked (open_cells (spot_of_name (known_by names.now)) (free_of (known_by names.now)) (read_of (lvalue_of place.now)) i)) }
+    ensures { IfOk result (λ p.
+        p ≡ unmarked (open_cells (spot_of_name (known_by names.now)) (free_of (known_by names.now))
+            (read_of (lvalue_of place.now)) i)) }
 {
     match &place.index {
         None => reached(alloc, spot_of(names, &place.name.text)),
@@ -149,7 +156,9 @@ fn open_read(alloc: Global, names: &Names, place: &Place, i: u32) -> Result<Piec
 /// The value of an expression in its register, where its parts are prepared.
 pub fn open(alloc: Global, names: &Names, e: &Expr, i: u32) -> Result<Piece, NoMemory>
     requires { i + words_of (expression_of e.now) ≤ 1000 }
-    ensures { IfOk result (λ p. p ≡ unmarked (open_cells (spot_of_name (known_by names.now)) (free_of (known_by names.now)) (expression_of e.now) i)) }
+    ensures { IfOk result (λ p.
+        p ≡ unmarked (open_cells (spot_of_name (known_by names.now)) (free_of (known_by names.now))
+            (expression_of e.now) i)) }
 {
     match e {
         Expr::Number { word, .. } => xori(alloc, CONTENT, *word),
@@ -174,7 +183,9 @@ pub fn open(alloc: Global, names: &Names, e: &Expr, i: u32) -> Result<Piece, NoM
 #[cycle(prepared)]
 pub fn prepare(alloc: Global, names: &Names, e: &Expr, i: u32) -> Result<Piece, NoMemory>
     requires { i + words_of (expression_of e.now) ≤ 1000 }
-    ensures { IfOk result (λ p. p ≡ unmarked (prepare_cells (spot_of_name (known_by names.now)) (free_of (known_by names.now)) (expression_of e.now) i)) }
+    ensures { IfOk result (λ p.
+        p ≡ unmarked (prepare_cells (spot_of_name (known_by names.now))
+            (free_of (known_by names.now)) (expression_of e.now) i)) }
 {
     match e {
         Expr::Number { .. } => Ok(empty(alloc)),
@@ -200,7 +211,9 @@ pub fn prepare(alloc: Global, names: &Names, e: &Expr, i: u32) -> Result<Piece, 
 #[cycle(prepared)]
 fn prepare_read(alloc: Global, names: &Names, place: &Place, i: u32) -> Result<Piece, NoMemory>
     requires { i + words_of (read_of (lvalue_of place.now)) ≤ 1000 }
-    ensures { IfOk result (λ p. p ≡ unmarked (prepare_cells (spot_of_name (known_by names.now)) (free_of (known_by names.now)) (read_of (lvalue_of place.now)) i)) }
+    ensures { IfOk result (λ p.
+        p ≡ unmarked (prepare_cells (spot_of_name (known_by names.now))
+            (free_of (known_by names.now)) (read_of (lvalue_of place.now)) i)) }
 {
     match &place.index {
         None => Ok(empty(alloc)),
@@ -216,7 +229,9 @@ fn prepare_read(alloc: Global, names: &Names, place: &Place, i: u32) -> Result<P
 
 fn parts_read(alloc: Global, names: &Names, place: &Place, i: u32) -> Result<Piece, NoMemory>
     requires { i + words_of (read_of (lvalue_of place.now)) ≤ 1000 }
-    ensures { IfOk result (λ p. p ≡ unmarked (parts_cells (spot_of_name (known_by names.now)) (free_of (known_by names.now)) (read_of (lvalue_of place.now)) i)) }
+    ensures { IfOk result (λ p.
+        p ≡ unmarked (parts_cells (spot_of_name (known_by names.now)) (free_of (known_by names.now))
+            (read_of (lvalue_of place.now)) i)) }
 {
     match &place.index {
         None => Ok(empty(alloc)),
@@ -227,7 +242,9 @@ fn parts_read(alloc: Global, names: &Names, place: &Place, i: u32) -> Result<Pie
 /// The parts of an expression prepared.
 pub fn parts(alloc: Global, names: &Names, e: &Expr, i: u32) -> Result<Piece, NoMemory>
     requires { i + words_of (expression_of e.now) ≤ 1000 }
-    ensures { IfOk result (λ p. p ≡ unmarked (parts_cells (spot_of_name (known_by names.now)) (free_of (known_by names.now)) (expression_of e.now) i)) }
+    ensures { IfOk result (λ p.
+        p ≡ unmarked (parts_cells (spot_of_name (known_by names.now)) (free_of (known_by names.now))
+            (expression_of e.now) i)) }
 {
     match e {
         Expr::Number { .. } => Ok(empty(alloc)),
@@ -270,8 +287,12 @@ pub fn result_register(e: &Expr) -> u8
 pub fn value_piece(alloc: Global, e: &Expr, names: &Names, into: u8) -> Result<Piece, NoMemory>
     requires register { Target into }
     requires room { words_of (expression_of e.now) ≤ 1000 }
-    ensures code { IfOk result (λ p. p ≡ unmarked (value_cells (spot_of_name (known_by names.now)) (free_of (known_by names.now)) (expression_of e.now) into)) }
-    ensures law { IfOk result (λ p. ValueLaw (spot_of_name (known_by names.now)) (free_of (known_by names.now)) into (expression_of e.now) p.cells) }
+    ensures code { IfOk result (λ p.
+        p ≡ unmarked (value_cells (spot_of_name (known_by names.now)) (free_of (known_by names.now))
+            (expression_of e.now) into)) }
+    ensures law { IfOk result (λ p.
+        ValueLaw (spot_of_name (known_by names.now)) (free_of (known_by names.now)) into
+            (expression_of e.now) p.cells) }
     ensures size { IfOk result (λ p. length p.cells ≤ 58 * tokens (expression_of e.now)) }
 {
     let outer = parts(alloc, names, e, 0)?;
@@ -285,8 +306,12 @@ pub fn value_piece(alloc: Global, e: &Expr, names: &Names, into: u8) -> Result<P
 pub fn test_piece(alloc: Global, e: &Expr, names: &Names, into: u8) -> Result<Piece, NoMemory>
     requires register { Target into }
     requires room { words_of (expression_of e.now) ≤ 1000 }
-    ensures code { IfOk result (λ p. p ≡ unmarked (test_cells (spot_of_name (known_by names.now)) (free_of (known_by names.now)) (expression_of e.now) into)) }
-    ensures law { IfOk result (λ p. TestLaw (spot_of_name (known_by names.now)) (free_of (known_by names.now)) into (expression_of e.now) p.cells) }
+    ensures code { IfOk result (λ p.
+        p ≡ unmarked (test_cells (spot_of_name (known_by names.now)) (free_of (known_by names.now))
+            (expression_of e.now) into)) }
+    ensures law { IfOk result (λ p.
+        TestLaw (spot_of_name (known_by names.now)) (free_of (known_by names.now)) into
+            (expression_of e.now) p.cells) }
     ensures size { IfOk result (λ p. length p.cells ≤ 58 * tokens (expression_of e.now)) }
 {
     let outer = parts(alloc, names, e, 0)?;

@@ -6,6 +6,7 @@ use Rattle.rpp_words.specs.declared.input.Limits.{Limits}
 use Rattle.rpp_ports.specs.Ports.{Texts}
 use Rattle.pisa_loader.specs.declared.error.LoadError.{LoadError}
 use Rattle.pisa_isa.specs.Image.{Segments}
+use Rattle.pisa_isa.specs.Notes.{NoteLists, NotedImage}
 use Rattle.pisa_image.specs.declared.error.ImageError.{ImageError}
 use Rattle.pisa_asm.specs.declared.error.AsmError.{AsmError}
 use Rattle.pisa_image.specs.Reading.{image_at}
@@ -21,7 +22,7 @@ use Rattle.two_way_debugger.specs.Scripts.{script_of}
 use Rattle.image_commands.specs.DebugPlans.{IsScriptPlan, IsRoomPlan, IsDebugPlan, DebugsFile}
 use Rattle.rpp_plan.proofs.Writes.{of_text, along}
 
-image_writes : (read : Result Segments ImageError) (P : Segments → Planned → Type 0) (name : Option (List ℕ)) (p : Planned) → ((image : Segments) (q : Planned) → P image q → WritesOnly q name) → OfImage P read p → WritesOnly p name
+image_writes : (read : Result NotedImage ImageError) (P : NotedImage → Planned → Type 0) (name : Option (List ℕ)) (p : Planned) → ((n : NotedImage) (q : Planned) → P n q → WritesOnly q name) → OfImage P read p → WritesOnly p name
 image_writes (Err e) P name p f h = along p _ name h (inl refl)
 image_writes (Ok image) P name p f h = f image p h
 
@@ -29,28 +30,28 @@ asm_writes : (read : Result Segments AsmError) (name : List ℕ) (p : Planned) �
 asm_writes (Err e) name p h = along p _ (Some name) h (inl refl)
 asm_writes (Ok image) name p h = along p _ (Some name) h (inr refl)
 
-list_writes : (read : Result Segments ImageError) (name : List ℕ) (p : Planned) → IsListPlan read name p → WritesOnly p (Some name)
+list_writes : (read : Result NotedImage ImageError) (name : List ℕ) (p : Planned) → IsListPlan read name p → WritesOnly p (Some name)
 list_writes read name p h = image_writes read _ (Some name) p (λ image q k. along q _ (Some name) k (inr refl)) h
 
-flip_writes : (read : Result Segments ImageError) (name : List ℕ) (p : Planned) → IsFlipPlan read name p → WritesOnly p (Some name)
+flip_writes : (read : Result NotedImage ImageError) (name : List ℕ) (p : Planned) → IsFlipPlan read name p → WritesOnly p (Some name)
 flip_writes read name p h = image_writes read _ (Some name) p (λ image q k. along q _ (Some name) k (inr refl)) h
 
 saved_name : (save : Option (List ℕ)) (last : State) → option_map (λ w. w.name) (saved save last) ≡ save
 saved_name None last = refl
 saved_name (Some name) last = refl
 
-ran_writes : (first : Result Position LoadError) (save : Option (List ℕ)) (steps : ℕ) (p : Planned) → IsRanPlan first save steps p → WritesOnly p save
-ran_writes (Err e) save steps p h = along p _ save h (inl refl)
-ran_writes (Ok first) save steps p h = along p _ save h (inr (saved_name save _))
+ran_writes : (first : Result Position LoadError) (notes : NoteLists) (save : Option (List ℕ)) (steps : ℕ) (p : Planned) → IsRanPlan first notes save steps p → WritesOnly p save
+ran_writes (Err e) notes save steps p h = along p _ save h (inl refl)
+ran_writes (Ok first) notes save steps p h = along p _ save h (inr (saved_name save _))
 
-sized_writes : (refusal : Option LoadError) (image : Segments) (limits : Limits) (state save : Option (List ℕ)) (steps : ℕ) (p : Planned) → IsSizedPlan refusal image limits state save steps p → WritesOnly p save
-sized_writes (Some e) image limits state save steps p h = along p _ save h (inl refl)
-sized_writes None image limits state save steps p h = ran_writes (first_of image limits state) save steps p h
+sized_writes : (refusal : Option LoadError) (n : NotedImage) (limits : Limits) (state save : Option (List ℕ)) (steps : ℕ) (p : Planned) → IsSizedPlan refusal n limits state save steps p → WritesOnly p save
+sized_writes (Some e) n limits state save steps p h = along p _ save h (inl refl)
+sized_writes None n limits state save steps p h = ran_writes (first_of n.image limits state) n.notes save steps p h
 
-run_writes : (read : Result Segments ImageError) (heap deep steps : ℕ) (state save : Option (List ℕ)) (p : Planned) → IsRunPlan read heap deep steps state save p → WritesOnly p save
-run_writes read heap deep steps state save p h = image_writes read _ save p (λ image q k. sized_writes _ image _ state save steps q k) h
+run_writes : (read : Result NotedImage ImageError) (heap deep steps : ℕ) (state save : Option (List ℕ)) (p : Planned) → IsRunPlan read heap deep steps state save p → WritesOnly p save
+run_writes read heap deep steps state save p h = image_writes read _ save p (λ n q k. sized_writes _ n _ state save steps q k) h
 
-of_state : (texts : Texts) (state : Option (List ℕ)) (read : Result Segments ImageError) (heap deep steps : ℕ) (save : Option (List ℕ)) (p : Planned) → WithState texts state (λ given. IsRunPlan read heap deep steps given save p) → WritesOnly p save
+of_state : (texts : Texts) (state : Option (List ℕ)) (read : Result NotedImage ImageError) (heap deep steps : ℕ) (save : Option (List ℕ)) (p : Planned) → WithState texts state (λ given. IsRunPlan read heap deep steps given save p) → WritesOnly p save
 of_state texts None read heap deep steps save p g = run_writes read heap deep steps None save p g
 of_state texts (Some name) read heap deep steps save p h = of_text (texts name) _ _ (WritesOnly p save) h (λ given g. run_writes read heap deep steps (Some given) save p g)
 
@@ -76,8 +77,8 @@ room_writes : (refusal : Option LoadError) (image : Segments) (limits : Limits) 
 room_writes (Some e) image limits script p h = along p _ None h (inl refl)
 room_writes None image limits script p h = script_writes (script_of script) image limits p h
 
-debug_writes : (read : Result Segments ImageError) (heap deep : ℕ) (script : List ℕ) (p : Planned) → IsDebugPlan read heap deep script p → WritesOnly p None
-debug_writes read heap deep script p h = image_writes read _ None p (λ image q k. room_writes _ image _ script q k) h
+debug_writes : (read : Result NotedImage ImageError) (heap deep : ℕ) (script : List ℕ) (p : Planned) → IsDebugPlan read heap deep script p → WritesOnly p None
+debug_writes read heap deep script p h = image_writes read _ None p (λ image q k. room_writes _ image.image _ script q k) h
 
 pub debugs_file_writes : (image : List ℕ) (heap deep : ℕ) (script : List ℕ) (texts : Texts) (p : Planned) → DebugsFile image heap deep script texts p → WritesOnly p None
 debugs_file_writes image heap deep script texts p h =

@@ -1,1 +1,2 @@
+pub mod NoteNames
 pub mod ImageTargets

@@ -5,6 +5,7 @@ use Rattle.rpp_words.specs.declared.input.Limits.{Limits}
 use Rattle.rpp_words.specs.declared.input.TheConstants.{MOST_DEEP}
 use Rattle.rpp_ports.specs.Ports.{Texts}
 use Rattle.pisa_isa.specs.Image.{Segments}
+use Rattle.pisa_isa.specs.Notes.{NotedImage}
 use Rattle.pisa_isa.specs.Loaded.{loaded}
 use Rattle.pisa_isa.specs.Runs.{zero_registers}
 use Rattle.pisa_machine.specs.Position.{first_position}
@@ -43,9 +44,9 @@ abbrev pub IsRoomPlan : Option LoadError → Segments → Limits → (script : L
 IsRoomPlan (Some e) image limits script p = p ≡ prints InputRefused (load_line e)
 IsRoomPlan None image limits script p = IsScriptPlan (script_of script) image limits p
 
-abbrev pub IsDebugPlan : Result Segments ImageError → (heap deep : ℕ) → (script : List ℕ) → Planned → Type 0
+abbrev pub IsDebugPlan : Result NotedImage ImageError → (heap deep : ℕ) → (script : List ℕ) → Planned → Type 0
 IsDebugPlan read heap deep script p =
-    OfImage (λ image. IsRoomPlan (limits_refusal heap deep MOST_DEEP) image (record { heap = heap; deep = deep }) script) read p
+    OfImage (λ n. IsRoomPlan (limits_refusal heap deep MOST_DEEP) n.image (record { heap = heap; deep = deep }) script) read p
 
 -- the plan of `debug` of this file, by the script of another
 abbrev pub DebugsFile : (image : List ℕ) → (heap deep : ℕ) → (script : List ℕ) → Texts → Planned → Type 0

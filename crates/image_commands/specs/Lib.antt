@@ -1,2 +1,3 @@
+pub mod RunTexts
 pub mod ImagePlans
 pub mod DebugPlans

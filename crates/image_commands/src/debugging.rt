@@ -67,7 +67,7 @@ fn debug_over<L: Ledger>(
     ensures { IfOk result (λ plan. IsDebugPlan (image_at bytes.now) room.heap room.deep script.now (planned plan)) }
 {
     match read_image(alloc, bytes) {
-        Ok(image) => debug_sized(alloc, image, script, room, steps),
+        Ok(noted) => debug_sized(alloc, noted.into_parts().0, script, room, steps),
         Err(ImageError::NoMemory) => Err(NoMemory),
         Err(e) => Ok(Plan::prints(Verdict::ImageRefused, image_line(alloc, e)?)),
     }

@@ -1,5 +1,6 @@
 // `asm T IMG`, `list IMG T` and `flip IMG IMG2`: images, from their texts and files and to them.
-ghost use Rattle.std.specs.Prelude.{◌≤◌, [], ◌∷◌, length, Ok, IfOk, IfSome};
+ghost use Rattle.std.specs.Prelude.{◌≡◌, ◌≤◌, [], ◌∷◌, length, Ok, IfOk, IfSome};
+ghost use Rattle.pisa_isa.specs.Notes.{flipped_noted};
 ghost use Rattle.pisa_image.specs.Reading.{image_at};
 ghost use Rattle.pisa_asm.specs.declared.assembler.TheConstants.{MOST_TEXT};
 ghost use Rattle.pisa_asm.specs.Passes.{image_of_text};
@@ -10,9 +11,10 @@ ghost use Rattle.rpp_plan.specs.Files.{OnlyReads, assembly, image_file};
 
 use pisa_asm::{AsmError, MOST_TEXT, assemble};
 use pisa_image::{ImageError, read_image, write_image};
-use pisa_isa::Image;
+use pisa_isa::Noted;
 use rpp_plan::{
-    MOST_IMAGE, NoPlan, Plan, Verdict, asm_line, cells_line, image_line, read_file, write_as,
+    MOST_IMAGE, NoPlan, Plan, Verdict, asm_line, cells_line, image_line, read_file,
+    without_notes, write_as,
 };
 use rpp_ports::Shelf;
 use rpp_words::NoMemory;
@@ -32,7 +34,7 @@ fn asm_text(alloc: Global, text: &[u8], name: &str) -> Result<Plan, NoMemory>
     ensures { IfOk result (λ plan. IsAsmPlan (image_of_text text.now) name.now (planned plan)) }
 {
     match assemble(alloc, text) {
-        Ok(image) => write_as(alloc, "assembled", name, &image),
+        Ok(image) => write_as(alloc, "assembled", name, &without_notes(alloc, image)),
         Err(AsmError::NoMemory) => Err(NoMemory),
         Err(e) => Ok(Plan::prints(Verdict::ImageRefused, asm_line(alloc, e)?)),
     }
@@ -51,15 +53,16 @@ fn list_bytes(alloc: Global, bytes: &[u8], name: &str) -> Result<Plan, NoMemory>
     ensures { IfOk result (λ plan. IsListPlan (image_at bytes.now) name.now (planned plan)) }
 {
     match read_image(alloc, bytes) {
-        Ok(image) => write_listing(alloc, &image, name),
+        Ok(noted) => write_listing(alloc, &noted, name),
         Err(ImageError::NoMemory) => Err(NoMemory),
         Err(e) => Ok(Plan::prints(Verdict::ImageRefused, image_line(alloc, e)?)),
     }
 }
 
-fn write_listing(alloc: Global, image: &Image, name: &str) -> Result<Plan, NoMemory>
-    ensures { IfOk result (λ plan. IsListPlan (Ok image.now) name.now (planned plan)) }
+fn write_listing(alloc: Global, noted: &Noted, name: &str) -> Result<Plan, NoMemory>
+    ensures { IfOk result (λ plan. IsListPlan (Ok noted.now) name.now (planned plan)) }
 {
+    let image = noted.image();
     let listing = pisa_asm::list(alloc, image)?;
     let text = cells_line(alloc, "listed", image.code())?;
     Ok(Plan::writes(String::from_str(alloc, name)?, listing.into_bytes(), text))
@@ -83,17 +86,27 @@ fn flip_bytes(alloc: Global, bytes: &[u8], name: &str) -> Result<Plan, NoMemory>
     ensures { IfOk result (λ plan. IsFlipPlan (image_at bytes.now) name.now (planned plan)) }
 {
     match read_image(alloc, bytes) {
-        Ok(image) => write_flipped(alloc, &image, name),
+        Ok(noted) => write_flipped(alloc, &noted, name),
         Err(ImageError::NoMemory) => Err(NoMemory),
         Err(e) => Ok(Plan::prints(Verdict::ImageRefused, image_line(alloc, e)?)),
     }
 }
 
-fn write_flipped(alloc: Global, image: &Image, name: &str) -> Result<Plan, NoMemory>
-    ensures { IfOk result (λ plan. IsFlipPlan (Ok image.now) name.now (planned plan)) }
+fn write_flipped(alloc: Global, noted: &Noted, name: &str) -> Result<Plan, NoMemory>
+    ensures { IfOk result (λ plan. IsFlipPlan (Ok noted.now) name.now (planned plan)) }
 {
-    let flipped = image_inverter::flip(alloc, image)?;
+    let flipped = flipped(alloc, noted)?;
     let bytes = write_image(alloc, &flipped)?;
-    let text = cells_line(alloc, "flipped", image.code())?;
+    let text = cells_line(alloc, "flipped", noted.image().code())?;
     Ok(Plan::writes(String::from_str(alloc, name)?, bytes, text))
+}
+
+// The flipped image, with its notes turned.
+fn flipped(alloc: Global, noted: &Noted) -> Result<Noted, NoMemory>
+    ensures { IfOk result (λ turned. turned ≡ flipped_noted noted.now) }
+{
+    let image = noted.image();
+    let turned = image_inverter::flip(alloc, image)?;
+    let notes = noted.notes().turned(alloc, image.code().len() as u32)?;
+    Ok(Noted::seal(turned, notes))
 }

@@ -4,6 +4,7 @@
 
 mod debugging;
 mod images;
+mod run_texts;
 mod running;
 
 pub use debugging::{Room, debug};

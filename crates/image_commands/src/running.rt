@@ -1,5 +1,5 @@
 // `run IMG H D STEPS [STATE SAVE]`: runs an image.
-ghost use Rattle.std.specs.Prelude.{◌≡◌, ◌<◌, ◌^◌, ◌++◌, ◌∷◌, Ok, option_map, IfOk, IfSome, OnOk, string_bytes};
+ghost use Rattle.std.specs.Prelude.{◌≡◌, ◌<◌, ◌^◌, ◌∷◌, Ok, All, option_map, IfOk};
 ghost use Rattle.pisa_isa.specs.Runs.{run as run_of_code};
 ghost use Rattle.pisa_image.specs.Reading.{image_at};
 ghost use Rattle.pisa_loader.specs.Limiting.{limits_refusal};
@@ -8,20 +8,20 @@ ghost use Rattle.rpp_words.specs.Limits.{IsLimits};
 ghost use Rattle.rpp_plan.specs.declared.reading.TheConstants.{MOST_IMAGE};
 ghost use Rattle.rpp_plan.specs.Files.{state_of_names, save_of_names, OnlyReads, image_file, state_files};
 ghost use Rattle.rpp_plan.specs.Plans.{planned, written, GivesPlan};
-ghost use Rattle.image_commands.specs.ImagePlans.{first_of, saved as saved_state, ran as ran_plan, stop_line as line_of_stop, verdict_of as verdict_of_stop, direction as direction_text, register_line, register_lines, core_lines, IsRunPlan, IsSizedPlan, IsRanPlan, RunsFile};
-ghost use Rattle.rpp_plan.specs.Texts.{steps_line};
+ghost use Rattle.image_commands.specs.ImagePlans.{first_of, saved as saved_state, ran as ran_plan, verdict_of as verdict_of_stop, IsRunPlan, IsSizedPlan, IsRanPlan, RunsFile};
+ghost use Rattle.image_commands.specs.RunTexts.{HasAsciiText};
 
+use crate::run_texts::end_lines;
 use pisa_image::{ImageError, read_image};
-use pisa_isa::{Core, Image, Stop};
+use pisa_isa::{Image, Noted, Notes, Stop};
 use pisa_loader::{LoadError, check_limits, load, load_state, save_state};
 use pisa_machine::{Machine, RunEnd, Steps};
 use rpp_plan::{
-    NoPlan, Plan, Sizes, StateNames, Verdict, Writing, fault_line, image_line, load_line,
-    read_images,
+    NoPlan, Plan, Sizes, StateNames, Verdict, Writing, image_line, load_line, read_images,
 };
 use rpp_ports::Shelf;
 use rpp_words::{Input, Limits, MOST_DEEP, NoMemory};
-use std::alloc::{AllocError, Global};
+use std::alloc::Global;
 use std::sync::ledger::Ledger;
 
 /// Runs the image in a file, from the loaded memory or from a state, and tells its end.
@@ -56,7 +56,7 @@ fn run_over<L: Ledger>(
         (option_map (λ v. v.items) state.now) (save_of_names states.now) (planned plan)) }
 {
     match read_image(alloc, bytes) {
-        Ok(image) => run_sized(alloc, image, state, states, sizes, steps),
+        Ok(noted) => run_sized(alloc, noted, state, states, sizes, steps),
         Err(ImageError::NoMemory) => Err(NoMemory),
         Err(e) => Ok(Plan::prints(Verdict::ImageRefused, image_line(alloc, e)?)),
     }
@@ -65,14 +65,14 @@ fn run_over<L: Ledger>(
 // The sizes of heap and stack are tried before the state.
 fn run_sized<L: Ledger>(
     alloc: Global,
-    image: Image,
+    noted: Noted,
     state: &Option<Vec<u8>>,
     states: &Option<StateNames>,
     sizes: Sizes,
     steps: &mut Steps<L>,
 ) -> Result<Plan, NoMemory>
     requires { sizes.bound < 2 ^ 63 }
-    ensures { IfOk result (λ plan. IsSizedPlan (limits_refusal sizes.heap sizes.deep MOST_DEEP) image
+    ensures { IfOk result (λ plan. IsSizedPlan (limits_refusal sizes.heap sizes.deep MOST_DEEP) noted
         (record { heap = sizes.heap; deep = sizes.deep }) (option_map (λ v. v.items) state.now) (save_of_names states.now) sizes.bound (planned plan)) }
 {
     match check_limits(sizes.heap, sizes.deep, MOST_DEEP) {
@@ -81,7 +81,7 @@ fn run_sized<L: Ledger>(
                 limits,
                 bound: sizes.bound,
             };
-            run_from(alloc, image, bounds, state, states, steps)
+            run_from(alloc, noted, bounds, state, states, steps)
         }
         Err(e) => Ok(Plan::prints(Verdict::InputRefused, load_line(alloc, e)?)),
     }
@@ -97,7 +97,7 @@ struct Bounds {
 // The state is judged, and then the run is made.
 fn run_from<L: Ledger>(
     alloc: Global,
-    image: Image,
+    noted: Noted,
     bounds: Bounds,
     state: &Option<Vec<u8>>,
     states: &Option<StateNames>,
@@ -105,11 +105,12 @@ fn run_from<L: Ledger>(
 ) -> Result<Plan, NoMemory>
     requires limits { IsLimits bounds.limits }
     requires bound { bounds.bound < 2 ^ 63 }
-    ensures { IfOk result (λ plan. IsRanPlan (first_of image bounds.limits (option_map (λ v. v.items) state.now))
-        (save_of_names states.now) bounds.bound (planned plan)) }
+    ensures { IfOk result (λ plan. IsRanPlan (first_of noted.image bounds.limits (option_map (λ v. v.items) state.now))
+        noted.notes (save_of_names states.now) bounds.bound (planned plan)) }
 {
+    let (image, notes) = noted.into_parts();
     match first_machine(alloc, image, bounds.limits, state) {
-        Ok(machine) => run_machine(alloc, machine, states, bounds.bound, steps),
+        Ok(machine) => run_machine(alloc, machine, &notes, states, bounds.bound, steps),
         Err(LoadError::NoMemory) => Err(NoMemory),
         Err(e) => Ok(Plan::prints(Verdict::ImageRefused, load_line(alloc, e)?)),
     }
@@ -144,29 +145,34 @@ fn first_machine(
 fn run_machine<L: Ledger>(
     alloc: Global,
     machine: Machine,
+    notes: &Notes,
     states: &Option<StateNames>,
     bound: u64,
     steps: &mut Steps<L>,
 ) -> Result<Plan, NoMemory>
     requires first { machine.made ≡ 0 }
     requires bound { bound < 2 ^ 63 }
-    ensures { IfOk result (λ plan. planned plan ≡ ran_plan (save_of_names states.now) (run_of_code machine.image.code bound machine.state)) }
+    requires names { All HasAsciiText notes.now.names }
+    ensures { IfOk result (λ plan. planned plan ≡ ran_plan notes.now (save_of_names states.now) (run_of_code machine.image.code bound machine.state)) }
 {
     let mut machine = machine;
     let end = machine.run(bound, steps);
-    ran(alloc, &machine, end, states)
+    ran(alloc, &machine, notes, end, states)
 }
 
 // The plan of a run that ended, with the machine where it did.
 fn ran(
     alloc: Global,
     machine: &Machine,
+    notes: &Notes,
     end: RunEnd,
     states: &Option<StateNames>,
 ) -> Result<Plan, NoMemory>
-    ensures { IfOk result (λ plan. planned plan ≡ ran_plan (save_of_names states.now) (record { why = end.stop; spent = end.spent; last = machine.now.state })) }
+    requires names { All HasAsciiText notes.now.names }
+    ensures { IfOk result (λ plan. planned plan
+        ≡ ran_plan notes.now (save_of_names states.now) (record { why = end.stop; spent = end.spent; last = machine.now.state })) }
 {
-    let text = end_lines(alloc, end, machine.core())?;
+    let text = end_lines(alloc, end, machine, notes)?;
     let writing = saved(alloc, machine, states)?;
     Ok(Plan {
         verdict: verdict_of(end.stop),
@@ -202,67 +208,4 @@ fn verdict_of(stop: Stop) -> Verdict
         Stop::Bound => Verdict::Bound,
         Stop::Returned | Stop::BadAddress(_) | Stop::OffCode(_) => Verdict::Stopped,
     }
-}
-
-// What is printed of a run: why it ended, its steps, and where the machine stands.
-fn end_lines(alloc: Global, end: RunEnd, core: &Core) -> Result<String, AllocError>
-    ensures { IfOk result (λ text. string_bytes text ≡ (line_of_stop end.stop ++ steps_line end.spent) ++ core_lines core.now.pc core.now.br core.now.back core.now.regs) }
-{
-    let mut text = stop_line(alloc, end.stop)?;
-    let spent = end.spent;
-    write!(text, "steps {spent}\n")?;
-    add_core(&mut text, core)?;
-    Ok(text)
-}
-
-// Why a run ended.
-fn stop_line(alloc: Global, stop: Stop) -> Result<String, AllocError>
-    ensures { IfOk result (λ line. string_bytes line ≡ line_of_stop stop) }
-{
-    match stop {
-        Stop::Finished => String::from_str(alloc, "finished\n"),
-        Stop::Returned => String::from_str(alloc, "returned\n"),
-        Stop::Trap(code) => fault_line(alloc, code),
-        Stop::BadAddress(address) => format!(in alloc; "bad address {address}\n"),
-        Stop::OffCode(place) => format!(in alloc; "off code {place}\n"),
-        Stop::Bound => String::from_str(alloc, "bound\n"),
-    }
-}
-
-// Where a machine stands.
-fn add_core(text: &mut String, core: &Core) -> Result<(), AllocError>
-    ensures { OnOk result (string_bytes text.new ≡ string_bytes text.old ++ core_lines core.now.pc core.now.br core.now.back core.now.regs) }
-{
-    let pc = core.pc;
-    let br = core.br.cast_signed();
-    let dir = direction(core.back);
-    write!(text, "pc {pc}\nbr {br}\ndir {dir}\n")?;
-    add_registers(text, &core.regs)
-}
-
-fn direction(back: bool) -> &'static str
-    ensures { result.now ≡ direction_text back }
-{
-    if back { "-1" } else { "1" }
-}
-
-// The registers that are not 0.
-fn add_registers(text: &mut String, regs: &[u32]) -> Result<(), AllocError>
-    ensures { OnOk result (string_bytes text.new ≡ string_bytes text.old ++ register_lines 0 regs.now) }
-{
-    for (number, word) in regs.iter().enumerate() {
-        add_word(text, number, *word)?;
-    }
-    Ok(())
-}
-
-// The line on a register, unless it is 0.
-fn add_word(text: &mut String, number: usize, word: u32) -> Result<(), AllocError>
-    ensures { OnOk result (string_bytes text.new ≡ string_bytes text.old ++ register_line number word) }
-{
-    if word == 0 {
-        return Ok(());
-    }
-    let value = word.cast_signed();
-    write!(text, "${number} = {value}\n")
 }

@@ -1,7 +1,7 @@
 ghost use Rattle.std.specs.Prelude.{◌≡◌, ◌<◌, ◌^◌, List, [], length, IfOk};
 
 use crate::{local_block, main_code, method_code, own_call};
-use paired_code::{Piece, StaticWord, cells_of, empty, link, plain, seq};
+use paired_code::{Piece, StaticWord, cells_of, empty, link, marks_in, plain, seq};
 use pisa_isa::{Cell, Cells, Core, Image, Op, Stop, step};
 use statement_laws::Spot;
 use std::alloc::Global;
@@ -128,6 +128,9 @@ fn image_of<R: Abort>(
     assert!(rt; cells_of(&main).len() < 1000);
     assert!(rt; cells_of(&outer).len() < 1000);
     assert!(rt; cells_of(&inner).len() < 1000);
+    assert!(rt; marks_in(&main).len() < 1000);
+    assert!(rt; marks_in(&outer).len() < 1000);
+    assert!(rt; marks_in(&inner).len() < 1000);
     let routines = vec![in alloc; outer, inner]?;
     let statics = vec![in alloc;
         StaticWord::Word(42),
@@ -136,7 +139,7 @@ fn image_of<R: Abort>(
         StaticWord::Routine(0),
         StaticWord::Routine(1),
     ]?;
-    Ok(link(alloc, main, routines, statics)?)
+    Ok(link(alloc, main, routines, statics)?.into_parts().0)
 }
 
 /// The memory of an image for so many open calls, as far as calls look at it.

@@ -11,7 +11,7 @@ use Rattle.pisa_isa.proofs.Facing.{IsCell-inverse}
 use Rattle.paired_code.specs.Cells.{add, swapbr, bra, bgtz, bltz, data_word}
 use Rattle.paired_code.specs.declared.part.Symbol.{Symbol}
 use Rattle.paired_code.specs.declared.part.Symbol.TheVariants.{Own, Enter, Fixed, Aim, Turn}
-use Rattle.paired_code.specs.declared.part.Mark.{Mark}
+use Rattle.pisa_isa.specs.declared.notes.Mark.{Mark}
 use Rattle.paired_code.specs.Machine.{reversed, is_end_op, is_single}
 use Rattle.paired_code.specs.Layout.{between, fork, branch_cells, loop_cells, check_cells, place_register, enter_at_cells, mirror_cells, inverse_sym}
 use Rattle.paired_code.specs.Fit.{IsInner, IsFit, AllFit}
@@ -114,11 +114,11 @@ within_append n (x ∷ a) b h k = (h.0, h.1, within_append n a b h.2 k)
 
 pub within_more : (n n' : ℕ) (a : List Mark) → n ≤ n' → AllWithin n a → AllWithin n' a
 within_more n n' [] l h = tt
-within_more n n' (x ∷ a) l h = (h.0, (let e = h.1 in omega arith), within_more n n' a l h.2)
+within_more n n' (x ∷ a) l h = (h.0, ((let e = h.1.0 in omega arith), h.1.1), within_more n n' a l h.2)
 
 pub within_shift : (n k : ℕ) (a : List Mark) → AllWithin n a → AllWithin (k + n) (shift k a)
 within_shift n k [] h = tt
-within_shift n k (x ∷ a) h = ((let e = h.0 in omega arith), (let e = h.1 in omega arith), within_shift n k a h.2)
+within_shift n k (x ∷ a) h = ((let e = h.0 in omega arith), ((let e = h.1.0 in omega arith), h.1.1), within_shift n k a h.2)
 
 pub within_seq : (p q : List Symbol) (a b : List Mark) → AllWithin (length p) a → AllWithin (length q) b → AllWithin (length (p ++ q)) (a ++ shift (length p) b)
 within_seq p q a b h k =
@@ -131,7 +131,7 @@ within_two n i j k l a b h g ha hb = within_append n (shift i a) (shift j b) (wi
 
 pub within_at : (n : ℕ) (xs : List Mark) (i : ℕ) (d : Mark) → AllWithin n xs → i < length xs → ((get_or xs i d).first ≤ (get_or xs i d).end) × ((get_or xs i d).end ≤ n)
 within_at n [] i d h l = absurd (omega arith)
-within_at n (x ∷ xs) zero d h l = (h.0, h.1)
+within_at n (x ∷ xs) zero d h l = (h.0, h.1.0)
 within_at n (x ∷ xs) (suc i) d h l = within_at n xs i d h.2 (omega arith)
 
 shift_suc : (k : ℕ) (xs : List Mark) (i : ℕ) (d : Mark) → i < length xs → shift k (take (suc i) xs) ≡ shift k (take i xs) ++ moved_on k (get_or xs i d) ∷ []

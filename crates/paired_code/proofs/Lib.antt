@@ -19,9 +19,9 @@ pub mod Closed
 pub mod Linking
 pub mod Whole
 pub mod Writing
+pub mod Shifted
 pub mod Does
 pub mod If
-pub mod From
 pub mod Calls
 pub mod Line
 pub mod Undone

@@ -5,7 +5,7 @@ use Rattle.std.proofs.lemmas.List.{drop-append-le, take-append-le, take_all}
 use Rattle.paired_code.specs.Cells.{bra}
 use Rattle.paired_code.specs.declared.part.Symbol.{Symbol}
 use Rattle.paired_code.specs.declared.part.Symbol.TheVariants.{Own}
-use Rattle.paired_code.specs.declared.part.Mark.{Mark}
+use Rattle.pisa_isa.specs.declared.notes.Mark.{Mark}
 use Rattle.paired_code.specs.Layout.{between, fork, branch_cells, loop_cells}
 use Rattle.paired_code.specs.Code.{Code, Kept, AllWithin, shift, seq_code, branch_code, loop_code, marked_code, Marked, marked_parts, parts}
 
@@ -20,7 +20,7 @@ module _ (pre p post : List Symbol) where
   pub parts_moved : (ks : List Mark) → AllWithin (length p) ks → marked_parts (pre ++ (p ++ post)) (shift (length pre) ks) ≡ marked_parts p ks
   parts_moved [] h = refl
   parts_moved (k ∷ ks) h =
-      ap (λ (z : List Symbol). let x : Marked = record { at = k.at; cells = z } in x ∷ marked_parts (pre ++ (p ++ post)) (shift (length pre) ks)) (covered_moved k.first k.end h.0 h.1)
+      ap (λ (z : List Symbol). let x : Marked = record { at = k.at; cells = z } in x ∷ marked_parts (pre ++ (p ++ post)) (shift (length pre) ks)) (covered_moved k.first k.end h.0 h.1.0)
       ∙ ap (λ (z : List Marked). let x : Marked = record { at = k.at; cells = take (k.end - k.first) (drop k.first p) } in x ∷ z) (parts_moved ks h.2)
 
 parts_at : (all pre p post : List Symbol) (n : ℕ) (ks : List Mark) → all ≡ pre ++ (p ++ post) → length pre ≡ n → AllWithin (length p) ks → marked_parts all (shift n ks) ≡ marked_parts p ks
@@ -34,7 +34,7 @@ parts_front : (p q : List Symbol) (ks : List Mark) → AllWithin (length p) ks �
 parts_front p q [] h = refl
 parts_front p q (k ∷ ks) h =
     let a = h.0 in
-    let b = h.1 in
+    let b = h.1.0 in
     let l : k.end - k.first ≤ length (drop k.first p) = omega (arith, length-drop k.first p) in
     let d : drop k.first (p ++ q) ≡ drop k.first p ++ q = drop-append-le k.first p q (omega arith) in
     ap (λ (z : List Symbol). let x : Marked = record { at = k.at; cells = z } in x ∷ marked_parts (p ++ q) ks) (ap (take (k.end - k.first)) d ∙ take-append-le (k.end - k.first) (drop k.first p) q l)

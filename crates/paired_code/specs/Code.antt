@@ -1,7 +1,8 @@
 -- What a piece is: its cells and its marks; and how the calls put them together.
 use Rattle.std.specs.Prelude.{ℕ, ◌+◌, ◌-◌, ◌^◌, ◌<◌, ◌≤◌, List, [], ◌∷◌, ◌++◌, length, take, drop}
 use Rattle.paired_code.specs.declared.part.Symbol.{Symbol}
-use Rattle.paired_code.specs.declared.part.Mark.{Mark}
+use Rattle.pisa_isa.specs.declared.notes.TheConstants.{LAST_PLACE}
+use Rattle.pisa_isa.specs.declared.notes.Mark.{Mark}
 use Rattle.paired_code.specs.Layout.{branch_cells, loop_cells}
 use Rattle.paired_code.specs.Fit.{AllFit}
 
@@ -9,10 +10,10 @@ pub record Code : Type 0 where
   pub cells : List Symbol
   pub marks : List Mark
 
--- each mark is a range of so many cells
+-- each mark is a range of so many cells, with a place that a source can have
 abbrev pub AllWithin : ℕ → List Mark → Type 0
 AllWithin n [] = Unit {0}
-AllWithin n (k ∷ ks) = (k.first ≤ k.end) × (k.end ≤ n) × AllWithin n ks
+AllWithin n (k ∷ ks) = (k.first ≤ k.end) × ((k.end ≤ n) × (k.at ≤ LAST_PLACE)) × AllWithin n ks
 
 -- what each piece keeps: few cells, each of which an image may hold, and marks on them
 pub record Kept (cells : List Symbol) (marks : List Mark) : Type 0 where
@@ -67,3 +68,24 @@ marked_parts cells (k ∷ ks) = record { at = k.at; cells = take (k.end - k.firs
 
 abbrev pub parts : Code → List Marked
 parts c = marked_parts c.cells c.marks
+
+-- ---- the marks of an image that is linked of them
+
+-- those of the routines, of which the first has its top at t: each body stands three cells behind its routine's top
+abbrev pub routine_marks : ℕ → List Code → List Mark
+routine_marks t [] = []
+routine_marks t (b ∷ bs) = shift (t + 1 + 1 + 1) b.marks ++ routine_marks (t + 1 + 1 + 1 + length b.cells + 1) bs
+
+-- main stands from cell 1 on, and the routines behind FINISH
+abbrev pub link_marks : Code → List Code → List Mark
+link_marks main routines = shift 1 main.marks ++ routine_marks (1 + length main.cells + 1) routines
+
+-- how many marks pieces have together
+abbrev pub marks_size : List Code → ℕ
+marks_size [] = 0
+marks_size (b ∷ bs) = length b.marks + marks_size bs
+
+-- the marks of each piece are ranges of its cells
+abbrev pub EachWithin : List Code → Type 0
+EachWithin [] = Unit {0}
+EachWithin (b ∷ bs) = AllWithin (length b.cells) b.marks × EachWithin bs

@@ -1,17 +1,19 @@
 //! Closed pieces of reversible machine code: entered at one end they leave at the other, trap, stop
 //! at a bad address, or never leave, in either direction. They are put together by calls whose
-//! contracts say which cells they make and what the cells do.
+//! contracts say which cells they make and what the cells do, and where their marks are. `link` makes
+//! an image of them, with all marks.
 #![tactic(auto)]
 
+mod marking;
 mod part;
 mod piece;
 #[cfg(test)]
 mod tests;
 mod writer;
 
-pub use part::{Mark, StaticWord, Symbol};
+pub use part::{StaticWord, Symbol};
 pub use piece::{
-    Piece, branch_if, cells_of, check_zero, empty, enter, enter_at, marked, mirror, plain, seq,
-    turn_while,
+    Piece, branch_if, cells_of, check_zero, empty, enter, enter_at, marked, marks_in, mirror,
+    plain, seq, turn_while,
 };
 pub use writer::link;

@@ -1,4 +1,4 @@
-// The cells of a piece before its place and its routines' places are known, and its marks.
+// The cells of a piece before its place and its routines' places are known.
 use pisa_isa::Cell;
 
 /// A cell of a piece: an instruction of its own, a call of a routine by its number, or a part of a
@@ -11,14 +11,6 @@ pub enum Symbol {
     Fixed(Cell),
     Aim(bool),
     Turn(bool, bool, bool),
-}
-
-/// A range of a piece's cells, with a place of the source.
-#[derive(Clone, Copy, PartialEq, Eq, Debug)]
-pub struct Mark {
-    pub first: u32,
-    pub end: u32,
-    pub at: u32,
 }
 
 /// A static word of an image: itself, or the code place of a routine.

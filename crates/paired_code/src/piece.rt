@@ -9,8 +9,8 @@ ghost use Rattle.paired_code.specs.Laws.{SeqLaw, MirrorLaw, BranchLaw, WhileLaw,
 ghost use Rattle.paired_code.specs.Fit.{AllFit};
 ghost use Rattle.paired_code.specs.Code.{Code, Kept, AllWithin, shift, unmarked, seq_code, branch_code, loop_code, marked_code, parts};
 
-use crate::part::{Mark, Symbol};
-use pisa_isa::{Cell, Op};
+use crate::part::Symbol;
+use pisa_isa::{Cell, LAST_PLACE, Mark, Op};
 use rpp_words::NoMemory;
 use std::alloc::Global;
 use std::marker::Model;
@@ -172,7 +172,7 @@ pub fn enter_at(alloc: Global, reg: u8, back: bool) -> Result<Piece, NoMemory>
 
 /// The piece with one mark more, over all its cells.
 pub fn marked(at: u32, piece: Piece) -> Result<Piece, NoMemory>
-    requires { at ≤ 1048575 }
+    requires { at ≤ LAST_PLACE }
     ensures code { IfOk result (λ p. p ≡ marked_code at piece) }
     ensures marks { IfOk result (λ p. parts p ≡ parts piece ++ record { at = at; cells = piece.cells } ∷ []) }
 {
@@ -204,10 +204,19 @@ pub fn cells_of(piece: &Piece) -> &[Symbol]
     &piece.cells
 }
 
+/// Its marks.
+pub fn marks_in(piece: &Piece) -> &[Mark]
+    ensures marks { result.now ≡ piece.now.marks }
+    ensures within { AllWithin (length piece.now.cells) piece.now.marks }
+    ensures few { AllWithin (2 ^ 28) piece.now.marks }
+{
+    &piece.marks
+}
+
 // The marks of a part that begins at cell `by`.
-fn put_marks(marks: &mut Vec<Mark>, more: &[Mark], by: u32) -> Result<(), NoMemory>
+pub(crate) fn put_marks(marks: &mut Vec<Mark>, more: &[Mark], by: u32) -> Result<(), NoMemory>
     requires within { AllWithin (2 ^ 28) more.now }
-    requires few { by < 2 ^ 29 }
+    requires few { by < 2 ^ 30 }
     ensures { OnOk result (marks.new.items ≡ marks.old.items ++ shift by more.now) }
 {
     for mark in more {

@@ -2,9 +2,9 @@ ghost use Rattle.std.specs.Prelude.{◌≡◌, ◌<◌, ◌≤◌, ◌^◌, leng
 
 use crate::{
     Piece, StaticWord, branch_if, cells_of, check_zero, empty, enter, enter_at, link, marked,
-    mirror, plain, seq, turn_while,
+    marks_in, mirror, plain, seq, turn_while,
 };
-use pisa_isa::{Cell, Cells, Core, Image, Op, Stop, step};
+use pisa_isa::{Cell, Cells, Core, Image, Mark, Noted, Op, Stop, step};
 use std::alloc::Global;
 use std::process::Abort;
 use std::test::Fail;
@@ -66,9 +66,12 @@ fn image_of<R: Abort>(
     assert!(rt; cells_of(&main).len() < 100);
     assert!(rt; cells_of(&first).len() < 100);
     assert!(rt; cells_of(&second).len() < 100);
+    assert!(rt; marks_in(&main).len() < 100);
+    assert!(rt; marks_in(&first).len() < 100);
+    assert!(rt; marks_in(&second).len() < 100);
     let routines = vec![in alloc; first, second]?;
     let statics = vec![in alloc; StaticWord::Word(9), StaticWord::Routine(0)]?;
-    Ok(link(alloc, main, routines, statics)?)
+    Ok(link(alloc, main, routines, statics)?.into_parts().0)
 }
 
 /// Why the run stops, and after how many counted steps, if it does within 1,000.
@@ -126,7 +129,12 @@ fn parts(alloc: Global) -> Result<Piece, Fail> {
 }
 
 fn image_alone<R: Abort>(rt: &R, alloc: Global, main: Piece) -> Result<Image, Fail> {
+    Ok(noted_alone(rt, alloc, main)?.into_parts().0)
+}
+
+fn noted_alone<R: Abort>(rt: &R, alloc: Global, main: Piece) -> Result<Noted, Fail> {
     assert!(rt; cells_of(&main).len() < 100);
+    assert!(rt; marks_in(&main).len() < 100);
     Ok(link(alloc, main, Vec::new(alloc), Vec::new(alloc))?)
 }
 
@@ -160,5 +168,29 @@ fn choice_check_loop_and_mirror(rt: HostRuntime) -> Result<(), Fail> {
         run(&stops, &mut core, &mut words),
         Some((Stop::Trap(4), 6))
     );
+    Ok(())
+}
+
+#[test]
+fn marks_go_along_in_the_order_of_their_places(rt: HostRuntime) -> Result<(), Fail> {
+    let alloc = rt.alloc();
+    let late = marked(40, adds(alloc, 5, 7)?)?;
+    let early = marked(12, adds(alloc, 6, 2)?)?;
+    let noted = noted_alone(&rt, alloc, marked(4, seq(late, early)?)?)?;
+    let notes = noted.notes();
+    let code = noted.image().code().len() as u32;
+    assert_eq!(rt; notes.names.len(), 0);
+    assert_eq!(rt; notes.marks.len(), 3);
+    let all = Mark {
+        first: 1,
+        end: code - 1,
+        at: 4,
+    };
+    assert_eq!(rt; notes.marks[0], all);
+    assert_eq!(rt; notes.marks[1].at, 12);
+    assert_eq!(rt; notes.marks[1].end, code - 1);
+    assert_eq!(rt; notes.marks[2].at, 40);
+    assert_eq!(rt; notes.marks[2].first, 1);
+    assert_eq!(rt; notes.marks[2].end, notes.marks[1].first);
     Ok(())
 }

@@ -1,21 +1,48 @@
 // The code of an image, from the pieces of its main part and its routines.
 
-ghost use Rattle.std.specs.Prelude.{◌≡◌, ℕ, ◌+◌, ◌-◌, ◌^◌, ◌<◌, ◌≤◌, ◌++◌, length, map, pos, IfOk, OnOk, slice_index};
+ghost use Rattle.std.specs.Prelude.{◌≡◌, ℕ, ◌+◌, ◌-◌, ◌^◌, ◌<◌, ◌≤◌, ◌++◌, [], length, map, pos, IfOk, OnOk, slice_index};
 ghost use Rattle.pisa_isa.specs.Image.{IsImage};
 ghost use Rattle.paired_code.specs.Cells.{neg, addi, swapbr, bra, rbra, start, finish};
 ghost use Rattle.paired_code.specs.Layout.{base, between, six};
 ghost use Rattle.paired_code.specs.Link.{places, linked, routine_code, routines_code, routines_size, first_top, link_code, link_size, static_word, Linked};
 ghost use Rattle.paired_code.specs.Fit.{EachFit};
-ghost use Rattle.paired_code.specs.Code.{bodies};
+ghost use Rattle.std.specs.List.Sorted.{IsPermutation, IsNonDecreasingBy};
+ghost use Rattle.paired_code.specs.Code.{bodies, link_marks, marks_size};
 
+use crate::marking::marks_of;
 use crate::part::{StaticWord, Symbol};
 use crate::piece::{Piece, bra, cells_of, one_register, swapbr};
-use pisa_isa::{Cell, Image, MOST_CELLS, MOST_STATICS, Op};
+use pisa_isa::{Cell, Image, MOST_CELLS, MOST_MARKS, MOST_STATICS, Noted, Notes, Op};
 use rpp_words::NoMemory;
 use std::alloc::Global;
 
-/// START, `main`, FINISH and then the routines, each in the subroutine form.
+/// START, `main`, FINISH and then the routines, each in the subroutine form. The marks of the pieces go
+/// along with their cells, in ascending order of their places; no name is noted.
 pub fn link(
+    alloc: Global,
+    main: Piece,
+    routines: Vec<Piece>,
+    statics: Vec<StaticWord>,
+) -> Result<Noted, NoMemory>
+    requires code_in_limit { link_size main.cells (bodies routines.items) ≤ MOST_CELLS }
+    requires statics_in_limit { length statics.items ≤ MOST_STATICS }
+    requires few_marks { length main.marks + marks_size routines.items ≤ MOST_MARKS }
+    ensures code { IfOk result (λ n. n.image.code ≡ link_code main.cells (bodies routines.items)) }
+    ensures statics { IfOk result (λ n. n.image.statics ≡ map (static_word (places (first_top main.cells) (bodies routines.items))) statics.items) }
+    ensures image { IfOk result (λ n. IsImage n.image) }
+    ensures law { IfOk result (λ n. Linked main.cells (bodies routines.items) (record { code = n.image.code; routines = places (first_top main.cells) (bodies routines.items) })) }
+    ensures marks { IfOk result (λ n. IsPermutation (link_marks main routines.items) n.notes.marks) }
+    ensures ascending { IfOk result (λ n. IsNonDecreasingBy (λ k. k.at) n.notes.marks) }
+    ensures no_names { IfOk result (λ n. n.notes.names ≡ []) }
+{
+    let marks = marks_of(alloc, &main, &routines)?;
+    let image = image_of(alloc, main, routines, statics)?;
+    let names = Vec::new(alloc);
+    Ok(Noted::seal(image, Notes { marks, names }))
+}
+
+// The image alone.
+fn image_of(
     alloc: Global,
     main: Piece,
     routines: Vec<Piece>,

@@ -2,7 +2,7 @@
 use Rattle.std.specs.Prelude.{◌≡◌, ◌≢◌, ◌≤◌, ◌+◌, ℕ, Bool, false, nat_eq, List, [], ◌∷◌, ◌++◌, length, find, Option, Some, None}
 use Rattle.std.specs.List.{All}
 use Rattle.pisa_isa.specs.declared.machine.Stop.{Stop}
-use Rattle.pisa_isa.specs.Image.{IsImage}
+use Rattle.pisa_isa.specs.Image.{Segments, IsImage}
 use Rattle.pisa_isa.specs.Machine.{stop}
 use Rattle.pisa_cluster.specs.declared.processor.Processor.{Processor}
 use Rattle.pisa_cluster.specs.declared.processor.Kept.{Kept}
@@ -10,13 +10,17 @@ use Rattle.pisa_cluster.specs.declared.cluster.Moved.{Moved}
 use Rattle.pisa_cluster.specs.declared.cluster.Moved.TheVariants.{Made, Stopped}
 use Rattle.pisa_cluster.specs.declared.cluster.Undone.{Undone}
 use Rattle.pisa_cluster.specs.declared.cluster.Undone.TheVariants.{Done, Nothing, Blocked}
-use Rattle.pisa_cluster.specs.Replay.{Joint, processor_at, seen, touches, cstep, replay, AllGo, makers, start_of_joint}
+use Rattle.pisa_cluster.specs.Replay.{Joint, begun, processor_at, seen, touches, cstep, replay, AllGo, makers, start_of_joint}
 
 -- what contracts see of a cluster: its state, its kept steps in order, and the serial number of the next one
 pub record Schedule : Type 0 where
   pub joint : Joint
   pub kept : List Kept
   pub next_serial : ℕ
+
+-- the cluster of these images on so many cells, at its start
+abbrev pub first_schedule : List Segments → (cells : ℕ) → Schedule
+first_schedule images cells = record { joint = begun images cells; kept = []; next_serial = 1 }
 
 -- serial numbers from one on, each greater than those before it, and all below another
 abbrev pub AreSerials : (from below : ℕ) → List Kept → Type 0

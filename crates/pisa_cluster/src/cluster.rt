@@ -2,8 +2,8 @@
 ghost use Rattle.std.specs.Prelude.{◌≡◌, ◌<◌, ◌≤◌, ◌^◌, ◌+◌, ℕ, pos, All, map, length, vec_len, replicate, slice_get, remove, [], option_map, IfOk, IfErr, IsSome, Some, None};
 ghost use Rattle.pisa_isa.specs.Image.{IsImage};
 ghost use Rattle.pisa_cluster.specs.declared.processor.Processor.{Processor};
-ghost use Rattle.pisa_cluster.specs.Replay.{started_processor, begun, start_of_joint, processor_at, replay, makers};
-ghost use Rattle.pisa_cluster.specs.Schedules.{Schedule, IsCluster, IsFree, Moves, Undoes, rewound};
+ghost use Rattle.pisa_cluster.specs.Replay.{started_processor, start_of_joint, processor_at, replay, makers};
+ghost use Rattle.pisa_cluster.specs.Schedules.{Schedule, first_schedule, IsCluster, IsFree, Moves, Undoes, rewound};
 
 use crate::processor::{Common, Kept, Processor};
 use crate::search::{last_step, next_touch, steps_after};
@@ -84,7 +84,7 @@ impl Cluster {
         requires few { vec_len images ≤ 8 }
         requires cells { 1 ≤ cells }
         requires most { cells ≤ 65536 }
-        ensures { IfOk result (λ c. c ≡ record { joint = begun images.items cells; kept = []; next_serial = 1 }) }
+        ensures { IfOk result (λ c. c ≡ first_schedule images.items cells) }
     {
         let processors = started_all(alloc, images)?;
         Ok(Cluster {

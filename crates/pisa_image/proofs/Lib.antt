@@ -2,4 +2,5 @@ pub mod RowNumbers
 pub mod Many
 pub mod Words
 pub mod Cells
+pub mod NoteBytes
 pub mod Whole

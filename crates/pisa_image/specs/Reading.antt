@@ -1,13 +1,19 @@
 -- Reading an image from its front, with the first refusal that is met.
-use Rattle.std.specs.Prelude.{◌≡◌, ℕ, ◌+◌, ◌*◌, Bool, true, false, ◌&&◌, List, [], ◌∷◌, length, Option, Some, None, Result, Ok, Err, nat_eq, nat_lt, nat_le, count_by, if◌then◌else◌}
+use Rattle.std.specs.Prelude.{◌≡◌, ℕ, zero, suc, ◌+◌, ◌-◌, ◌*◌, Bool, true, false, ◌&&◌, List, [], ◌∷◌, length, Option, Some, None, Result, Ok, Err, nat_eq, nat_lt, nat_le, count_by, if◌then◌else◌}
 use Rattle.pisa_isa.specs.declared.cell.Op.{Op}
 use Rattle.pisa_isa.specs.declared.cell.Cell.{Cell}
 use Rattle.pisa_isa.specs.declared.image.TheConstants.{MOST_CELLS, MOST_STATICS}
 use Rattle.pisa_isa.specs.declared.image.SealError.{SealError}
 use Rattle.pisa_isa.specs.declared.image.SealError.TheVariants as seal
+use Rattle.rpp_words.specs.declared.input.TheConstants.{FIXED_CELLS}
+use Rattle.std.specs.Char.{is_ascii_alphabetic}
+use Rattle.pisa_isa.specs.declared.notes.TheConstants.{MOST_MARKS, LAST_PLACE, MOST_NAMES, MOST_NAME_BYTES}
+use Rattle.pisa_isa.specs.declared.notes.Mark.{Mark}
+use Rattle.pisa_isa.specs.declared.notes.FieldName.{FieldName}
+use Rattle.pisa_isa.specs.Notes.{NoteLists, NotedImage, no_notes, is_name_byte}
 use Rattle.pisa_isa.specs.Table.{has_a, has_b, c_is_source, register_end, imm_end, is_one_to_one}
 use Rattle.pisa_isa.specs.Image.{Segments, is_start, is_finish}
-use Rattle.pisa_image.specs.declared.reading.TheConstants.{MARK, VERSION}
+use Rattle.pisa_image.specs.declared.reading.TheConstants.{MARK, VERSION, OLD_VERSION}
 use Rattle.pisa_image.specs.declared.error.ImageError.{ImageError}
 use Rattle.pisa_image.specs.declared.error.ImageError.TheVariants.{NotOneToOne, NoStart, NoFinish, ImageTruncated, ImageMagic, ImageField, ImageTrailing, NoMemory}
 use Rattle.pisa_image.specs.Numbers.{◌>>=◌, word_at, many_at, words_at}
@@ -62,35 +68,111 @@ cell_at at bytes = do
 abbrev pub cells_at : (count at : ℕ) → List ℕ → Result (List Cell × List ℕ) ImageError
 cells_at count at bytes = many_at cell_at 8 count at bytes
 
+-- a number of one range
+abbrev pub number_between : (low high at : ℕ) → List ℕ → Result (ℕ × List ℕ) ImageError
+number_between low high at bytes = tested_word (λ n. nat_le low n && nat_le n high) (ImageField at) at bytes
+
 -- the mark of the format, its version, and the numbers of code cells and of static cells
-unfoldable pub header_at : List ℕ → Result (ℕ × ℕ × List ℕ) ImageError
+unfoldable pub header_at : List ℕ → Result (ℕ × ℕ × ℕ × List ℕ) ImageError
 header_at bytes = do
   mark ← tested_word (λ n. nat_eq n MARK) (ImageMagic 0) 0 bytes
-  version ← tested_word (λ n. nat_eq n VERSION) (ImageField 4) 4 mark.1
-  cells ← tested_word (λ n. nat_le 2 n && nat_le n MOST_CELLS) (ImageField 8) 8 version.1
-  statics ← tested_word (λ n. nat_le n MOST_STATICS) (ImageField 12) 12 cells.1
-  Ok (cells.0, statics.0, statics.1)
+  version ← number_between OLD_VERSION VERSION 4 mark.1
+  cells ← number_between 2 MOST_CELLS 8 version.1
+  statics ← number_between 0 MOST_STATICS 12 cells.1
+  Ok (version.0, cells.0, statics.0, statics.1)
 
 abbrev pub segments : List Cell → List ℕ → Segments
 segments code statics = record { code = code; statics = statics }
 
--- so many code cells and so many static cells, up to the end of the bytes
-unfoldable pub segments_at : (cells statics : ℕ) → List ℕ → Result Segments ImageError
+-- so many code cells and so many static cells
+unfoldable pub segments_at : (cells statics : ℕ) → List ℕ → Result (Segments × List ℕ) ImageError
 segments_at cells statics bytes = do
   code ← cells_at cells 16 bytes
   words ← words_at (λ k. ImageTruncated k) statics (16 + 8 * cells) code.1
-  if nat_eq (length words.1) 0 then Ok (segments code.0 words.0) else Err (ImageTrailing (16 + 8 * cells + 4 * statics))
+  Ok (segments code.0 words.0, words.1)
+
+-- a mark of code of so many cells
+unfoldable pub mark_at : (cells at : ℕ) → List ℕ → Result (Mark × List ℕ) ImageError
+mark_at cells at bytes = do
+  first ← number_between 0 cells at bytes
+  end ← number_between first.0 cells (at + 4) first.1
+  place ← number_between 0 LAST_PLACE (at + 8) end.1
+  Ok (record { first = first.0; end = end.0; at = place.0 }, place.1)
+
+abbrev pub marks_at : (cells count at : ℕ) → List ℕ → Result (List Mark × List ℕ) ImageError
+marks_at cells count at bytes = many_at (mark_at cells) 12 count at bytes
+
+-- a byte that passes a test
+abbrev pub tested_byte : (passes : ℕ → Bool) → (at : ℕ) → List ℕ → Result (ℕ × List ℕ) ImageError
+tested_byte passes at [] = Err (ImageTruncated at)
+tested_byte passes at (byte ∷ rest) = if passes byte then Ok (byte, rest) else Err (ImageField at)
+
+-- a name that begins with this byte and goes on with so many
+abbrev pub text_from : (first count at : ℕ) → List ℕ → Result (List ℕ × List ℕ) ImageError
+text_from first count at bytes = do
+  others ← many_at (tested_byte is_name_byte) 1 count at bytes
+  Ok (first ∷ others.0, others.1)
+
+-- a name of so many bytes, each of which is tried by the rule for names
+unfoldable pub text_at : (count at : ℕ) → List ℕ → Result (List ℕ × List ℕ) ImageError
+text_at count at bytes = do
+  first ← tested_byte is_ascii_alphabetic at bytes
+  text_from first.0 (count - 1) (at + 1) first.1
+
+-- a name of one of so many static cells, where the names have so many bytes left
+unfoldable pub name_at : (statics left at : ℕ) → List ℕ → Result (FieldName × List ℕ) ImageError
+name_at statics left at bytes = do
+  cell ← number_between FIXED_CELLS (FIXED_CELLS + statics - 1) at bytes
+  count ← number_between 1 left (at + 4) cell.1
+  text ← text_at count.0 (at + 8) count.1
+  Ok (record { cell = cell.0; text = text.0 }, text.1)
+
+-- so many names, and the place behind them
+unfoldable pub names_at : (statics left count at : ℕ) → List ℕ → Result (List FieldName × ℕ × List ℕ) ImageError
+names_at statics left zero at bytes = Ok ([], at, bytes)
+names_at statics left (suc count) at bytes = do
+  first ← name_at statics left at bytes
+  others ← names_at statics (left - length first.0.text) count (at + 8 + length first.0.text) first.1
+  Ok (first.0 ∷ others.0, others.1, others.2)
+
+-- the notes of code of so many cells and so many static cells, and the place behind them
+unfoldable pub notes_at : (cells statics at : ℕ) → List ℕ → Result (NoteLists × ℕ × List ℕ) ImageError
+notes_at cells statics at bytes = do
+  count ← number_between 0 MOST_MARKS at bytes
+  marks ← marks_at cells count.0 (at + 4) count.1
+  named ← number_between 0 MOST_NAMES (at + 4 + 12 * count.0) marks.1
+  names ← names_at statics MOST_NAME_BYTES named.0 (at + 8 + 12 * count.0) named.1
+  Ok (record { marks = marks.0; names = names.0 }, names.1, names.2)
+
+-- the version before has no notes
+abbrev pub notes_of : (version cells statics at : ℕ) → List ℕ → Result (NoteLists × ℕ × List ℕ) ImageError
+notes_of version cells statics at bytes = if nat_eq version OLD_VERSION then Ok (no_notes, at, bytes) else notes_at cells statics at bytes
+
+-- nothing follows
+abbrev pub ended : {A : Type 0} → A → (at : ℕ) → List ℕ → Result A ImageError
+ended x at rest = if nat_eq (length rest) 0 then Ok x else Err (ImageTrailing at)
 
 -- an image has one START and one FINISH
 abbrev pub sealed : Segments → Result Segments ImageError
 sealed image =
     if nat_eq (count_by is_start image.code) 1 then (if nat_eq (count_by is_finish image.code) 1 then Ok image else Err NoFinish) else Err NoStart
 
-unfoldable pub image_at : List ℕ → Result Segments ImageError
+abbrev pub noted : NoteLists → Segments → NotedImage
+noted notes image = record { image = image; notes = notes }
+
+-- the image of these segments with the notes behind them, which end the bytes
+unfoldable pub noted_at : (version cells statics : ℕ) → Segments → List ℕ → Result NotedImage ImageError
+noted_at version cells statics image bytes = do
+  notes ← notes_of version cells statics (16 + 8 * cells + 4 * statics) bytes
+  whole ← ended notes.0 notes.1 notes.2
+  known ← sealed image
+  Ok (noted whole known)
+
+unfoldable pub image_at : List ℕ → Result NotedImage ImageError
 image_at bytes = do
   header ← header_at bytes
-  image ← segments_at header.0 header.1 header.2
-  sealed image
+  body ← segments_at header.1 header.2 header.3
+  noted_at header.0 header.1 header.2 body.0 body.1
 
 -- why cells with all targets apart from their sources are no code of an image
 abbrev pub is_of_counts : SealError → Bool

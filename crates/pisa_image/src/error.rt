@@ -42,6 +42,14 @@ impl From<AllocError> for ImageError {
     }
 }
 
+impl From<rpp_words::NoMemory> for ImageError {
+    ghost from_gives = { λ _ e. e ≡ NoMemory };
+
+    fn from(_: rpp_words::NoMemory) -> Self {
+        ImageError::NoMemory
+    }
+}
+
 impl<T: Drop> From<AllocFailed<T>> for ImageError {
     ghost from_gives = { λ _ e. e ≡ NoMemory };
 

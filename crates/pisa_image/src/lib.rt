@@ -1,9 +1,12 @@
-//! The bytes of image files. The bytes of an image are one function of it, `image_bytes`; the reader
-//! accepts exactly those bytes, and else answers the first field that is wrong. A layer above may use
-//! both, and the reading and writing of numbers of 32 bits, which state files share.
+//! The bytes of image files. The bytes of an image with its notes are one function of it, `image_bytes`;
+//! the reader accepts exactly those bytes and those of the version before, which has no notes, and else
+//! answers the first field that is wrong. A layer above may use both, and the reading and writing of
+//! numbers of 32 bits, which state files share.
 #![tactic(auto)]
 
 mod error;
+mod note_reading;
+mod note_writing;
 mod ranges;
 mod reading;
 mod rows;
@@ -12,5 +15,5 @@ mod tests;
 mod writing;
 
 pub use error::ImageError;
-pub use reading::{VERSION, read_image};
+pub use reading::{OLD_VERSION, VERSION, read_image};
 pub use writing::{add_word, add_words, write_image};

@@ -6,9 +6,10 @@ ghost use Rattle.pisa_image.specs.Numbers.{word_bytes, words_bytes};
 ghost use Rattle.pisa_image.specs.ImageBytes.{cell_bytes, image_bytes};
 ghost use Rattle.pisa_image.specs.Reading.{image_at};
 
+use crate::note_writing::add_notes;
 use crate::reading::VERSION;
 use crate::rows::number_of;
-use pisa_isa::{Cell, Image};
+use pisa_isa::{Cell, Noted};
 use rpp_words::NoMemory;
 use std::alloc::{AllocError, Global};
 
@@ -48,12 +49,15 @@ pub fn add_words(bytes: &mut Vec<u8>, words: &[u32]) -> Result<(), AllocError>
 }
 
 /// The bytes of an image: `RPPI`, the version, the numbers of code cells and of static cells, the code
-/// cells of eight bytes each, and the static cells of four.
-pub fn write_image(alloc: Global, image: &Image) -> Result<Vec<u8>, NoMemory>
-    ensures bytes { IfOk result (λ bytes. bytes.items ≡ image_bytes image.now) }
-    // They are read as the image.
-    ensures reads_back { IfOk result (λ bytes. image_at bytes.items ≡ Ok image.now) }
+/// cells of eight bytes each, and the static cells of four; then its notes: the number of marks and the
+/// marks of twelve bytes each, the number of names, and for each its cell, its length and its bytes.
+pub fn write_image(alloc: Global, noted: &Noted) -> Result<Vec<u8>, NoMemory>
+    ensures bytes { IfOk result (λ bytes. bytes.items ≡ image_bytes noted.now) }
+    // They are read as the image with its notes.
+    ensures reads_back { IfOk result (λ bytes. image_at bytes.items ≡ Ok noted.now) }
 {
+    let image = noted.image();
+    let notes = noted.notes();
     let code = image.code();
     let statics = image.statics();
     let mut bytes = Vec::with_capacity(alloc, 16 + 8 * code.len() + 4 * statics.len())?;
@@ -63,5 +67,6 @@ pub fn write_image(alloc: Global, image: &Image) -> Result<Vec<u8>, NoMemory>
     add_word(&mut bytes, statics.len() as u32)?;
     add_cells(&mut bytes, code)?;
     add_words(&mut bytes, statics)?;
+    add_notes(&mut bytes, notes)?;
     Ok(bytes)
 }

@@ -16,3 +16,4 @@ pub mod Restored
 pub mod Flips
 pub mod Longer
 pub mod Loaded
+pub mod Noting

@@ -6,3 +6,4 @@ pub mod Runs
 pub mod Ends
 pub mod Loaded
 pub mod Flipped
+pub mod Notes

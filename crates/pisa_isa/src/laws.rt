@@ -1,11 +1,12 @@
 // Laws of the machine, as contracts of functions that do nothing.
-ghost use Rattle.std.specs.Prelude.{◌≡◌, ◌≤◌, ℕ, List, Some, None};
+ghost use Rattle.std.specs.Prelude.{◌≡◌, ◌≤◌, ℕ, List, Some, None, IsTrue};
 ghost use Rattle.pisa_isa.specs.declared.cell.Cell.{Cell};
 ghost use Rattle.pisa_isa.specs.Machine.{State, IsCode, IsState, stop, next, back};
 ghost use Rattle.pisa_isa.specs.Image.{Segments, IsImage};
 ghost use Rattle.pisa_isa.specs.Runs.{steps, back_by, run, started};
 ghost use Rattle.pisa_isa.specs.Ends.{IsCleanFinish};
 ghost use Rattle.pisa_isa.specs.Flipped.{flipped_image, Restores};
+ghost use Rattle.pisa_isa.specs.Notes.{NotedImage, fits, flipped_noted};
 
 /// Stepping back undoes a step, at every state at which there is no stop, for every image.
 pub fn back_undoes_next()
@@ -23,6 +24,12 @@ pub fn back_undoes_steps()
 pub fn flipped_image_is_image()
     ensures image { (image : Segments) → IsImage image → IsImage (flipped_image image) }
     ensures twice { (image : Segments) → IsImage image → flipped_image (flipped_image image) ≡ image }
+{}
+
+/// The notes of a flipped image fit it, and flipping it again gives the image with its notes.
+pub fn flipped_notes_fit()
+    ensures fits { (n : NotedImage) → IsTrue (fits n.image n.notes) → IsTrue (fits (flipped_noted n).image (flipped_noted n).notes) }
+    ensures twice { (n : NotedImage) → IsImage n.image → IsTrue (fits n.image n.notes) → flipped_noted (flipped_noted n) ≡ n }
 {}
 
 /// Where a run of an image from START finishes cleanly, the run of the flipped code from START, from

@@ -1,5 +1,5 @@
 //! The reversible machine PISA: its instructions, one step forward and back, and images, the
-//! programs that it runs. The definitions that the contracts of all layers above share stand here:
+//! programs that it runs, with notes on where their cells come from. The definitions that the contracts of all layers above share stand here:
 //! the table of instructions, states, stops, steps, runs, and the memory that a run begins with.
 #![tactic(auto)]
 
@@ -7,8 +7,16 @@ mod cell;
 mod image;
 mod laws;
 mod machine;
+mod notes;
 
 pub use cell::{Cell, Op};
 pub use image::{Image, MOST_CELLS, MOST_STATICS, SealError};
-pub use laws::{back_undoes_next, back_undoes_steps, flipped_image_is_image, flipped_run_restores};
+pub use laws::{
+    back_undoes_next, back_undoes_steps, flipped_image_is_image, flipped_notes_fit,
+    flipped_run_restores,
+};
 pub use machine::{Cells, Core, Stop, step, unstep};
+pub use notes::{
+    FieldName, LAST_PLACE, MOST_MARKS, MOST_NAME_BYTES, MOST_NAMES, Mark, NoteText, Noted, Notes,
+    fits, is_name, is_name_byte, mark_fits, name_fits,
+};

@@ -16,7 +16,9 @@ use Rattle.pisa_isa.specs.declared.machine.Stop.{Stop}
 use Rattle.pisa_isa.specs.declared.machine.Stop.TheVariants.{Finished, Trap, Bound as AtBound}
 use Rattle.pisa_isa.specs.Image.{Segments, IsImage}
 use Rattle.pisa_isa.specs.Flipped.{Restores}
+use Rattle.pisa_isa.specs.Notes.{no_notes}
 use Rattle.pisa_image.specs.ImageBytes.{image_bytes}
+use Rattle.pisa_image.specs.Reading.{noted}
 use Rattle.pisa_isa.specs.Loaded.{loaded}
 use Rattle.pisa_isa.specs.Runs.{End, zero_registers}
 use Rattle.roopl_semantics.specs.Store.{State}
@@ -33,7 +35,8 @@ use Rattle.rpp_words.specs.declared.input.TheConstants.{MOST_DEEP}
 use Rattle.program_commands.specs.Inputs.{given_input}
 use Rattle.rpp_plan.specs.declared.plan.Verdict.TheVariants.{Done, SourceRefused, Trapped, Bound, InputRefused}
 use Rattle.rpp_plan.specs.Plans.{Planned, prints, writes, WithText, WithInput}
-use Rattle.rpp_plan.specs.Texts.{load_line, steps_line, fault_line, cells_line}
+use Rattle.rpp_plan.specs.Texts.{load_line, steps_line, cells_line}
+use Rattle.machine_texts.specs.Stops.{fault_line}
 
 -- the source gives a store, and the plan reports it, as it stands in these cells
 pub record ReportsStore (program : Source) (limits : Limits) (input : List FieldWord) (cells : List ℕ) (spent : ℕ) (p : Planned) : Type 0 where
@@ -134,7 +137,7 @@ pub record WritesImage (program : Source) (name : List ℕ) (p : Planned) : Type
   pub image : Segments
   pub is_image : IsImage image
   pub stands : StandsFor program image
-  pub written : p ≡ writes name (image_bytes image) (cells_line (codes "compiled") image.code)
+  pub written : p ≡ writes name (image_bytes (noted no_notes image)) (cells_line (codes "compiled") image.code)
 
 abbrev pub IsBuiltImage : (text name : List ℕ) → Source → Planned → Type 0
 IsBuiltImage text name program p = IfBuilt (unbuilt program) text (WritesImage program name) p

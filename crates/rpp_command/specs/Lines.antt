@@ -135,7 +135,7 @@ line_of (name ∷ args) =
     else if bytes_eq name (codes "turn") then go_line_of true args
     else None
 
--- the numbers of a line have at most 18 digits
+-- the numbers of a line that are no sizes of texts have at most 18 digits; those of `cluster` are in their ranges
 abbrev pub HasShortNumbers : Asked → Type 0
 HasShortNumbers (Check file) = Unit {0}
 HasShortNumbers (Compile file image) = Unit {0}

@@ -49,9 +49,10 @@ pub fn answer_on(
 
 // The image of START and FINISH, with this byte at this place.
 fn smallest(alloc: Global, at: usize, byte: u8) -> Result<Vec<u8>, AllocError> {
-    let mut bytes = b"RPPI\x01\0\0\0\x02\0\0\0\0\0\0\0\x21\0\0\0\0\0\0\0\x22\0\0\0\0\0\0\0".to_vec(
+    let mut bytes = b"RPPI\x02\0\0\0\x02\0\0\0\0\0\0\0\x21\0\0\0\0\0\0\0\x22\0\0\0\0\0\0\0".to_vec(
         alloc,
     )?;
+    bytes.resize(40, 0)?;
     if at < bytes.len() {
         bytes[at] = byte;
     }
@@ -87,9 +88,29 @@ fn from_file_to_file(rt: HostRuntime) -> Result<(), Fail> {
     assert!(rt; shelf.text("M") == shelf.text("I"));
     assert!(rt; shelf.text("B") == Some(LISTED.as_bytes()));
     assert!(rt; shelf.text("D") == Some(TURNED.as_bytes()));
-    let smallest = smallest(rt.alloc(), 32, 0)?;
+    let smallest = smallest(rt.alloc(), 40, 0)?;
     assert!(rt; shelf.text("S") == Some(smallest.as_slice()));
     assert!(rt; shelf.text("V") == Some(b"START\nFINISH\n"));
+    Ok(())
+}
+
+// An image of the version before is read as one without notes, and its listing is assembled to the version of today.
+#[test]
+fn the_version_before_is_read(rt: HostRuntime) -> Result<(), Fail> {
+    let mut old = smallest(rt.alloc(), 4, 1)?;
+    old.truncate(32);
+    let mut shelf = shelf_of(rt.alloc(), &[("I", old.as_slice())], &[])?;
+    for (words, text) in [
+        ("list I T", "listed 2 cells\n"),
+        ("asm T J", "assembled 2 cells\n"),
+    ] {
+        let (status, said) = answer_on(rt.alloc(), &mut shelf, words, &[])?;
+        assert_eq!(rt; status, 0, "{words}");
+        assert_eq!(rt; said.as_slice(), text.as_bytes(), "{words}");
+    }
+    let new = smallest(rt.alloc(), 40, 0)?;
+    assert!(rt; shelf.text("T") == Some(b"START\nFINISH\n"));
+    assert!(rt; shelf.text("J") == Some(new.as_slice()));
     Ok(())
 }
 
@@ -151,16 +172,18 @@ fn refused_texts(rt: HostRuntime) -> Result<(), Fail> {
 #[test]
 fn refused_images(rt: HostRuntime) -> Result<(), Fail> {
     for (len, at, byte, line) in [
-        (0, 32, 0, "refused 31 ImageTruncated at 0\n"),
-        (15, 32, 0, "refused 31 ImageTruncated at 15\n"),
-        (31, 32, 0, "refused 31 ImageTruncated at 31\n"),
-        (33, 32, 0, "refused 34 ImageTrailing at 32\n"),
-        (32, 0, 0, "refused 32 ImageMagic at 0\n"),
-        (32, 4, 9, "refused 33 ImageField at 4\n"),
-        (32, 8, 1, "refused 33 ImageField at 8\n"),
-        (32, 16, 36, "refused 33 ImageField at 16\n"),
-        (32, 24, 33, "refused 29 NoStart\n"),
-        (32, 16, 34, "refused 29 NoStart\n"),
+        (0, 40, 0, "refused 31 ImageTruncated at 0\n"),
+        (15, 40, 0, "refused 31 ImageTruncated at 15\n"),
+        (31, 40, 0, "refused 31 ImageTruncated at 31\n"),
+        (39, 40, 0, "refused 31 ImageTruncated at 39\n"),
+        (41, 40, 0, "refused 34 ImageTrailing at 40\n"),
+        (40, 0, 0, "refused 32 ImageMagic at 0\n"),
+        (40, 4, 9, "refused 33 ImageField at 4\n"),
+        (40, 8, 1, "refused 33 ImageField at 8\n"),
+        (40, 16, 36, "refused 33 ImageField at 16\n"),
+        (40, 24, 33, "refused 29 NoStart\n"),
+        (40, 16, 34, "refused 29 NoStart\n"),
+        (40, 35, 1, "refused 33 ImageField at 32\n"),
     ] {
         let mut bytes = smallest(rt.alloc(), at, byte)?;
         bytes.resize(len, 0)?;

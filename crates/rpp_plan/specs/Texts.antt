@@ -1,12 +1,10 @@
--- What is printed: refusals of texts, images and inputs, faults, and numbers of steps and cells.
+-- What is printed: refusals of texts, images and inputs, and numbers of steps and cells.
 use Rattle.std.specs.Prelude.{ℕ, List, [], ◌++◌, codes, length}
 use Rattle.std.specs.Fmt.{decimal}
 use Rattle.pisa_asm.specs.declared.error.AsmError.{AsmError}
 use Rattle.pisa_image.specs.declared.error.ImageError.{ImageError}
 use Rattle.rpp_words.specs.Texts.{line_end}
 use Rattle.pisa_isa.specs.declared.cell.Cell.{Cell}
-use Rattle.roopl_semantics.specs.Report.{signed_decimal}
-use Rattle.rpp_plan.specs.Faults.{fault_name}
 use Rattle.pisa_loader.specs.declared.error.LoadError.{LoadError}
 use Rattle.pisa_asm.specs.declared.error.AsmError.TheVariants as asm
 use Rattle.pisa_image.specs.declared.error.ImageError.TheVariants as image
@@ -50,9 +48,6 @@ bad_command_line line = codes "refused 39 BadCommand at " ++ (decimal line ++ li
 
 abbrev pub steps_line : ℕ → List ℕ
 steps_line steps = codes "steps " ++ (decimal steps ++ line_end)
-
-abbrev pub fault_line : ℕ → List ℕ
-fault_line code = codes "fault " ++ (signed_decimal code ++ (fault_name code ++ line_end))
 
 -- what was done with so many code cells
 abbrev pub cells_line : (what : List ℕ) → List Cell → List ℕ

@@ -2,12 +2,14 @@
 ghost use Rattle.std.specs.Prelude.{◌≡◌, IfOk, string_bytes, ◌<◌, ◌++◌, Ok};
 ghost use Rattle.rpp_plan.specs.Plans.{planned, prints};
 ghost use Rattle.rpp_plan.specs.Refusals.{refused as refusal, refused_line as line_of_refusal, refusal_name as name_of_refusal};
-ghost use Rattle.rpp_plan.specs.Texts.{load_line as line_of_load, bad_command_line as line_of_bad_command, fault_line as line_of_fault, steps_line, asm_line as line_of_asm, image_line as line_of_image};
-ghost use Rattle.rpp_plan.specs.Faults.{fault_name as name_of_fault};
+ghost use Rattle.rpp_plan.specs.Texts.{load_line as line_of_load, bad_command_line as line_of_bad_command, steps_line, asm_line as line_of_asm, image_line as line_of_image};
+ghost use Rattle.machine_texts.specs.Stops.{fault_line as line_of_fault};
 
 use crate::plan::{Plan, Verdict};
+use machine_texts::add_stop;
 use pisa_asm::AsmError;
 use pisa_image::ImageError;
+use pisa_isa::Stop;
 use pisa_loader::LoadError;
 use std::alloc::{AllocError, Global};
 
@@ -95,34 +97,9 @@ pub fn with_steps(text: String, spent: u64) -> Result<String, AllocError>
 pub fn fault_line(alloc: Global, code: u32) -> Result<String, AllocError>
     ensures { IfOk result (λ line. string_bytes line ≡ line_of_fault code) }
 {
-    let name = fault_name(code);
-    let number = code.cast_signed();
-    format!(in alloc; "fault {number}{name}\n")
-}
-
-// The name of a fault, with a space in front.
-fn fault_name(code: u32) -> &'static str
-    ensures { result.now ≡ name_of_fault code }
-{
-    match code {
-        1 => " Fi",
-        2 => " Loop",
-        3 => " Delocal",
-        4 => " NotNil",
-        5 => " Nil",
-        6 => " Count",
-        7 => " NotEmpty",
-        8 => " HeapFull",
-        9 => " Index",
-        10 => " NotSame",
-        11 => " ClassDiffers",
-        12 => " LengthDiffers",
-        13 => " Length",
-        14 => " TooDeep",
-        15 => " Touched",
-        16 => " SharedArray",
-        _ => "",
-    }
+    let mut line = String::new(alloc);
+    add_stop(&mut line, Stop::Trap(code))?;
+    Ok(line)
 }
 
 /// What is printed where an assembly text is refused.

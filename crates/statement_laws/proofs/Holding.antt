@@ -2,7 +2,7 @@
 use Rattle.std.proofs.Common.{◌≡◌, ℕ, ◌+◌, List, [], ◌∷◌, ◌++◌, length, refl, sym, ap, ◌∙◌, arith, length-append, append_assoc, append-nil}
 use Rattle.paired_code.specs.Cells.{bra}
 use Rattle.paired_code.specs.declared.part.Symbol.TheVariants.{Own}
-use Rattle.paired_code.specs.declared.part.Mark.{Mark}
+use Rattle.pisa_isa.specs.declared.notes.Mark.{Mark}
 use Rattle.paired_code.specs.Layout.{between, fork}
 use Rattle.paired_code.specs.Code.{Code, moved_on, shift, seq_code, branch_code, loop_code}
 use Rattle.statement_laws.specs.Held.{Holds, HoldsBoth}

@@ -2,7 +2,7 @@ use Rattle.std.proofs.Common.{rules}
 use Rattle.rpp_tree.specs.Views.{expression_of}
 use Rattle.paired_code.specs.Code.{unmarked}
 use Rattle.paired_code.proofs.Contract.{if_ok_law}
-use Rattle.expr_uncompute.specs.Visible.{spot_of, free_of, known_by}
+use Rattle.method_scope.specs.Visible.{spot_of, free_of, known_by}
 use Rattle.expr_uncompute.specs.Code.{test_cells}
 use Rattle.expr_uncompute.specs.Promises.{TestLaw}
 use Rattle.std.specs.Prelude.{◌≤◌, ◌*◌, length}

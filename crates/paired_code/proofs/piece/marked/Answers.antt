@@ -8,7 +8,7 @@ use Rattle.paired_code.proofs.piece.marked.Goals as goal
 pub sealed-requires-clause-within : goal.sealed-requires-clause-within
 sealed-requires-clause-within c =
     let n : c.len.result ≡ length c.piece.inside.cells.items = omega (arith, c.len.ensures, c.piece.inside.cells.ok.0) in
-    rw c.in_ok-push.ensures.items (within_append _ c.piece.inside.marks.items _ c.piece.invariant.within (omega arith, omega arith, tt))
+    rw c.in_ok-push.ensures.items (within_append _ c.piece.inside.marks.items _ c.piece.invariant.within (omega arith, (omega arith, c.requires), tt))
 
 pub returns-clause-code : goal.returns-clause-code
 returns-clause-code c = search rules

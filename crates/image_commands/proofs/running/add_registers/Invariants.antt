@@ -1,8 +1,0 @@
-use Rattle.std.proofs.Common.{◌≡◌, ◌++◌, drop}
-use Rattle.std.specs.Prelude.{string_bytes}
-use Rattle.image_commands.specs.ImagePlans.{register_lines}
-use Rattle.image_commands.proofs.running.add_registers.Given as goal
-
--- the lines so far and those of the registers that are left are the whole
-abbrev pub invariant-loop-number : goal.invariant-loop-number
-invariant-loop-number l = string_bytes l.text ++ register_lines l.number (drop l.number l.regs) ≡ string_bytes l.initial.text ++ register_lines 0 l.regs
