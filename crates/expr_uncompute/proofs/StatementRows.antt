@@ -1,25 +1,24 @@
 -- Updates and swaps against the source's rows, in both directions, with faults, counts and steps, from what a relation gives.
-use Rattle.std.proofs.Common.{◌≡◌, ℕ, ◌+◌, ◌*◌, ◌≤◌, Bool, true, false, List, [], ◌∷◌, ◌++◌, refl, sym, ap, ◌∙◌, subst, arith}
+use Rattle.std.proofs.Common.{◌≡◌, ℕ, ◌+◌, ◌*◌, ◌≤◌, Bool, true, false, List, ◌++◌, refl, sym, ◌∙◌, subst, arith}
 use Rattle.std.specs.Prelude.{slice_index, slice_set, Result, Ok, Err}
 use Rattle.std.proofs.Math.Nat.{mul-le-mul_right}
 use Rattle.rpp_tree.specs.declared.tree.UpdateOp.{UpdateOp}
-use Rattle.rpp_tree.specs.declared.tree.Ident.{Ident}
-use Rattle.rpp_tree.specs.Tree.{Expression, Lvalue, Source, Statement, Update, Swap, nodes, index_nodes}
-use Rattle.stmt_inverter.specs.Inverse.{inverse_statement}
+use Rattle.rpp_tree.specs.Tree.{Expression, Lvalue, Update, Swap, nodes, index_nodes}
 use Rattle.paired_code.specs.declared.part.Symbol.{Symbol}
 use Rattle.paired_code.specs.Machine.{Memory, Image}
 use Rattle.paired_code.specs.Pieces.{Will}
-use Rattle.paired_code.specs.Does.{Rates, Told, Fine, Fault, More, Meets, fine, faults, Does}
+use Rattle.paired_code.specs.Does.{Rates, Meets, fine, faults, Does}
 use Rattle.paired_code.proofs.Laws.{will_of}
 use Rattle.roopl_semantics.specs.Operators.{updated}
-use Rattle.roopl_semantics.specs.Run.{Run, Done as DoneRun, Fault as FaultRun, More as MoreRun, after_cost, given, give, spend, fault_if, ◌>>=◌}
+use Rattle.roopl_semantics.specs.Run.{Run, after_cost, given, give, spend, fault_if, ◌>>=◌}
 use Rattle.roopl_semantics.specs.Store.{Value, Word, State, number_of}
 use Rattle.roopl_semantics.specs.Value.{Cell, read, written, value, cell_of}
 use Rattle.roopl_semantics.specs.Elements.{elements, index_elements, own_element, share_array, read_cost, shared_array_fault}
 use Rattle.roopl_semantics.specs.Execution.{Setting, Runner, statement}
 use Rattle.statement_laws.specs.declared.spot.Spot.{Spot}
+use Rattle.statement_laws.specs.Form.{told, turned as facing}
 use Rattle.expr_uncompute.specs.Code.{words, place_words}
-use Rattle.expr_uncompute.specs.Number.{read_of, index_of, update_shares, swap_shares}
+use Rattle.expr_uncompute.specs.Number.{read_of, index_of}
 use Rattle.expr_uncompute.specs.Steps.{place_steps, fetch_steps, apart_steps, both_apart_steps, update_steps, swap_steps}
 use Rattle.expr_uncompute.specs.Laws.{bases_of, turned, swapped_at}
 use Rattle.expr_uncompute.specs.Promises.{UpdateLaw, SwapLaw, CanRun}
@@ -27,17 +26,6 @@ use Rattle.expr_uncompute.specs.Means.{shown, cell_address, Means, MeansPlace, T
 use Rattle.expr_uncompute.proofs.Sharing.{update_shares_is, swap_shares_is}
 use Rattle.expr_uncompute.proofs.SourceLaws.{Updating, Swapping, source_update, source_update_place, source_update_value, source_update_sharing, source_swap, source_swap_left, source_swap_right, source_swap_sharing}
 use Rattle.expr_uncompute.proofs.Bounds.{update_most, update_sharing_most, update_least, swap_most, swap_sharing_most, swap_least, place_less, place_most, fetch_most}
-
--- what a run says, as pieces are told it
-abbrev pub told : {A : Type 0} → Run A → Told A
-told (DoneRun a c) = Fine a c
-told (FaultRun w c) = Fault w c
-told MoreRun = More
-
--- a statement, or its inverse where the piece is run back
-abbrev pub facing : Bool → Statement → Statement
-facing false s = s
-facing true s = inverse_statement s
 
 -- the check of arrays, with its count
 abbrev kept_by : ℕ → Bool → Run (Unit {0})

@@ -1,10 +1,10 @@
 -- The table of an object's class, in the memory of an open frame.
-use Rattle.std.proofs.Common.{◌≡◌, ℕ, ◌+◌, ◌*◌, ◌^◌, ◌<◌, ◌≤◌, true, List, length, Some, refl, sym, ap, ◌∙◌, subst, arith}
+use Rattle.std.proofs.Common.{◌≡◌, ℕ, ◌+◌, ◌<◌, ◌≤◌, true, List, length, Some, sym, ap, ◌∙◌, subst, arith}
 use Rattle.std.specs.Prelude.{slice_index, is_some}
 use Rattle.class_table.specs.declared.kind.Kind.TheVariants as kind
 use Rattle.class_table.specs.Classes.{class_slots}
 use Rattle.buddy_book.specs.Place.{Placing}
-use Rattle.roopl_semantics.specs.Store.{OfClass, Head, State, object_at}
+use Rattle.roopl_semantics.specs.Store.{OfClass, State, object_at}
 use Rattle.roopl_semantics.specs.Layout.{HasStatics, table_at, head_word}
 use Rattle.roopl_semantics.specs.Execution.{Setting}
 use Rattle.pisa_isa.specs.Image.{Segments}
@@ -17,11 +17,11 @@ use Rattle.open_frame.proofs.Tells.{read_head}
 use Rattle.open_frame.proofs.TableWords.{places_of, read_table, table_low}
 use Rattle.statement_laws.specs.Form.{Scope, Moved}
 use Rattle.method_calls.specs.Facts.{HasPlace}
-use Rattle.statement_laws.specs.Frames.{Under, base, stack_base, address_of, memory, stack_words}
-use Rattle.statement_laws.specs.Stands.{shape_of, extra, setup, moved_values, Kept, Stands}
+use Rattle.statement_laws.specs.Frames.{Under, base, address_of, memory}
+use Rattle.statement_laws.specs.Stands.{shape_of, extra, setup, Kept, Stands}
 use Rattle.frame_facts.proofs.Bridge.{same_memory, same_at, typed, stack_fits, stack}
 use Rattle.frame_facts.proofs.MovesFit.{frame_long}
-use Rattle.frame_facts.proofs.FramePlaces.{all_small, object_low, sound}
+use Rattle.frame_facts.proofs.FramePlaces.{all_small, object_low}
 use Rattle.frame_facts.proofs.Bridge.{reads_of}
 
 module _ (setting : Setting) (statics : List ℕ) (few : length statics ≤ 262144) (image : Segments) (has : HasStatics setting.program image) (same : statics ≡ image.statics) where
@@ -47,7 +47,7 @@ module _ (setting : Setting) (statics : List ℕ) (few : length statics ≤ 2621
       let head : (object_at st.store u.self).head ≡ OfClass u.class = (let e : Some (object_at st.store u.self).head ≡ Some (OfClass u.class) = sym (ap (Rattle.std.specs.Option.option_map head_of) live) ∙ h.keeps.own_is in cc) in
       let word : slice_index (Rattle.open_frame.specs.Open.memory x at st.store words) (address_of setting statics at u.self) ≡ table_at setting.program u.class =
       subst (λ (a : Placing). slice_index (Rattle.open_frame.specs.Open.memory x a st.store words) (address_of setting statics a u.self) ≡ table_at setting.program u.class) (same_at setting statics s u moved st cells (reads_of h))
-      (read_head x (extra u moved) (shape_of setting.program s) s.class st (sound setting statics few s u moved st cells h) h.keeps.grounded words u.self (ap is_some h.keeps.own_is) ∙ ap (head_word setting.program) head) in
+      (read_head x (extra u moved) (shape_of setting.program s) s.class st (typed setting statics s u moved st cells (reads_of h)) h.keeps.main_unheld h.keeps.grounded words u.self (ap is_some h.keeps.own_is) ∙ ap (head_word setting.program) head) in
       let object_word : slice_index cells u.object ≡ table_at setting.program u.class = ap (slice_index cells) (sym h.frame.stands.1) ∙ ap (λ c. slice_index c (address_of setting statics at u.self)) shown ∙ word in
       let at_entry : table_at setting.program u.class + 1 + slot ≡ table_at setting.program u.class + (1 + slot) = omega arith in
       let entry_word : slice_index (Rattle.open_frame.specs.Open.memory x at st.store words) (table_at setting.program u.class + 1 + slot) ≡ slice_index (places_of has.places u.class) slot =

@@ -1,28 +1,23 @@
 -- Addresses of an open frame, its class's table, and what is put by in it.
-use Rattle.std.proofs.Common.{◌≡◌, ◌≢◌, ℕ, zero, suc, ◌+◌, ◌-◌, ◌*◌, ◌^◌, ◌<◌, ◌≤◌, Bool, true, false, List, [], ◌∷◌, ◌++◌, length, map, Option, Some, None, refl, sym, ap, ◌∙◌, subst, arith}
-use Rattle.std.proofs.lemmas.Bool.{eqb-true}
-use Rattle.std.proofs.Math.ListN.{length-set}
-use Rattle.std.specs.Prelude.{replicate, nat_eq, slice_index, slice_set, not, nat_lt, is_some, if◌then◌else◌}
-use Rattle.std.specs.Option.{unwrap_or}
+use Rattle.std.proofs.Common.{◌≡◌, ℕ, ◌+◌, ◌-◌, ◌*◌, ◌^◌, ◌<◌, ◌≤◌, Bool, true, false, List, [], ◌∷◌, length, refl, sym, subst, arith}
+use Rattle.std.specs.Prelude.{replicate, nat_eq, slice_index, slice_set, not, nat_lt, if◌then◌else◌}
 use Rattle.buddy_book.specs.Place.{Placing, block_of}
-use Rattle.roopl_semantics.specs.Store.{Value, OfClass, Store, Binding, State, main_name, object_at}
+use Rattle.roopl_semantics.specs.Store.{OfClass, State, main_name}
 use Rattle.rpp_words.specs.Limits.{IsLimits}
-use Rattle.roopl_semantics.specs.Layout.{table_at, head_word}
 use Rattle.roopl_semantics.specs.Execution.{Setting}
 use Rattle.pisa_isa.specs.Loaded.{statics_at}
-use Rattle.sound_execution.specs.Sound.{head_named, cell_kinds, is_live, Sound}
 use Rattle.sound_execution.proofs.Stores.{differs}
 use Rattle.sound_execution.proofs.Regions.{region_inside}
 use Rattle.open_frame.proofs.Memory.{base_above}
-use Rattle.open_frame.proofs.Tells.{cells_small, read_head}
+use Rattle.open_frame.proofs.Tells.{cells_small}
 use Rattle.statement_laws.specs.Form.{Scope, Moved}
 use Rattle.method_calls.specs.Facts.{HasEnd, HasWords}
-use Rattle.statement_laws.specs.Frames.{Under, base, stack_base, address_of, memory, before_stack, stack_words, OpenFrame}
-use Rattle.frame_facts.proofs.FramesFit.{frame_at, has_end, link_word, place_word, put_opens}
-use Rattle.statement_laws.specs.Stands.{shape_of, extra, setup, moved_values, Kept, Stands}
+use Rattle.statement_laws.specs.Frames.{Under, base, stack_base, address_of, OpenFrame}
+use Rattle.frame_facts.proofs.FramesFit.{has_end, link_word, place_word, put_opens}
+use Rattle.statement_laws.specs.Stands.{setup, Kept, Stands}
 use Rattle.method_calls.specs.Names.{put}
-use Rattle.frame_facts.proofs.Bridge.{set_words, same_memory, same_at, typed, stack_fits, before_long}
-use Rattle.frame_facts.proofs.MovesFit.{class_at, frame_address, frame_long}
+use Rattle.frame_facts.proofs.Bridge.{set_words, same_at, before_long}
+use Rattle.frame_facts.proofs.MovesFit.{frame_address, frame_long}
 use Rattle.frame_facts.proofs.FactsMoves.{set_apart}
 use Rattle.statement_laws.specs.Worlds.{IsFresh}
 use Rattle.frame_facts.proofs.Bridge.{reads_of}
@@ -45,24 +40,6 @@ module _ (setting : Setting) (statics : List ℕ) (few : length statics ≤ 2621
 
     pub object_small : u.object < 2 ^ 23
     object_small = let a = all_small h.keeps.grounded.limits in let o = object_low in omega (arith, a, o)
-
-    -- the word of the object is its class's table
-    abbrev pub sound : Sound setting (extra u moved) (shape_of setting.program s) s.class st
-    sound =
-        let t = typed setting statics s u moved st cells (reads_of h) in
-        record {
-          names = t.names;
-          variables = t.variables;
-          objects = t.objects;
-          counts = h.counts;
-          lives = t.lives;
-          self_is = t.self_is;
-          self_held = t.self_held;
-          main_extra = t.main_extra;
-          main_unheld = h.keeps.main_unheld;
-          fresh = t.fresh;
-          placed = t.placed;
-        }
 
   pub frame_end : (s : Scope) (u : Under) (st : State) (cells : List ℕ) → Stands setting statics s u [] st cells → HasEnd cells (frame_address setting statics u) (not (nat_lt (1 + length u.callers) setting.limits.deep))
   frame_end s u st cells h = has_end setting statics s u st cells h.frame (let a = all_small h.keeps.grounded.limits in omega (arith, a))

@@ -1,5 +1,5 @@
 -- What is kept stays so where a value moves up into the frame above, and back.
-use Rattle.std.proofs.Common.{◌≡◌, ℕ, zero, suc, ◌+◌, ◌<◌, ◌≤◌, Bool, true, false, List, [], ◌∷◌, map, Some, refl, sym, ap, ◌∙◌, subst, arith}
+use Rattle.std.proofs.Common.{◌≡◌, ℕ, ◌+◌, ◌<◌, Bool, true, false, List, [], ◌∷◌, map, Some, refl, sym, ap, ◌∙◌, arith}
 use Rattle.std.proofs.lemmas.Bool.{ltb-true, ltb-false}
 use Rattle.std.specs.Prelude.{nat_lt, is_some}
 use Rattle.class_table.specs.declared.kind.Kind.TheVariants as kind
@@ -8,17 +8,16 @@ use Rattle.class_table.specs.declared.kind.Kind.{Kind}
 use Rattle.roopl_semantics.specs.Store.{Value, Word, Nil, Name, Store, State, main_name, is_zero, cleared}
 use Rattle.roopl_semantics.specs.Value.{Cell, Slot, Part, read, written}
 use Rattle.roopl_semantics.specs.Execution.{Setting}
-use Rattle.roopl_semantics.specs.Laws.{one_if_name, holders_among}
+use Rattle.roopl_semantics.specs.Laws.{one_if_name}
 use Rattle.sound_execution.specs.Sound.{named_fits, head_named, is_live, fits, held, local_type, value_of, cell_kind, part_kind, Typed, count_named}
 use Rattle.open_frame.specs.Open.{IsGrounded}
 use Rattle.sound_execution.proofs.Lists.{fits_kept, all_kept}
-use Rattle.sound_execution.proofs.Cells.{heads_written, counts_written, read_fits, typed_written, held_written, kind_stays}
+use Rattle.sound_execution.proofs.Cells.{heads_written, counts_written, read_fits, typed_written, held_written}
 use Rattle.sound_execution.proofs.Moves.{cleared_fits}
 use Rattle.sound_execution.proofs.Objects.{all_live}
 use Rattle.statement_laws.specs.Form.{Scope, Moved}
 use Rattle.statement_laws.specs.Frames.{Caller, Under, cell_in}
-use Rattle.statement_laws.specs.Stands.{shape_of, extra, below_held, receiver_held, main_held, moved_value, setup, CallersFit, MovedFits, AllMoved, Kept, Stands}
-use Rattle.frame_facts.proofs.Bridge.{typed}
+use Rattle.statement_laws.specs.Stands.{shape_of, extra, setup, CallersFit, AllMoved, Kept}
 
 cleared_none : (m : ℕ) (v : Value) → one_if_name m (cleared v) ≡ 0
 cleared_none m (Word w) = refl
@@ -78,14 +77,13 @@ module _ (setting : Setting) (statics : List ℕ) where
         by (Slot i) = refl
         by (Part n i) = refl
 
-    -- a write of any value of the type, with other values above
-    pub kept_write : (v : Value) (moved' : List Moved) → fits setting.program st.store v type ≡ true
-        → ((m : ℕ) → held m (written st cell v) + extra u moved' m ≡ held m st + extra u moved m)
+    -- a write of any value of the type that leaves the main object unheld, with other values above
+    pub kept_unheld : (v : Value) (moved' : List Moved) → fits setting.program st.store v type ≡ true → held main_name (written st cell v) ≡ 0
         → ((m : ℕ) → 0 < extra u moved' m → is_live st.store m ≡ true)
         → extra u moved' main_name ≡ 1
         → AllMoved setting statics st.store s u moved'
         → Kept setting statics s u moved' (written st cell v)
-    kept_write v moved' fit total lives main all =
+    kept_unheld v moved' fit unheld lives main all =
         let w = typed_written setting E (shape_of setting.program s) s.class st cell type v t has fit in
         record {
           class_inside = k.class_inside;
@@ -96,13 +94,23 @@ module _ (setting : Setting) (statics : List ℕ) where
           own_is = heads v u.self ∙ k.own_is;
           self_held = k.self_held;
           main_extra = main;
-          main_unheld = (let b = total main_name in let c = k.main_unheld in let d = k.main_extra in omega (arith, b, c, d, main));
+          main_unheld = unheld;
           fresh = w.fresh;
           placed = w.placed;
           grounded = grounded_stays st.store (written st cell v).store (heads v) k.grounded;
           callers_fit = callers_stay st.store (written st cell v).store (heads v) u.callers k.callers_fit;
           moved_fit = moved_stays s u st.store (written st cell v).store (heads v) moved' all;
         }
+
+    -- a write that only moves what is held
+    pub kept_write : (v : Value) (moved' : List Moved) → fits setting.program st.store v type ≡ true
+        → ((m : ℕ) → held m (written st cell v) + extra u moved' m ≡ held m st + extra u moved m)
+        → ((m : ℕ) → 0 < extra u moved' m → is_live st.store m ≡ true)
+        → extra u moved' main_name ≡ 1
+        → AllMoved setting statics st.store s u moved'
+        → Kept setting statics s u moved' (written st cell v)
+    kept_write v moved' fit total lives main all =
+        kept_unheld v moved' fit (let b = total main_name in let c = k.main_unheld in let d = k.main_extra in omega (arith, b, c, d, main)) lives main all
 
     pub counts_write : (v : Value) (moved' : List Moved) → ((m : ℕ) → held m (written st cell v) + extra u moved' m ≡ held m st + extra u moved m)
         → CountsAre u moved st → CountsAre u moved' (written st cell v)

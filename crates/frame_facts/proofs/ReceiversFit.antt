@@ -1,21 +1,21 @@
 -- What calls on the object of a variable need of open frames.
-use Rattle.std.proofs.Common.{◌≡◌, ◌≢◌, ℕ, zero, suc, ◌+◌, ◌-◌, ◌*◌, ◌^◌, ◌<◌, ◌≤◌, Bool, true, false, List, [], ◌∷◌, length, map, Option, Some, None, Ok, refl, sym, ap, ◌∙◌, subst, arith}
+use Rattle.std.proofs.Common.{◌≡◌, ◌≢◌, ℕ, zero, suc, ◌+◌, ◌-◌, ◌^◌, ◌<◌, ◌≤◌, Bool, true, false, List, [], ◌∷◌, length, map, Option, Some, None, refl, sym, ap, ◌∙◌, subst, arith}
 use Rattle.std.proofs.lemmas.List.{length-map, length-set, get_or-set_other}
-use Rattle.std.specs.Prelude.{replicate, slice_index, slice_set, nat_eq, not, nat_lt, if◌then◌else◌}
+use Rattle.std.specs.Prelude.{replicate, slice_index, slice_set, nat_eq, if◌then◌else◌}
 use Rattle.std.specs.Option.{unwrap_or, option_map}
 use Rattle.class_table.specs.declared.kind.Kind.TheVariants as kind
 use Rattle.rpp_tree.specs.declared.tree.Ident.{Ident}
 use Rattle.rpp_tree.specs.declared.tree.Var.{Var}
 use Rattle.rpp_tree.specs.Tree.{Source}
 use Rattle.class_table.specs.declared.kind.Kind.{Kind}
-use Rattle.class_table.specs.Inheritance.{is_or_inherits, kind_of_var}
+use Rattle.class_table.specs.Inheritance.{is_or_inherits}
 use Rattle.class_table.proofs.FoundMethods.{dispatched_method, own_range}
 use Rattle.buddy_book.specs.Place.{Placing, block_of, place as placing_of}
 use Rattle.pisa_isa.specs.Loaded.{statics_at}
 use Rattle.roopl_semantics.specs.Store.{Value, Word, Nil, Name, Head, OfClass, OfInts, OfObjects, Object, Store, Binding, State, main_name, object_at, class_of_head, no_object, is_zero, is_nil, number_of, cleared}
-use Rattle.roopl_semantics.specs.Value.{Cell, Slot, Part, read, written, with_value, value_at}
+use Rattle.roopl_semantics.specs.Value.{Cell, Slot, Part, read, written, with_value}
 use Rattle.roopl_semantics.specs.Layout.{no_placing}
-use Rattle.roopl_semantics.specs.Execution.{Setting, bound, class_of}
+use Rattle.roopl_semantics.specs.Execution.{Setting, bound}
 use Rattle.sound_execution.specs.Sound.{named_fits, head_named, fits, local_type, value_of, cell_kind}
 use Rattle.sound_execution.proofs.Lists.{all_inside}
 use Rattle.sound_execution.proofs.Stores.{other_number, changed_here}
@@ -25,19 +25,19 @@ use Rattle.open_frame.proofs.Memory.{base_above}
 use Rattle.open_frame.proofs.Tells.{IsReference, reference_read, name_word as reference_word}
 use Rattle.statement_laws.specs.Form.{Scope, Moved, Routines, pairs}
 use Rattle.statement_laws.specs.Frames.{Under, base, stack_base, address_of, value_word, before_stack, cell_in, OpenFrame}
-use Rattle.statement_laws.specs.Stands.{shape_of, extra, moved_value, moved_values, spot_in, setup, Kept, Reads, Stands}
+use Rattle.statement_laws.specs.Stands.{shape_of, extra, moved_values, spot_in, setup, Kept, Reads, Stands}
 use Rattle.statement_laws.specs.Worlds.{Place, world_of}
 use Rattle.method_calls.specs.Facts.{ReceiverFacts, GoesOn, ComesBack, HasPlace, address, out_from}
-use Rattle.method_calls.specs.Names.{HasMethod, IsReceiver, IsVariable, class_named, class_found, slot_of, deeper, deeper_on, known_of, receivers_of}
+use Rattle.method_calls.specs.Names.{IsReceiver, IsVariable, class_named, class_found, slot_of, deeper, deeper_on, known_of, receivers_of}
 use Rattle.frame_facts.specs.Laws.{Route, IsLinked}
 use Rattle.frame_facts.proofs.FramesFit.{enters, leaves, object_word, put_object}
 use Rattle.frame_facts.proofs.SlotMoves.{zero_word, other_word, cleared_word, length_with}
 use Rattle.frame_facts.proofs.Bridge.{reads_of, set_words, typed, typed_by, same_at, before_long, long_by}
 use Rattle.frame_facts.proofs.KeptMoves.{CountsAre, kept_up, kept_back, counts_up, counts_back}
 use Rattle.frame_facts.proofs.MovesFit.{frame_address, place_of, frame_long, cell_inside, cell_low, frame_read, frame_as, frame_write, class_at}
-use Rattle.frame_facts.proofs.FactsMoves.{set_apart, cell_has, spot_is}
+use Rattle.frame_facts.proofs.FactsMoves.{cell_has, spot_is}
 use Rattle.frame_facts.proofs.EntersFit.{pairs_values, HaveKinds}
-use Rattle.frame_facts.proofs.FramePlaces.{all_small, sound}
+use Rattle.frame_facts.proofs.FramePlaces.{all_small}
 use Rattle.frame_facts.proofs.ClassPlaces.{table_read}
 use Rattle.frame_facts.proofs.FactsFit.{classes, not_full, args_have, route_of, callee_types, many_params}
 use Rattle.frame_facts.proofs.OnEnters.{taken, kept_less, kept_on, counts_on, kept_off, counts_off, no_main}
@@ -145,12 +145,12 @@ module _ (place : Place) (routine : ℕ → Ident → ℕ) (linked : IsLinked pl
     pub got : slice_index cells at ≡ value_word setting statics h.frame.at (read st c)
     got = ap (slice_index cells) where_is ∙ frame_read setting statics s u moved st cells (reads_of h) c k has
 
-    pub refers : (n : ℕ) → read st c ≡ Name n → IsReference (setup setting statics) E (shape_of program s) s.class st (sound setting statics linked.few s u moved st cells h) n
-    refers n e = reference_read (setup setting statics) E (shape_of program s) s.class st (sound setting statics linked.few s u moved st cells h) c k n has e
+    pub refers : (n : ℕ) → read st c ≡ Name n → IsReference (setup setting statics) E (shape_of program s) s.class st (typed setting statics s u moved st cells (reads_of h)) h.keeps.main_unheld n
+    refers n e = reference_read (setup setting statics) E (shape_of program s) s.class st (typed setting statics s u moved st cells (reads_of h)) h.keeps.main_unheld c k n has e
 
     pub named_word : (n : ℕ) → read st c ≡ Name n → (0 < value_word setting statics h.frame.at (Name n)) × (value_word setting statics h.frame.at (Name n) < stack_base setting statics)
     named_word n e = subst (λ (a : Placing). (0 < value_word setting statics a (Name n)) × (value_word setting statics a (Name n) < stack_base setting statics)) (same_at setting statics s u moved st cells (reads_of h))
-        (reference_word (setup setting statics) E (shape_of program s) s.class st (sound setting statics linked.few s u moved st cells h) n (refers n e))
+        (reference_word (setup setting statics) E (shape_of program s) s.class st (typed setting statics s u moved st cells (reads_of h)) h.keeps.main_unheld n (refers n e))
 
     pub small : slice_index cells at < 2 ^ 31
     small = by (read st c) refl

@@ -30,7 +30,7 @@ use Rattle.inverse_law.proofs.Cells.{named_changed, with_cell, names_with, apart
 use Rattle.inverse_law.proofs.Calls.{cells_later}
 use Rattle.inverse_law.proofs.Steady.{SameArray, SameLength, Avoids, VariablesStay}
 use Rattle.inverse_law.specs.ArrayLengths.{is_class_head}
-use Rattle.inverse_law.proofs.Known.{Context, Good, typed_in}
+use Rattle.inverse_law.proofs.Known.{Context}
 
 -- ---- heads and names
 
@@ -253,10 +253,10 @@ module _ (setting : Setting) (classes : KnowsClasses setting.program) (C : Conte
       indexed x at (kind.ClassArray c) q = cc
 
   -- the cell of a place is apart from what other variables mean, and from the arrays that the place is not of
-  pub place_apart : (st : State) (p : Lvalue) (k : Kind) (c : Cell) (first second : List ℕ) (R : List ℕ → Type 0) → Good setting C st → place_type typing C.locals p ≡ Ok k → cell_of program st p ≡ Ok c
+  pub place_apart : (st : State) (p : Lvalue) (k : Kind) (c : Cell) (first second : List ℕ) (R : List ℕ → Type 0) → Typed setting C.extra C.shape C.class st → place_type typing C.locals p ≡ Ok k → cell_of program st p ≡ Ok c
       → ((other : List ℕ) → bytes_eq other first ≡ false → bytes_eq other second ≡ false → bytes_eq other (place_name p).text ≡ false) → ((other : List ℕ) → R other → Avoids program st p other) → VariablesApart typing C.locals first second R st c
   place_apart st (Whole name) k c first second R g typed is excluded avoids =
-      let t = typed_in setting classes C st g in
+      let t = g in
       let known = some_of (kind_in typing C.locals name.text) (unknown_name name.at) k typed in
       let P : Cell → Type 0 = λ c. VariablesApart typing C.locals first second R st c in
       let same : cell_named program st name.text ≡ c = cc in
@@ -271,7 +271,7 @@ module _ (setting : Setting) (classes : KnowsClasses setting.program) (C : Conte
       by c (field i h) Nil q = tt
       by c (field i h) (Name n) q = apart_sym n st.self (q n refl)
   place_apart st (Item name index) k c first second R g typed is excluded avoids =
-      let t = typed_in setting classes C st g in
+      let t = g in
       let item = item_typed name index k typed in
       let e = element_is program st name index c is in
       let a = array_of st name.text item.array k e.array t item.known item.element e.holds in

@@ -107,7 +107,7 @@ module _ (setting : Setting) (classes : KnowsClasses setting.program) (C : Conte
       let c = new_class program class p.type p.takes_it in
       record {
         known = c.is ∙ ap (λ n. Some n) (sym (ap (λ o. unwrap_or o 0) c.is));
-        there = is_cell setting classes C st cell p.type (typed_in setting classes C st g) (cell_typed setting classes C st target p.type cell g p.is is);
+        there = is_cell setting classes C st cell p.type (typed_in setting classes C st g) (cell_typed setting classes C st target p.type cell (typed_in setting classes C st g) p.is is);
         stays = made_place_stays setting classes C st g (length (new_cells program class)) (OfClass (number_named program class)) (new_cells program class) target p.type cell p.is is p.own (avoids_of program st target (index_elements target) unshared);
         apart_stays = made_apart setting classes C st g (length (new_cells program class)) (OfClass (number_named program class)) (new_cells program class) target p.type cell p.is is p.own unshared;
       }
@@ -138,7 +138,7 @@ module _ (setting : Setting) (classes : KnowsClasses setting.program) (C : Conte
       record {
         count = l.count;
         is_count = l.is_count;
-        there = is_cell setting classes C st cell p.type (typed_in setting classes C st g) (cell_typed setting classes C st target p.type cell g p.is is);
+        there = is_cell setting classes C st cell p.type (typed_in setting classes C st g) (cell_typed setting classes C st target p.type cell (typed_in setting classes C st g) p.is is);
         stays = made_place_stays setting classes C st g l.count (head l.count) (replicate l.count element) target p.type cell p.is is p.own (whole_avoids setting classes C st target p.type (index_elements target) p.is never);
         size_stays = made_value_stays setting classes C st g l.count (head l.count) (replicate l.count element) target p.type cell p.is is size kind.Int v l.typed none (whole_avoids setting classes C st target p.type (elements size) p.is never) value;
       }
@@ -178,7 +178,7 @@ module _ (setting : Setting) (classes : KnowsClasses setting.program) (C : Conte
   delete_object_facts at class target st cell checked g is unshared some good_end =
       let p = make_parts typing C.locals at (AnObject class) target (first_rule setting C (Delete at (AnObject class) target) checked) in
       let c = new_class program class p.type p.takes_it in
-      let kind_is = cell_typed setting classes C st target p.type cell g p.is is in
+      let kind_is = cell_typed setting classes C st target p.type cell (typed_in setting classes C st g) p.is is in
       let d = deleted_name st cell p.type g kind_is (no_int_takes (table_of program) (AnObject class) p.type p.takes_it) some in
       let P : ℕ → Type 0 = λ n. Good setting C (freed setting cell n st) in
       let end = subst P (ap number_of d.is_name) good_end in
@@ -199,7 +199,7 @@ module _ (setting : Setting) (classes : KnowsClasses setting.program) (C : Conte
       → Good setting C st → cell_of program st target ≡ Ok cell → value_in program st size ≡ Ok v → is_nil (read st cell) ≡ false → Good setting C (freed setting cell (number_of (read st cell)) st) → DeleteArrayFacts setting st target size head element cell v
   delete_array_facts made target size head element element_kind st cell v p never words int none heads empty no_int g is value some good_end =
       let l = length_is st size v g words int value in
-      let kind_is = cell_typed setting classes C st target p.type cell g p.is is in
+      let kind_is = cell_typed setting classes C st target p.type cell (typed_in setting classes C st g) p.is is in
       let d = deleted_name st cell p.type g kind_is no_int some in
       let P : ℕ → Type 0 = λ n. Good setting C (freed setting cell n st) in
       let end = subst P (ap number_of d.is_name) good_end in

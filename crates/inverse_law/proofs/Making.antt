@@ -157,7 +157,7 @@ module _ (setting : Setting) (classes : KnowsClasses setting.program) (C : Conte
 
       made_stays : VariablesStay typing C.locals n n R st last
       made_stays =
-          let cells_apart = place_apart setting classes C st target k cell n n R g typed is (λ other p q. p) (λ other r. r) in
+          let cells_apart = place_apart setting classes C st target k cell n n R (typed_in setting classes C st g) typed is (λ other p q. p) (λ other r. r) in
           stays_then setting typing refl C.locals n n R st more last (added_stays n n R)
           (written_stays setting typing refl C.locals n n R more cell (Name (2 + count_taken st.log)) (apart_stays setting typing refl C.locals n n R st more cell (added_stays n n R) named_added cells_apart))
 
@@ -168,7 +168,7 @@ module _ (setting : Setting) (classes : KnowsClasses setting.program) (C : Conte
       variable_made (Whole name) kt typed_t never = tt
       variable_made (Item name index) kt typed_t never =
           let item = item_typed setting classes C name index kt typed_t in
-          let far = variable_apart setting classes C st target k cell name item.array kt g typed is item.known item.element never in (
+          let far = variable_apart setting classes C st target k cell name item.array kt (typed_in setting classes C st g) typed is item.known item.element never in (
             ap (read last) (named_made name.text) ∙ read_other more cell (cell_named program st name.text) (Name (2 + count_taken st.log)) far ∙ ap (read more) (sym (named_added name.text)) ∙ variable_added name.text item.array item.known,
             length_then st more last (variable_value program st name.text) (length_of_array st more (variable_value program st name.text) (array_added name.text)) (length_written more cell (Name (2 + count_taken st.log)) (variable_value program st name.text)),
           )
@@ -249,7 +249,7 @@ module _ (setting : Setting) (classes : KnowsClasses setting.program) (C : Conte
 
     gone_stays : VariablesStay typing C.locals n' n' R' st end
     gone_stays =
-        let cells_apart = place_apart setting classes C st target k cell n' n' R' g typed is (λ other p q. p) (λ other r. r) in
+        let cells_apart = place_apart setting classes C st target k cell n' n' R' (typed_in setting classes C st g) typed is (λ other p q. p) (λ other r. r) in
         stays_then setting typing refl C.locals n' n' R' st w end (written_stays setting typing refl C.locals n' n' R' st cell Nil cells_apart)
         (record { value = λ other l known p q. variable_gone other; array = λ other l element known e r p q. array_gone other })
 
@@ -260,7 +260,7 @@ module _ (setting : Setting) (classes : KnowsClasses setting.program) (C : Conte
     pub gone_place : occurs_in_own_index target ≡ false → AllRead (Avoids program st target) (index_elements target) → SamePlace program st end target
     gone_place own reads =
         place_stays setting classes C st end target k n' n' R' typed gone_stays reads own own (λ x. named_gone x ∙ named_written setting st cell Nil x)
-        (variable_then setting classes C st w end target (variable_written setting classes C st target k cell Nil target k g typed is typed (no_own_element k)) (variable_last target))
+        (variable_then setting classes C st w end target (variable_written setting classes C st target k cell Nil target k (typed_in setting classes C st g) typed is typed (no_own_element k)) (variable_last target))
 
     pub gone_place_stays : occurs_in_own_index target ≡ false → AllRead (Avoids program st target) (index_elements target) → cell_of program end target ≡ Ok cell
     gone_place_stays own reads = place_same program st end target (gone_place own reads) ∙ is

@@ -12,13 +12,12 @@ use Rattle.class_table.specs.Scope.{Setting as Typing, Locals}
 use Rattle.class_table.specs.Expressions.{is_int, compares, is_comparison, is_refused, operands_fit, type_of}
 use Rattle.class_table.specs.Program.{setting_in}
 use Rattle.roopl_semantics.specs.Operators.{operated, truth_word}
-use Rattle.roopl_semantics.specs.Store.{Value, Nil, State, number_of}
+use Rattle.roopl_semantics.specs.Store.{Value, Nil, State, main_name, number_of}
 use Rattle.roopl_semantics.specs.Value.{Cell, cell_named, read, read_cell, element_of, value}
 use Rattle.roopl_semantics.specs.Layout.{word_of}
-use Rattle.sound_execution.specs.Sound.{fits, Sound}
+use Rattle.sound_execution.specs.Sound.{fits, held, Typed}
 use Rattle.open_frame.specs.Open.{Setup, base_of}
 use Rattle.sound_execution.specs.Kept.{MeansSame}
-use Rattle.sound_execution.proofs.Cells.{typed_of}
 use Rattle.sound_execution.proofs.Classes.{KnowsClasses}
 use Rattle.sound_execution.proofs.Objects.{clash}
 use Rattle.class_table.proofs.PassedRules.{handed_on, both_true, int_kind}
@@ -68,7 +67,7 @@ compared op.Mul a b c d h e = absurd (cc)
 compared op.Div a b c d h e = absurd (cc)
 compared op.Rem a b c d h e = absurd (cc)
 
-module _ (u : Setup) (classes : KnowsClasses u.setting.program) (extra : ℕ → ℕ) (locals shape : Locals) (class : ℕ) (inside : class < length u.setting.program.classes) (means : MeansSame locals shape) (st : State) (s : Sound u.setting extra shape class st) where
+module _ (u : Setup) (classes : KnowsClasses u.setting.program) (extra : ℕ → ℕ) (locals shape : Locals) (class : ℕ) (inside : class < length u.setting.program.classes) (means : MeansSame locals shape) (st : State) (s : Typed u.setting extra shape class st) (unheld : held main_name st ≡ 0) where
   abbrev program : Source
   program = u.setting.program
 
@@ -79,21 +78,20 @@ module _ (u : Setup) (classes : KnowsClasses u.setting.program) (extra : ℕ →
   word v = word_of (base_of u) s.placed.at.blocks v
 
   abbrev Ref : Value → Type 0
-  Ref v = IsRef u extra shape class st s v
+  Ref v = IsRef u extra shape class st s unheld v
 
   -- a value that is no int is nil or a reference that can be told
   pub value_refers : (e : Expression) (k : Kind) (v : Value) → type_of typing locals e ≡ Ok k → is_int k ≡ false → value program st e ≡ Ok v → Ref v
   value_refers (Number at w) k v h no_int q = let e : kind.Int ≡ k = cc in absurd (clash (is_int k) (ap is_int (sym e)) no_int)
   value_refers (Null at) k v h no_int q = let e : Nil ≡ v = cc in subst (λ z. Ref z) e tt
   value_refers (Variable name) k v h no_int q =
-      let t = typed_of u.setting extra shape class st s in
       let e : read st (cell_named program st name.text) ≡ v = cc in
-      subst (λ z. Ref z) e (reference_cell u extra shape class st s (cell_named program st name.text) k (variable_fits u.setting classes extra locals shape class inside means st name k t h) no_int)
-  value_refers (Element name index) k v h no_int q = by (element_of program st name.text (value program st index)) (item_fits u.setting classes extra locals shape class inside means st name index k (typed_of u.setting extra shape class st s) h) q
+      subst (λ z. Ref z) e (reference_cell u extra shape class st s unheld (cell_named program st name.text) k (variable_fits u.setting classes extra locals shape class inside means st name k s h) no_int)
+  value_refers (Element name index) k v h no_int q = by (element_of program st name.text (value program st index)) (item_fits u.setting classes extra locals shape class inside means st name index k s h) q
     where
       by : (r : Result Cell ℕ) → CellIs program shape st.store k r → read_cell st r ≡ Ok v → Ref v
       by (Err fault) f e = absurd (cc)
-      by (Ok cell) f e = let same : read st cell ≡ v = cc in subst (λ z. Ref z) same (reference_cell u extra shape class st s cell k f no_int)
+      by (Ok cell) f e = let same : read st cell ≡ v = cc in subst (λ z. Ref z) same (reference_cell u extra shape class st s unheld cell k f no_int)
   value_refers (Binary at operator left right) k v h no_int q =
       let l = handed_on (type_of typing locals left) _ k h in
       let r = handed_on (type_of typing locals right) _ k l.goes in
@@ -120,7 +118,7 @@ module _ (u : Setup) (classes : KnowsClasses u.setting.program) (extra : ℕ →
 
       either : (i j : Bool) → is_int a ≡ i → is_int b ≡ j → i ≡ j → is_comparison operator ≡ true → operated operator (number_of x) (number_of y) ≡ operated operator (word x) (word y)
       either true true e r s' c = ints e r
-      either false false e r s' c = compared operator (number_of x) (number_of y) (word x) (word y) c (sym (words_tell u extra shape class st s x y (p e) (q r)))
+      either false false e r s' c = compared operator (number_of x) (number_of y) (word x) (word y) c (sym (words_tell u extra shape class st s unheld x y (p e) (q r)))
       either true false e r s' c = absurd (cc)
       either false true e r s' c = absurd (cc)
 

@@ -1,4 +1,5 @@
 -- What the words of an open frame tell: references from nil and from each other, heads, counts; and that they are words in range.
+-- That a name in a cell is live and not the main object's comes from the main object's own count alone.
 use Rattle.std.proofs.Common.{◌≡◌, ◌≢◌, ◌∙◌, sym, ap, subst, refl, ℕ, ◌+◌, ◌-◌, ◌*◌, ◌/◌, ◌^◌, ◌<◌, ◌≤◌, Bool, true, false, List, [], ◌∷◌, length, drop, Some, arith}
 use Rattle.std.proofs.Math.Nat.{mod-add-div}
 use Rattle.std.proofs.lemmas.Bool.{eqb-true, ltb-true}
@@ -17,11 +18,11 @@ use Rattle.rpp_words.specs.Limits.{IsLimits}
 use Rattle.roopl_semantics.specs.Layout.{word_of, head_word, object_words, with_book}
 use Rattle.roopl_semantics.specs.Laws.{one_if_name}
 use Rattle.pisa_isa.specs.Loaded.{statics_at}
-use Rattle.sound_execution.specs.Sound.{head_of, is_live, fits, cell_kinds, cell_kind, held, Sound}
+use Rattle.sound_execution.specs.Sound.{head_of, is_live, fits, cell_kinds, cell_kind, held, Typed}
 use Rattle.open_frame.specs.Open.{Setup, base_of, stack_at, address_of, memory, frame_size, IsGrounded}
 use Rattle.sound_execution.proofs.Lists.{all_length}
 use Rattle.sound_execution.proofs.Stores.{live_object, other_number, same_number, differs}
-use Rattle.sound_execution.proofs.Cells.{typed_of, read_fits, held_written}
+use Rattle.sound_execution.proofs.Cells.{read_fits, held_written}
 use Rattle.sound_execution.proofs.Objects.{fit_live, clash}
 use Rattle.sound_execution.proofs.Removal.{one_name}
 use Rattle.sound_execution.proofs.Regions.{region_inside, blocks_descend, entries_are, entry_of}
@@ -47,7 +48,7 @@ cells_small u limits few =
     let b : 2 ^ 23 ≡ 8388608 = refl in
     omega arith
 
-module _ (u : Setup) (extra : ℕ → ℕ) (shape : Locals) (class : ℕ) (st : State) (s : Sound u.setting extra shape class st) where
+module _ (u : Setup) (extra : ℕ → ℕ) (shape : Locals) (class : ℕ) (st : State) (s : Typed u.setting extra shape class st) (unheld : held main_name st ≡ 0) where
   abbrev at : Placing
   at = s.placed.at
 
@@ -61,13 +62,12 @@ module _ (u : Setup) (extra : ℕ → ℕ) (shape : Locals) (class : ℕ) (st : 
 
   pub reference_read : (cell : Cell) (k : Kind) (n : ℕ) → cell_kind u.setting.program shape st.store cell ≡ Some k → read st cell ≡ Name n → IsReference n
   reference_read cell k n h reads =
-      let t = typed_of u.setting extra shape class st s in
-      let fit : fits u.setting.program st.store (Name n) k ≡ true = subst (λ v. fits u.setting.program st.store v k ≡ true) reads (read_fits u.setting extra shape class st cell k t h) in
-      let a = held_written u.setting extra shape class st cell k (Word 0) n t h in
+      let fit : fits u.setting.program st.store (Name n) k ≡ true = subst (λ v. fits u.setting.program st.store v k ≡ true) reads (read_fits u.setting extra shape class st cell k s h) in
+      let a = held_written u.setting extra shape class st cell k (Word 0) n s h in
       let b : one_if_name n (read st cell) ≡ 1 = ap (one_if_name n) reads ∙ one_name n in
       record {
         live = fit_live u.setting.program st.store (Name n) k n fit (let o = one_name n in omega arith);
-        no_main = λ e. let z : held n st ≡ held main_name st = ap (λ x. held x st) e in let m = s.main_unheld in omega arith;
+        no_main = λ e. let z : held n st ≡ held main_name st = ap (λ x. held x st) e in omega (arith, z, a, b, unheld);
       }
 
   -- a name's word is no 0, and is below the stack
@@ -125,7 +125,7 @@ module _ (u : Setup) (extra : ℕ → ℕ) (shape : Locals) (class : ℕ) (st : 
 
   -- what is read from a cell of a type that is no int is nil or a reference
   pub reference_cell : (cell : Cell) (k : Kind) → cell_kind u.setting.program shape st.store cell ≡ Some k → is_int k ≡ false → IsRef (read st cell)
-  reference_cell cell k h no_int = by (read st cell) refl (read_fits u.setting extra shape class st cell k (typed_of u.setting extra shape class st s) h)
+  reference_cell cell k h no_int = by (read st cell) refl (read_fits u.setting extra shape class st cell k s h)
     where
       by : (v : Value) → read st cell ≡ v → fits u.setting.program st.store v k ≡ true → IsRef v
       by (Word w) e f = clash (is_int k && nat_lt w (2 ^ 32)) f (ap (λ b. b && nat_lt w (2 ^ 32)) no_int)
@@ -134,7 +134,7 @@ module _ (u : Setup) (extra : ℕ → ℕ) (shape : Locals) (class : ℕ) (st : 
 
   -- every word that is read from a cell is a word of the machine
   pub cell_word_small : stack_at u ≤ 2 ^ 32 → (cell : Cell) (k : Kind) → cell_kind u.setting.program shape st.store cell ≡ Some k → word_of base at.blocks (read st cell) < 2 ^ 32
-  cell_word_small small cell k h = by (read st cell) refl (read_fits u.setting extra shape class st cell k (typed_of u.setting extra shape class st s) h)
+  cell_word_small small cell k h = by (read st cell) refl (read_fits u.setting extra shape class st cell k s h)
     where
       second_true : (a b : Bool) → (a && b) ≡ true → b ≡ true
       second_true true b e = e
@@ -157,8 +157,8 @@ module _ (u : Setup) (extra : ℕ → ℕ) (shape : Locals) (class : ℕ) (st : 
         main_case : j < length (object_words u.setting.program base at.blocks (object_at st.store main_name)) → slice_index (memory u at st.store stack) (statics_at + j) ≡ slice_index (object_words u.setting.program base at.blocks (object_at st.store main_name)) j
         main_case l =
             let main = object_words u.setting.program base at.blocks (object_at st.store main_name) in
-            let long = main_long u extra shape class st (typed_of u.setting extra shape class st s) g in
-            second (fixed u extra shape class st (typed_of u.setting extra shape class st s) g) (statics u extra shape class st (typed_of u.setting extra shape class st s) g) (gap u extra shape class st (typed_of u.setting extra shape class st s) g) (heap u extra shape class st (typed_of u.setting extra shape class st s) g) (stack_part u extra shape class st (typed_of u.setting extra shape class st s) g stack) (statics_at + j) j (let f = length_fixed u extra shape class st (typed_of u.setting extra shape class st s) g in omega arith) (let k = length_statics u extra shape class st (typed_of u.setting extra shape class st s) g in let r = g.room in omega arith)
+            let long = main_long u extra shape class st s g in
+            second (fixed u extra shape class st s g) (statics u extra shape class st s g) (gap u extra shape class st s g) (heap u extra shape class st s g) (stack_part u extra shape class st s g stack) (statics_at + j) j (let f = length_fixed u extra shape class st s g in omega arith) (let k = length_statics u extra shape class st s g in let r = g.room in omega arith)
             ∙ get_or_append_left main (drop (length main) u.statics) 0 j l
 
         other_case : n ≢ main_name → slice_index (memory u at st.store stack) (base + block_of at.blocks n + j) ≡ slice_index (object_words u.setting.program base at.blocks (object_at st.store n)) j
@@ -168,8 +168,8 @@ module _ (u : Setup) (extra : ℕ → ℕ) (shape : Locals) (class : ℕ) (st : 
             let cells = all_length u.setting.program st.store (cell_kinds u.setting.program (object_at st.store n).head) (object_at st.store n).cells (s.objects n (object_at st.store n) named) in
             let long = length_words u.setting.program base at.blocks (object_at st.store n) in
             let words = with_book base at.book (replicate (2 ^ u.setting.limits.heap) 0) in
-            let total = length_heap_is u extra shape class st (typed_of u.setting extra shape class st s) g in
-            fourth (fixed u extra shape class st (typed_of u.setting extra shape class st s) g) (statics u extra shape class st (typed_of u.setting extra shape class st s) g) (gap u extra shape class st (typed_of u.setting extra shape class st s) g) (heap u extra shape class st (typed_of u.setting extra shape class st s) g) (stack_part u extra shape class st (typed_of u.setting extra shape class st s) g stack) (base + block_of at.blocks n + j) (block_of at.blocks n + j) (let b = before_heap u extra shape class st (typed_of u.setting extra shape class st s) g in omega arith) (omega arith)
+            let total = length_heap_is u extra shape class st s g in
+            fourth (fixed u extra shape class st s g) (statics u extra shape class st s g) (gap u extra shape class st s g) (heap u extra shape class st s g) (stack_part u extra shape class st s g stack) (base + block_of at.blocks n + j) (block_of at.blocks n + j) (let b = before_heap u extra shape class st s g in omega arith) (omega arith)
             ∙ read_heap u.setting st.store st.log s.placed base s.objects n live no_main bound at.blocks words (blocks_descend u.setting st.store st.log bound s.placed s.fresh) (entries_are u.setting st.store st.log bound s.placed s.fresh)
             (entry_of bound st.store at.blocks n s.placed.names live no_main) (block_of at.blocks n + j) j refl h (let z = length_book base at.book (replicate (2 ^ u.setting.limits.heap) 0) ∙ length-replicate {A = ℕ} (2 ^ u.setting.limits.heap) 0 in omega arith)
 
@@ -178,7 +178,7 @@ module _ (u : Setup) (extra : ℕ → ℕ) (shape : Locals) (class : ℕ) (st : 
             let same = eqb-true n main_name e in
             subst (λ k. slice_index (memory u at st.store stack) (address_of u at.blocks k + j) ≡ slice_index (object_words u.setting.program base at.blocks (object_at st.store k)) j) (sym same)
             (main_case (subst (λ k. j < length (object_words u.setting.program base at.blocks (object_at st.store k))) same h))
-        by false e = ap (λ a. slice_index (memory u at st.store stack) (a + j)) (address_other u extra shape class st (typed_of u.setting extra shape class st s) g n (differs n main_name e)) ∙ other_case (differs n main_name e)
+        by false e = ap (λ a. slice_index (memory u at st.store stack) (a + j)) (address_other u extra shape class st s g n (differs n main_name e)) ∙ other_case (differs n main_name e)
 
     -- the first word is the class table's address, or an array's length
     pub read_head : (stack : List ℕ) (n : ℕ) → is_live st.store n ≡ true → slice_index (memory u at st.store stack) (address_of u at.blocks n) ≡ head_word u.setting.program (object_at st.store n).head

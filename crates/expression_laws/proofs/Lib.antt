@@ -1,0 +1,12 @@
+pub mod Names
+pub mod FrameReads
+pub mod WordsRead
+pub mod ExpressionsRead
+pub mod ValuesFit
+pub mod ArraysTold
+pub mod CellsWritten
+pub mod FramesWritten
+pub mod SameReadings
+pub mod UpdatesFit
+pub mod SwapsFit
+pub mod Stated
