@@ -10,7 +10,7 @@ use Rattle.pisa_isa.specs.Notes.{NoteLists, NotedImage}
 use Rattle.pisa_image.specs.declared.error.ImageError.{ImageError}
 use Rattle.pisa_asm.specs.declared.error.AsmError.{AsmError}
 use Rattle.pisa_image.specs.Reading.{image_at}
-use Rattle.pisa_asm.specs.Passes.{image_of_text}
+use Rattle.pisa_asm.specs.Passes.{noted_of_text}
 use Rattle.pisa_machine.specs.Position.{Position}
 use Rattle.pisa_isa.specs.Machine.{State}
 use Rattle.rpp_plan.specs.Plans.{Planned, WithState, WritesOnly}
@@ -26,7 +26,7 @@ image_writes : (read : Result NotedImage ImageError) (P : NotedImage → Planned
 image_writes (Err e) P name p f h = along p _ name h (inl refl)
 image_writes (Ok image) P name p f h = f image p h
 
-asm_writes : (read : Result Segments AsmError) (name : List ℕ) (p : Planned) → IsAsmPlan read name p → WritesOnly p (Some name)
+asm_writes : (read : Result NotedImage AsmError) (name : List ℕ) (p : Planned) → IsAsmPlan read name p → WritesOnly p (Some name)
 asm_writes (Err e) name p h = along p _ (Some name) h (inl refl)
 asm_writes (Ok image) name p h = along p _ (Some name) h (inr refl)
 
@@ -56,7 +56,7 @@ of_state texts None read heap deep steps save p g = run_writes read heap deep st
 of_state texts (Some name) read heap deep steps save p h = of_text (texts name) _ _ (WritesOnly p save) h (λ given g. run_writes read heap deep steps (Some given) save p g)
 
 pub assembles_file_writes : (text image : List ℕ) (texts : Texts) (p : Planned) → AssemblesFile text image texts p → WritesOnly p (Some image)
-assembles_file_writes text image texts p h = of_text (texts text) _ _ (WritesOnly p (Some image)) h (λ bytes g. asm_writes (image_of_text bytes) image p g)
+assembles_file_writes text image texts p h = of_text (texts text) _ _ (WritesOnly p (Some image)) h (λ bytes g. asm_writes (noted_of_text bytes) image p g)
 
 pub lists_file_writes : (image text : List ℕ) (texts : Texts) (p : Planned) → ListsFile image text texts p → WritesOnly p (Some text)
 lists_file_writes image text texts p h = of_text (texts image) _ _ (WritesOnly p (Some text)) h (λ bytes g. list_writes (image_at bytes) text p g)

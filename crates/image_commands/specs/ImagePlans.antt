@@ -2,15 +2,15 @@
 use Rattle.std.specs.Prelude.{◌≡◌, ℕ, List, [], length, None, Some, Result, Ok, Err, codes}
 use Rattle.std.specs.declared.option.Option.{Option}
 use Rattle.rpp_ports.specs.Ports.{Texts}
-use Rattle.pisa_image.specs.Reading.{image_at, noted}
+use Rattle.pisa_image.specs.Reading.{image_at}
 use Rattle.pisa_asm.specs.declared.assembler.TheConstants.{MOST_TEXT}
-use Rattle.pisa_asm.specs.Passes.{image_of_text}
+use Rattle.pisa_asm.specs.Passes.{noted_of_text}
 use Rattle.rpp_plan.specs.declared.reading.TheConstants.{MOST_IMAGE}
 use Rattle.rpp_words.specs.declared.input.Limits.{Limits}
 use Rattle.pisa_isa.specs.declared.machine.Stop.{Stop}
 use Rattle.pisa_isa.specs.declared.machine.Stop.TheVariants.{Finished, Trap, Bound as AtBound}
 use Rattle.pisa_isa.specs.Image.{Segments}
-use Rattle.pisa_isa.specs.Notes.{NoteLists, NotedImage, no_notes, flipped_noted}
+use Rattle.pisa_isa.specs.Notes.{NoteLists, NotedImage, flipped_noted}
 use Rattle.pisa_image.specs.declared.error.ImageError.{ImageError}
 use Rattle.pisa_image.specs.ImageBytes.{image_bytes}
 use Rattle.pisa_asm.specs.declared.error.AsmError.{AsmError}
@@ -68,14 +68,14 @@ abbrev pub IsRunPlan : Result NotedImage ImageError → (heap deep steps : ℕ) 
 IsRunPlan read heap deep steps state save p =
     OfImage (λ n. IsSizedPlan (limits_refusal heap deep MOST_DEEP) n (record { heap = heap; deep = deep }) state save steps) read p
 
--- the image that an assembly text writes is written, or its first refusal is told
-abbrev pub IsAsmPlan : Result Segments AsmError → (name : List ℕ) → Planned → Type 0
+-- the image that an assembly text writes is written with its notes, or its first refusal is told
+abbrev pub IsAsmPlan : Result NotedImage AsmError → (name : List ℕ) → Planned → Type 0
 IsAsmPlan (Err e) name p = p ≡ prints ImageRefused (asm_line e)
-IsAsmPlan (Ok image) name p = p ≡ writes name (image_bytes (noted no_notes image)) (cells_line (codes "assembled") image.code)
+IsAsmPlan (Ok n) name p = p ≡ writes name (image_bytes n) (cells_line (codes "assembled") n.image.code)
 
--- the listing of an image that was read is written
+-- the listing of an image that was read is written, with its notes
 abbrev pub IsListPlan : Result NotedImage ImageError → (name : List ℕ) → Planned → Type 0
-IsListPlan read name p = OfImage (λ n p. p ≡ writes name (listing n.image) (cells_line (codes "listed") n.image.code)) read p
+IsListPlan read name p = OfImage (λ n p. p ≡ writes name (listing n) (cells_line (codes "listed") n.image.code)) read p
 
 -- the flipped image of an image that was read is written, with its notes turned
 abbrev pub IsFlipPlan : Result NotedImage ImageError → (name : List ℕ) → Planned → Type 0
@@ -83,7 +83,7 @@ IsFlipPlan read name p = OfImage (λ n p. p ≡ writes name (image_bytes (flippe
 
 -- the plan of `asm` of this file to that of an image
 abbrev pub AssemblesFile : (text image : List ℕ) → Texts → Planned → Type 0
-AssemblesFile text image texts p = WithText texts text MOST_TEXT (λ bytes. IsAsmPlan (image_of_text bytes) image p)
+AssemblesFile text image texts p = WithText texts text MOST_TEXT (λ bytes. IsAsmPlan (noted_of_text bytes) image p)
 
 -- the plan of `list` of this file to that of a text
 abbrev pub ListsFile : (image text : List ℕ) → Texts → Planned → Type 0

@@ -3,7 +3,7 @@ ghost use Rattle.std.specs.Prelude.{◌≡◌, ◌≤◌, [], ◌∷◌, length,
 ghost use Rattle.pisa_isa.specs.Notes.{flipped_noted};
 ghost use Rattle.pisa_image.specs.Reading.{image_at};
 ghost use Rattle.pisa_asm.specs.declared.assembler.TheConstants.{MOST_TEXT};
-ghost use Rattle.pisa_asm.specs.Passes.{image_of_text};
+ghost use Rattle.pisa_asm.specs.Passes.{noted_of_text};
 ghost use Rattle.rpp_plan.specs.Plans.{planned, GivesPlan};
 ghost use Rattle.image_commands.specs.ImagePlans.{IsAsmPlan, IsListPlan, IsFlipPlan, AssemblesFile, ListsFile, FlipsFile};
 ghost use Rattle.rpp_plan.specs.declared.reading.TheConstants.{MOST_IMAGE};
@@ -13,8 +13,7 @@ use pisa_asm::{AsmError, MOST_TEXT, assemble};
 use pisa_image::{ImageError, read_image, write_image};
 use pisa_isa::Noted;
 use rpp_plan::{
-    MOST_IMAGE, NoPlan, Plan, Verdict, asm_line, cells_line, image_line, read_file,
-    without_notes, write_as,
+    MOST_IMAGE, NoPlan, Plan, Verdict, asm_line, cells_line, image_line, read_file, write_as,
 };
 use rpp_ports::Shelf;
 use rpp_words::NoMemory;
@@ -31,10 +30,10 @@ pub fn asm<S: Shelf>(alloc: Global, shelf: &mut S, text: &str, image: &str) -> R
 
 fn asm_text(alloc: Global, text: &[u8], name: &str) -> Result<Plan, NoMemory>
     requires { length text.now ≤ MOST_TEXT }
-    ensures { IfOk result (λ plan. IsAsmPlan (image_of_text text.now) name.now (planned plan)) }
+    ensures { IfOk result (λ plan. IsAsmPlan (noted_of_text text.now) name.now (planned plan)) }
 {
     match assemble(alloc, text) {
-        Ok(image) => write_as(alloc, "assembled", name, &without_notes(alloc, image)),
+        Ok(noted) => write_as(alloc, "assembled", name, &noted),
         Err(AsmError::NoMemory) => Err(NoMemory),
         Err(e) => Ok(Plan::prints(Verdict::ImageRefused, asm_line(alloc, e)?)),
     }
@@ -62,9 +61,8 @@ fn list_bytes(alloc: Global, bytes: &[u8], name: &str) -> Result<Plan, NoMemory>
 fn write_listing(alloc: Global, noted: &Noted, name: &str) -> Result<Plan, NoMemory>
     ensures { IfOk result (λ plan. IsListPlan (Ok noted.now) name.now (planned plan)) }
 {
-    let image = noted.image();
-    let listing = pisa_asm::list(alloc, image)?;
-    let text = cells_line(alloc, "listed", image.code())?;
+    let listing = pisa_asm::list(alloc, noted)?;
+    let text = cells_line(alloc, "listed", noted.image().code())?;
     Ok(Plan::writes(String::from_str(alloc, name)?, listing.into_bytes(), text))
 }
 

@@ -9,7 +9,7 @@ use Rattle.pisa_isa.specs.declared.image.TheConstants.{MOST_CELLS, MOST_STATICS}
 use Rattle.pisa_isa.specs.Table.{IsCell, is_one_to_one}
 use Rattle.pisa_asm.specs.declared.error.AsmError.TheVariants.{NotOneToOne, TooManyCells}
 use Rattle.pisa_asm.specs.declared.item.Item.{Item}
-use Rattle.pisa_asm.specs.declared.item.Item.TheVariants.{Nothing, Code, Static}
+use Rattle.pisa_asm.specs.declared.item.Item.TheVariants.{Nothing, Code, Static, Marked, Named}
 use Rattle.pisa_asm.specs.Chain.{and_then}
 use Rattle.pisa_asm.specs.Lines.{content_of, words_of}
 use Rattle.pisa_asm.specs.LabelNames.{after_labels, label_names, Labels}
@@ -72,6 +72,14 @@ item_keeps line labels survey longer code more (Static word) i f h g =
           cells = f.cells;
           words = All-push (λ word. word < 2 ^ 32) survey.statics word f.words i;
         })
+item_keeps line labels survey longer code more (Marked mark) i f h g =
+    let same : survey ≡ longer = cc in
+    let same_code : code ≡ more = cc in
+    rw (← same, ← same_code) f
+item_keeps line labels survey longer code more (Named name) i f h g =
+    let same : survey ≡ longer = cc in
+    let same_code : code ≡ more = cc in
+    rw (← same, ← same_code) f
 
 -- labels change no more
 relabeled : (survey : Surveyed) (code : List Cell) (labels : Labels) → Fit survey code → Fit (record survey { labels = labels }) code

@@ -9,9 +9,10 @@ use Rattle.pisa_isa.specs.declared.cell.Cell.{Cell}
 use Rattle.pisa_asm.specs.Chain.{and_then}
 use Rattle.pisa_asm.specs.Lines.{ends_in, all_but_last}
 use Rattle.pisa_asm.specs.LabelNames.{is_name, is_label, label_names, after_labels, Labels, place_of}
-use Rattle.pisa_asm.specs.Mnemonics.{mnemonic, static_word}
+use Rattle.pisa_isa.specs.Notes.{NoteLists}
+use Rattle.pisa_asm.specs.Mnemonics.{mnemonic, static_word, mark_word, name_word}
 use Rattle.pisa_asm.specs.Passes.{label_at, labels_at}
-use Rattle.pisa_asm.specs.AssemblyText.{ItemText, nothing, instruction, static, label_word, AreNew}
+use Rattle.pisa_asm.specs.AssemblyText.{ItemText, nothing, instruction, static, marked, named, label_word, AreNew}
 use Rattle.pisa_asm.proofs.Spelling.{both}
 use Rattle.pisa_asm.proofs.Rereading.{no_label}
 
@@ -76,11 +77,13 @@ pub record NoLabels (words : List (List ℕ)) : Type 0 where
 first_no_label : (word : List ℕ) (words : List (List ℕ)) → is_label word ≡ false → NoLabels (word ∷ words)
 first_no_label word words e = record { after = rw e refl; names = rw e refl }
 
-pub item_no_labels : (labels : Labels) (at : ℕ) (words : List (List ℕ)) (code : List Cell) (statics : List ℕ) → ItemText labels at words code statics → NoLabels words
-item_no_labels labels at words code statics (nothing w c s) = rw w (record { after = refl; names = refl })
-item_no_labels labels at words code statics (instruction cell i c s) =
+pub item_no_labels : (labels : Labels) (at : ℕ) (words : List (List ℕ)) (code : List Cell) (statics : List ℕ) (notes : NoteLists) → ItemText labels at words code statics notes → NoLabels words
+item_no_labels labels at words code statics notes (nothing w c s o) = rw w (record { after = refl; names = refl })
+item_no_labels labels at words code statics notes (instruction cell i c s o) =
     rw i.written (first_no_label (mnemonic cell.op) (i.a ++ (i.b ++ (i.c ++ i.last))) (no_label cell.op))
-item_no_labels labels at words code statics (static word n w t c s) = rw w (first_no_label static_word (word ∷ []) refl)
+item_no_labels labels at words code statics notes (static word n w t c s o) = rw w (first_no_label static_word (word ∷ []) refl)
+item_no_labels labels at words code statics notes (marked m t c s o) = rw t.written (first_no_label mark_word (t.first ∷ t.end ∷ t.at ∷ []) refl)
+item_no_labels labels at words code statics notes (named n t c s o) = rw t.written (first_no_label name_word (t.cell ∷ n.text ∷ []) refl)
 
 pub after_complete : (names words : List (List ℕ)) → All (λ name. is_name name ≡ true) names → NoLabels words → after_labels (map label_word names ++ words) ≡ words
 after_complete [] words all n = n.after

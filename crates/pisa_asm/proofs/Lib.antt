@@ -13,4 +13,5 @@ pub mod Measuring
 pub mod Texts
 pub mod Operating
 pub mod Labeling
+pub mod Noting
 pub mod Written

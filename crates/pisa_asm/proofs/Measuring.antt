@@ -1,7 +1,10 @@
--- A listing is no longer than a text may be.
-use Rattle.std.proofs.Common.{ℕ, ◌+◌, ◌-◌, ◌*◌, ◌<◌, ◌≤◌, ◌^◌, Bool, true, false, cond, arith, List, [], ◌∷◌, ◌++◌, length, length-append}
-use Rattle.std.specs.Prelude.{nat_lt}
-use Rattle.std.specs.List.{All}
+-- A listing is no longer than a text may be, and its names are written byte by byte.
+use Rattle.std.proofs.Common.{◌≡◌, ℕ, zero, suc, ◌+◌, ◌-◌, ◌*◌, ◌<◌, ◌≤◌, ◌^◌, Bool, true, false, cond, arith, List, [], ◌∷◌, ◌++◌, length, length-append}
+use Rattle.std.specs.Prelude.{nat_lt, slice_index}
+use Rattle.std.specs.List.{All, list_all}
+use Rattle.std.specs.Char.{is_ascii_alphabetic}
+use Rattle.std.proofs.lemmas.Bool.Decides.{nat_tests}
+use Rattle.std.proofs.lemmas.List.Elements.{All-cons}
 use Rattle.std.specs.Fmt.{decimal}
 use Rattle.std.proofs.lemmas.Fmt.{length-decimal-le}
 use Rattle.rpp_words.specs.Words.{IsWord}
@@ -9,15 +12,23 @@ use Rattle.pisa_isa.specs.declared.cell.Op.{Op}
 use Rattle.pisa_isa.specs.declared.cell.Op.TheVariants.{Add}
 use Rattle.pisa_isa.specs.declared.cell.Cell.{Cell}
 use Rattle.pisa_isa.specs.Table.{IsCell, has_a, has_b, c_is_source}
-use Rattle.pisa_isa.specs.Image.{Segments, IsImage}
+use Rattle.pisa_isa.specs.declared.image.TheConstants.{MOST_CELLS, MOST_STATICS}
+use Rattle.pisa_isa.specs.declared.notes.TheConstants.{MOST_MARKS, MOST_NAMES, MOST_NAME_BYTES}
+use Rattle.pisa_isa.specs.declared.notes.Mark.{Mark}
+use Rattle.pisa_isa.specs.declared.notes.FieldName.{FieldName}
+use Rattle.pisa_isa.specs.Image.{IsImage}
+use Rattle.pisa_isa.specs.Notes.{NotedImage, is_name_byte, is_name, mark_fits, name_fits, names_fit, fits}
+use Rattle.pisa_isa.proofs.Noting.{fitting}
 use Rattle.pisa_isa.proofs.Ranges.{a_below, b_below, c_below, imm_word}
 use Rattle.pisa_asm.specs.declared.assembler.TheConstants.{MOST_TEXT}
 use Rattle.pisa_asm.specs.declared.operand.Last.{Last}
 use Rattle.pisa_asm.specs.declared.operand.Last.TheVariants.{Nothing, Word, Amount, Offset}
 use Rattle.pisa_asm.specs.Mnemonics.{mnemonic}
 use Rattle.pisa_asm.specs.Operands.{last_of}
-use Rattle.pisa_asm.specs.Listing.{signed_text, offset_text, register_text, last_text, cell_text, static_text, code_lines, static_lines, listing}
-use Rattle.pisa_asm.proofs.Relisting.{head, tail}
+use Rattle.pisa_asm.specs.Listing.{signed_text, offset_text, register_text, last_text, cell_text, static_text, number_text, mark_text, name_text, HasAsciiText, lines_by, listing}
+use Rattle.pisa_asm.proofs.Spelling.{both}
+use Rattle.pisa_asm.proofs.Noting.{at_most}
+use Rattle.pisa_asm.proofs.Relisting.{MarkIn, mark_in, NameIn, name_in, head, tail}
 
 mnemonic_short : (op : Op) → length (mnemonic op) ≤ 6
 unfolding mnemonic
@@ -60,25 +71,90 @@ cell_short c i =
 line_short : (line rest : List ℕ) (n m : ℕ) → length line ≤ n → length rest ≤ m → length (line ++ 10 ∷ rest) ≤ n + 1 + m
 line_short line rest n m h g = simp length-append (omega arith)
 
-code_short : (code : List Cell) → All IsCell code → length (code_lines code) ≤ 31 * length code
+code_short : (code : List Cell) → All IsCell code → length (lines_by cell_text code) ≤ 31 * length code
 code_short [] all = omega arith
 code_short (c ∷ code) all =
-    let whole = line_short (cell_text c) (code_lines code) 30 (31 * length code) (cell_short c (head IsCell c code all)) (code_short code (tail IsCell c code all)) in
+    let whole = line_short (cell_text c) (lines_by cell_text code) 30 (31 * length code) (cell_short c (head IsCell c code all)) (code_short code (tail IsCell c code all)) in
     omega arith
 
 static_short : (word : ℕ) → word < 2 ^ 32 → length (static_text word) ≤ 18
 static_short word h = let s = signed_short word h in simp length-append (omega arith)
 
-statics_short : (statics : List ℕ) → All IsWord statics → length (static_lines statics) ≤ 19 * length statics
+statics_short : (statics : List ℕ) → All IsWord statics → length (lines_by static_text statics) ≤ 19 * length statics
 statics_short [] all = omega arith
 statics_short (word ∷ statics) all =
-    let whole = line_short (static_text word) (static_lines statics) 18 (19 * length statics) (static_short word (head IsWord word statics all)) (statics_short statics (tail IsWord word statics all)) in
+    let whole = line_short (static_text word) (lines_by static_text statics) 18 (19 * length statics) (static_short word (head IsWord word statics all)) (statics_short statics (tail IsWord word statics all)) in
     omega arith
 
-pub listing_short : (image : Segments) → IsImage image → All IsWord image.statics → length (listing image) ≤ MOST_TEXT
-listing_short image i words =
-    let code = code_short image.code i.is_code.cells in
-    let statics = statics_short image.statics words in
+number_short : (n : ℕ) → n < 2 ^ 32 → length (number_text n) ≤ 11
+number_short n h = let s = length-decimal-le 10 n (omega arith) (omega arith) (omega arith) in omega arith
+
+mark_short : (m : Mark) → MarkIn m → length (mark_text m) ≤ 37
+mark_short m i =
+    let first = number_short m.first i.first in
+    let end = number_short m.end i.end in
+    let at = number_short m.at i.at in
+    simp length-append (omega arith)
+
+marks_short : (cells : ℕ) (marks : List Mark) → cells ≤ MOST_CELLS → list_all (mark_fits cells) marks ≡ true → length (lines_by mark_text marks) ≤ 38 * length marks
+marks_short cells [] few h = omega arith
+marks_short cells (m ∷ marks) few h =
+    let p = both (mark_fits cells m) (list_all (mark_fits cells) marks) h in
+    let whole = line_short (mark_text m) (lines_by mark_text marks) 37 (38 * length marks) (mark_short m (mark_in cells m few p.0)) (marks_short cells marks few p.1) in
+    omega arith
+
+name_short : (left : ℕ) (n : FieldName) → NameIn left n → length (name_text n) ≤ 16 + length n.text
+name_short left n i =
+    let cell = number_short n.cell i.cell in
+    simp length-append (omega arith)
+
+names_short : (statics left : ℕ) (names : List FieldName) → statics ≤ MOST_STATICS → names_fit statics left names ≡ true → length (lines_by name_text names) ≤ 17 * length names + left
+names_short statics left [] few h = omega arith
+names_short statics left (n ∷ names) few h =
+    let p = both (name_fits statics left n) (names_fit statics (left - length n.text) names) h in
+    let i = name_in statics left n few p.0 in
+    let short = i.short in
+    let whole = line_short (name_text n) (lines_by name_text names) (16 + length n.text) (17 * length names + (left - length n.text)) (name_short left n i)
+    (names_short statics (left - length n.text) names few p.1) in
+    omega arith
+
+pub listing_short : (n : NotedImage) → IsImage n.image → All IsWord n.image.statics → fits n.image n.notes ≡ true → length (listing n) ≤ MOST_TEXT
+listing_short n i words h =
+    let f = fitting n.image n.notes h in
     let few = i.is_code.in_limit in
     let few_statics = i.statics_in_limit in
+    let few_marks = at_most (length n.notes.marks) MOST_MARKS f.few_marks in
+    let few_names = at_most (length n.notes.names) MOST_NAMES f.few_names in
+    let code = code_short n.image.code i.is_code.cells in
+    let statics = statics_short n.image.statics words in
+    let marks = marks_short (length n.image.code) n.notes.marks few f.each_mark in
+    let names = names_short (length n.image.statics) MOST_NAME_BYTES n.notes.names few_statics f.names in
     simp length-append (omega arith)
+
+-- names that fit are written byte by byte
+
+name_byte_ascii : (b : ℕ) → is_name_byte b ≡ true → b < 128
+name_byte_ascii b h = grind (arith, nat_tests)
+
+letter_ascii : (b : ℕ) → is_ascii_alphabetic b ≡ true → b < 128
+letter_ascii b h = grind (arith, nat_tests)
+
+bytes_ascii : (bytes : List ℕ) → list_all is_name_byte bytes ≡ true → (i : ℕ) → slice_index bytes i < 128
+bytes_ascii [] h i = omega arith
+bytes_ascii (b ∷ bytes) h zero = name_byte_ascii b (both (is_name_byte b) (list_all is_name_byte bytes) h).0
+bytes_ascii (b ∷ bytes) h (suc i) = bytes_ascii bytes (both (is_name_byte b) (list_all is_name_byte bytes) h).1 i
+
+text_ascii : (text : List ℕ) → is_name text ≡ true → (i : ℕ) → slice_index text i < 128
+text_ascii [] h i = absurd (cc)
+text_ascii (b ∷ text) h zero = letter_ascii b (both (is_ascii_alphabetic b) (list_all is_name_byte text) h).0
+text_ascii (b ∷ text) h (suc i) = bytes_ascii text (both (is_ascii_alphabetic b) (list_all is_name_byte text) h).1 i
+
+names_ascii : (statics left : ℕ) (names : List FieldName) → statics ≤ MOST_STATICS → names_fit statics left names ≡ true → All HasAsciiText names
+names_ascii statics left [] few h = λ k d inside. absurd (omega arith)
+names_ascii statics left (n ∷ names) few h =
+    let p = both (name_fits statics left n) (names_fit statics (left - length n.text) names) h in
+    let i = name_in statics left n few p.0 in
+    All-cons HasAsciiText n names (text_ascii n.text i.text) (names_ascii statics (left - length n.text) names few p.1)
+
+pub ascii_names : (n : NotedImage) → IsImage n.image → fits n.image n.notes ≡ true → All HasAsciiText n.notes.names
+ascii_names n i h = names_ascii (length n.image.statics) MOST_NAME_BYTES n.notes.names i.statics_in_limit (fitting n.image n.notes h).names

@@ -7,6 +7,8 @@ use Rattle.rpp_words.specs.Words.{negated, difference_of}
 use Rattle.pisa_isa.specs.declared.cell.Op.{Op}
 use Rattle.pisa_isa.specs.declared.cell.Op.TheVariants.{Addi, Xori, Rl, Rr, Andix, Orix, Sllx, Srlx, Srax, Bra, Rbra, Beq, Bne, Bgez, Bgtz, Blez, Bltz, DataWord}
 use Rattle.pisa_isa.specs.declared.cell.Cell.{Cell}
+use Rattle.pisa_isa.specs.declared.notes.Mark.{Mark}
+use Rattle.pisa_isa.specs.declared.notes.FieldName.{FieldName}
 use Rattle.pisa_isa.specs.Table.{IsInRange, is_one_to_one, has_a, has_b, c_is_source, register_end, imm_end}
 use Rattle.pisa_asm.specs.declared.operand.Last.{Last}
 use Rattle.pisa_asm.specs.declared.operand.Last.TheVariants.{Nothing, Word, Amount, Offset}
@@ -14,15 +16,15 @@ use Rattle.pisa_asm.specs.declared.operand.Operand.{Operand}
 use Rattle.pisa_asm.specs.declared.operand.Operand.TheVariants.{Number, Label}
 use Rattle.pisa_asm.specs.declared.operand.Given.{Given}
 use Rattle.pisa_asm.specs.declared.item.Item.{Item}
-use Rattle.pisa_asm.specs.declared.item.Item.TheVariants.{Nothing as NoItem, Code, Static}
+use Rattle.pisa_asm.specs.declared.item.Item.TheVariants.{Nothing as NoItem, Code, Static, Marked, Named}
 use Rattle.pisa_asm.specs.Numerals.{below, minus, numeral, number_in, plain_digits, register_number, word_number, amount_number, offset_number}
 use Rattle.pisa_asm.specs.LabelNames.{is_name, Labels, place_of}
 use Rattle.pisa_asm.specs.declared.error.AsmError.TheVariants.{UnknownMnemonic}
 use Rattle.std.specs.Str.{bytes_eq}
 use Rattle.pisa_asm.specs.Chain.{and_then, or_bad}
-use Rattle.pisa_asm.specs.Mnemonics.{row_named, static_word}
+use Rattle.pisa_asm.specs.Mnemonics.{row_named, static_word, mark_word, name_word}
 use Rattle.pisa_asm.specs.Operands.{last_of, register_from, registers_from, offset_from, sole, operand_from, with_operand, given_from}
-use Rattle.pisa_asm.specs.Items.{static_from, item_by, item_from}
+use Rattle.pisa_asm.specs.Items.{static_from, mark_from, name_from, item_by, item_from}
 use Rattle.pisa_asm.specs.Passes.{resolved_by, resolved}
 use Rattle.pisa_asm.proofs.Chaining.{some_then, some_map, tested}
 
@@ -202,6 +204,8 @@ abbrev pub ItemFits : Item → Type 0
 ItemFits NoItem = Unit {0}
 ItemFits (Code given) = GivenFits given
 ItemFits (Static word) = word < 2 ^ 32
+ItemFits (Marked mark) = Unit {0}
+ItemFits (Named name) = Unit {0}
 
 static_fits : (line : ℕ) (words : List (List ℕ)) (item : Item) (o : Option ℕ) → static_from words ≡ o
     → and_then (or_bad line o) (λ word. Ok (Static word)) ≡ Ok item → ItemFits item
@@ -210,6 +214,14 @@ static_fits line words item (Some word) e h =
     let s = some_then word_number (sole words) word e in
     let same : item ≡ Static word = cc in
     rw same (word_in s.0 word s.2)
+
+mark_fits : (line : ℕ) (item : Item) (o : Option Mark) → and_then (or_bad line o) (λ mark. Ok (Marked mark)) ≡ Ok item → ItemFits item
+mark_fits line item None h = absurd (cc)
+mark_fits line item (Some mark) h = let same : item ≡ Marked mark = cc in rw same tt
+
+name_fits : (line : ℕ) (item : Item) (o : Option FieldName) → and_then (or_bad line o) (λ name. Ok (Named name)) ≡ Ok item → ItemFits item
+name_fits line item None h = absurd (cc)
+name_fits line item (Some name) h = let same : item ≡ Named name = cc in rw same tt
 
 row_fits : (line : ℕ) (op : Op) (words : List (List ℕ)) (item : Item) (o : Option Given) → given_from op words ≡ o
     → and_then (or_bad line o) (λ given. Ok (Code given)) ≡ Ok item → ItemFits item
@@ -220,13 +232,17 @@ pub item_fits : (line : ℕ) (words : List (List ℕ)) (item : Item) → item_fr
 item_fits line [] item h = let same : item ≡ NoItem = cc in rw same tt
 item_fits line (first ∷ words) item h = by_row (row_named first) h
   where
-    by_static : (t : Bool) → cond t (and_then (or_bad line (static_from words)) (λ word. Ok (Static word))) (Err (UnknownMnemonic line)) ≡ Ok item → ItemFits item
-    by_static true h = static_fits line words item (static_from words) refl h
-    by_static false h = absurd (cc)
+    by_word : (s m n : Bool) → cond s (and_then (or_bad line (static_from words)) (λ word. Ok (Static word)))
+        (cond m (and_then (or_bad line (mark_from words)) (λ mark. Ok (Marked mark)))
+        (cond n (and_then (or_bad line (name_from words)) (λ name. Ok (Named name))) (Err (UnknownMnemonic line)))) ≡ Ok item → ItemFits item
+    by_word true m n h = static_fits line words item (static_from words) refl h
+    by_word false true n h = mark_fits line item (mark_from words) h
+    by_word false false true h = name_fits line item (name_from words) h
+    by_word false false false h = absurd (cc)
 
     by_row : (o : Option Op) → item_by line first words o ≡ Ok item → ItemFits item
     by_row (Some op) h = row_fits line op words item (given_from op words) refl h
-    by_row None h = by_static (bytes_eq first static_word) h
+    by_row None h = by_word (bytes_eq first static_word) (bytes_eq first mark_word) (bytes_eq first name_word) h
 
 -- a label keeps all but the offset
 pub record CellFits (given : Given) (cell : Cell) : Type 0 where

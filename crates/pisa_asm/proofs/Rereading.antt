@@ -12,18 +12,21 @@ use Rattle.rpp_words.specs.Words.{negated}
 use Rattle.pisa_isa.specs.declared.cell.Op.{Op}
 use Rattle.pisa_isa.specs.declared.cell.Op.TheVariants.{Add}
 use Rattle.pisa_isa.specs.declared.cell.Cell.{Cell}
+use Rattle.pisa_isa.specs.declared.notes.Mark.{Mark}
+use Rattle.pisa_isa.specs.declared.notes.FieldName.{FieldName}
+use Rattle.pisa_isa.specs.Notes.{is_name}
 use Rattle.pisa_isa.specs.Table.{IsInRange, has_a, has_b, c_is_source, register_end}
 use Rattle.pisa_asm.specs.declared.operand.Last.{Last}
 use Rattle.pisa_asm.specs.declared.operand.Last.TheVariants.{Nothing, Word, Amount, Offset}
 use Rattle.pisa_asm.specs.declared.operand.Operand.TheVariants.{Number}
-use Rattle.pisa_asm.specs.declared.item.Item.TheVariants.{Code, Static}
-use Rattle.pisa_asm.specs.Numerals.{numeral_from, numeral, below, minus, number_in, plain_digits, register_number, word_number}
+use Rattle.pisa_asm.specs.declared.item.Item.TheVariants.{Code, Static, Marked, Named}
+use Rattle.pisa_asm.specs.Numerals.{numeral_from, numeral, below, minus, number_in, plain_digits, register_number, word_number, unsigned_number}
 use Rattle.pisa_asm.specs.LabelNames.{is_label}
-use Rattle.pisa_asm.specs.Mnemonics.{mnemonic, rows, row_named, static_word}
+use Rattle.pisa_asm.specs.Mnemonics.{mnemonic, rows, row_named, static_word, mark_word, name_word}
 use Rattle.pisa_asm.specs.Operands.{last_of, register_from, registers_from, offset_from, operand_from, given_from}
 use Rattle.pisa_asm.specs.Items.{item_from}
 use Rattle.pisa_asm.specs.Listing.{signed_text, offset_text}
-use Rattle.pisa_asm.proofs.Spelling.{register_words, last_words, operand_words, both, decimal_digits}
+use Rattle.pisa_asm.proofs.Spelling.{register_words, last_words, operand_words, mark_words, name_words, both, decimal_digits}
 use Rattle.pisa_asm.proofs.Ranging.{end_of, last_end}
 
 -- what digits write, read from the left
@@ -151,6 +154,23 @@ static_no_row = refl
 
 pub static_read : (line word : ℕ) → word < 2 ^ 32 → item_from line (static_word ∷ signed_text word ∷ []) ≡ Ok (Static word)
 static_read line word h = rw (static_no_row, signed_read word h) refl
+
+unsigned_read : (n : ℕ) → n < 2 ^ 32 → unsigned_number (decimal n) ≡ Some n
+unsigned_read n h = decimal_below (2 ^ 32) n h (omega arith)
+
+pub mark_no_row : row_named mark_word ≡ None
+unfolding mnemonic rows
+mark_no_row = refl
+
+pub mark_read : (line : ℕ) (m : Mark) → m.first < 2 ^ 32 → m.end < 2 ^ 32 → m.at < 2 ^ 32 → item_from line (mark_word ∷ mark_words m) ≡ Ok (Marked m)
+mark_read line m first end at = rw (mark_no_row, unsigned_read m.first first, unsigned_read m.end end, unsigned_read m.at at) refl
+
+pub name_no_row : row_named name_word ≡ None
+unfolding mnemonic rows
+name_no_row = refl
+
+pub name_read : (line : ℕ) (n : FieldName) → n.cell < 2 ^ 32 → is_name n.text ≡ true → item_from line (name_word ∷ name_words n) ≡ Ok (Named n)
+name_read line n cell text = rw (name_no_row, unsigned_read n.cell cell, text) refl
 
 pub no_label : (op : Op) → is_label (mnemonic op) ≡ false
 unfolding mnemonic

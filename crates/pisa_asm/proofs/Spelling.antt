@@ -3,7 +3,7 @@ use Rattle.std.proofs.Common.{◌≡◌, ◌∙◌, ap, sym, refl, ℕ, ◌-◌,
 use Rattle.std.specs.Prelude.{◌&&◌, ◌||◌, nat_lt}
 use Rattle.std.specs.List.{list_all}
 use Rattle.std.specs.Fmt.{decimal}
-use Rattle.std.specs.Char.{is_ascii_digit}
+use Rattle.std.specs.Char.{is_ascii_alphabetic, is_ascii_digit}
 use Rattle.std.specs.Str.{all_ascii_digits}
 use Rattle.std.proofs.lemmas.Bool.Decides.{nat_tests}
 use Rattle.std.proofs.lemmas.Str.Parse.{numerals_by_value, tells_all_ascii_digits}
@@ -12,13 +12,16 @@ use mathlib.Core.List.{append_assoc, append-nil}
 use Rattle.pisa_isa.specs.declared.cell.Op.{Op}
 use Rattle.pisa_isa.specs.declared.cell.Op.TheVariants.{Add}
 use Rattle.pisa_isa.specs.declared.cell.Cell.{Cell}
+use Rattle.pisa_isa.specs.declared.notes.Mark.{Mark}
+use Rattle.pisa_isa.specs.declared.notes.FieldName.{FieldName}
+use Rattle.pisa_isa.specs.Notes.{is_name, is_name_byte}
 use Rattle.pisa_isa.specs.Table.{has_a, has_b, c_is_source}
 use Rattle.pisa_asm.specs.declared.operand.Last.{Last}
 use Rattle.pisa_asm.specs.declared.operand.Last.TheVariants.{Nothing, Word, Amount, Offset}
 use Rattle.pisa_asm.specs.Lines.{is_blank}
-use Rattle.pisa_asm.specs.Mnemonics.{mnemonic, static_word}
+use Rattle.pisa_asm.specs.Mnemonics.{mnemonic, static_word, mark_word, name_word}
 use Rattle.pisa_asm.specs.Operands.{last_of}
-use Rattle.pisa_asm.specs.Listing.{signed_text, offset_text, register_text, last_text, cell_text, static_text}
+use Rattle.pisa_asm.specs.Listing.{signed_text, offset_text, register_text, last_text, cell_text, static_text, mark_text, name_text}
 
 -- a byte that ends no line and begins no comment
 abbrev pub is_clean : ℕ → Bool
@@ -89,6 +92,24 @@ cell_spaced c =
 pub static_spaced : (word : ℕ) → static_text word ≡ static_word ++ spaced (signed_text word ∷ [])
 static_spaced word = ap (λ s. static_word ++ s) (one_spaced (signed_text word))
 
+abbrev pub mark_words : Mark → List (List ℕ)
+mark_words m = decimal m.first ∷ decimal m.end ∷ decimal m.at ∷ []
+
+abbrev pub name_words : FieldName → List (List ℕ)
+name_words n = decimal n.cell ∷ n.text ∷ []
+
+three_spaced : (m a b c : List ℕ) → ((m ++ 32 ∷ a) ++ 32 ∷ b) ++ 32 ∷ c ≡ m ++ 32 ∷ (a ++ 32 ∷ (b ++ 32 ∷ (c ++ [])))
+three_spaced m a b c = rw (append-nil c) (simp append_assoc)
+
+two_spaced : (m a b : List ℕ) → (m ++ 32 ∷ a) ++ 32 ∷ b ≡ m ++ 32 ∷ (a ++ 32 ∷ (b ++ []))
+two_spaced m a b = rw (append-nil b) (simp append_assoc)
+
+pub mark_spaced : (m : Mark) → mark_text m ≡ mark_word ++ spaced (mark_words m)
+mark_spaced m = three_spaced mark_word (decimal m.first) (decimal m.end) (decimal m.at)
+
+pub name_spaced : (n : FieldName) → name_text n ≡ name_word ++ spaced (name_words n)
+name_spaced n = two_spaced name_word (decimal n.cell) n.text
+
 -- all of them are words
 
 pub both : (a b : Bool) → (a && b) ≡ true → (a ≡ true) × (b ≡ true)
@@ -157,3 +178,28 @@ mnemonic_word _ = refl
 
 pub static_is_word : (word : ℕ) → word < 2 ^ 32 → list_all is_word (signed_text word ∷ []) ≡ true
 static_is_word word h = rw (signed_word word h) refl
+
+pub mark_is_words : (m : Mark) → m.first < 2 ^ 32 → m.end < 2 ^ 32 → m.at < 2 ^ 32 → list_all is_word (mark_words m) ≡ true
+mark_is_words m first end at =
+    rw (decimal_word m.first (omega arith), decimal_word m.end (omega arith), decimal_word m.at (omega arith)) refl
+
+letter_solid : (b : ℕ) → is_ascii_alphabetic b ≡ true → is_solid b ≡ true
+letter_solid b h = grind (arith, nat_tests)
+
+name_byte_solid : (b : ℕ) → is_name_byte b ≡ true → is_solid b ≡ true
+name_byte_solid b h = grind (arith, nat_tests)
+
+name_bytes_solid : (bytes : List ℕ) → list_all is_name_byte bytes ≡ true → list_all is_solid bytes ≡ true
+name_bytes_solid [] h = refl
+name_bytes_solid (b ∷ bytes) h =
+    let p = both (is_name_byte b) (list_all is_name_byte bytes) h in
+    rw (name_byte_solid b p.0, name_bytes_solid bytes p.1) refl
+
+name_word_is : (text : List ℕ) → is_name text ≡ true → is_word text ≡ true
+name_word_is [] h = absurd (cc)
+name_word_is (b ∷ text) h =
+    let p = both (is_ascii_alphabetic b) (list_all is_name_byte text) h in
+    rw (letter_solid b p.0, name_bytes_solid text p.1) refl
+
+pub name_is_words : (n : FieldName) → n.cell < 2 ^ 32 → is_name n.text ≡ true → list_all is_word (name_words n) ≡ true
+name_is_words n cell text = rw (decimal_word n.cell (omega arith), name_word_is n.text text) refl

@@ -1,5 +1,5 @@
 -- The parts of assembly text and what is read of them.
-use Rattle.std.proofs.Common.{◌≡◌, ◌∙◌, ap, sym, refl, ℕ, ◌+◌, ◌-◌, ◌*◌, ◌<◌, Bool, true, false, not, cond, ◌==◌, arith, List, [], ◌∷◌, ◌++◌, length, get_or, Option, Some, None}
+use Rattle.std.proofs.Common.{◌≡◌, ◌∙◌, ap, sym, refl, ℕ, ◌+◌, ◌-◌, ◌*◌, ◌^◌, ◌<◌, Bool, true, false, not, cond, ◌==◌, arith, List, [], ◌∷◌, ◌++◌, length, get_or, Option, Some, None}
 use Rattle.std.specs.Prelude.{◌&&◌}
 use Rattle.std.specs.Fmt.{decimal}
 use Rattle.std.specs.Char.{is_ascii_digit}
@@ -10,10 +10,10 @@ use Rattle.std.proofs.lemmas.Slice.Eq.{bytes_eq-Decides}
 use Rattle.std.proofs.lemmas.Fmt.{decimal-digits_value}
 use Rattle.rpp_words.specs.Words.{negated}
 use Rattle.pisa_isa.specs.declared.cell.Op.{Op}
-use Rattle.pisa_asm.specs.Numerals.{numeral_from, numeral, below, minus, number_in, plain_digits, register_number}
+use Rattle.pisa_asm.specs.Numerals.{numeral_from, numeral, below, minus, number_in, unsigned_number, plain_digits, register_number}
 use Rattle.pisa_asm.specs.Mnemonics.{mnemonic, row_among}
 use Rattle.pisa_asm.specs.Operands.{register_from}
-use Rattle.pisa_asm.specs.AssemblyText.{NumberText, plain, plus, minus as minus_text, RegisterText, RegisterWords}
+use Rattle.pisa_asm.specs.AssemblyText.{NumberText, plain, plus, minus as minus_text, UnsignedText, RegisterText, RegisterWords}
 use Rattle.pisa_asm.proofs.Chaining.{some_map, tested}
 use Rattle.pisa_asm.proofs.Ranging.{below_in}
 use Rattle.pisa_asm.proofs.Spelling.{both}
@@ -91,6 +91,16 @@ number_sound low end (first ∷ rest) word h = by_sign (first == 45) (first == 4
         let b = below_in end (numeral (first ∷ rest)) word h in
         let numeral = numeral_sound (first ∷ rest) word b.0 in
         plain numeral.is_numeral (rw (← numeral.value) b.1) numeral.value
+
+pub unsigned_sound : (bytes : List ℕ) (n : ℕ) → unsigned_number bytes ≡ Some n → UnsignedText bytes n
+unsigned_sound bytes n h =
+    let b = below_in (2 ^ 32) (numeral bytes) n h in
+    let numeral = numeral_sound bytes n b.0 in
+    record { is_numeral = numeral.is_numeral; in_range = b.1; value = numeral.value }
+
+pub unsigned_complete : (bytes : List ℕ) (n : ℕ) → UnsignedText bytes n → unsigned_number bytes ≡ Some n
+unsigned_complete bytes n t =
+    below_complete (2 ^ 32) bytes t.is_numeral (rw (← t.value) t.in_range) ∙ ap Some (sym t.value)
 
 -- registers
 

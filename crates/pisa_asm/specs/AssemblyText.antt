@@ -1,16 +1,19 @@
--- Which image a list of lines writes.
+-- Which image, with which notes, a list of lines writes.
 use Rattle.std.specs.Prelude.{◌≡◌, ℕ, ◌+◌, ◌^◌, ◌<◌, ◌≤◌, Bool, true, false, List, [], ◌∷◌, ◌++◌, length, map, Some, None, All}
 use Rattle.std.specs.Fmt.{decimal}
 use Rattle.std.specs.Str.Parse.{IsNumeral, digits_value}
 use Rattle.rpp_words.specs.Words.{negated, difference_of}
 use Rattle.pisa_isa.specs.declared.cell.Cell.{Cell}
 use Rattle.pisa_isa.specs.Table.{has_a, has_b, c_is_source}
-use Rattle.pisa_isa.specs.Image.{Segments, IsImage}
+use Rattle.pisa_isa.specs.declared.notes.Mark.{Mark}
+use Rattle.pisa_isa.specs.declared.notes.FieldName.{FieldName}
+use Rattle.pisa_isa.specs.Image.{IsImage}
+use Rattle.pisa_isa.specs.Notes.{NoteLists, NotedImage, no_notes, is_name as is_field_name, fits}
 use Rattle.pisa_asm.specs.declared.operand.Last.{Last}
 use Rattle.pisa_asm.specs.declared.operand.Last.TheVariants.{Nothing, Word, Amount, Offset}
 use Rattle.pisa_asm.specs.Lines.{content_of, words_of}
 use Rattle.pisa_asm.specs.LabelNames.{is_name, Labels, place_of}
-use Rattle.pisa_asm.specs.Mnemonics.{mnemonic, static_word}
+use Rattle.pisa_asm.specs.Mnemonics.{mnemonic, static_word, mark_word, name_word}
 use Rattle.pisa_asm.specs.Operands.{last_of}
 
 -- decimal digits with an optional sign, for a number that is at least -low and below `end`, and its word
@@ -53,11 +56,47 @@ pub record InstructionText (labels : Labels) (at : ℕ) (words : List (List ℕ)
   pub is_c : RegisterWords (c_is_source cell.op) c cell.c
   pub is_last : LastWords labels at (last_of cell.op) last cell.imm
 
--- nothing, an instruction, or STATIC and a word
-pub data ItemText (labels : Labels) (at : ℕ) (words : List (List ℕ)) (code : List Cell) (statics : List ℕ) : Type 0 where
-  nothing : words ≡ [] → code ≡ [] → statics ≡ [] → ItemText labels at words code statics
-  instruction : (cell : Cell) → InstructionText labels at words cell → code ≡ cell ∷ [] → statics ≡ [] → ItemText labels at words code statics
-  static : (word : List ℕ) (n : ℕ) → words ≡ static_word ∷ word ∷ [] → NumberText (2 ^ 31) (2 ^ 32) word n → code ≡ [] → statics ≡ n ∷ [] → ItemText labels at words code statics
+-- decimal digits alone, for a word
+pub record UnsignedText (bytes : List ℕ) (n : ℕ) : Type 0 where
+  pub is_numeral : IsNumeral 10 bytes
+  pub in_range : n < 2 ^ 32
+  pub value : n ≡ digits_value 10 bytes
+
+-- MARK, the first cell, the end and the place
+pub record MarkText (words : List (List ℕ)) (m : Mark) : Type 0 where
+  pub first : List ℕ
+  pub end : List ℕ
+  pub at : List ℕ
+  pub written : words ≡ mark_word ∷ first ∷ end ∷ at ∷ []
+  pub is_first : UnsignedText first m.first
+  pub is_end : UnsignedText end m.end
+  pub is_at : UnsignedText at m.at
+
+-- NAME, the data cell and the name
+pub record NameText (words : List (List ℕ)) (n : FieldName) : Type 0 where
+  pub cell : List ℕ
+  pub written : words ≡ name_word ∷ cell ∷ n.text ∷ []
+  pub is_cell : UnsignedText cell n.cell
+  pub is_text : is_field_name n.text ≡ true
+
+abbrev pub one_mark : Mark → NoteLists
+one_mark m = record { marks = m ∷ []; names = [] }
+
+abbrev pub one_name : FieldName → NoteLists
+one_name n = record { marks = []; names = n ∷ [] }
+
+-- notes, and behind them those of others
+abbrev pub joined : NoteLists → NoteLists → NoteLists
+joined before behind = record { marks = before.marks ++ behind.marks; names = before.names ++ behind.names }
+
+-- nothing, an instruction, STATIC and a word, MARK and three numbers, or NAME, a number and a name
+pub data ItemText (labels : Labels) (at : ℕ) (words : List (List ℕ)) (code : List Cell) (statics : List ℕ) (notes : NoteLists) : Type 0 where
+  nothing : words ≡ [] → code ≡ [] → statics ≡ [] → notes ≡ no_notes → ItemText labels at words code statics notes
+  instruction : (cell : Cell) → InstructionText labels at words cell → code ≡ cell ∷ [] → statics ≡ [] → notes ≡ no_notes → ItemText labels at words code statics notes
+  static : (word : List ℕ) (n : ℕ) → words ≡ static_word ∷ word ∷ [] → NumberText (2 ^ 31) (2 ^ 32) word n → code ≡ [] → statics ≡ n ∷ [] → notes ≡ no_notes
+      → ItemText labels at words code statics notes
+  marked : (m : Mark) → MarkText words m → code ≡ [] → statics ≡ [] → notes ≡ one_mark m → ItemText labels at words code statics notes
+  named : (n : FieldName) → NameText words n → code ≡ [] → statics ≡ [] → notes ≡ one_name n → ItemText labels at words code statics notes
 
 -- a name followed directly by `:`
 abbrev pub label_word : List ℕ → List ℕ
@@ -68,23 +107,24 @@ pub record LabeledLine (line : List ℕ) (names words : List (List ℕ)) : Type 
   pub are_names : All (λ name. is_name name ≡ true) names
   pub written : words_of (content_of line) ≡ map label_word names ++ words
 
--- lines, the first of which has this place for its cell, write these labels, code cells and static words
-pub data LinesText (labels : Labels) : (at : ℕ) (lines : List (List ℕ)) (written : Labels) (code : List Cell) (statics : List ℕ) → Type 0 where
-  finish : (at : ℕ) → LinesText labels at [] [] [] []
-  one_line : (at : ℕ) (line : List ℕ) (lines names words : List (List ℕ)) (written : Labels) (cells code : List Cell) (words_here statics : List ℕ)
+-- lines, the first of which has this place for its cell, write these labels, code cells, static words and notes
+pub data LinesText (labels : Labels) : (at : ℕ) (lines : List (List ℕ)) (written : Labels) (code : List Cell) (statics : List ℕ) (notes : NoteLists) → Type 0 where
+  finish : (at : ℕ) → LinesText labels at [] [] [] [] no_notes
+  one_line : (at : ℕ) (line : List ℕ) (lines names words : List (List ℕ)) (written : Labels) (cells code : List Cell) (words_here statics : List ℕ) (notes_here notes : NoteLists)
       → LabeledLine line names words
-      → ItemText labels at words cells words_here
-      → LinesText labels (at + length cells) lines written code statics
-      → LinesText labels at (line ∷ lines) (map (λ name. (name, at)) names ++ written) (cells ++ code) (words_here ++ statics)
+      → ItemText labels at words cells words_here notes_here
+      → LinesText labels (at + length cells) lines written code statics notes
+      → LinesText labels at (line ∷ lines) (map (λ name. (name, at)) names ++ written) (cells ++ code) (words_here ++ statics) (joined notes_here notes)
 
 -- each label is none of those before it
 abbrev pub AreNew : (before labels : Labels) → Type 0
 AreNew before [] = Unit {0}
 AreNew before (label ∷ labels) = (place_of label.0 before ≡ None) × AreNew (before ++ label ∷ []) labels
 
--- the lines write the image, with labels all of whose names differ
-pub record AssemblyText (lines : List (List ℕ)) (image : Segments) : Type 0 where
+-- the lines write the image and notes that fit it, with labels all of whose names differ
+pub record AssemblyText (lines : List (List ℕ)) (n : NotedImage) : Type 0 where
   pub labels : Labels
   pub are_new : AreNew [] labels
-  pub written : LinesText labels 0 lines labels image.code image.statics
-  pub is_image : IsImage image
+  pub written : LinesText labels 0 lines labels n.image.code n.image.statics n.notes
+  pub is_image : IsImage n.image
+  pub is_fit : fits n.image n.notes ≡ true

@@ -1,12 +1,15 @@
--- The one text that is written of an image.
+-- The one text that is written of an image with its notes.
 use Rattle.std.specs.Prelude.{ℕ, ◌-◌, ◌^◌, nat_lt, Bool, true, false, List, [], ◌∷◌, ◌++◌, if◌then◌else◌}
 use Rattle.std.specs.Fmt.{decimal}
+use Rattle.std.specs.Str.{IsAscii}
 use Rattle.pisa_isa.specs.declared.cell.Cell.{Cell}
 use Rattle.pisa_isa.specs.Table.{has_a, has_b, c_is_source}
-use Rattle.pisa_isa.specs.Image.{Segments}
+use Rattle.pisa_isa.specs.declared.notes.Mark.{Mark}
+use Rattle.pisa_isa.specs.declared.notes.FieldName.{FieldName}
+use Rattle.pisa_isa.specs.Notes.{NotedImage}
 use Rattle.pisa_asm.specs.declared.operand.Last.{Last}
 use Rattle.pisa_asm.specs.declared.operand.Last.TheVariants.{Nothing, Word, Amount, Offset}
-use Rattle.pisa_asm.specs.Mnemonics.{mnemonic, static_word}
+use Rattle.pisa_asm.specs.Mnemonics.{mnemonic, static_word, mark_word, name_word}
 use Rattle.pisa_asm.specs.Operands.{last_of}
 
 -- a word in signed decimal
@@ -38,14 +41,27 @@ cell_text c =
 abbrev pub static_text : ℕ → List ℕ
 static_text word = static_word ++ 32 ∷ signed_text word
 
-abbrev pub code_lines : List Cell → List ℕ
-code_lines [] = []
-code_lines (c ∷ code) = cell_text c ++ 10 ∷ code_lines code
+-- a number behind a space
+abbrev pub number_text : ℕ → List ℕ
+number_text n = 32 ∷ decimal n
 
-abbrev pub static_lines : List ℕ → List ℕ
-static_lines [] = []
-static_lines (word ∷ statics) = static_text word ++ 10 ∷ static_lines statics
+-- the line of a mark, without its line feed
+abbrev pub mark_text : Mark → List ℕ
+mark_text m = mark_word ++ number_text m.first ++ number_text m.end ++ number_text m.at
 
--- a line for each code cell, and then one for each static word
-abbrev pub listing : Segments → List ℕ
-listing image = code_lines image.code ++ static_lines image.statics
+-- the line of a name, without its line feed
+abbrev pub name_text : FieldName → List ℕ
+name_text n = name_word ++ number_text n.cell ++ 32 ∷ n.text
+
+-- a name that can be written byte by byte
+abbrev pub HasAsciiText : FieldName → Type 0
+HasAsciiText n = IsAscii n.text
+
+-- a line for each of these
+abbrev pub lines_by : {X : Type 0} → (X → List ℕ) → List X → List ℕ
+lines_by text [] = []
+lines_by text (x ∷ xs) = text x ++ 10 ∷ lines_by text xs
+
+-- a line for each code cell, then one for each static word, then one for each mark, and then one for each name
+abbrev pub listing : NotedImage → List ℕ
+listing n = lines_by cell_text n.image.code ++ lines_by static_text n.image.statics ++ lines_by mark_text n.notes.marks ++ lines_by name_text n.notes.names

@@ -58,3 +58,11 @@ row_named word = row_among rows word
 -- the word that begins a static word's line
 abbrev pub static_word : List ℕ
 static_word = codes "STATIC"
+
+-- the word that begins a mark's line
+abbrev pub mark_word : List ℕ
+mark_word = codes "MARK"
+
+-- the word that begins a name's line
+abbrev pub name_word : List ℕ
+name_word = codes "NAME"

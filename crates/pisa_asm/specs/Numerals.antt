@@ -40,6 +40,10 @@ amount_number bytes = number_in 0 32 bytes
 abbrev pub offset_number : List ℕ → Option ℕ
 offset_number bytes = number_in (2 ^ 31) (2 ^ 31) bytes
 
+-- a word in decimal digits alone
+abbrev pub unsigned_number : List ℕ → Option ℕ
+unsigned_number bytes = below (2 ^ 32) (numeral bytes)
+
 -- a number without leading zeros
 abbrev pub plain_digits : List ℕ → Bool
 plain_digits [] = false

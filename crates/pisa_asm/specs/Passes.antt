@@ -1,4 +1,4 @@
--- The meaning of a text: its lines are tried twice from the first on.
+-- The meaning of a text: its lines are tried three times from the first on.
 use Rattle.std.specs.Prelude.{ℕ, ◌+◌, nat_lt, nat_eq, List, [], ◌∷◌, ◌++◌, length, Option, Some, None, Result, Ok, Err, count_by, if◌then◌else◌}
 use Rattle.std.specs.Option.{option_map}
 use Rattle.rpp_words.specs.Words.{difference_of}
@@ -6,11 +6,14 @@ use Rattle.pisa_isa.specs.declared.cell.Cell.{Cell}
 use Rattle.pisa_isa.specs.declared.image.TheConstants.{MOST_CELLS, MOST_STATICS}
 use Rattle.pisa_isa.specs.Table.{is_one_to_one}
 use Rattle.pisa_isa.specs.Image.{Segments, is_start, is_finish}
+use Rattle.pisa_isa.specs.declared.notes.Mark.{Mark}
+use Rattle.pisa_isa.specs.declared.notes.FieldName.{FieldName}
+use Rattle.pisa_isa.specs.Notes.{NoteLists, NotedImage, no_notes, fits}
 use Rattle.pisa_asm.specs.declared.error.AsmError.{AsmError}
-use Rattle.pisa_asm.specs.declared.error.AsmError.TheVariants.{DuplicateLabel, UnknownLabel, NotOneToOne, NoStart, NoFinish, TooManyCells}
+use Rattle.pisa_asm.specs.declared.error.AsmError.TheVariants.{DuplicateLabel, UnknownLabel, NotOneToOne, NoStart, NoFinish, TooManyCells, BadNote}
 use Rattle.pisa_asm.specs.declared.operand.Given.{Given}
 use Rattle.pisa_asm.specs.declared.item.Item.{Item}
-use Rattle.pisa_asm.specs.declared.item.Item.TheVariants.{Nothing, Code, Static}
+use Rattle.pisa_asm.specs.declared.item.Item.TheVariants.{Nothing, Code, Static, Marked, Named}
 use Rattle.pisa_asm.specs.Chain.{and_then}
 use Rattle.pisa_asm.specs.Lines.{lines_of, content_of, words_of}
 use Rattle.pisa_asm.specs.LabelNames.{Labels, place_of, label_names, after_labels}
@@ -45,6 +48,8 @@ counted line so_far (Code given) =
     else Err (NotOneToOne line)
 counted line so_far (Static word) =
     if nat_lt (length so_far.statics) MOST_STATICS then Ok (record so_far { statics = so_far.statics ++ word ∷ [] }) else Err (TooManyCells line)
+counted line so_far (Marked mark) = Ok so_far
+counted line so_far (Named name) = Ok so_far
 
 -- the words of a line, surveyed
 abbrev pub surveyed_words : ℕ → Surveyed → List (List ℕ) → Result Surveyed AsmError
@@ -77,6 +82,8 @@ abbrev pub linked_item : ℕ → Labels → List Cell → Item → Result (List 
 linked_item line labels code Nothing = Ok code
 linked_item line labels code (Code given) = with_cell line code (resolved labels (length code) given)
 linked_item line labels code (Static word) = Ok code
+linked_item line labels code (Marked mark) = Ok code
+linked_item line labels code (Named name) = Ok code
 
 -- the second pass over lines
 abbrev pub linked : ℕ → Labels → List Cell → List (List ℕ) → Result (List Cell) AsmError
@@ -92,13 +99,40 @@ sealed code statics =
     then (if nat_eq (count_by is_finish code) 1 then Ok (record { code = code; statics = statics }) else Err NoFinish)
     else Err NoStart
 
--- the image of these lines, or their first refusal
-abbrev pub image_of_lines : List (List ℕ) → Result Segments AsmError
-image_of_lines lines =
+-- a mark put last
+abbrev pub with_mark : NoteLists → Mark → NoteLists
+with_mark notes mark = record notes { marks = notes.marks ++ mark ∷ [] }
+
+-- a name put last
+abbrev pub with_name : NoteLists → FieldName → NoteLists
+with_name notes name = record notes { names = notes.names ++ name ∷ [] }
+
+-- the notes up to a line, where they fit the image
+abbrev pub if_fits : ℕ → Segments → NoteLists → Result NoteLists AsmError
+if_fits line image notes = if fits image notes then Ok notes else Err (BadNote line)
+
+-- the notes with what stands behind the labels of a line
+abbrev pub noted_item : ℕ → Segments → NoteLists → Item → Result NoteLists AsmError
+noted_item line image notes (Marked mark) = if_fits line image (with_mark notes mark)
+noted_item line image notes (Named name) = if_fits line image (with_name notes name)
+noted_item line image notes _ = Ok notes
+
+-- the third pass over lines
+abbrev pub noted : ℕ → Segments → NoteLists → List (List ℕ) → Result NoteLists AsmError
+noted number image notes [] = Ok notes
+noted number image notes (line ∷ lines) =
+    and_then (item_from number (after_labels (words_of (content_of line)))) (λ item.
+    and_then (noted_item number image notes item) (λ longer. noted (number + 1) image longer lines))
+
+-- the image of these lines with their notes, or their first refusal
+abbrev pub noted_of_lines : List (List ℕ) → Result NotedImage AsmError
+noted_of_lines lines =
     and_then (surveyed 1 no_lines lines) (λ survey.
     and_then (linked 1 survey.labels [] lines) (λ code.
-    sealed code survey.statics))
+    and_then (sealed code survey.statics) (λ image.
+    and_then (noted 1 image no_notes lines) (λ notes.
+    Ok (record { image = image; notes = notes })))))
 
--- the image of a text, or its first refusal
-abbrev pub image_of_text : List ℕ → Result Segments AsmError
-image_of_text text = image_of_lines (lines_of text)
+-- the image of a text with its notes, or its first refusal
+abbrev pub noted_of_text : List ℕ → Result NotedImage AsmError
+noted_of_text text = noted_of_lines (lines_of text)

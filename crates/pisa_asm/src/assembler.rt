@@ -4,12 +4,13 @@ ghost use Rattle.pisa_isa.specs.Table.{IsCell};
 ghost use Rattle.pisa_asm.specs.Chain.{Refuses};
 ghost use Rattle.pisa_asm.specs.AssemblyText.{AssemblyText};
 ghost use Rattle.pisa_asm.specs.Lines.{lines_of};
-ghost use Rattle.pisa_asm.specs.Passes.{sealed, image_of_text};
+ghost use Rattle.pisa_asm.specs.Passes.{sealed, noted_of_text};
 
 use crate::error::AsmError;
 use crate::link::link;
+use crate::notes::notes_of;
 use crate::survey::survey_of;
-use pisa_isa::{Cell, Image, MOST_CELLS, MOST_STATICS, SealError};
+use pisa_isa::{Cell, Image, MOST_CELLS, MOST_STATICS, Noted, SealError};
 use std::alloc::Global;
 
 /// The most bytes of an assembly text.
@@ -33,16 +34,18 @@ fn seal(code: Vec<Cell>, statics: Vec<u32>) -> Result<Image, AsmError>
     }
 }
 
-/// The image that a text writes, or the text's first refusal.
-pub fn assemble(alloc: Global, text: &[u8]) -> Result<Image, AsmError>
+/// The image and the notes that a text writes, or the text's first refusal.
+pub fn assemble(alloc: Global, text: &[u8]) -> Result<Noted, AsmError>
     requires { length text.now ≤ MOST_TEXT }
-    ensures image { IfOk result (λ image. image_of_text text.now ≡ Ok image) }
-    ensures written { IfOk result (λ image. AssemblyText (lines_of text.now) image) }
+    ensures noted { IfOk result (λ n. noted_of_text text.now ≡ Ok n) }
+    ensures written { IfOk result (λ n. AssemblyText (lines_of text.now) n) }
 
     // Where memory does not run out, a refusal is the first one of the text.
-    ensures refusal { IfErr result (Refuses (image_of_text text.now)) }
+    ensures refusal { IfErr result (Refuses (noted_of_text text.now)) }
 {
     let survey = survey_of(alloc, text)?;
     let code = link(alloc, &survey, text)?;
-    seal(code, survey.into_statics())
+    let image = seal(code, survey.into_statics())?;
+    let notes = notes_of(alloc, &image, text)?;
+    Ok(Noted::seal(image, notes))
 }

@@ -32,6 +32,9 @@ pub enum AsmError {
     /// The cell of this line is one more than an image may have.
     #[error("the cell of line {line} is one too many")]
     TooManyCells { line: u32 },
+    /// The note of this line does not fit the image with those before it.
+    #[error("the note of line {line} does not fit the image")]
+    BadNote { line: u32 },
     /// Memory ran out.
     #[error("no memory")]
     NoMemory,
@@ -41,6 +44,14 @@ impl From<AllocError> for AsmError {
     ghost from_gives = { λ _ e. e ≡ NoMemory };
 
     fn from(_error: AllocError) -> AsmError {
+        AsmError::NoMemory
+    }
+}
+
+impl From<rpp_words::NoMemory> for AsmError {
+    ghost from_gives = { λ _ e. e ≡ NoMemory };
+
+    fn from(_error: rpp_words::NoMemory) -> AsmError {
         AsmError::NoMemory
     }
 }

@@ -1,14 +1,15 @@
 // What stands on a line behind its labels.
-ghost use Rattle.std.specs.Prelude.{◌≡◌, MatchResult, Ok};
-ghost use Rattle.pisa_asm.specs.Chain.{Refuses};
+ghost use Rattle.std.specs.Prelude.{◌≡◌, MatchOption, MatchResult, None, Ok, Some};
+ghost use Rattle.pisa_asm.specs.Chain.{or_bad, Refuses};
 ghost use Rattle.pisa_asm.specs.Lines.{words_of};
-ghost use Rattle.pisa_asm.specs.Items.{item_from, other_item};
+ghost use Rattle.pisa_asm.specs.Items.{static_from, unsigned_from, mark_from, name_from, item_from, other_item};
 
 use crate::error::AsmError;
 use crate::line::next_word;
 use crate::mnemonic::row_named;
-use crate::number::word_number;
+use crate::number::{unsigned_number, word_number};
 use crate::operand::{Given, given_from, sole_word};
+use pisa_isa::{FieldName, Mark, NoteText, is_name};
 use std::alloc::Global;
 
 /// What stands on a line behind its labels.
@@ -20,22 +21,89 @@ pub enum Item {
     Code(Given),
     /// A static word.
     Static(u32),
+    /// A mark.
+    Marked(Mark),
+    /// A name.
+    Named(FieldName),
+}
+
+/// The number behind STATIC.
+fn static_from(words: &[u8]) -> Option<u32>
+    ensures { result ≡ static_from (words_of words.now) }
+{
+    match sole_word(words) {
+        None => None,
+        Some(word) => word_number(word),
+    }
+}
+
+/// The number that the first word writes, and what stands behind it.
+fn unsigned_from(words: &[u8]) -> Option<(u32, &[u8])>
+    ensures { MatchOption result (unsigned_from (words_of words.now) ≡ None)
+        (λ p. unsigned_from (words_of words.now) ≡ Some (p.0, words_of p.1.now)) }
+{
+    match next_word(words) {
+        None => None,
+        Some((word, rest)) => match unsigned_number(word) {
+            None => None,
+            Some(number) => Some((number, rest)),
+        },
+    }
+}
+
+/// The mark behind MARK: its first cell, its end and its place.
+fn mark_from(words: &[u8]) -> Option<Mark>
+    ensures { result ≡ mark_from (words_of words.now) }
+{
+    let (first, words) = unsigned_from(words)?;
+    let (end, words) = unsigned_from(words)?;
+    let at = unsigned_number(sole_word(words)?)?;
+    Some(Mark { first, end, at })
+}
+
+/// The name behind NAME: its data cell and its bytes.
+fn name_from(alloc: Global, words: &[u8], line: u32) -> Result<FieldName, AsmError>
+    ensures { MatchResult result
+        (λ name. or_bad line (name_from (words_of words.now)) ≡ Ok name)
+        (Refuses (or_bad line (name_from (words_of words.now)))) }
+{
+    match unsigned_from(words) {
+        None => Err(AsmError::BadLine { line }),
+        Some((cell, rest)) => match sole_word(rest) {
+            None => Err(AsmError::BadLine { line }),
+            Some(word) => {
+                if !is_name(word) {
+                    return Err(AsmError::BadLine { line });
+                }
+                let text = NoteText::of(alloc, word)?;
+                Ok(FieldName { cell, text })
+            }
+        },
+    }
 }
 
 /// What a first word that is no mnemonic begins.
-fn other_item(first: &[u8], rest: &[u8], line: u32) -> Result<Item, AsmError>
-    ensures { result ≡ other_item line first.now (words_of rest.now) }
+fn other_item(alloc: Global, first: &[u8], rest: &[u8], line: u32) -> Result<Item, AsmError>
+    ensures { MatchResult result
+        (λ item. other_item line first.now (words_of rest.now) ≡ Ok item)
+        (Refuses (other_item line first.now (words_of rest.now))) }
 {
-    if first != b"STATIC".as_slice() {
-        return Err(AsmError::UnknownMnemonic { line });
-    }
-    match sole_word(rest) {
-        None => Err(AsmError::BadLine { line }),
-        Some(word) => match word_number(word) {
+    if first == b"STATIC".as_slice() {
+        return match static_from(rest) {
             None => Err(AsmError::BadLine { line }),
             Some(word) => Ok(Item::Static(word)),
-        },
+        };
     }
+    if first == b"MARK".as_slice() {
+        return match mark_from(rest) {
+            None => Err(AsmError::BadLine { line }),
+            Some(mark) => Ok(Item::Marked(mark)),
+        };
+    }
+    if first == b"NAME".as_slice() {
+        return Ok(Item::Named(name_from(alloc, rest, line)?));
+    }
+    Err(AsmError::UnknownMnemonic { line })
 }
 
 /// What stands behind the labels of a line, given all that does.
@@ -47,7 +115,7 @@ pub fn item_from(alloc: Global, behind: &[u8], line: u32) -> Result<Item, AsmErr
     match next_word(behind) {
         None => Ok(Item::Nothing),
         Some((first, rest)) => match row_named(first) {
-            None => other_item(first, rest, line),
+            None => other_item(alloc, first, rest, line),
             Some(op) => Ok(Item::Code(given_from(alloc, op, rest, line)?)),
         },
     }

@@ -1,7 +1,7 @@
-//! Assembly text of the machine PISA: `assemble` reads an image from it or answers its first refusal, and
-//! `list` writes the one listing of an image. The layers above use these two calls, the errors, what lines
-//! write (specs/AssemblyText), the order of refusals (specs/Passes), the listing (specs/Listing), and the
-//! two laws: what is read is what is written, and a listing reads back.
+//! Assembly text of the machine PISA: `assemble` reads an image with its notes from it or answers its first
+//! refusal, and `list` writes the one listing of an image with its notes. The layers above use these two
+//! calls, the errors, what lines write (specs/AssemblyText), the order of refusals (specs/Passes), the
+//! listing (specs/Listing), and the two laws: what is read is what is written, and a listing reads back.
 #![tactic(auto)]
 
 mod assembler;
@@ -13,6 +13,7 @@ mod line;
 mod link;
 mod listing;
 mod mnemonic;
+mod notes;
 mod number;
 mod operand;
 mod survey;

@@ -1,14 +1,15 @@
 // From image to text.
 ghost use Rattle.std.specs.Prelude.{◌≡◌, ◌≤◌, ◌<◌, ◌^◌, ◌++◌, ◌∷◌, [], string_bytes, string_len, All, IfOk, OnOk, Ok};
+ghost use Rattle.std.specs.Str.{IsAscii};
 ghost use Rattle.pisa_isa.specs.Table.{has_a, has_b, c_is_source};
 ghost use Rattle.rpp_words.specs.Words.{IsWord};
 ghost use Rattle.pisa_asm.specs.declared.assembler.TheConstants.{MOST_TEXT};
-ghost use Rattle.pisa_asm.specs.Passes.{image_of_text};
-ghost use Rattle.pisa_asm.specs.Listing.{signed_text, offset_text, register_text, last_text, cell_text, static_text, code_lines, static_lines, listing};
+ghost use Rattle.pisa_asm.specs.Passes.{noted_of_text};
+ghost use Rattle.pisa_asm.specs.Listing.{signed_text, offset_text, register_text, last_text, cell_text, static_text, number_text, mark_text, name_text, HasAsciiText, lines_by, listing};
 
 use crate::mnemonic::mnemonic;
 use crate::operand::{Last, has_registers, last_of};
-use pisa_isa::{Cell, Image};
+use pisa_isa::{Cell, FieldName, Mark, Noted};
 use rpp_words::{NoMemory, wrap_sub};
 use std::alloc::{AllocError, Global};
 
@@ -83,7 +84,7 @@ fn add_static(out: &mut String, word: u32) -> Result<(), AllocError>
 
 /// Puts the lines of cells last.
 fn add_code(out: &mut String, code: &[Cell]) -> Result<(), AllocError>
-    ensures { OnOk result (string_bytes out.new ≡ string_bytes out.old ++ code_lines code.now) }
+    ensures { OnOk result (string_bytes out.new ≡ string_bytes out.old ++ lines_by cell_text code.now) }
 {
     for cell in code {
         add_cell(out, cell)?;
@@ -93,10 +94,72 @@ fn add_code(out: &mut String, code: &[Cell]) -> Result<(), AllocError>
 
 /// Puts the lines of static words last.
 fn add_statics(out: &mut String, statics: &[u32]) -> Result<(), AllocError>
-    ensures { OnOk result (string_bytes out.new ≡ string_bytes out.old ++ static_lines statics.now) }
+    ensures { OnOk result (string_bytes out.new ≡ string_bytes out.old ++ lines_by static_text statics.now) }
 {
     for word in statics {
         add_static(out, *word)?;
+    }
+    Ok(())
+}
+
+/// Puts a number last.
+fn add_number(out: &mut String, number: u32) -> Result<(), AllocError>
+    ensures { OnOk result (string_bytes out.new ≡ string_bytes out.old ++ number_text number) }
+{
+    write!(out, " {number}")
+}
+
+/// Puts the line of a mark last.
+fn add_mark(out: &mut String, mark: &Mark) -> Result<(), AllocError>
+    ensures { OnOk result (string_bytes out.new ≡ string_bytes out.old ++ (mark_text mark.now ++ 10 ∷ [])) }
+{
+    out.push_str("MARK")?;
+    add_number(out, mark.first)?;
+    add_number(out, mark.end)?;
+    add_number(out, mark.at)?;
+    out.push('\n')
+}
+
+/// Puts the lines of marks last.
+fn add_marks(out: &mut String, marks: &[Mark]) -> Result<(), AllocError>
+    ensures { OnOk result (string_bytes out.new ≡ string_bytes out.old ++ lines_by mark_text marks.now) }
+{
+    for mark in marks {
+        add_mark(out, mark)?;
+    }
+    Ok(())
+}
+
+/// Puts bytes last.
+fn add_bytes(out: &mut String, bytes: &[u8]) -> Result<(), AllocError>
+    requires { IsAscii bytes.now }
+    ensures { OnOk result (string_bytes out.new ≡ string_bytes out.old ++ bytes.now) }
+{
+    for byte in bytes {
+        out.push(char::from(*byte))?;
+    }
+    Ok(())
+}
+
+/// Puts the line of a name last.
+fn add_name(out: &mut String, name: &FieldName) -> Result<(), AllocError>
+    requires { IsAscii name.now.text }
+    ensures { OnOk result (string_bytes out.new ≡ string_bytes out.old ++ (name_text name.now ++ 10 ∷ [])) }
+{
+    out.push_str("NAME")?;
+    add_number(out, name.cell)?;
+    out.push(' ')?;
+    add_bytes(out, name.text.bytes())?;
+    out.push('\n')
+}
+
+/// Puts the lines of names last.
+fn add_names(out: &mut String, names: &[FieldName]) -> Result<(), AllocError>
+    requires { All HasAsciiText names.now }
+    ensures { OnOk result (string_bytes out.new ≡ string_bytes out.old ++ lines_by name_text names.now) }
+{
+    for name in names {
+        add_name(out, name)?;
     }
     Ok(())
 }
@@ -106,17 +169,22 @@ fn are_words(words: &[u32])
     ensures { All IsWord words.now }
 {}
 
-/// The listing of an image: a line for each code cell and then one for each static word.
-pub fn list(alloc: Global, image: &Image) -> Result<String, NoMemory>
-    ensures listing { IfOk result (λ text. string_bytes text ≡ listing image.now) }
+/// The listing of an image with its notes: a line for each code cell, then one for each static word, then one
+/// for each mark, and then one for each name.
+pub fn list(alloc: Global, noted: &Noted) -> Result<String, NoMemory>
+    ensures listing { IfOk result (λ text. string_bytes text ≡ listing noted.now) }
 
-    // It may be assembled, and reads as the image.
+    // It may be assembled, and reads as the image with these notes.
     ensures within { IfOk result (λ text. string_len text ≤ MOST_TEXT) }
-    ensures reads_back { IfOk result (λ text. image_of_text (string_bytes text) ≡ Ok image.now) }
+    ensures reads_back { IfOk result (λ text. noted_of_text (string_bytes text) ≡ Ok noted.now) }
 {
     let mut out = String::new(alloc);
+    let image = noted.image();
+    let notes = noted.notes();
     are_words(image.statics());
     add_code(&mut out, image.code())?;
     add_statics(&mut out, image.statics())?;
+    add_marks(&mut out, &notes.marks)?;
+    add_names(&mut out, &notes.names)?;
     Ok(out)
 }

@@ -1,6 +1,6 @@
 // Numbers and registers.
 ghost use Rattle.std.specs.Prelude.{◌≡◌, ◌<◌, ◌≤◌, ◌^◌, IfSome};
-ghost use Rattle.pisa_asm.specs.Numerals.{below, minus, numeral, number_in, word_number, amount_number, offset_number, plain_digits, register_number};
+ghost use Rattle.pisa_asm.specs.Numerals.{below, minus, numeral, number_in, word_number, unsigned_number, amount_number, offset_number, plain_digits, register_number};
 
 use rpp_words::wrap_sub;
 
@@ -58,6 +58,13 @@ pub fn word_number(bytes: &[u8]) -> Option<u32>
     ensures { result ≡ word_number bytes.now }
 {
     number_in(1 << 31, 1 << 32, bytes)
+}
+
+/// The word that these bytes write in digits alone.
+pub fn unsigned_number(bytes: &[u8]) -> Option<u32>
+    ensures { result ≡ unsigned_number bytes.now }
+{
+    number_below(1 << 32, bytes)
 }
 
 /// The amount that these bytes write.

@@ -66,7 +66,7 @@ impl Survey {
             (Refuses (counted line self.old item.now)) }
     {
         match item {
-            Item::Nothing => Ok(()),
+            Item::Nothing | Item::Marked(_) | Item::Named(_) => Ok(()),
             Item::Code(given) => {
                 if !given.cell.is_one_to_one() {
                     return Err(AsmError::NotOneToOne { line });

@@ -1,6 +1,6 @@
 // Texts that are read, refused and written.
 use super::*;
-use pisa_isa::{Cell, Image, MOST_STATICS, Op};
+use pisa_isa::{Cell, MOST_STATICS, Mark, Noted, Op};
 use std::alloc::{AllocError, Global};
 use std::process::Abort;
 use std::test::Fail;
@@ -10,15 +10,15 @@ fn cell(op: Op, a: u8, b: u8, c: u8, imm: u32) -> Cell {
 }
 
 /// What `assemble` answers to a text.
-fn assembled(rt: &impl Abort, alloc: Global, text: &str) -> Result<Image, AsmError> {
+fn assembled(rt: &impl Abort, alloc: Global, text: &str) -> Result<Noted, AsmError> {
     assert!(rt; text.len() <= MOST_TEXT);
     assemble(alloc, text.as_bytes())
 }
 
 /// The listing of the image of a text.
 fn relisted(rt: &impl Abort, alloc: Global, text: &str) -> Result<String, Fail> {
-    let image = assembled(rt, alloc, text).expect(rt, text);
-    Ok(list(alloc, &image)?)
+    let noted = assembled(rt, alloc, text).expect(rt, text);
+    Ok(list(alloc, &noted)?)
 }
 
 #[test]
@@ -62,9 +62,13 @@ fn each_instruction(rt: HostRuntime) -> Result<(), Fail> {
         ("DATA 7", cell(Op::DataWord, 0, 0, 0, 7)),
     ] {
         let whole = format!(in rt.alloc(); "START\n{text}\nFINISH\n")?;
-        let image = assembled(&rt, rt.alloc(), &whole).expect(&rt, text);
-        assert_eq!(rt; image.code().get(1).copied(), Some(wanted), "{text}");
-        let listing = list(rt.alloc(), &image)?;
+        let noted = assembled(&rt, rt.alloc(), &whole).expect(&rt, text);
+        assert_eq!(rt;
+            noted.image().code().get(1).copied(),
+            Some(wanted),
+            "{text}"
+        );
+        let listing = list(rt.alloc(), &noted)?;
         assert_eq!(rt; listing.as_str(), whole.as_str(), "{text}");
     }
     Ok(())
@@ -129,6 +133,11 @@ fn texts(rt: HostRuntime) -> Result<(), Fail> {
             "START\nADDI $1 +5\nADDI $1 -0\nRL $1 +3\nBRA 2\nFINISH",
             "START\nADDI $1 5\nADDI $1 0\nRL $1 3\nBRA +2\nFINISH\n",
             "signs",
+        ),
+        (
+            "NAME 0040 x ; a field\nm: MARK 01 2 33\nSTART\nBRA m\nNAME 41 class'_2\nFINISH\nSTATIC 5\nSTATIC 6\nMARK 3 3 1048575",
+            "START\nBRA -1\nFINISH\nSTATIC 5\nSTATIC 6\nMARK 1 2 33\nMARK 3 3 1048575\nNAME 40 x\nNAME 41 class'_2\n",
+            "notes among the code",
         ),
     ] {
         let listing = relisted(&rt, rt.alloc(), text)?;
@@ -216,9 +225,32 @@ fn refusals(rt: HostRuntime) -> Result<(), Fail> {
         ),
         (":", AsmError::UnknownMnemonic { line: 1 }, "a colon"),
         (
-            "MARK 1 2 3",
+            "mark 1 2 3",
             AsmError::UnknownMnemonic { line: 1 },
-            "no mnemonic",
+            "a note in small letters",
+        ),
+        ("MARK 1 2", AsmError::BadLine { line: 1 }, "no place"),
+        (
+            "MARK 1 2 3 4",
+            AsmError::BadLine { line: 1 },
+            "a number too many",
+        ),
+        ("MARK 1 +2 3", AsmError::BadLine { line: 1 }, "a sign"),
+        (
+            "MARK 1 2 4294967296",
+            AsmError::BadLine { line: 1 },
+            "no word for a place",
+        ),
+        ("NAME 40", AsmError::BadLine { line: 1 }, "no name"),
+        (
+            "NAME 40 _x",
+            AsmError::BadLine { line: 1 },
+            "no letter in front",
+        ),
+        (
+            "NAME 40 x-",
+            AsmError::BadLine { line: 1 },
+            "no byte of a name",
         ),
         (
             "a: START\n\na: FINISH",
@@ -261,10 +293,53 @@ fn refusals(rt: HostRuntime) -> Result<(), Fail> {
         ("START", AsmError::NoFinish, "no FINISH"),
         ("FINISH\nSTART\nFINISH", AsmError::NoFinish, "two FINISH"),
         ("", AsmError::NoStart, "nothing"),
+        (
+            "START\nNEG $1\nFINISH\nSTATIC 5\nMARK 2 1 33\nNAME 40 x",
+            AsmError::BadNote { line: 5 },
+            "the end before the first cell",
+        ),
+        (
+            "MARK 1 4 33\nSTART\nNEG $1\nFINISH",
+            AsmError::BadNote { line: 1 },
+            "a cell behind the code",
+        ),
+        (
+            "START\nFINISH\nMARK 0 1 1048576",
+            AsmError::BadNote { line: 3 },
+            "a place behind the last",
+        ),
+        (
+            "START\nFINISH\nSTATIC 5\nNAME 40 x\nNAME 41 y",
+            AsmError::BadNote { line: 5 },
+            "no static cell",
+        ),
+        (
+            "MARK 2 1 33\nSTART",
+            AsmError::NoFinish,
+            "a missing FINISH before an earlier note that does not fit",
+        ),
     ] {
         let answer = assembled(&rt, rt.alloc(), text);
         assert_eq!(rt; answer.err(), Some(wanted), "{what}: {text}");
     }
+    Ok(())
+}
+
+#[test]
+fn notes_are_kept(rt: HostRuntime) -> Result<(), Fail> {
+    let text = "START\nNEG $1\nFINISH\nSTATIC 5\nMARK 1 2 33\nNAME 40 x";
+    let noted = assembled(&rt, rt.alloc(), text).expect(&rt, text);
+    let mark = Mark {
+        first: 1,
+        end: 2,
+        at: 33,
+    };
+    assert_eq!(rt; noted.notes().marks.as_slice(), [mark].as_slice());
+    for name in &noted.notes().names {
+        assert_eq!(rt; name.cell, 40);
+        assert_eq!(rt; name.text.bytes(), b"x".as_slice());
+    }
+    assert_eq!(rt; noted.notes().names.len(), 1);
     Ok(())
 }
 

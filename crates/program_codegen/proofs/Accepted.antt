@@ -1,5 +1,5 @@
 -- What an accepted program is made of where every form of it is compiled.
-use Rattle.std.proofs.Common.{◌≡◌, ◌≢◌, ◌∙◌, sym, ap, subst, refl, ℕ, zero, suc, ◌+◌, ◌<◌, ◌≤◌, Bool, true, false, not, ◌&&◌, List, [], ◌∷◌, ◌++◌, map, length, get_or, Option, Some, None, arith, slice_get, nat_lt}
+use Rattle.std.proofs.Common.{◌≡◌, ◌≢◌, ◌∙◌, sym, ap, subst, refl, ℕ, zero, suc, ◌+◌, ◌<◌, ◌≤◌, Bool, true, false, not, ◌&&◌, List, [], ◌∷◌, map, length, get_or, Option, Some, None, arith, slice_get, nat_lt}
 use Rattle.std.specs.Prelude.{Ok, IsTrue, ◌||◌, codes, if◌then◌else◌}
 use Rattle.std.specs.Option.{ok_or, unwrap_or, option_map}
 use Rattle.std.specs.Str.{bytes_eq}
@@ -14,16 +14,11 @@ use Rattle.rpp_tree.specs.declared.tree.VarType.{VarType}
 use Rattle.rpp_tree.specs.declared.tree.VarType.TheVariants as type
 use Rattle.rpp_tree.specs.Parts.{statement_tokens, block_tokens, procedure_tokens, class_tokens}
 use Rattle.rpp_tree.specs.Tree.{Expression, Number, Null, Variable, Element, Binary, Lvalue, Whole, Item, Statement, Statements, Update, Swap, If, From, Construct, Local, New, Delete, Copy, Uncopy, Call, Skip, End, Then, Procedure, ClassText, Source}
-use Rattle.class_table.specs.declared.method.MethodId.{MethodId}
-use Rattle.class_table.specs.declared.mains.Main.{Main}
 use Rattle.class_table.specs.declared.error.ClassError.TheVariants.{Limit}
 use Rattle.rpp_tree.specs.declared.limits.LimitKind.TheVariants as limit
 use Rattle.class_table.specs.declared.kind.Kind.{Kind}
-use Rattle.class_table.specs.Rules.{duplicate_class, unknown_class}
-use Rattle.class_table.specs.Chains.{inheritance_cycle}
-use Rattle.class_table.specs.Members.{class_at, no_class, no_procedure, fields_of, slots_of, duplicate_field, too_many_fields, too_many_fields_at, too_many_slots, too_many_slots_at}
-use Rattle.class_table.specs.Overrides.{duplicate_method, differing_override}
-use Rattle.class_table.specs.Mains.{is_main, has_none, mains_in, mains_from, mains, main_refusal, first_main}
+use Rattle.class_table.specs.Members.{class_at, no_class, no_procedure, fields_of, slots_of, too_many_fields_at, too_many_slots_at}
+use Rattle.class_table.specs.Mains.{has_none, mains}
 use Rattle.class_table.specs.Classes.{class_fields, class_slots, procedure_at}
 use Rattle.class_table.specs.Table.{Table, table_of, HasClassTable, fields_in, field_in, class_of}
 use Rattle.class_table.specs.Refusal.{unknown_name, type_differs}
@@ -38,7 +33,7 @@ use Rattle.class_table.specs.Members.{field_of}
 use Rattle.program_codegen.specs.Unbuilt.{unbuilt_value, unbuilt_statement, unbuilt_block, unbuilt_method, unbuilt_class, unbuilt}
 use Rattle.program_codegen.specs.Words.{HasWord, StatementHasWords, BlockHasWords}
 use Rattle.program_codegen.specs.declared.unbuilt.Unbuilt.TheVariants.{Method, Form}
-use Rattle.roopl_semantics.proofs.MainPlace.{none_of, MainIn, MainFrom, first_of_mains, table_rules, class_inside}
+use Rattle.roopl_semantics.proofs.MainPlace.{none_of, MainFrom, first_of_mains, table_rules, class_inside}
 use Rattle.program_codegen.proofs.Rules.{both_true, none_in, none_at, not_refused, not_above, both_passed, each_passed, held, handed_on, in_sum}
 use Rattle.program_codegen.proofs.Values.{IsIntName, IsPlainValue, number, variable, IsPlainStatement, update, skip, IsPlainBlock, done, next, statement_count}
 
@@ -263,6 +258,9 @@ module _ (program : Source) (accepted : IsAccepted program) (none : unbuilt prog
       let whole = accepted.limits.tokens_few in
       omega (arith, statements_are_tokens place.found.method.body body_built)
 
+  pub few_in_main : statement_count (main_body program) ≤ 20000
+  few_in_main = subst (λ b. statement_count b ≤ 20000) (sym body_is) few_tokens
+
   pub compiled : BlockHasWords (main_body program) → IsCompiled program
   compiled words = record {
     class_in = class_inside program accepted;
@@ -272,5 +270,5 @@ module _ (program : Source) (accepted : IsAccepted program) (none : unbuilt prog
     few_fields = few_fields program accepted.classes (main_of program).class (class_inside program accepted);
     few_slots = few_slots program accepted.classes;
     few_classes = accepted.limits.classes_few;
-    few_statements = subst (λ b. statement_count b ≤ 20000) (sym body_is) few_tokens;
+    few_statements = few_in_main;
   }

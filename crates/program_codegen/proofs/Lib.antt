@@ -9,3 +9,5 @@ pub mod Stands
 pub mod Sealed
 pub mod Tables
 pub mod Finished
+pub mod FieldSums
+pub mod NotesFit

@@ -3,7 +3,7 @@ use Rattle.std.proofs.Common.{◌≡◌, ◌∙◌, sym, ap, refl, ℕ, zero, su
 use Rattle.std.specs.Prelude.{Result, Ok, Err, sum_by}
 use Rattle.std.proofs.lemmas.Bool.Decides.{nat_tests}
 use Rattle.std.proofs.lemmas.List.Sums.{sum_by-cons}
-use Rattle.class_table.specs.First.{refused_if, first_of, first_in, first_at}
+use Rattle.class_table.specs.First.{refused_if, first_in, first_at}
 use Rattle.class_table.specs.Refusal.{Refusal}
 use Rattle.roopl_semantics.proofs.MainPlace.{none_of}
 use Rattle.class_table.specs.Expressions.{and_then}

@@ -1,15 +1,16 @@
--- The static cells that the class table gives are those of the program.
+-- The static cells that the class table gives, and the statements of its main method, are those of the program.
 use Rattle.std.proofs.Common.{◌≡◌, ◌∙◌, sym, ap, refl, ℕ, zero, suc, ◌+◌, ◌<◌, ◌≤◌, List, [], ◌∷◌, ◌++◌, length, replicate, arith, append_assoc}
 use Rattle.std.proofs.lemmas.List.{append-nil, length-map}
-use Rattle.rpp_tree.specs.Tree.{Source}
+use Rattle.rpp_tree.specs.Tree.{Statements, Source}
+use Rattle.class_table.specs.declared.method.MethodId.{MethodId}
 use Rattle.class_table.specs.First.{each_below}
 use Rattle.class_table.specs.Members.{Slots}
 use Rattle.class_table.specs.Rules.{name_of}
-use Rattle.class_table.specs.Classes.{class_slots}
-use Rattle.class_table.specs.Table.{table_of, slots_in}
+use Rattle.class_table.specs.Classes.{class_slots, procedure_at}
+use Rattle.class_table.specs.Table.{Table, table_of, slots_in}
 use Rattle.class_table.proofs.Tables.{table_reads}
 use Rattle.class_table.proofs.Numbers.{length-each_below}
-use Rattle.roopl_semantics.specs.Source.{main_fields}
+use Rattle.roopl_semantics.specs.Source.{main_fields, main_body}
 use Rattle.class_table.specs.Classes.{main_of}
 use Rattle.roopl_semantics.specs.Layout.{table_at, tables}
 use Rattle.program_codegen.specs.Code.{places, program_statics}
@@ -55,3 +56,11 @@ module _ (program : Source) where
       ap (λ vars. address_in (table_of program) (length vars) (main_of program).class ∷ 1 ∷ (replicate (length vars) 0 ++ tables 1 (places_in (table_of program)))) fields
       ∙ ap (λ a. a ∷ 1 ∷ (replicate (length (main_fields program)) 0 ++ tables 1 (places_in (table_of program)))) (address_same (main_of program).class (omega arith))
       ∙ ap (λ ps. table_at program (main_of program).class ∷ 1 ∷ (replicate (length (main_fields program)) 0 ++ tables 1 ps)) places_same
+
+-- the statements that are read of the table's main method
+pub body_read : (program text : Source) (table : Table) (main : MethodId) (body : Statements) → text ≡ program → table ≡ table_of program → main ≡ table.main → body ≡ (procedure_at text main).body → body ≡ main_body program
+body_read program text table main body text_is table_is main_is body_is =
+    body_is
+    ∙ ap (λ p. (procedure_at p main).body) text_is
+    ∙ ap (λ (id : MethodId). (procedure_at program id).body) main_is
+    ∙ ap (λ (t : Table). (procedure_at program t.main).body) table_is

@@ -1,16 +1,15 @@
 -- What the statements of `main` do to the values of the main object's fields.
-use Rattle.std.proofs.Common.{◌≡◌, ◌+◌, ◌^◌, ◌<◌, ℕ, false, List, [], map}
+use Rattle.std.proofs.Common.{◌≡◌, ◌+◌, ◌^◌, ◌<◌, ℕ, false, List, []}
 use Rattle.std.specs.Prelude.{slice_get, slice_set, IsTrue, Some}
 use Rattle.std.specs.Option.{unwrap_or}
 use Rattle.std.specs.Str.{bytes_eq}
-use Rattle.rpp_words.specs.declared.input.FieldWord.{FieldWord}
 use Rattle.rpp_tree.specs.declared.tree.Ident.{Ident}
 use Rattle.rpp_tree.specs.declared.tree.Var.{Var}
 use Rattle.rpp_tree.specs.declared.tree.UpdateOp.{UpdateOp}
 use Rattle.rpp_tree.specs.Tree.{Expression, Number, Variable, Whole, Statement, Statements, Update, Skip, End, Then}
 use Rattle.roopl_semantics.specs.Operators.{updated}
-use Rattle.roopl_semantics.specs.Source.{is_int_field, with_input}
-use Rattle.roopl_semantics.specs.Store.{Value, Word, Nil, State, main_name, number_of, zero_values}
+use Rattle.roopl_semantics.specs.Source.{is_int_field}
+use Rattle.roopl_semantics.specs.Store.{Value, Word, Nil, State, main_name, number_of}
 use Rattle.roopl_semantics.specs.Alone.{alone}
 use Rattle.class_table.specs.Members.{field_of}
 use Rattle.program_codegen.specs.Code.{field_number}

@@ -2,11 +2,10 @@
 use Rattle.std.specs.Prelude.{ℕ, ◌+◌, List, [], ◌∷◌, ◌++◌, length, replicate}
 use Rattle.std.specs.Option.{unwrap_or}
 use Rattle.rpp_words.specs.Words.{negated}
-use Rattle.rpp_tree.specs.declared.tree.Ident.{Ident}
 use Rattle.rpp_tree.specs.declared.tree.Var.{Var}
 use Rattle.rpp_tree.specs.declared.tree.UpdateOp.{UpdateOp}
 use Rattle.rpp_tree.specs.declared.tree.UpdateOp.TheVariants as update
-use Rattle.rpp_tree.specs.Tree.{Expression, Number, Variable, Lvalue, Whole, Item, Statement, Statements, Update, Skip, End, Then, Source}
+use Rattle.rpp_tree.specs.Tree.{Expression, Number, Variable, Statement, Statements, Update, Skip, End, Then, Source}
 use Rattle.rpp_tree.specs.Places.{place_name}
 use Rattle.class_table.specs.First.{each_below}
 use Rattle.class_table.specs.Classes.{class_slots}

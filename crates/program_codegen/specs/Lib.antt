@@ -2,3 +2,4 @@ pub mod Unbuilt
 pub mod Code
 pub mod Words
 pub mod Statics
+pub mod Notes

@@ -2,38 +2,48 @@
 ghost use Rattle.std.specs.Prelude.{◌≡◌, None, length, map, slice_get, vec_len, IfOk, OnOk};
 ghost use Rattle.std.specs.Option.{unwrap_or};
 ghost use Rattle.rpp_tree.specs.Views.{statement_of, statements_of, procedure_of, source_of};
+ghost use Rattle.pisa_isa.specs.Image.{IsImage};
 ghost use Rattle.class_table.specs.Members.{no_procedure};
 ghost use Rattle.class_table.specs.Classes.{procedure_at};
 ghost use Rattle.roopl_semantics.specs.Source.{main_body};
 ghost use Rattle.roopl_semantics.specs.Alone.{IsReportable};
 ghost use Rattle.roopl_semantics.specs.StandsFor.{StandsFor};
 ghost use Rattle.program_codegen.specs.Code.{program_code};
+ghost use Rattle.program_codegen.specs.Notes.{program_notes};
 ghost use Rattle.program_codegen.specs.Unbuilt.{unbuilt};
 ghost use Rattle.program_codegen.specs.Words.{BlockHasWords};
 
 use crate::cells::one;
+use crate::notes::notes;
 use crate::statements::add_block;
 use crate::statics::statics;
 use class_table::{Checked, MethodId, methods_at};
-use pisa_isa::{Cell, Image, Op};
+use pisa_isa::{Cell, Image, Noted, Op};
 use rpp_tree::tree::{Method, Program, Stmt};
 use rpp_words::NoMemory;
 use std::alloc::{AllocError, Global};
 
-/// The image of a program of which every form is compiled.
-pub fn compile(alloc: Global, checked: &Checked) -> Result<Image, NoMemory>
+/// The image of a program of which every form is compiled, with the cells of each statement and of each int field noted.
+pub fn compile(alloc: Global, checked: &Checked) -> Result<Noted, NoMemory>
     requires { unbuilt (source_of checked.now) ≡ None }
 
     // On every input, heap and depth the image does what the program does.
-    ensures stands { IfOk result (λ image. StandsFor (source_of checked.now) image) }
+    ensures stands { IfOk result (λ noted. StandsFor (source_of checked.now) noted.image) }
+
+    // It keeps the rules of images.
+    ensures image { IfOk result (λ noted. IsImage noted.image) }
+
+    // A mark for each statement of `main`, and the names of the main class's int fields.
+    ensures notes { IfOk result (λ noted. noted.notes ≡ program_notes (source_of checked.now)) }
 
     // As long as not every form is compiled: what is can be reported.
     ensures reportable { OnOk result (IsReportable (source_of checked.now)) }
 {
     let code = code(alloc, checked)?;
     let statics = statics(alloc, checked.table())?;
+    let notes = notes(alloc, checked)?;
     match Image::seal(code, statics) {
-        Ok(image) => Ok(image),
+        Ok(image) => Ok(Noted::seal(image, notes)),
         Err(_refusal) => unreachable!(),
     }
 }
@@ -54,8 +64,8 @@ fn code(alloc: Global, checked: &Checked) -> Result<Vec<Cell>, AllocError>
     Ok(code)
 }
 
-// The statements of a method.
-fn body(program: &Program, id: MethodId) -> &[Stmt]
+/// The statements of a method.
+pub fn body(program: &Program, id: MethodId) -> &[Stmt]
     ensures { statements_of (map statement_of result.now) ≡ (procedure_at (source_of program.now) id).body }
 {
     statements_in(methods_at(program, id.class), id.method)

@@ -12,11 +12,11 @@ use Rattle.roopl_lexer.specs.Tokens.{IsCutting}
 use Rattle.class_table.specs.Refusal.{Refusal}
 use Rattle.program_codegen.specs.declared.unbuilt.Unbuilt.{Unbuilt}
 use Rattle.program_codegen.specs.Unbuilt.{unbuilt}
+use Rattle.program_codegen.specs.Notes.{program_notes}
 use Rattle.pisa_isa.specs.declared.machine.Stop.{Stop}
 use Rattle.pisa_isa.specs.declared.machine.Stop.TheVariants.{Finished, Trap, Bound as AtBound}
 use Rattle.pisa_isa.specs.Image.{Segments, IsImage}
 use Rattle.pisa_isa.specs.Flipped.{Restores}
-use Rattle.pisa_isa.specs.Notes.{no_notes}
 use Rattle.pisa_image.specs.ImageBytes.{image_bytes}
 use Rattle.pisa_image.specs.Reading.{noted}
 use Rattle.pisa_isa.specs.Loaded.{loaded}
@@ -132,12 +132,12 @@ IsGoPlan turns text given heap deep steps p = IsJudgedPlan text (λ program. IsB
 abbrev pub IsCheckPlan : (text : List ℕ) → Planned → Type 0
 IsCheckPlan text p = IsJudgedPlan text (λ program p. p ≡ prints Done (codes "accepted" ++ line_end)) p
 
--- an image that stands for the program is written
+-- an image that stands for the program is written, with the notes on the program
 pub record WritesImage (program : Source) (name : List ℕ) (p : Planned) : Type 0 where
   pub image : Segments
   pub is_image : IsImage image
   pub stands : StandsFor program image
-  pub written : p ≡ writes name (image_bytes (noted no_notes image)) (cells_line (codes "compiled") image.code)
+  pub written : p ≡ writes name (image_bytes (noted (program_notes program) image)) (cells_line (codes "compiled") image.code)
 
 abbrev pub IsBuiltImage : (text name : List ℕ) → Source → Planned → Type 0
 IsBuiltImage text name program p = IfBuilt (unbuilt program) text (WritesImage program name) p

@@ -14,7 +14,7 @@ ghost use Rattle.roopl_judge.specs.NotBuilt.{not_built};
 use class_table::Checked;
 use program_codegen::{Unbuilt, compile, first_unbuilt};
 use roopl_judge::{Judged, SourceError, judge, unbuilt_place};
-use rpp_plan::{NoPlan, Plan, read_file, refuse_source, without_notes, write_as};
+use rpp_plan::{NoPlan, Plan, read_file, refuse_source, write_as};
 use rpp_ports::Shelf;
 use rpp_tree::MOST_BYTES;
 use rpp_words::NoMemory;
@@ -66,8 +66,8 @@ fn compile_built(alloc: Global, checked: &Checked, name: &str) -> Result<Plan, N
     requires { unbuilt (source_of checked.now) ≡ None }
     ensures { IfOk result (λ plan. WritesImage (source_of checked.now) name.now (planned plan)) }
 {
-    let image = compile(alloc, checked)?;
-    write_as(alloc, "compiled", name, &without_notes(alloc, image))
+    let noted = compile(alloc, checked)?;
+    write_as(alloc, "compiled", name, &noted)
 }
 
 /// The plan that prints a form that is not built yet.

@@ -1,10 +1,12 @@
 // `go F H D STEPS [INPUT]` and `turn` with the same words: compiles a program, runs its image and reports.
-ghost use Rattle.std.specs.Prelude.{◌≡◌, ◌≤◌, ◌<◌, ◌^◌, ◌++◌, ◌∷◌, None, length, option_map, IfOk, IfSome, string_bytes, codes};
+ghost use Rattle.std.specs.Prelude.{◌≡◌, ◌≤◌, ◌<◌, ◌^◌, ◌++◌, ◌∷◌, None, length, option_map, IfOk, OnOk, IfSome, string_bytes, codes};
 ghost use Rattle.rpp_tree.specs.Views.{source_of};
 ghost use Rattle.rpp_tree.specs.declared.limits.TheConstants.{MOST_BYTES};
 ghost use Rattle.pisa_isa.specs.Machine.{IsState};
 ghost use Rattle.pisa_isa.specs.Loaded.{loaded, loaded_state};
+ghost use Rattle.roopl_semantics.specs.Alone.{IsReportable};
 ghost use Rattle.roopl_semantics.specs.Source.{IsValid};
+ghost use Rattle.roopl_semantics.specs.StandsFor.{StandsFor};
 ghost use Rattle.rpp_words.specs.Limits.{IsLimits};
 ghost use Rattle.program_codegen.specs.Unbuilt.{unbuilt};
 ghost use Rattle.pisa_loader.specs.Limiting.{limits_refusal};
@@ -23,7 +25,7 @@ use crate::compiling::refuse_unbuilt;
 use crate::settable::input_fields;
 use crate::turning::report_both;
 use class_table::Checked;
-use pisa_isa::Stop;
+use pisa_isa::{Image, Stop};
 use pisa_loader::{LoadError, check_limits, load, read_input};
 use pisa_machine::{Machine, RunEnd, Steps};
 use program_codegen::{compile, first_unbuilt};
@@ -166,6 +168,15 @@ fn go_given<L: Ledger>(
     }
 }
 
+/// The image of a program of which every form is compiled, without what is noted of it.
+pub fn compiled_image(alloc: Global, checked: &Checked) -> Result<Image, NoMemory>
+    requires { unbuilt (source_of checked.now) ≡ None }
+    ensures stands { IfOk result (λ image. StandsFor (source_of checked.now) image) }
+    ensures reportable { OnOk result (IsReportable (source_of checked.now)) }
+{
+    Ok(compile(alloc, checked)?.into_parts().0)
+}
+
 // Compiles a program, loads its image with an input, runs it and reports.
 fn run_program<L: Ledger>(
     alloc: Global,
@@ -180,7 +191,7 @@ fn run_program<L: Ledger>(
     ensures { IfOk result (λ plan. RunsImage setting.now.turns (source_of checked.now)
         setting.now.limits setting.now.input.words.items setting.now.bound (planned plan)) }
 {
-    let image = compile(alloc, checked)?;
+    let image = compiled_image(alloc, checked)?;
     let mut machine = load(alloc, image, setting.limits, &setting.input)?;
     let end = machine.run(setting.bound, steps);
     report_run(alloc, checked, setting, machine, end, steps)

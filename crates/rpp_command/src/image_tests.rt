@@ -14,6 +14,8 @@ const LISTED: &str =
 const TURNED: &str =
     "BRA +4\nADDI $1 -5\nNEG $2\nSWAPBR $2\nBRA -4\nSTART\nBRA -3\nRBRA -4\nBRA -5\nFINISH\n";
 
+const NOTED: &str = "START\nNEG $1\nFINISH\nSTATIC 5\nMARK 1 2 33\nNAME 40 x\n";
+
 // A shelf with these files.
 pub fn shelf_of(
     alloc: Global,
@@ -111,6 +113,31 @@ fn the_version_before_is_read(rt: HostRuntime) -> Result<(), Fail> {
     let new = smallest(rt.alloc(), 40, 0)?;
     assert!(rt; shelf.text("T") == Some(b"START\nFINISH\n"));
     assert!(rt; shelf.text("J") == Some(new.as_slice()));
+    Ok(())
+}
+
+// An image with a mark and a name is kept whole in files and listings, and a run tells both.
+#[test]
+fn notes_of_images(rt: HostRuntime) -> Result<(), Fail> {
+    let files: [(&str, &[u8]); 2] = [
+        ("T", NOTED.as_bytes()),
+        ("U", b"START\nNEG $1\nFINISH\nSTATIC 5\nMARK 2 1 33\n"),
+    ];
+    let mut shelf = shelf_of(rt.alloc(), &files, &[])?;
+    for (words, status, text) in [
+        ("asm T I", 0, "assembled 3 cells\n"),
+        ("list I L", 0, "listed 3 cells\n"),
+        ("flip I J", 0, "flipped 3 cells\n"),
+        ("run I 1 1 1000", 0, "finished\nsteps 3\npc 2\nbr 0\ndir 1\nx = 5\n"),
+        ("run J 1 1 1", 6, "bound\nsteps 1\npc 1\nbr 0\ndir 1\nfrom 33\nx = 5\n"),
+        ("asm U K", 4, "refused 43 BadNote at 5\n"),
+    ] {
+        let (answer, said) = answer_on(rt.alloc(), &mut shelf, words, &[])?;
+        assert_eq!(rt; answer, status, "{words}");
+        assert_eq!(rt; said.as_slice(), text.as_bytes(), "{words}");
+    }
+    assert!(rt; shelf.text("L") == Some(NOTED.as_bytes()));
+    assert!(rt; shelf.text("I").is_some_and(|bytes| bytes.len() == 73));
     Ok(())
 }
 

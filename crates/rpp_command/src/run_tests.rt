@@ -122,17 +122,26 @@ fn there_and_back(rt: HostRuntime) -> Result<(), Fail> {
             "finished\nsteps 26\npc 9\nbr 0\ndir 1\n",
         ),
         ("compile F I", 0, "compiled 7 cells\n"),
-        ("run I 1 1 0 - M", 6, "bound\nsteps 0\npc 0\nbr 0\ndir 1\n"),
+        (
+            "run I 1 1 0 - M",
+            6,
+            "bound\nsteps 0\npc 0\nbr 0\ndir 1\nx = 0\n",
+        ),
+        (
+            "run I 1 1 3",
+            6,
+            "bound\nsteps 3\npc 3\nbr 0\ndir 1\nfrom 28\n$1 = 42\nx = 0\n",
+        ),
         (
             "run I 1 1 1000000 - E",
             0,
-            "finished\nsteps 7\npc 6\nbr 0\ndir 1\n",
+            "finished\nsteps 7\npc 6\nbr 0\ndir 1\nx = 5\n",
         ),
         ("flip I J", 0, "flipped 7 cells\n"),
         (
             "run J 1 1 1000000 E E2",
             0,
-            "finished\nsteps 7\npc 6\nbr 0\ndir 1\n",
+            "finished\nsteps 7\npc 6\nbr 0\ndir 1\nx = 0\n",
         ),
         ("run I 2 1 1000000 E E3", 4, "refused 38 BadState at 136\n"),
     ] {

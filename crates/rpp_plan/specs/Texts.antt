@@ -20,6 +20,7 @@ asm_line (asm.NotOneToOne line) = codes "refused 28 NotOneToOne at " ++ (decimal
 asm_line asm.NoStart = codes "refused 29 NoStart" ++ line_end
 asm_line asm.NoFinish = codes "refused 30 NoFinish" ++ line_end
 asm_line (asm.TooManyCells line) = codes "refused 41 TooManyCells at " ++ (decimal line ++ line_end)
+asm_line (asm.BadNote line) = codes "refused 43 BadNote at " ++ (decimal line ++ line_end)
 asm_line asm.NoMemory = []
 
 -- refused N NAME at P, with the place in bytes, or without a place

@@ -15,4 +15,4 @@ pub use reading::{
 pub use texts::{
     asm_line, bad_command_line, fault_line, image_line, load_line, refuse_source, with_steps,
 };
-pub use writing::{cells_line, without_notes, write_as};
+pub use writing::{cells_line, write_as};

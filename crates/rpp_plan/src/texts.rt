@@ -125,6 +125,7 @@ pub fn asm_line(alloc: Global, e: AsmError) -> Result<String, AllocError>
         AsmError::TooManyCells { line } => {
             format!(in alloc; "refused 41 TooManyCells at {line}\n")
         }
+        AsmError::BadNote { line } => format!(in alloc; "refused 43 BadNote at {line}\n"),
         AsmError::NoMemory => Ok(String::new(alloc)),
     }
 }

@@ -1,15 +1,13 @@
 // Plans that write an image.
-ghost use Rattle.std.specs.Prelude.{◌≡◌, Ok, IfOk, string_bytes};
+ghost use Rattle.std.specs.Prelude.{◌≡◌, IfOk, string_bytes};
 ghost use Rattle.pisa_isa.specs.declared.cell.Cell.{Cell};
-ghost use Rattle.pisa_isa.specs.Notes.{no_notes};
 ghost use Rattle.pisa_image.specs.ImageBytes.{image_bytes};
-ghost use Rattle.pisa_image.specs.Reading.{noted};
 ghost use Rattle.rpp_plan.specs.Plans.{planned, writes};
 ghost use Rattle.rpp_plan.specs.Texts.{cells_line as line_of_cells};
 
 use crate::plan::Plan;
 use pisa_image::write_image;
-use pisa_isa::{Cell, Image, Noted, Notes};
+use pisa_isa::{Cell, Noted};
 use rpp_words::NoMemory;
 use std::alloc::{AllocError, Global};
 
@@ -20,17 +18,6 @@ pub fn write_as(alloc: Global, what: &str, name: &str, noted: &Noted) -> Result<
     let bytes = write_image(alloc, noted)?;
     let text = cells_line(alloc, what, noted.image().code())?;
     Ok(Plan::writes(String::from_str(alloc, name)?, bytes, text))
-}
-
-/// An image of which nothing is noted.
-pub fn without_notes(alloc: Global, image: Image) -> Noted
-    ensures { result ≡ noted no_notes image }
-{
-    let notes = Notes {
-        marks: Vec::new(alloc),
-        names: Vec::new(alloc),
-    };
-    Noted::seal(image, notes)
 }
 
 /// The line on what was done with these cells.

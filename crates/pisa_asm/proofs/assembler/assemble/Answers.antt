@@ -1,10 +1,8 @@
-use Rattle.std.proofs.Common.{◌≡◌, ◌≤◌, length, rules, Ok}
-use Rattle.std.specs.Prelude.{IfOk}
+use Rattle.std.proofs.Common.{◌≤◌, length, rules}
 use Rattle.pisa_isa.specs.declared.image.TheConstants.{MOST_STATICS}
 use Rattle.pisa_asm.specs.Lines.{lines_of}
-use Rattle.pisa_asm.specs.Passes.{image_of_text}
 use Rattle.pisa_asm.proofs.Gathering.{gathered}
-use Rattle.pisa_asm.proofs.Written.{written_where}
+use Rattle.pisa_asm.proofs.Written.{read_is_written}
 use Rattle.pisa_asm.proofs.assembler.assemble.Goals as goal
 
 pub seal-requires-clause-code_in_limit : goal.seal-requires-clause-code_in_limit
@@ -25,6 +23,4 @@ seal-requires-clause-cells c =
     fit.cells
 
 pub returns-clause-written : goal.returns-clause-written
-returns-clause-written c =
-    let read : IfOk c.seal.result (λ image. image_of_text c.args.text.now ≡ Ok image) = search rules in
-    written_where (lines_of c.args.text.now) c.seal.result read
+returns-clause-written c = read_is_written (lines_of c.args.text.now) _ (search rules)

@@ -2,27 +2,22 @@ use Rattle.std.proofs.Common.{◌≡◌, ◌∙◌, ap, refl, List, [], ◌∷�
 use Rattle.rpp_tree.specs.declared.tree.Var.{Var}
 use Rattle.rpp_tree.specs.Tree.{Statements}
 use Rattle.rpp_tree.specs.Views.{statement_of, statements_of, source_of}
-use Rattle.class_table.specs.declared.method.MethodId.{MethodId}
-use Rattle.class_table.specs.Classes.{procedure_at}
-use Rattle.class_table.specs.Table.{Table, table_of, fields_in}
+use Rattle.class_table.specs.Table.{fields_in}
 use Rattle.pisa_isa.specs.declared.cell.Op.TheVariants.{Start, Finish}
 use Rattle.roopl_semantics.specs.Source.{main_fields, main_body}
-use Rattle.class_table.specs.Classes.{main_of}
 use Rattle.program_codegen.specs.Code.{one, block_code}
 use Rattle.roopl_semantics.proofs.MainPlace.{fields_read}
+use Rattle.program_codegen.proofs.Tables.{body_read}
 use Rattle.program_codegen.proofs.images.code.Goals as goal
 
 pub returns-clause-code : goal.returns-clause-code
 returns-clause-code c =
     let program = source_of c.args.checked.now in
-    let main : c.main-main.result ≡ main_of program = c.main-main.ensures ∙ ap (λ (t : Table). t.main) c.table-table.ensures.table in
     let fields : fields_in c.table-table.result.now c.main-main.result.class ≡ main_fields program =
     fields_read program c.table-table.result.now c.main-main.result (fields_in c.table-table.result.now c.main-main.result.class) c.table-table.ensures.accepted c.table-table.ensures.table c.main-main.ensures refl
     in
     let body : statements_of (map statement_of c.body-body.result.now) ≡ main_body program =
-    c.body-body.ensures
-    ∙ ap (λ (id : MethodId). (procedure_at (source_of c.program.result.now) id).body) main
-    ∙ ap (λ p. (procedure_at (source_of p) (main_of program)).body) c.program.ensures.program
+    body_read program (source_of c.program.result.now) c.table-table.result.now c.main-main.result (statements_of (map statement_of c.body-body.result.now)) (ap source_of c.program.ensures.program) c.table-table.ensures.table c.main-main.ensures c.body-body.ensures
     in
     c.in_ok-push-2.ensures.items
     ∙ ap (λ items. items ++ c.one-2.result ∷ [])

@@ -1,21 +1,34 @@
-use Rattle.std.proofs.Common.{◌≡◌, ◌∙◌, sym, ap, subst, length, ◌≤◌, ℕ, None, List, arith}
+use Rattle.std.proofs.Common.{◌≡◌, ◌∙◌, sym, ap, refl, subst, true, length, ◌≤◌, ℕ, None, List, arith}
 use Rattle.std.specs.Prelude.{All}
 use Rattle.rpp_tree.specs.Views.{source_of}
-use Rattle.class_table.specs.Table.{Table}
+use Rattle.rpp_tree.specs.Tree.{Source}
+use Rattle.class_table.specs.Table.{Table, table_of}
 use Rattle.pisa_isa.specs.declared.cell.Cell.{Cell}
 use Rattle.pisa_isa.specs.Table.{IsInRange}
-use Rattle.pisa_isa.specs.Image.{first_seal_refusal}
+use Rattle.pisa_isa.specs.Image.{Segments, first_seal_refusal}
+use Rattle.pisa_isa.specs.Notes.{NoteLists, NotedImage, fits}
 use Rattle.class_table.specs.Classes.{main_of}
 use Rattle.roopl_semantics.specs.StandsFor.{StandsFor}
-use Rattle.program_codegen.specs.Code.{program_code}
+use Rattle.program_codegen.specs.Code.{program_code, program_statics, program_image}
+use Rattle.program_codegen.specs.Notes.{program_notes}
 use Rattle.program_codegen.specs.Statics.{statics_in}
 use Rattle.roopl_semantics.proofs.MainPlace.{class_inside}
-use Rattle.program_codegen.proofs.Accepted.{compiled}
+use Rattle.program_codegen.proofs.Accepted.{IsCompiled, compiled}
 use Rattle.program_codegen.proofs.Finished.{reportable}
+use Rattle.program_codegen.proofs.NotesFit.{notes_fit}
 use Rattle.program_codegen.proofs.Sealed.{code_in_range, code_in_limit, sealable}
 use Rattle.program_codegen.proofs.Stands.{stands_for}
 use Rattle.program_codegen.proofs.Tables.{statics_same}
 use Rattle.program_codegen.proofs.images.compile.Goals as goal
+
+sealed_is : (program : Source) (image : Segments) (code : List Cell) (statics : List ℕ) (table : Table) → IsCompiled program → image ≡ record { code = code; statics = statics }
+    → code ≡ program_code program → statics ≡ statics_in table → table ≡ table_of program → image ≡ program_image program
+sealed_is program image code statics table is image_is code_is statics_are table_is =
+    let s : statics ≡ program_statics program = statics_are ∙ ap statics_in table_is ∙ statics_same program is.class_in in
+    image_is ∙ (rw (code_is, s) refl)
+
+fits_so : (program : Source) (image : Segments) (notes : NoteLists) → image ≡ program_image program → notes ≡ program_notes program → fits (program_image program) (program_notes program) ≡ true → fits image notes ≡ true
+fits_so program image notes image_is notes_are fit = ap (λ i. fits i notes) image_is ∙ ap (fits (program_image program)) notes_are ∙ fit
 
 pub statics-requires : goal.statics-requires
 statics-requires c =
@@ -46,18 +59,19 @@ unreachable-requires c =
     let some = c.in-Err.ensures.sealed in
     cc
 
+pub seal-requires-in-Ok : goal.seal-requires-in-Ok
+seal-requires-in-Ok c =
+    let program = source_of c.args.checked.now in
+    let is = compiled program c.table.ensures.accepted c.requires c.in_ok-code.ensures.words in
+    let image = sealed_is program c.in-Ok.image c.in_ok-code.code.items c.in_ok-statics.statics.items c.table.result.now is c.in-Ok.ensures.image c.in_ok-code.ensures.code c.in_ok-statics.ensures.cells c.table.ensures.table in
+    fits_so program c.in-Ok.image c.in_ok-notes.notes image c.in_ok-notes.ensures (notes_fit program c.table.ensures.accepted is)
+
 pub returns-clause-stands : goal.returns-clause-stands
 returns-clause-stands c =
     let program = source_of c.args.checked.now in
     let is = compiled program c.table.ensures.accepted c.requires c.in_ok-code.ensures.words in
-    let inside = class_inside program c.table.ensures.accepted in
-    let statics = c.in_ok-statics.ensures.cells ∙ ap statics_in c.table.ensures.table ∙ statics_same program inside in
-    let image =
-    c.in-Ok.ensures.image
-    ∙ ap (λ (code : List Cell). record { code = code; statics = c.in_ok-statics.statics.items }) c.in_ok-code.ensures.code
-    ∙ ap (λ (xs : List ℕ). record { code = program_code program; statics = xs }) statics
-    in
-    subst (StandsFor program) (sym image) (stands_for program is)
+    let image = sealed_is program c.in-Ok.image c.in_ok-code.code.items c.in_ok-statics.statics.items c.table.result.now is c.in-Ok.ensures.image c.in_ok-code.ensures.code c.in_ok-statics.ensures.cells c.table.ensures.table in
+    subst (StandsFor program) (sym (ap (λ (n : NotedImage). n.image) c.seal-in-Ok.ensures ∙ image)) (stands_for program is)
 
 pub returns-clause-reportable : goal.returns-clause-reportable
 returns-clause-reportable c =
