@@ -1,5 +1,5 @@
 // The check that a place that changes is an element of no array of which an element is read.
-ghost use Rattle.std.specs.Prelude.{◌≡◌, ◌<◌, ◌^◌, [], ◌∷◌, ◌++◌, IfOk};
+ghost use Rattle.std.specs.Prelude.{◌≡◌, ◌<◌, ◌^◌, [], ◌∷◌, IfOk};
 ghost use Rattle.rpp_tree.specs.Views.{expression_of, lvalue_of};
 ghost use Rattle.paired_code.specs.Code.{unmarked};
 ghost use Rattle.expr_uncompute.specs.Code.{sltx as sltx_cell, xori as xori_cell, compare_cells, compare_all as cells_of_all, apart_cells, both_apart_cells};
@@ -19,7 +19,7 @@ use std::alloc::Global;
 fn same_row(alloc: Global) -> Result<Piece, NoMemory>
     ensures { IfOk result (λ p.
         p ≡ unmarked (sltx_cell OUTCOME LEFT CONTENT ∷ sltx_cell OUTCOME CONTENT LEFT ∷ xori_cell
-            OUTCOME 1 ∷ [])) }
+        OUTCOME 1 ∷ [])) }
 {
     let below = sltx(alloc, OUTCOME, LEFT, CONTENT)?;
     let above = sltx(alloc, OUTCOME, CONTENT, LEFT)?;
@@ -49,7 +49,7 @@ fn compare_all(alloc: Global, names: &Names, changed: Spot, e: &Expr) -> Result<
     requires { offset_of changed < 2 ^ 32 }
     ensures { IfOk result (λ p.
         p ≡ unmarked (cells_of_all (spot_of_name (known_by names.now)) changed
-            (expression_of e.now))) }
+        (expression_of e.now))) }
 {
     match e {
         Expr::Number { .. } => Ok(empty(alloc)),
@@ -73,7 +73,7 @@ fn compare_read(
     requires { offset_of changed < 2 ^ 32 }
     ensures { IfOk result (λ p.
         p ≡ unmarked (cells_of_all (spot_of_name (known_by names.now)) changed
-            (read_of (lvalue_of place.now)))) }
+        (read_of (lvalue_of place.now)))) }
 {
     match &place.index {
         None => Ok(empty(alloc)),
@@ -95,7 +95,7 @@ fn compare_index(
     requires { offset_of changed < 2 ^ 32 }
     ensures { IfOk result (λ p.
         p ≡ unmarked (cells_of_all (spot_of_name (known_by names.now)) changed
-            (index_of (lvalue_of place.now)))) }
+        (index_of (lvalue_of place.now)))) }
 {
     match &place.index {
         None => Ok(empty(alloc)),
@@ -107,7 +107,7 @@ fn compare_index(
 pub fn apart(alloc: Global, names: &Names, place: &Place, value: &Expr) -> Result<Piece, NoMemory>
     ensures { IfOk result (λ p.
         p ≡ unmarked (apart_cells (spot_of_name (known_by names.now)) (lvalue_of place.now)
-            (index_of (lvalue_of place.now)) (expression_of value.now))) }
+        (index_of (lvalue_of place.now)) (expression_of value.now))) }
 {
     match &place.index {
         None => Ok(empty(alloc)),
@@ -130,7 +130,7 @@ fn apart_from(
 ) -> Result<Piece, NoMemory>
     ensures { IfOk result (λ p.
         p ≡ unmarked (apart_cells (spot_of_name (known_by names.now)) (lvalue_of changed.now)
-            (index_of (lvalue_of left.now)) (index_of (lvalue_of right.now)))) }
+        (index_of (lvalue_of left.now)) (index_of (lvalue_of right.now)))) }
 {
     match &changed.index {
         None => Ok(empty(alloc)),
@@ -152,7 +152,7 @@ pub fn both_apart(
 ) -> Result<Piece, NoMemory>
     ensures { IfOk result (λ p.
         p ≡ unmarked (both_apart_cells (spot_of_name (known_by names.now)) (lvalue_of left.now)
-            (lvalue_of right.now))) }
+        (lvalue_of right.now))) }
 {
     let first = apart_from(alloc, names, left, left, right)?;
     let second = apart_from(alloc, names, right, left, right)?;

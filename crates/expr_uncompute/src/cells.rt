@@ -1,5 +1,5 @@
 // Single cells as pieces.
-ghost use Rattle.std.specs.Prelude.{◌≡◌, ◌≢◌, ◌<◌, ◌≤◌, ◌^◌, [], ◌∷◌, IfOk};
+ghost use Rattle.std.specs.Prelude.{◌≡◌, ◌≢◌, ◌<◌, [], ◌∷◌, IfOk};
 ghost use Rattle.paired_code.specs.Code.{unmarked};
 ghost use Rattle.expr_uncompute.specs.Code.{two as two_of, three as three_of, with_word as with_word_of, around};
 

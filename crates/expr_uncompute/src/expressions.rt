@@ -27,7 +27,7 @@ pub fn value_code(alloc: Global, e: &Expr, scope: &Scope, into: u8) -> Result<Pi
     requires room { words_of (expression_of e.now) ≤ 1000 }
     ensures law { IfOk result (λ p.
         ValueLaw (spot_of (known_in scope.now)) (free_of (known_in scope.now)) into
-            (expression_of e.now) p.cells) }
+        (expression_of e.now) p.cells) }
     ensures marks { IfOk result (λ p. p.marks ≡ []) }
     ensures steps { value_steps (expression_of e.now) ≤ 162 * nodes (expression_of e.now) }
     ensures size { IfOk result (λ p. length p.cells ≤ 58 * tokens (expression_of e.now)) }
@@ -42,7 +42,7 @@ pub fn test_code(alloc: Global, e: &Expr, scope: &Scope, into: u8) -> Result<Pie
     requires room { words_of (expression_of e.now) ≤ 1000 }
     ensures law { IfOk result (λ p.
         TestLaw (spot_of (known_in scope.now)) (free_of (known_in scope.now)) into
-            (expression_of e.now) p.cells) }
+        (expression_of e.now) p.cells) }
     ensures marks { IfOk result (λ p. p.marks ≡ []) }
     ensures steps { test_steps (expression_of e.now) ≤ 162 * nodes (expression_of e.now) }
     ensures size { IfOk result (λ p. length p.cells ≤ 58 * tokens (expression_of e.now)) }
@@ -63,18 +63,18 @@ pub fn update_code(
     scope: &Scope,
 ) -> Result<Piece, NoMemory>
     requires room { words_of_place (lvalue_of place.now) + words_of (expression_of value.now) ≤
-            1000 }
+        1000 }
     ensures law { IfOk result (λ p.
         UpdateLaw (spot_of (known_in scope.now)) (free_of (known_in scope.now)) op
-            (lvalue_of place.now) (expression_of value.now) p.cells) }
+        (lvalue_of place.now) (expression_of value.now) p.cells) }
     ensures marks { IfOk result (λ p. p.marks ≡ []) }
     ensures steps { update_steps (lvalue_of place.now) (expression_of value.now) ≤ 162 *
-            (1 + index_nodes (lvalue_of place.now) + nodes (expression_of value.now) + read_cost
-            (own_element (lvalue_of place.now))
-            (index_elements (lvalue_of place.now) ++ elements (expression_of value.now))) }
+        (1 + index_nodes (lvalue_of place.now) + nodes (expression_of value.now) + read_cost
+        (own_element (lvalue_of place.now))
+        (index_elements (lvalue_of place.now) ++ elements (expression_of value.now))) }
     ensures size { IfOk result (λ p.
         length p.cells ≤ 80 * (place_tokens (lvalue_of place.now) + 1 + tokens
-            (expression_of value.now))) }
+        (expression_of value.now))) }
 {
     let names = scope.names();
     update_piece(alloc, op, place, value, &names)
@@ -89,18 +89,18 @@ pub fn swap_code(
     scope: &Scope,
 ) -> Result<Piece, NoMemory>
     requires room { words_of_place (lvalue_of left.now) + words_of_place (lvalue_of right.now) ≤
-            1000 }
+        1000 }
     ensures law { IfOk result (λ p.
         SwapLaw (spot_of (known_in scope.now)) (free_of (known_in scope.now)) (lvalue_of left.now)
-            (lvalue_of right.now) p.cells) }
+        (lvalue_of right.now) p.cells) }
     ensures marks { IfOk result (λ p. p.marks ≡ []) }
     ensures steps { swap_steps (lvalue_of left.now) (lvalue_of right.now) ≤ 304 *
-            (1 + index_nodes (lvalue_of left.now) + index_nodes (lvalue_of right.now) + read_cost
-            (own_element (lvalue_of left.now) ++ own_element (lvalue_of right.now))
-            (index_elements (lvalue_of left.now) ++ index_elements (lvalue_of right.now))) }
+        (1 + index_nodes (lvalue_of left.now) + index_nodes (lvalue_of right.now) + read_cost
+        (own_element (lvalue_of left.now) ++ own_element (lvalue_of right.now))
+        (index_elements (lvalue_of left.now) ++ index_elements (lvalue_of right.now))) }
     ensures size { IfOk result (λ p.
         length p.cells ≤ 102 * (place_tokens (lvalue_of left.now) + 1 + place_tokens
-            (lvalue_of right.now))) }
+        (lvalue_of right.now))) }
 {
     let names = scope.names();
     swap_piece(alloc, left, right, &names)

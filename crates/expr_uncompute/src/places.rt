@@ -1,5 +1,5 @@
 // The code of updates and swaps.
-ghost use Rattle.std.specs.Prelude.{◌≡◌, ◌≢◌, ◌<◌, ◌≤◌, ◌⊎◌, ◌+◌, ◌*◌, ◌^◌, [], ◌∷◌, ◌++◌, length, IfOk};
+ghost use Rattle.std.specs.Prelude.{◌≡◌, ◌<◌, ◌≤◌, ◌+◌, ◌*◌, ◌^◌, [], ◌∷◌, length, IfOk};
 ghost use Rattle.rpp_tree.specs.Views.{expression_of, lvalue_of};
 ghost use Rattle.paired_code.specs.Code.{unmarked};
 ghost use Rattle.expr_uncompute.specs.Code.{xor as xor_cell, addi as addi_cell, exch as exch_cell, base_of, words as words_of, place_words as words_of_place, fetch_cells, place_cells, update_cell as cell_of_update, update_cells, swap_cells};
@@ -55,7 +55,7 @@ pub fn place_code(
     requires room { i + words_of_place (lvalue_of place.now) ≤ 1000 }
     ensures { IfOk result (λ p.
         p ≡ unmarked (place_cells (spot_of_name (known_by names.now)) (free_of (known_by names.now))
-            (lvalue_of place.now) i into)) }
+        (lvalue_of place.now) i into)) }
 {
     match &place.index {
         None => spot_address(alloc, spot_of(names, &place.name.text), into),
@@ -76,7 +76,7 @@ pub fn fetch_code(alloc: Global, names: &Names, e: &Expr, i: u32) -> Result<Piec
     requires { i + words_of (expression_of e.now) ≤ 1000 }
     ensures { IfOk result (λ p.
         p ≡ unmarked (fetch_cells (spot_of_name (known_by names.now)) (free_of (known_by names.now))
-            (expression_of e.now) i AMOUNT)) }
+        (expression_of e.now) i AMOUNT)) }
 {
     let front = parts(alloc, names, e, i)?;
     let opened = open(alloc, names, e, i)?;
@@ -106,13 +106,13 @@ pub fn update_piece(
     requires { words_of_place (lvalue_of place.now) + words_of (expression_of value.now) ≤ 1000 }
     ensures law { IfOk result (λ p.
         UpdateLaw (spot_of_name (known_by names.now)) (free_of (known_by names.now)) op
-            (lvalue_of place.now) (expression_of value.now) p.cells) }
+        (lvalue_of place.now) (expression_of value.now) p.cells) }
     ensures code { IfOk result (λ p.
         p ≡ unmarked (update_cells (spot_of_name (known_by names.now))
-            (free_of (known_by names.now)) op (lvalue_of place.now) (expression_of value.now))) }
+        (free_of (known_by names.now)) op (lvalue_of place.now) (expression_of value.now))) }
     ensures size { IfOk result (λ p.
         length p.cells ≤ 80 * (place_tokens (lvalue_of place.now) + 1 + tokens
-            (expression_of value.now))) }
+        (expression_of value.now))) }
 {
     let found = place_code(alloc, names, place, 0, PLACE)?;
     let fetched = fetch_code(alloc, names, value, place_words(place))?;
@@ -128,7 +128,7 @@ pub fn update_piece(
 fn four_exchanges(alloc: Global) -> Result<Piece, NoMemory>
     ensures { IfOk result (λ p.
         p ≡ unmarked (exch_cell FIRST_WORD PLACE ∷ exch_cell SECOND_WORD OTHER_PLACE ∷ exch_cell
-            SECOND_WORD PLACE ∷ exch_cell FIRST_WORD OTHER_PLACE ∷ [])) }
+        SECOND_WORD PLACE ∷ exch_cell FIRST_WORD OTHER_PLACE ∷ [])) }
 {
     let first = exch(alloc, FIRST_WORD, PLACE)?;
     let second = exch(alloc, SECOND_WORD, OTHER_PLACE)?;
@@ -149,13 +149,13 @@ pub fn swap_piece(
     requires { words_of_place (lvalue_of left.now) + words_of_place (lvalue_of right.now) ≤ 1000 }
     ensures law { IfOk result (λ p.
         SwapLaw (spot_of_name (known_by names.now)) (free_of (known_by names.now))
-            (lvalue_of left.now) (lvalue_of right.now) p.cells) }
+        (lvalue_of left.now) (lvalue_of right.now) p.cells) }
     ensures code { IfOk result (λ p.
         p ≡ unmarked (swap_cells (spot_of_name (known_by names.now)) (free_of (known_by names.now))
-            (lvalue_of left.now) (lvalue_of right.now))) }
+        (lvalue_of left.now) (lvalue_of right.now))) }
     ensures size { IfOk result (λ p.
         length p.cells ≤ 102 * (place_tokens (lvalue_of left.now) + 1 + place_tokens
-            (lvalue_of right.now))) }
+        (lvalue_of right.now))) }
 {
     let first = place_code(alloc, names, left, 0, PLACE)?;
     let second = place_code(alloc, names, right, place_words(left), OTHER_PLACE)?;

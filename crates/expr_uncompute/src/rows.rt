@@ -1,5 +1,5 @@
 // Words of memory, operators and checks.
-ghost use Rattle.std.specs.Prelude.{◌≡◌, ◌≢◌, ◌<◌, ◌≤◌, ◌+◌, ◌^◌, [], ◌∷◌, ◌++◌, IfOk};
+ghost use Rattle.std.specs.Prelude.{◌≡◌, ◌≢◌, ◌<◌, ◌+◌, ◌^◌, [], ◌∷◌, ◌++◌, IfOk};
 ghost use Rattle.paired_code.specs.Code.{unmarked};
 ghost use Rattle.expr_uncompute.specs.Code.{sltx as sltx_cell, xori as xori_cell, base_of, reach_cells, copy_cells, store_cells, truth_cells as truth_of, operator_cells, operator_result, nil_check as nil_cells, index_check as index_cells, point_cells};
 ghost use Rattle.method_scope.specs.Visible.{offset_of};
@@ -206,7 +206,7 @@ pub fn nil_check(alloc: Global) -> Result<Piece, NoMemory>
 fn index_row(alloc: Global) -> Result<Piece, NoMemory>
     ensures { IfOk result (λ p.
         p ≡ unmarked (sltx_cell OUTCOME LEFT CONTENT ∷ sltx_cell OUTCOME LEFT NOUGHT ∷ xori_cell
-            OUTCOME 1 ∷ [])) }
+        OUTCOME 1 ∷ [])) }
 {
     let below = sltx(alloc, OUTCOME, LEFT, CONTENT)?;
     let negative = sltx(alloc, OUTCOME, LEFT, NOUGHT)?;

@@ -1,8 +1,8 @@
 // The code of values.
-ghost use Rattle.std.specs.Prelude.{◌≡◌, ◌≢◌, ◌<◌, ◌≤◌, ◌⊎◌, ◌+◌, ◌*◌, ◌^◌, [], ◌∷◌, ◌++◌, length, IfOk};
+ghost use Rattle.std.specs.Prelude.{◌≡◌, ◌≢◌, ◌<◌, ◌≤◌, ◌⊎◌, ◌+◌, ◌*◌, ◌++◌, length, IfOk};
 ghost use Rattle.rpp_tree.specs.Views.{expression_of, lvalue_of};
 ghost use Rattle.paired_code.specs.Code.{unmarked};
-ghost use Rattle.expr_uncompute.specs.Code.{Target, words as words_of, place_words as words_of_place, operand_cells, checked_cells as checked_of, open_cells, prepare_cells, parts_cells, fetch_cells, value_cells, test_cells, result_of, truth as truth_register, nil_check as nil_cells, index_check as index_cells};
+ghost use Rattle.expr_uncompute.specs.Code.{Target, words as words_of, place_words as words_of_place, operand_cells, checked_cells as checked_of, open_cells, prepare_cells, parts_cells, value_cells, test_cells, result_of, nil_check as nil_cells, index_check as index_cells};
 ghost use Rattle.expr_uncompute.specs.Number.{read_of};
 ghost use Rattle.expr_uncompute.specs.Promises.{ValueLaw, TestLaw};
 ghost use Rattle.expr_uncompute.specs.Steps.{tokens};
@@ -82,7 +82,7 @@ fn operand_read(
     requires apart { into ≢ CONTENT }
     ensures { IfOk result (λ p.
         p ≡ unmarked (operand_cells (spot_of_name (known_by names.now))
-            (free_of (known_by names.now)) (read_of (lvalue_of place.now)) i into)) }
+        (free_of (known_by names.now)) (read_of (lvalue_of place.now)) i into)) }
 {
     match &place.index {
         None => copy(alloc, spot_of(names, &place.name.text), into),
@@ -97,7 +97,7 @@ pub fn operand(alloc: Global, names: &Names, e: &Expr, i: u32, into: u8) -> Resu
     requires apart { into ≢ CONTENT }
     ensures { IfOk result (λ p.
         p ≡ unmarked (operand_cells (spot_of_name (known_by names.now))
-            (free_of (known_by names.now)) (expression_of e.now) i into)) }
+        (free_of (known_by names.now)) (expression_of e.now) i into)) }
 {
     match e {
         Expr::Number { word, .. } => xori(alloc, into, *word),
@@ -126,7 +126,7 @@ pub fn checked(
     requires { i ≤ 2000 }
     ensures { IfOk result (λ p.
         p ≡ unmarked (checked_of (spot_of_name (known_by names.now)) (free_of (known_by names.now))
-            name.now (expression_of index.now) i)) }
+        name.now (expression_of index.now) i)) }
 {
     let first = operand(alloc, names, index, i, LEFT)?;
     let array = copy(alloc, spot_of(names, name), RIGHT)?;
@@ -139,7 +139,7 @@ fn open_read(alloc: Global, names: &Names, place: &Place, i: u32) -> Result<Piec
     requires { i ≤ 1000 }
     ensures { IfOk result (λ p.
         p ≡ unmarked (open_cells (spot_of_name (known_by names.now)) (free_of (known_by names.now))
-            (read_of (lvalue_of place.now)) i)) }
+        (read_of (lvalue_of place.now)) i)) }
 {
     match &place.index {
         None => reached(alloc, spot_of(names, &place.name.text)),
@@ -158,7 +158,7 @@ pub fn open(alloc: Global, names: &Names, e: &Expr, i: u32) -> Result<Piece, NoM
     requires { i + words_of (expression_of e.now) ≤ 1000 }
     ensures { IfOk result (λ p.
         p ≡ unmarked (open_cells (spot_of_name (known_by names.now)) (free_of (known_by names.now))
-            (expression_of e.now) i)) }
+        (expression_of e.now) i)) }
 {
     match e {
         Expr::Number { word, .. } => xori(alloc, CONTENT, *word),
@@ -185,7 +185,7 @@ pub fn prepare(alloc: Global, names: &Names, e: &Expr, i: u32) -> Result<Piece, 
     requires { i + words_of (expression_of e.now) ≤ 1000 }
     ensures { IfOk result (λ p.
         p ≡ unmarked (prepare_cells (spot_of_name (known_by names.now))
-            (free_of (known_by names.now)) (expression_of e.now) i)) }
+        (free_of (known_by names.now)) (expression_of e.now) i)) }
 {
     match e {
         Expr::Number { .. } => Ok(empty(alloc)),
@@ -213,7 +213,7 @@ fn prepare_read(alloc: Global, names: &Names, place: &Place, i: u32) -> Result<P
     requires { i + words_of (read_of (lvalue_of place.now)) ≤ 1000 }
     ensures { IfOk result (λ p.
         p ≡ unmarked (prepare_cells (spot_of_name (known_by names.now))
-            (free_of (known_by names.now)) (read_of (lvalue_of place.now)) i)) }
+        (free_of (known_by names.now)) (read_of (lvalue_of place.now)) i)) }
 {
     match &place.index {
         None => Ok(empty(alloc)),
@@ -231,7 +231,7 @@ fn parts_read(alloc: Global, names: &Names, place: &Place, i: u32) -> Result<Pie
     requires { i + words_of (read_of (lvalue_of place.now)) ≤ 1000 }
     ensures { IfOk result (λ p.
         p ≡ unmarked (parts_cells (spot_of_name (known_by names.now)) (free_of (known_by names.now))
-            (read_of (lvalue_of place.now)) i)) }
+        (read_of (lvalue_of place.now)) i)) }
 {
     match &place.index {
         None => Ok(empty(alloc)),
@@ -244,7 +244,7 @@ pub fn parts(alloc: Global, names: &Names, e: &Expr, i: u32) -> Result<Piece, No
     requires { i + words_of (expression_of e.now) ≤ 1000 }
     ensures { IfOk result (λ p.
         p ≡ unmarked (parts_cells (spot_of_name (known_by names.now)) (free_of (known_by names.now))
-            (expression_of e.now) i)) }
+        (expression_of e.now) i)) }
 {
     match e {
         Expr::Number { .. } => Ok(empty(alloc)),
@@ -289,10 +289,10 @@ pub fn value_piece(alloc: Global, e: &Expr, names: &Names, into: u8) -> Result<P
     requires room { words_of (expression_of e.now) ≤ 1000 }
     ensures code { IfOk result (λ p.
         p ≡ unmarked (value_cells (spot_of_name (known_by names.now)) (free_of (known_by names.now))
-            (expression_of e.now) into)) }
+        (expression_of e.now) into)) }
     ensures law { IfOk result (λ p.
         ValueLaw (spot_of_name (known_by names.now)) (free_of (known_by names.now)) into
-            (expression_of e.now) p.cells) }
+        (expression_of e.now) p.cells) }
     ensures size { IfOk result (λ p. length p.cells ≤ 58 * tokens (expression_of e.now)) }
 {
     let outer = parts(alloc, names, e, 0)?;
@@ -308,10 +308,10 @@ pub fn test_piece(alloc: Global, e: &Expr, names: &Names, into: u8) -> Result<Pi
     requires room { words_of (expression_of e.now) ≤ 1000 }
     ensures code { IfOk result (λ p.
         p ≡ unmarked (test_cells (spot_of_name (known_by names.now)) (free_of (known_by names.now))
-            (expression_of e.now) into)) }
+        (expression_of e.now) into)) }
     ensures law { IfOk result (λ p.
         TestLaw (spot_of_name (known_by names.now)) (free_of (known_by names.now)) into
-            (expression_of e.now) p.cells) }
+        (expression_of e.now) p.cells) }
     ensures size { IfOk result (λ p. length p.cells ≤ 58 * tokens (expression_of e.now)) }
 {
     let outer = parts(alloc, names, e, 0)?;

@@ -1,5 +1,5 @@
 -- Every typed expression reads what stands in the memory of an open frame, with its values' words.
-use Rattle.std.proofs.Common.{◌≡◌, ℕ, ◌+◌, ◌-◌, ◌≤◌, Bool, true, false, List, [], length, Some, refl, sym, ap, ◌∙◌, subst, arith}
+use Rattle.std.proofs.Common.{◌≡◌, ℕ, ◌+◌, ◌≤◌, Bool, true, false, List, [], length, Some, refl, sym, ap, ◌∙◌, subst, arith}
 use Rattle.std.proofs.lemmas.Bool.{eqb-true}
 use Rattle.std.proofs.lemmas.Bool.Decides.{nat_tests}
 use Rattle.std.specs.Prelude.{nat_eq, ◌&&◌, slice_index, if◌then◌else◌, Result, Ok, Err}
@@ -33,7 +33,7 @@ use Rattle.expression_laws.specs.Typing.{spot_in, free_in}
 use Rattle.frame_facts.proofs.Bridge.{typed}
 use Rattle.frame_facts.proofs.MovesFit.{frame_address}
 use Rattle.frame_facts.proofs.FactsMoves.{same_means}
-use Rattle.expression_laws.proofs.WordsRead.{bases, names_at, slots_at, program, typing, names_are, named_has, name_low, name_word, name_place, array_stands}
+use Rattle.expression_laws.proofs.WordsRead.{bases, names_at, slots_at, typing, names_are, named_has, name_low, name_word, name_place, array_stands}
 
 module _ (setting : Setting) (statics : List ℕ) (few : length statics ≤ 262144) (classes : KnowsClasses setting.program) (s : Scope) (u : Under) (st : State) (cells : List ℕ) (h : Reads setting statics s u [] st cells) where
   abbrev pub B : Bases

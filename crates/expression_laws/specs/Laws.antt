@@ -19,26 +19,31 @@ pub record IsLaidOut (place : Place) : Type 0 where
   pub accepted : IsAccepted place.setting.program
   pub few : length place.statics ≤ most_statics
 
--- code that xors the truth of an int expression's number into the flag's register tests what the source says
+-- code that xors the truth of an int expression's number into the flag tests what the source says
 abbrev pub TestsAreTold : Type 0
 TestsAreTold =
-    (place : Place) → IsLaidOut place → (s : Scope) (e : Expression) → IsTyped place.setting.program s e kind.Int
+    (place : Place) → IsLaidOut place → (s : Scope) (e : Expression)
+    → IsTyped place.setting.program s e kind.Int
     → (p : List Symbol)
     → code.TestLaw (spot_in place.setting.program s) (free_in place.setting.program s) FLAG e p
     → TestLaw (world_of place) s e p
 
--- code that xors an expression's number into the value's register gives the word of the source's value, of any type
+-- code that xors an expression's number into the value's register gives the word of the source's value,
+-- of any type
 abbrev pub ValuesAreTold : Type 0
 ValuesAreTold =
-    (place : Place) → IsLaidOut place → (s : Scope) (e : Expression) (k : Kind) → IsTyped place.setting.program s e k
+    (place : Place) → IsLaidOut place → (s : Scope) (e : Expression) (k : Kind)
+    → IsTyped place.setting.program s e k
     → (p : List Symbol)
     → code.ValueLaw (spot_in place.setting.program s) (free_in place.setting.program s) VALUE e p
     → ValueLaw (world_of place) s e p
 
--- code that updates a place's word does what the source says of the update, back what it says of its inverse
+-- code that updates a place's word does what the source says of the update, back what it says of its
+-- inverse
 abbrev pub UpdatesAreTold : Type 0
 UpdatesAreTold =
-    (place : Place) → IsLaidOut place → (s : Scope) (at : ℕ) (op : UpdateOp) (target : Lvalue) (e : Expression)
+    (place : Place) → IsLaidOut place
+    → (s : Scope) (at : ℕ) (op : UpdateOp) (target : Lvalue) (e : Expression)
     → IsPassed place.setting.program s (Update at op target e) (place_words target + words e)
     → (p : List Symbol)
     → code.UpdateLaw (spot_in place.setting.program s) (free_in place.setting.program s) op target e p

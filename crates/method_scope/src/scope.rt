@@ -73,9 +73,9 @@ impl<'a> Scope<'a> {
         id: MethodId,
     ) -> Result<Scope<'a>, NoMemory>
         ensures { IfOk result (λ scope. scope ≡ record {
-            program = checked.now;
-            method = id;
-            variables = reverse (procedure_at (source_of checked.now) id).params;
+          program = checked.now;
+          method = id;
+          variables = reverse (procedure_at (source_of checked.now) id).params;
         }) }
     {
         let variables = copy_vars(alloc, params_of(checked, id))?;

@@ -50,8 +50,18 @@ fn where_names_stand(rt: HostRuntime) -> Result<(), Fail> {
     let fields: &[Var] = &fields;
     let names = Names { variables, fields };
     for (name, spot, array, what) in [
-        ("a", Some(Spot::Frame(18)), true, "the innermost of two variables"),
-        ("bb", Some(Spot::Frame(17)), false, "a parameter before a field"),
+        (
+            "a",
+            Some(Spot::Frame(18)),
+            true,
+            "the innermost of two variables",
+        ),
+        (
+            "bb",
+            Some(Spot::Frame(17)),
+            false,
+            "a parameter before a field",
+        ),
         ("x", Some(Spot::Field(0)), false, "the first field"),
         ("y", Some(Spot::Field(2)), true, "the last field"),
         ("b", None, false, "no name"),
@@ -62,7 +72,11 @@ fn where_names_stand(rt: HostRuntime) -> Result<(), Fail> {
         assert_eq!(rt; is_array(kind_by(&names, &text)), array, "{what}: its type");
     }
     let nothing = Text::of(alloc, "b".as_bytes())?;
-    assert_eq!(rt; spot_of(&names, &nothing), Spot::Field(0), "a name that means nothing");
+    assert_eq!(rt;
+        spot_of(&names, &nothing),
+        Spot::Field(0),
+        "a name that means nothing"
+    );
     assert_eq!(rt; free_word(&names), 19, "behind three variables");
     Ok(())
 }

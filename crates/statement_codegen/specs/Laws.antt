@@ -1,0 +1,39 @@
+-- What the code of conditionals, of loops and of blocks with a local variable does, in every scope of the
+-- names that it was made for, wherever the codes of its parts do what theirs are to do.
+use Rattle.std.specs.Prelude.{◌≡◌, ℕ, List}
+use Rattle.rpp_tree.specs.declared.tree.Var.{Var}
+use Rattle.rpp_tree.specs.Tree.{Expression, Statements, If, From, Local}
+use Rattle.class_table.specs.declared.kind.Kind.TheVariants as kind
+use Rattle.paired_code.specs.declared.part.Symbol.{Symbol}
+use Rattle.method_scope.specs.Visible.{Known}
+use Rattle.expr_uncompute.specs.Code.{words}
+use Rattle.statement_laws.specs.Form.{Scope, with_var, BlockLaw, StmtLaw}
+use Rattle.statement_laws.specs.Worlds.{Place, world_of}
+use Rattle.method_calls.specs.Names.{IsInit}
+use Rattle.expression_laws.specs.Typing.{known_of, HasRoom, IsTyped}
+use Rattle.expression_laws.specs.Laws.{IsLaidOut}
+
+-- a conditional
+pub record IfLaw (known : Known) (test after : Expression) (p q all : List Symbol) : Type 0 where
+  pub law : (place : Place) → IsLaidOut place → (s : Scope) → known_of place.setting.program s ≡ known
+      → (at : ℕ) (taken other : Statements)
+      → IsTyped place.setting.program s test kind.Int → IsTyped place.setting.program s after kind.Int
+      → BlockLaw (world_of place) s taken p → BlockLaw (world_of place) s other q
+      → StmtLaw (world_of place) s (If at test taken other after) all
+
+-- a loop
+pub record FromLaw (known : Known) (entry exit : Expression) (p q all : List Symbol) : Type 0 where
+  pub law : (place : Place) → IsLaidOut place → (s : Scope) → known_of place.setting.program s ≡ known
+      → (at : ℕ) (first again : Statements)
+      → IsTyped place.setting.program s entry kind.Int → IsTyped place.setting.program s exit kind.Int
+      → BlockLaw (world_of place) s first p → BlockLaw (world_of place) s again q
+      → StmtLaw (world_of place) s (From at entry first again exit) all
+
+-- a block with a local variable: its two values may be those of the variable
+pub record LocalLaw (known : Known) (var : Var) (value last : Expression) (p all : List Symbol) : Type 0 where
+  pub law : (place : Place) → IsLaidOut place → (s : Scope) → known_of place.setting.program s ≡ known
+      → (at : ℕ) (body : Statements) (end_var : Var) → end_var.name.text ≡ var.name.text
+      → IsInit place.setting.program s var value → IsInit place.setting.program s var last
+      → HasRoom place.setting.program s (words value) → HasRoom place.setting.program s (words last)
+      → BlockLaw (world_of place) (with_var s var) body p
+      → StmtLaw (world_of place) s (Local at var value body end_var last) all

@@ -1,0 +1,70 @@
+// Conditionals and loops.
+ghost use Rattle.std.specs.Prelude.{◌≤◌, ◌+◌, ◌*◌, length, IfOk};
+ghost use Rattle.rpp_tree.specs.Views.{expression_of};
+ghost use Rattle.method_scope.specs.Visible.{known_in};
+ghost use Rattle.expr_uncompute.specs.Code.{words as words_of};
+ghost use Rattle.expr_uncompute.specs.Steps.{tokens};
+ghost use Rattle.statement_laws.specs.Held.{HoldsBoth};
+ghost use Rattle.statement_codegen.specs.Laws.{IfLaw, FromLaw};
+
+use branch_codegen::{conditional, repetition};
+use expr_uncompute::test_code;
+use expression_laws::FLAG;
+use method_scope::Scope;
+use paired_code::Piece;
+use rpp_tree::tree::Expr;
+use rpp_words::NoMemory;
+use std::alloc::Global;
+
+/// The code of `if test then yes else no fi after`, over the pieces of its blocks. Where the two tests do not
+/// agree, it stops with fault 1. Each test has at most 1,000 elements and operators. The only error is that
+/// memory ran out.
+pub fn if_code(
+    alloc: Global,
+    test: &Expr,
+    yes: Piece,
+    no: Piece,
+    after: &Expr,
+    scope: &Scope,
+) -> Result<Piece, NoMemory>
+    requires test_room { words_of (expression_of test.now) ≤ 1000 }
+    requires after_room { words_of (expression_of after.now) ≤ 1000 }
+    ensures law { IfOk result (λ p.
+        IfLaw (known_in scope.now) (expression_of test.now) (expression_of after.now) yes.cells
+        no.cells p.cells) }
+    ensures held { IfOk result (λ p. HoldsBoth no yes p) }
+    ensures size { IfOk result (λ p.
+        length p.cells ≤ 58 * (tokens (expression_of test.now) + tokens (expression_of after.now)) +
+        length yes.cells + length no.cells + 22) }
+{
+    let tested = test_code(alloc, test, scope, FLAG)?;
+    let ended = test_code(alloc, after, scope, FLAG)?;
+    conditional(alloc, tested, yes, no, ended)
+}
+
+/// The code of `from entry do first loop again until exit`, over the pieces of its blocks. Where the entry does
+/// not hold at first, or holds again, it stops with fault 2. Each test stands in the code once. The only error
+/// is that memory ran out.
+pub fn from_code(
+    alloc: Global,
+    entry: &Expr,
+    first: Piece,
+    again: Piece,
+    until: &Expr,
+    scope: &Scope,
+) -> Result<Piece, NoMemory>
+    requires entry_room { words_of (expression_of entry.now) ≤ 1000 }
+    requires exit_room { words_of (expression_of until.now) ≤ 1000 }
+    ensures law { IfOk result (λ p.
+        FromLaw (known_in scope.now) (expression_of entry.now) (expression_of until.now) first.cells
+        again.cells p.cells) }
+    ensures held { IfOk result (λ p. HoldsBoth again first p) }
+    ensures size { IfOk result (λ p.
+        length p.cells ≤ 58 *
+        (tokens (expression_of entry.now) + tokens (expression_of until.now)) +
+        length first.cells + length again.cells + 22) }
+{
+    let begins = test_code(alloc, entry, scope, FLAG)?;
+    let exits = test_code(alloc, until, scope, FLAG)?;
+    repetition(alloc, begins, first, again, exits)
+}

@@ -1,0 +1,10 @@
+//! The code of conditionals, loops and blocks with a local variable, from their expressions and the pieces of
+//! their blocks, in a scope. Each is the statement's row of the meaning in every open frame of a scope with
+//! these names, along and back, with every fault at its place. The marks of the blocks stay on their cells.
+#![tactic(auto)]
+
+mod branches;
+mod locals;
+
+pub use branches::{from_code, if_code};
+pub use locals::local_code;

@@ -1,0 +1,44 @@
+// Blocks with a local variable.
+ghost use Rattle.std.specs.Prelude.{◌≤◌, ◌+◌, ◌*◌, length, IfOk};
+ghost use Rattle.rpp_tree.specs.Views.{expression_of};
+ghost use Rattle.method_scope.specs.Visible.{known_in};
+ghost use Rattle.expr_uncompute.specs.Code.{words as words_of};
+ghost use Rattle.expr_uncompute.specs.Steps.{tokens};
+ghost use Rattle.statement_laws.specs.Held.{Holds};
+ghost use Rattle.statement_codegen.specs.Laws.{LocalLaw};
+
+use expr_uncompute::value_code;
+use expression_laws::VALUE;
+use method_calls::local_block;
+use method_scope::Scope;
+use paired_code::Piece;
+use rpp_tree::tree::{Expr, Var};
+use rpp_words::NoMemory;
+use std::alloc::Global;
+
+/// The code of `local var = value body delocal var = last`, over the piece of its block, which is made in the
+/// scope with the variable. The variable has the first free word of the frame; where it ends with another value
+/// than the last, it stops with fault 3. The only error is that memory ran out.
+pub fn local_code(
+    alloc: Global,
+    _var: &Var,
+    value: &Expr,
+    body: Piece,
+    last: &Expr,
+    scope: &Scope,
+) -> Result<Piece, NoMemory>
+    requires value_room { words_of (expression_of value.now) ≤ 1000 }
+    requires last_room { words_of (expression_of last.now) ≤ 1000 }
+    ensures law { IfOk result (λ p.
+        LocalLaw (known_in scope.now) _var.now (expression_of value.now) (expression_of last.now)
+        body.cells p.cells) }
+    ensures held { IfOk result (λ p. Holds body p) }
+    ensures size { IfOk result (λ p.
+        length p.cells ≤ 58 * (tokens (expression_of value.now) + tokens (expression_of last.now)) +
+        length body.cells + 20) }
+{
+    let word = scope.free();
+    let begins = value_code(alloc, value, scope, VALUE)?;
+    let ends = value_code(alloc, last, scope, VALUE)?;
+    local_block(alloc, word, begins, body, ends)
+}
