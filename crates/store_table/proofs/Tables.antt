@@ -1,5 +1,5 @@
 -- The table of objects as a store.
-use Rattle.std.proofs.Common.{◌≡◌, ℕ, zero, suc, ◌<◌, ◌≤◌, refl, sym, ap, ◌∙◌, arith, List, [], ◌∷◌, ◌++◌, length, Some, None, eq-eqb, Bool, true, false, if◌then◌else◌, map}
+use Rattle.std.proofs.Common.{◌≡◌, ℕ, zero, suc, ◌+◌, ◌<◌, ◌≤◌, refl, sym, ap, ◌∙◌, arith, List, [], ◌∷◌, ◌++◌, length, Some, None, eq-eqb, Bool, true, false, if◌then◌else◌, map}
 use Rattle.std.proofs.lemmas.Bool.{eqb-true, eqb-false, ltb-true, ltb-false}
 use Rattle.std.proofs.lemmas.Option.{slice_get_past}
 use Rattle.std.specs.Prelude.{Result, Ok, Err, OnOk, Option, slice_get, slice_set, nat_eq, nat_lt}
@@ -217,3 +217,24 @@ pub changed_if : {E : Type 0} (table : List (Option Live)) (name : ℕ) (old slo
     → OnOk r (store_of (slice_set table name slot) ≡ changed_at (store_of table) name change)
 changed_if table name old slot change (Ok u) at h e = changed_store table name old slot change at e h
 changed_if table name old slot change (Err why) at h e = tt
+
+-- ---- how many live
+
+pub listed_few : {A : Type 0} (name : ℕ) (x : Option A) → length (listed name x []) ≤ 1
+listed_few name None = omega arith
+listed_few name (Some a) = omega arith
+
+pub listed_more : {A : Type 0} (name : ℕ) (x : Option A) (rest : List (ℕ × A)) → length (listed name x rest) ≡ length (listed name x []) + length rest
+listed_more name None rest = omega arith
+listed_more name (Some a) rest = omega arith
+
+pub listing_few : {A : Type 0} (n : ℕ) (f : ℕ → Option A) → length (listing n f) ≤ n
+listing_few zero f = omega arith
+listing_few (suc n) f = let m = listed_more n (f n) (listing n f) in let l = listed_few n (f n) in let r = listing_few n f in omega arith
+
+pub named_past : (table : List (Option Live)) (name : ℕ) → length table ≤ name → object_named (store_of table) name ≡ None
+named_past table name h = listing_out (length table) (live_at table) name h
+
+pub listing_next : {A : Type 0} (n m : ℕ) (f : ℕ → Option A) → m ≡ n + 1 → length (listing m f) ≡ length (listed n (f n) []) + length (listing n f)
+listing_next n zero f e = absurd (omega arith)
+listing_next n (suc k) f e = let same : k ≡ n = omega arith in ap (λ i. length (listed i (f i) (listing i f))) same ∙ listed_more n (f n) (listing n f)

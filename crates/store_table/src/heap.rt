@@ -1,10 +1,11 @@
 // The heap of a run, and what it answers.
-ghost use Rattle.std.specs.Prelude.{◌≡◌, ◌+◌, ◌<◌, ◌≤◌, ◌^◌, ◌∷◌, [], IfOk, length, slice_get, None, Some, nat_lt, not};
+ghost use Rattle.std.specs.Prelude.{◌≡◌, ℕ, ◌+◌, ◌<◌, ◌≤◌, ◌^◌, ◌∷◌, [], IfOk, length, slice_get, None, Some, nat_lt, not};
 ghost use Rattle.std.specs.Option.{unwrap_or, option_map};
 ghost use Rattle.roopl_semantics.specs.Store.{Nil, main_name, object_at, object_named, class_of_head};
 ghost use Rattle.roopl_semantics.specs.Execution.{order_of_cells, is_of_class, all_zero};
 ghost use Rattle.store_table.specs.ValueView.{value_of, values_of, head_of, object_of};
-ghost use Rattle.store_table.specs.HeapView.{live_in};
+ghost use Rattle.store_table.specs.HeapView.{live_in, live_at, listed, store_of};
+ghost use Rattle.buddy_book.specs.Place.{count_taken};
 
 use crate::object::{Head, Object, cell_in, is_all_zero};
 use crate::requests::Request;
@@ -69,6 +70,21 @@ impl Heap {
         ensures { option_map (λ object. object_of object.now) result ≡ object_named self.now.store name }
     {
         object_in(&self.objects, name as usize)
+    }
+
+    /// A name above that of each object, also of those that are gone.
+    pub fn names(&self) -> usize
+        ensures above { result ≡ 2 + count_taken self.now.log }
+        ensures past { (name : ℕ) → result ≤ name → object_named self.now.store name ≡ None }
+    {
+        places_of(&self.objects)
+    }
+
+    /// How many objects and arrays live, the main object among them.
+    pub fn live(&self) -> usize
+        ensures { result ≡ length self.now.store }
+    {
+        live_among(&self.objects)
     }
 
     /// The class of the object of a name, or 0.
@@ -147,6 +163,33 @@ pub(crate) fn order_of(size: u32) -> u32
     ensures { result ≡ order_of_cells size }
 {
     order_for(size as u64 + 2)
+}
+
+// How many places the table has.
+fn places_of(objects: &[Option<Object>]) -> usize
+    ensures { result ≡ length objects.now }
+{
+    objects.len()
+}
+
+// How many objects live at a place of the table: one or none.
+fn live_there(objects: &[Option<Object>], name: usize) -> usize
+    ensures { result ≡ length (listed name (live_at objects.now name) []) }
+{
+    match object_in(objects, name) {
+        None => 0,
+        Some(_object) => 1,
+    }
+}
+
+fn live_among(objects: &[Option<Object>]) -> usize
+    ensures { result ≡ length (store_of objects.now) }
+{
+    let mut count = 0;
+    for name in 0..objects.len() {
+        count += live_there(objects, name);
+    }
+    count
 }
 
 fn in_slot(slot: &Option<Object>) -> Option<&Object>

@@ -1,0 +1,55 @@
+-- How a run ends, and how it begins.
+use Rattle.std.specs.Prelude.{◌≡◌, ◌≤◌, ℕ, List, [], ◌∷◌}
+use Rattle.rpp_words.specs.declared.input.FieldWord.{FieldWord}
+use Rattle.rpp_words.specs.declared.input.Limits.{Limits}
+use Rattle.rpp_tree.specs.Tree.{Source}
+use Rattle.roopl_semantics.specs.Run.{Run, Done, Fault, More}
+use Rattle.roopl_semantics.specs.Store.{State, Store, main_name}
+use Rattle.roopl_semantics.specs.Source.{main_object, main_body, starting, source}
+use Rattle.store_table.specs.HeapView.{Kept}
+use Rattle.source_steps.specs.declared.stop.Stop.{Stop}
+use Rattle.source_steps.specs.declared.stop.Stop.TheVariants as stop
+use Rattle.inverse_law.specs.InverseLaws.{LeadsBack}
+use Rattle.source_meaning.specs.declared.outcome.Outcome.{Outcome}
+use Rattle.source_meaning.specs.declared.outcome.Outcome.TheVariants as outcome
+
+-- a run is done at this cost, with this store
+pub record EndsWith (run : Run State) (store : Store) (cost : ℕ) : Type 0 where
+  pub end : State
+  pub done : run ≡ Done end cost
+  pub same : end.store ≡ store
+
+-- an answer is that of the run: the same case, code and cost, and the same store
+abbrev pub IsOutcome : Outcome → Run State → Type 0
+IsOutcome (outcome.Done store cost) run = EndsWith run store cost
+IsOutcome (outcome.Fault code cost) run = run ≡ Fault code cost
+IsOutcome outcome.More run = run ≡ More
+
+-- the answer of a run that stopped so at this cost
+abbrev pub IsStop : Stop → ℕ → Outcome → Type 0
+IsStop (stop.Fault code) cost answer = answer ≡ outcome.Fault code cost
+IsStop stop.More cost answer = answer ≡ outcome.More
+IsStop stop.NoMemory cost answer = ⊥
+
+-- where the run is over, more fuel gives the same answer
+abbrev pub StaysSo : Outcome → Source → Limits → List FieldWord → ℕ → Type 0
+StaysSo outcome.More program limits input fuel = Unit {0}
+StaysSo over program limits input fuel = (more : ℕ) → fuel ≤ more → IsOutcome over (source program limits input more)
+
+-- The inverse of `main`'s body leads from the final state, whose store is the answered one, back to a state that agrees
+-- with the start.
+pub record ComesBack (program : Source) (limits : Limits) (input : List FieldWord) (fuel : ℕ) (store : Store) (cost : ℕ) : Type 0 where
+  pub end : EndsWith (source program limits input fuel) store cost
+  pub leads : LeadsBack (record { program = program; limits = limits }) (main_body program) (starting program input) end.end cost
+
+-- where the run is done, its inverse undoes it
+abbrev pub IsUndone : Outcome → Source → Limits → List FieldWord → ℕ → Type 0
+IsUndone (outcome.Done store cost) program limits input fuel = ComesBack program limits input fuel store cost
+IsUndone (outcome.Fault code cost) program limits input fuel = Unit {0}
+IsUndone outcome.More program limits input fuel = Unit {0}
+
+-- a heap with the main object alone
+pub record IsStart (program : Source) (input : List FieldWord) (highest : ℕ) (heap : Kept) : Type 0 where
+  pub store : heap.store ≡ (main_name, main_object program input) ∷ []
+  pub log : heap.log ≡ []
+  pub order : heap.order ≡ highest
