@@ -59,10 +59,10 @@ pub local_clause : (word : ℕ) (v p x : List Symbol) → LocalCode word v p x (
 local_clause word v p x = record {
   law = λ place s at var value body end_var end_value f word_is named iv ie hv he hb.
       subst (λ z. StmtLaw (world_of place) s (Local at var value body end_var end_value) (local_code z v p x)) word_is (local_law (world_of place) _ f refl (some_counts _) s at var value body end_var end_value named v p x hv he hb iv ie);
-  construct = λ place s at class var body end f word_is same is hv hb.
-      subst (λ y. StmtLaw (world_of place) s (Construct at class var.name body end) (local_code word v p y)) same (subst (λ z. StmtLaw (world_of place) s (Construct at class var.name body end) (local_code z v p v)) word_is (construct_law (world_of place) _ f refl (some_counts _) s at class var body end v p hv hb is));
-  element = λ place s at back array index method args var f word_is same named is hv hb.
-      subst (λ y. StmtLaw (world_of place) s (Call at back (Some (Item array index)) method args) (local_code word v p y)) same (subst (λ z. StmtLaw (world_of place) s (Call at back (Some (Item array index)) method args) (local_code z v p v)) word_is (element_call_law (world_of place) _ f refl (some_counts _) s at back array index method args var v p named hv hb is));
+  construct = λ place s at class var body end f word_is is hv hx hb.
+      subst (λ z. StmtLaw (world_of place) s (Construct at class var.name body end) (local_code z v p x)) word_is (construct_law (world_of place) _ f refl (some_counts _) s at class var body end v p x hv hx hb is);
+  element = λ place s at back array index method args var f word_is named is hv hx hb.
+      subst (λ z. StmtLaw (world_of place) s (Call at back (Some (Item array index)) method args) (local_code z v p x)) word_is (element_call_law (world_of place) _ f refl (some_counts _) s at back array index method args var v p x named hv hx hb is);
 }
 
 pub own_clause : (back : Bool) (slot : ℕ) (spots : List Spot) → OwnCallCode back slot spots (own_cells back slot spots)

@@ -206,9 +206,9 @@ inverse_joined End b = sym (joined_end (inverse b))
 inverse_joined (Then x a) b = ap (λ z. joined z (Then (inverse_statement x) End)) (inverse_joined a b) ∙ joined_assoc (inverse b) (inverse a) (Then (inverse_statement x) End)
 
 -- the code of an object that is constructed
-pub construct_law : (w : World) (IsInit : Scope → Var → Expression → Type 0) (f : LocalFacts w IsInit) → w.rates.steps ≡ 1000 → 1 ≤ w.rates.counts → (s : Scope) (at : ℕ) (class : Ident) (var : Var) (body : Statements) (end : Ident) (nil inside : List Symbol) → ValueLaw w s (Null at) nil → BlockLaw w (with_var s var) (constructed at class var.name body) inside → IsInit s var (Null at) → StmtLaw w s (Construct at class var.name body end) (local_code (new_word s) nil inside nil)
-construct_law w IsInit f thousand counts s at class var body end nil inside hn hb is =
-    with_local_law w IsInit f thousand counts s var (Null at) (constructed at class var.name body) (Null at) (Construct at class var.name body end) (λ n st. refl) (λ n st. ap (λ b. with_local w.setting (exec w.setting n) var.name.text (Null at) b (Null at) st) (turned_body at class var.name body)) nil inside nil hn hn hb is is
+pub construct_law : (w : World) (IsInit : Scope → Var → Expression → Type 0) (f : LocalFacts w IsInit) → w.rates.steps ≡ 1000 → 1 ≤ w.rates.counts → (s : Scope) (at : ℕ) (class : Ident) (var : Var) (body : Statements) (end : Ident) (nil inside last : List Symbol) → ValueLaw w s (Null at) nil → ValueLaw w s (Null at) last → BlockLaw w (with_var s var) (constructed at class var.name body) inside → IsInit s var (Null at) → StmtLaw w s (Construct at class var.name body end) (local_code (new_word s) nil inside last)
+construct_law w IsInit f thousand counts s at class var body end nil inside last hn hl hb is =
+    with_local_law w IsInit f thousand counts s var (Null at) (constructed at class var.name body) (Null at) (Construct at class var.name body end) (λ n st. refl) (λ n st. ap (λ b. with_local w.setting (exec w.setting n) var.name.text (Null at) b (Null at) st) (turned_body at class var.name body)) nil inside last hn hl hb is is
   where
     turned_body : (at : ℕ) (class name : Ident) (body : Statements) → constructed at class name (inverse body) ≡ inverse (constructed at class name body)
     turned_body at class name body =
@@ -217,6 +217,6 @@ construct_law w IsInit f thousand counts s at class var body end nil inside hn h
         sym (ap (λ z. joined z (Then delete End)) (inverse_joined body (Then delete End)))
 
 -- the code of a call on an element
-pub element_call_law : (w : World) (IsInit : Scope → Var → Expression → Type 0) (f : LocalFacts w IsInit) → w.rates.steps ≡ 1000 → 1 ≤ w.rates.counts → (s : Scope) (at : ℕ) (back : Bool) (array : Ident) (index : Expression) (method : Ident) (args : List Ident) (var : Var) (nil inside : List Symbol) → var.name ≡ element_name at → ValueLaw w s (Null at) nil → BlockLaw w (with_var s var) (element_call at back array index method args) inside → IsInit s var (Null at) → StmtLaw w s (Call at back (Some (Item array index)) method args) (local_code (new_word s) nil inside nil)
-element_call_law w IsInit f thousand counts s at back array index method args var nil inside named hn hb is =
-    with_local_law w IsInit f thousand counts s var (Null at) (element_call at back array index method args) (Null at) (Call at back (Some (Item array index)) method args) (λ n st. ap (λ z. with_local w.setting (exec w.setting n) z.text (Null at) (element_call at back array index method args) (Null at) st) (sym named)) (λ n st. ap (λ z. with_local w.setting (exec w.setting n) z.text (Null at) (inverse (element_call at back array index method args)) (Null at) st) (sym named)) nil inside nil hn hn hb is is
+pub element_call_law : (w : World) (IsInit : Scope → Var → Expression → Type 0) (f : LocalFacts w IsInit) → w.rates.steps ≡ 1000 → 1 ≤ w.rates.counts → (s : Scope) (at : ℕ) (back : Bool) (array : Ident) (index : Expression) (method : Ident) (args : List Ident) (var : Var) (nil inside last : List Symbol) → var.name ≡ element_name at → ValueLaw w s (Null at) nil → ValueLaw w s (Null at) last → BlockLaw w (with_var s var) (element_call at back array index method args) inside → IsInit s var (Null at) → StmtLaw w s (Call at back (Some (Item array index)) method args) (local_code (new_word s) nil inside last)
+element_call_law w IsInit f thousand counts s at back array index method args var nil inside last named hn hl hb is =
+    with_local_law w IsInit f thousand counts s var (Null at) (element_call at back array index method args) (Null at) (Call at back (Some (Item array index)) method args) (λ n st. ap (λ z. with_local w.setting (exec w.setting n) z.text (Null at) (element_call at back array index method args) (Null at) st) (sym named)) (λ n st. ap (λ z. with_local w.setting (exec w.setting n) z.text (Null at) (inverse (element_call at back array index method args)) (Null at) st) (sym named)) nil inside last hn hl hb is is

@@ -35,14 +35,14 @@ pub record LocalCode (word : ℕ) (v p x all : List Symbol) : Type 0 where
       → StmtLaw (world_of place) s (Local at var value body end_var end_value) all
   pub construct : (place : Place) (s : Scope) (at : ℕ) (class : Ident) (var : Var) (body : Statements) (end : Ident)
       → LocalFacts (world_of place) (IsInit place.setting.program)
-      → new_word s ≡ word → v ≡ x
-      → IsInit place.setting.program s var (Null at) → ValueLaw (world_of place) s (Null at) v
+      → new_word s ≡ word → IsInit place.setting.program s var (Null at)
+      → ValueLaw (world_of place) s (Null at) v → ValueLaw (world_of place) s (Null at) x
       → BlockLaw (world_of place) (with_var s var) (constructed at class var.name body) p
       → StmtLaw (world_of place) s (Construct at class var.name body end) all
   pub element : (place : Place) (s : Scope) (at : ℕ) (back : Bool) (array : Ident) (index : Expression) (method : Ident) (args : List Ident) (var : Var)
       → LocalFacts (world_of place) (IsInit place.setting.program)
-      → new_word s ≡ word → v ≡ x → var.name ≡ element_name at
-      → IsInit place.setting.program s var (Null at) → ValueLaw (world_of place) s (Null at) v
+      → new_word s ≡ word → var.name ≡ element_name at → IsInit place.setting.program s var (Null at)
+      → ValueLaw (world_of place) s (Null at) v → ValueLaw (world_of place) s (Null at) x
       → BlockLaw (world_of place) (with_var s var) (element_call at back array index method args) p
       → StmtLaw (world_of place) s (Call at back (Some (Item array index)) method args) all
 

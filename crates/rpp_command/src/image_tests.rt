@@ -11,6 +11,10 @@ pub const SUBROUTINE: &str =
 const LISTED: &str =
     "START\nBRA +5\nRBRA +4\nBRA +3\nFINISH\nBRA +4\nSWAPBR $2\nNEG $2\nADDI $1 5\nBRA -4\n";
 
+// The listing of FIRST's image: its one statement stands at place 28, and its one field in cell 42.
+const COMPILED: &str =
+    "START\nADDI $1 42\nEXCH $2 $1\nADDI $2 5\nEXCH $2 $1\nADDI $1 -42\nFINISH\nSTATIC 43\nSTATIC 1\nSTATIC 0\nSTATIC 1\nSTATIC 1\nMARK 1 6 28\nNAME 42 x\n";
+
 const TURNED: &str =
     "BRA +4\nADDI $1 -5\nNEG $2\nSWAPBR $2\nBRA -4\nSTART\nBRA -3\nRBRA -4\nBRA -5\nFINISH\n";
 
@@ -87,6 +91,7 @@ fn from_file_to_file(rt: HostRuntime) -> Result<(), Fail> {
         assert_eq!(rt; said.as_slice(), text.as_bytes(), "{words}");
     }
     assert!(rt; shelf.text("K") == shelf.text("I"));
+    assert!(rt; shelf.text("L") == Some(COMPILED.as_bytes()));
     assert!(rt; shelf.text("M") == shelf.text("I"));
     assert!(rt; shelf.text("B") == Some(LISTED.as_bytes()));
     assert!(rt; shelf.text("D") == Some(TURNED.as_bytes()));
@@ -128,8 +133,16 @@ fn notes_of_images(rt: HostRuntime) -> Result<(), Fail> {
         ("asm T I", 0, "assembled 3 cells\n"),
         ("list I L", 0, "listed 3 cells\n"),
         ("flip I J", 0, "flipped 3 cells\n"),
-        ("run I 1 1 1000", 0, "finished\nsteps 3\npc 2\nbr 0\ndir 1\nx = 5\n"),
-        ("run J 1 1 1", 6, "bound\nsteps 1\npc 1\nbr 0\ndir 1\nfrom 33\nx = 5\n"),
+        (
+            "run I 1 1 1000",
+            0,
+            "finished\nsteps 3\npc 2\nbr 0\ndir 1\nx = 5\n",
+        ),
+        (
+            "run J 1 1 1",
+            6,
+            "bound\nsteps 1\npc 1\nbr 0\ndir 1\nfrom 33\nx = 5\n",
+        ),
         ("asm U K", 4, "refused 43 BadNote at 5\n"),
     ] {
         let (answer, said) = answer_on(rt.alloc(), &mut shelf, words, &[])?;

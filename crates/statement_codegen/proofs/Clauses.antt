@@ -1,5 +1,5 @@
 -- The laws of the calls, from those of their parts.
-use Rattle.std.proofs.Common.{◌≡◌, ℕ, ◌⊎◌, inl, inr, List, refl, sym, ap, ◌∙◌, subst}
+use Rattle.std.proofs.Common.{◌≡◌, ℕ, ◌+◌, ◌<◌, ◌≤◌, ◌⊎◌, inl, inr, List, length, refl, sym, ap, ◌∙◌, subst, arith}
 use Rattle.std.specs.Prelude.{Result, Ok, Err, IfOk}
 use Rattle.rpp_tree.specs.declared.tree.Var.{Var}
 use Rattle.rpp_tree.specs.Tree.{Expression, Number, Null, Variable, Element, Binary, Source}
@@ -61,11 +61,25 @@ value_in known e p law place laid s names var init room = by init.value
     by (inl i) = values_are_told place laid s e kind.Int (record { typed = i.typed; has_words = i.has_words; room = room }) p law_in
     by (inr n) = values_are_told place laid s e kind.Nil (nil e n.null room) p law_in
 
+-- the code of nil
+nil_in : (known : Known) (e : Expression) (p : List Symbol) → code.ValueLaw (spot_of known) (free_of known) VALUE e p
+    → (place : Place) → IsLaidOut place → (s : Scope) → known_of place.setting.program s ≡ known → (at : ℕ) → e ≡ Null at → length s.vars < 48 → ValueLaw (world_of place) s (Null at) p
+nil_in known e p law place laid s names at is few =
+    values_are_told place laid s (Null at) kind.Nil
+    (record { typed = refl; has_words = tt; room = (let r : 16 + length s.vars + 0 ≤ 512 = omega (arith, few) in r) }) p
+    (subst (λ (k : Known). code.ValueLaw (spot_of k) (free_of k) VALUE (Null at) p) (sym names) (subst (λ (x : Expression). code.ValueLaw (spot_of known) (free_of known) VALUE x p) is law))
+
 pub local_clause : (known : Known) (var : Var) (value last : Expression) (word : ℕ) (v p x all : List Symbol) → word ≡ free_of known → code.ValueLaw (spot_of known) (free_of known) VALUE value v → code.ValueLaw (spot_of known) (free_of known) VALUE last x → LocalCode word v p x all → LocalLaw known var value last p all
 local_clause known var value last word v p x all is hv hx made = record {
   law = λ place laid s names at body end_var same iv il rv rl hp.
       made.law place s at var value body end_var last (locals_are_open place laid.accepted laid.few) (ap free_of names ∙ sym is) same iv il
       (value_in known value v hv place laid s names var iv rv) (value_in known last x hx place laid s names var il rl) hp;
+  construct = λ place laid s names at class body end first_nil last_nil init hp.
+      made.construct place s at class var body end (locals_are_open place laid.accepted laid.few) (ap free_of names ∙ sym is) init
+      (nil_in known value v hv place laid s names at first_nil init.few) (nil_in known last x hx place laid s names at last_nil init.few) hp;
+  element = λ place laid s names at back array index method args named first_nil last_nil init hp.
+      made.element place s at back array index method args var (locals_are_open place laid.accepted laid.few) (ap free_of names ∙ sym is) named init
+      (nil_in known value v hv place laid s names at first_nil init.few) (nil_in known last x hx place laid s names at last_nil init.few) hp;
 }
 
 -- ---- what the calls answer

@@ -1,10 +1,12 @@
 -- What the code of conditionals, of loops and of blocks with a local variable does, in every scope of the
 -- names that it was made for, wherever the codes of its parts do what theirs are to do.
-use Rattle.std.specs.Prelude.{◌≡◌, ℕ, List}
+use Rattle.std.specs.Prelude.{◌≡◌, ℕ, Bool, List, Some}
+use Rattle.rpp_tree.specs.declared.tree.Ident.{Ident}
 use Rattle.rpp_tree.specs.declared.tree.Var.{Var}
-use Rattle.rpp_tree.specs.Tree.{Expression, Statements, If, From, Local}
+use Rattle.rpp_tree.specs.Tree.{Expression, Null, Item, Statements, If, From, Local, Construct, Call}
 use Rattle.class_table.specs.declared.kind.Kind.TheVariants as kind
 use Rattle.paired_code.specs.declared.part.Symbol.{Symbol}
+use Rattle.roopl_semantics.specs.Execution.{constructed, element_call, element_name}
 use Rattle.method_scope.specs.Visible.{Known}
 use Rattle.expr_uncompute.specs.Code.{words}
 use Rattle.statement_laws.specs.Form.{Scope, with_var, BlockLaw, StmtLaw}
@@ -29,7 +31,8 @@ pub record FromLaw (known : Known) (entry exit : Expression) (p q all : List Sym
       → BlockLaw (world_of place) s first p → BlockLaw (world_of place) s again q
       → StmtLaw (world_of place) s (From at entry first again exit) all
 
--- a block with a local variable: its two values may be those of the variable
+-- A block with a local variable: its two values may be those of the variable. Where they are nil, so are the
+-- blocks that `construct` and calls on elements mean.
 pub record LocalLaw (known : Known) (var : Var) (value last : Expression) (p all : List Symbol) : Type 0 where
   pub law : (place : Place) → IsLaidOut place → (s : Scope) → known_of place.setting.program s ≡ known
       → (at : ℕ) (body : Statements) (end_var : Var) → end_var.name.text ≡ var.name.text
@@ -37,3 +40,14 @@ pub record LocalLaw (known : Known) (var : Var) (value last : Expression) (p all
       → HasRoom place.setting.program s (words value) → HasRoom place.setting.program s (words last)
       → BlockLaw (world_of place) (with_var s var) body p
       → StmtLaw (world_of place) s (Local at var value body end_var last) all
+  pub construct : (place : Place) → IsLaidOut place → (s : Scope) → known_of place.setting.program s ≡ known
+      → (at : ℕ) (class : Ident) (body : Statements) (end : Ident) → value ≡ Null at → last ≡ Null at
+      → IsInit place.setting.program s var (Null at)
+      → BlockLaw (world_of place) (with_var s var) (constructed at class var.name body) p
+      → StmtLaw (world_of place) s (Construct at class var.name body end) all
+  pub element : (place : Place) → IsLaidOut place → (s : Scope) → known_of place.setting.program s ≡ known
+      → (at : ℕ) (back : Bool) (array : Ident) (index : Expression) (method : Ident) (args : List Ident)
+      → var.name ≡ element_name at → value ≡ Null at → last ≡ Null at
+      → IsInit place.setting.program s var (Null at)
+      → BlockLaw (world_of place) (with_var s var) (element_call at back array index method args) p
+      → StmtLaw (world_of place) s (Call at back (Some (Item array index)) method args) all
