@@ -16,7 +16,7 @@ use Rattle.class_table.specs.Chains.{line_of}
 use Rattle.class_table.specs.Members.{class_at, no_class, fields_along}
 use Rattle.class_table.specs.Program.{IsAccepted}
 use Rattle.roopl_semantics.specs.Source.{main_fields}
-use Rattle.class_table.specs.Classes.{main_of}
+use Rattle.class_table.specs.Classes.{main_of, class_fields}
 use Rattle.store_report.specs.Ascii.{HasAsciiName}
 
 name_byte_ascii : (b : ℕ) → is_name_byte b ≡ true → b < 128
@@ -69,3 +69,17 @@ ascii_along program (class ∷ below) all =
 
 pub ascii_main_fields : (program : Source) → IsAccepted program → All HasAsciiName (main_fields program)
 ascii_main_fields program accepted = ascii_along program (line_of program (main_of program).class) accepted.limits.names
+
+pub ascii_class_fields : (program : Source) (class : ℕ) → IsAccepted program → All HasAsciiName (class_fields program class)
+ascii_class_fields program class accepted = ascii_along program (line_of program class) accepted.limits.names
+
+-- the names of its classes are too
+
+ascii_name_at : (classes : List ClassText) (k : ℕ) → All Named (flat_map class_names classes) → IsAscii (unwrap_or (slice_get classes k) no_class).name.text
+ascii_name_at [] k all = λ i. omega arith
+ascii_name_at (class ∷ classes) zero all =
+    name_ascii class.name.text (All-head Named class.name (parent_names class.parent ++ flat_map var_names class.fields ++ flat_map procedure_names class.methods) (left Named (class_names class) (flat_map class_names classes) all))
+ascii_name_at (class ∷ classes) (suc k) all = ascii_name_at classes k (right Named (class_names class) (flat_map class_names classes) all)
+
+pub ascii_class_name : (program : Source) (class : ℕ) → IsAccepted program → IsAscii (class_at program class).name.text
+ascii_class_name program class accepted = ascii_name_at program.classes class accepted.limits.names

@@ -55,7 +55,7 @@ fn lines(alloc: Global, fields: &[Var], words: &[u32]) -> Result<String, AllocEr
 }
 
 // The line on how many objects are live beside the main object.
-fn add_live(out: &mut String, live: u32) -> Result<(), AllocError>
+pub(crate) fn add_live(out: &mut String, live: u32) -> Result<(), AllocError>
     ensures { OnOk result (string_bytes out.new ≡ string_bytes out.old ++ live_line live) }
 {
     write!(out, "live {live}\n")
@@ -85,7 +85,7 @@ fn add_value(out: &mut String, kind: &VarType, word: u32) -> Result<(), AllocErr
 }
 
 // A word in signed decimal.
-fn add_word(out: &mut String, word: u32) -> Result<(), AllocError>
+pub(crate) fn add_word(out: &mut String, word: u32) -> Result<(), AllocError>
     ensures { OnOk result (string_bytes out.new ≡ string_bytes out.old ++ signed_decimal word) }
 {
     if word < 1 << 31 {
@@ -96,12 +96,20 @@ fn add_word(out: &mut String, word: u32) -> Result<(), AllocError>
     }
 }
 
-fn add_name(out: &mut String, name: &Text) -> Result<(), AllocError>
-    requires { IsAscii name.now }
-    ensures { OnOk result (string_bytes out.new ≡ string_bytes out.old ++ name.now) }
+/// The bytes of a name.
+pub(crate) fn add_bytes(out: &mut String, bytes: &[u8]) -> Result<(), AllocError>
+    requires { IsAscii bytes.now }
+    ensures { OnOk result (string_bytes out.new ≡ string_bytes out.old ++ bytes.now) }
 {
-    for byte in name.bytes() {
+    for byte in bytes {
         out.push(char::from(*byte))?;
     }
     Ok(())
+}
+
+pub(crate) fn add_name(out: &mut String, name: &Text) -> Result<(), AllocError>
+    requires { IsAscii name.now }
+    ensures { OnOk result (string_bytes out.new ≡ string_bytes out.old ++ name.now) }
+{
+    add_bytes(out, name.bytes())
 }

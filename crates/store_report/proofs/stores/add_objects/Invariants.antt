@@ -1,0 +1,8 @@
+use Rattle.std.proofs.Common.{◌≡◌, ◌++◌, drop}
+use Rattle.std.specs.Prelude.{string_bytes}
+use Rattle.rpp_tree.specs.Views.{source_of}
+use Rattle.roopl_semantics.specs.Report.{object_lines}
+use Rattle.store_report.proofs.stores.add_objects.Given as goal
+
+abbrev pub invariant-loop-at : goal.invariant-loop-at
+invariant-loop-at l = string_bytes l.out ++ object_lines (source_of l.checked) l.heap.store l.names (drop l.at l.names) ≡ string_bytes l.fn.out ++ object_lines (source_of l.checked) l.heap.store l.names l.names
