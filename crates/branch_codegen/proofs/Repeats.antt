@@ -1,6 +1,6 @@
 -- Loops in both directions, where each test stands once and is made once for each count.
 use Rattle.std.proofs.Common.{◌≡◌, ◌≢◌, ℕ, zero, suc, ◌+◌, ◌-◌, ◌*◌, ◌≤◌, inl, inr, Bool, true, false, List, [], ◌∷◌, ◌++◌, refl, sym, ap, ◌∙◌, subst, arith, append-nil, append_assoc}
-use Rattle.std.specs.Prelude.{not, if◌then◌else◌}
+use Rattle.std.specs.Prelude.{not}
 use Rattle.std.proofs.Math.Nat.{mul-add, mul-le-mul_right}
 use Rattle.rpp_tree.specs.Tree.{Expression, Number, Null, Variable, Element, Binary, Statements, From, nodes}
 use Rattle.stmt_inverter.specs.Inverse.{inverse}
@@ -12,7 +12,7 @@ use Rattle.paired_code.specs.Does.{Rates, Told, Fine, Fault, More, plus, told_th
 use Rattle.paired_code.proofs.Laws.{Next, will_of, will_more}
 use Rattle.paired_code.proofs.Small.{runs_check_zero, runs_check_other}
 use Rattle.paired_code.proofs.Does.{will_first, will_last, Quiet, quiet}
-use Rattle.paired_code.proofs.Loop.{Turns, turn, no_turn, turns_more, will_loop, After_head}
+use Rattle.paired_code.proofs.Loop.{Turns, turn, turns_more, will_loop, After_head}
 use Rattle.roopl_semantics.specs.Run.{Run, Done as DoneRun, Fault as FaultRun, More as MoreRun, ◌>>=◌, give, fault_if, given, after_cost}
 use Rattle.roopl_semantics.specs.Store.{Value, State}
 use Rattle.roopl_semantics.specs.Value.{evaluated, value}

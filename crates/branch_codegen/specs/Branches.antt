@@ -5,7 +5,7 @@ use Rattle.pisa_isa.specs.declared.cell.Cell.{Cell}
 use Rattle.paired_code.specs.declared.part.Symbol.{Symbol}
 use Rattle.paired_code.specs.Layout.{check_cells, loop_cells}
 use Rattle.paired_code.specs.Does.{if_cells}
-use Rattle.paired_code.specs.Rows.{line, within}
+use Rattle.paired_code.specs.Rows.{within}
 use Rattle.branch_codegen.specs.declared.flag.TheConstants.{FLAG, LOOP_FAULT}
 
 -- the flag becomes 1 where it was 0, and 0 where it was 1

@@ -1,14 +1,13 @@
 -- The two labs' memories are one; what a memory that stands for a frame tells.
-use Rattle.std.proofs.Common.{◌≡◌, ◌≢◌, ℕ, zero, suc, ◌+◌, ◌-◌, ◌*◌, ◌^◌, ◌<◌, ◌≤◌, true, false, List, [], ◌∷◌, ◌++◌, length, map, Some, refl, sym, ap, ◌∙◌, subst, arith, length-append}
-use Rattle.std.proofs.lemmas.List.{length-map, length-replicate}
-use Rattle.std.specs.Prelude.{replicate, slice_index, slice_set, slice_get}
-use Rattle.std.specs.Option.{unwrap_or}
+use Rattle.std.proofs.Common.{◌≡◌, ℕ, zero, suc, ◌+◌, ◌-◌, ◌*◌, ◌^◌, ◌<◌, ◌≤◌, true, List, [], ◌∷◌, ◌++◌, length, map, Some, refl, sym, ap, ◌∙◌, subst, arith, length-append}
+use Rattle.std.proofs.lemmas.List.{length-map}
+use Rattle.std.specs.Prelude.{replicate, slice_index, slice_set}
 use Rattle.class_table.specs.declared.kind.Kind.TheVariants as kind
 use Rattle.rpp_tree.specs.declared.tree.Var.{Var}
 use Rattle.class_table.specs.declared.kind.Kind.{Kind}
-use Rattle.buddy_book.specs.Place.{Placing, place}
-use Rattle.roopl_semantics.specs.Store.{Value, Nil, Object, Store, Binding, State, object_at, object_named}
-use Rattle.roopl_semantics.specs.Value.{Cell, Slot, Part, read, written}
+use Rattle.buddy_book.specs.Place.{Placing}
+use Rattle.roopl_semantics.specs.Store.{Value, Object, Store, Binding, State, object_at}
+use Rattle.roopl_semantics.specs.Value.{Part, read, written}
 use Rattle.roopl_semantics.specs.Layout.{overlaid}
 use Rattle.roopl_semantics.specs.Execution.{Setting}
 use Rattle.sound_execution.specs.Sound.{name_of, local_name, local_type, value_of, named_fits, head_named, cell_kinds, cell_kind, Typed}
@@ -22,7 +21,7 @@ use Rattle.open_frame.proofs.Addresses.{part_place}
 use Rattle.statement_laws.specs.Form.{Scope, Moved}
 use Rattle.statement_laws.specs.Frames.{Caller, Under, base, stack_base, address_of, value_word, values_of, value_words, frame_words, callers_words, above_words, stack_words, memory, before_stack, OpenFrame}
 use Rattle.frame_facts.proofs.FramesFit.{length_values, length_frame, length_callers}
-use Rattle.statement_laws.specs.Stands.{local_of, shape_of, extra, moved_value, setup, moved_values, Kept, Reads, Stands}
+use Rattle.statement_laws.specs.Stands.{local_of, shape_of, extra, setup, moved_values, Kept, Reads, Stands}
 
 -- ---- words
 

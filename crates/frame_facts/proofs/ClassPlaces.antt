@@ -17,7 +17,7 @@ use Rattle.open_frame.proofs.Tells.{read_head}
 use Rattle.open_frame.proofs.TableWords.{places_of, read_table, table_low}
 use Rattle.statement_laws.specs.Form.{Scope, Moved}
 use Rattle.method_calls.specs.Facts.{HasPlace}
-use Rattle.statement_laws.specs.Frames.{Under, base, address_of, memory}
+use Rattle.statement_laws.specs.Frames.{Under, base, address_of}
 use Rattle.statement_laws.specs.Stands.{shape_of, extra, setup, Kept, Stands}
 use Rattle.frame_facts.proofs.Bridge.{same_memory, same_at, typed, stack_fits, stack}
 use Rattle.frame_facts.proofs.MovesFit.{frame_long}

@@ -1,26 +1,21 @@
 -- A frame with all arguments above it is the callee's open frame, and back: what is kept goes over.
-use Rattle.std.proofs.Common.{◌≡◌, ◌≢◌, ℕ, zero, suc, ◌+◌, ◌-◌, ◌*◌, ◌^◌, ◌<◌, ◌≤◌, Bool, true, false, List, [], ◌∷◌, ◌++◌, length, map, Option, Some, None, refl, sym, ap, ◌∙◌, subst, arith}
+use Rattle.std.proofs.Common.{◌≡◌, ℕ, suc, ◌+◌, ◌<◌, Bool, true, false, List, [], ◌∷◌, length, map, Some, refl, sym, ap, ◌∙◌, subst, arith}
 use Rattle.std.proofs.lemmas.Bool.{ltb-true, ltb-false}
-use Rattle.std.proofs.lemmas.List.{length-map}
-use Rattle.std.specs.Prelude.{replicate, nat_lt, slice_index}
+use Rattle.std.specs.Prelude.{nat_lt}
 use Rattle.class_table.specs.declared.kind.Kind.TheVariants as kind
 use Rattle.rpp_tree.specs.declared.tree.Ident.{Ident}
 use Rattle.rpp_tree.specs.declared.tree.Var.{Var}
 use Rattle.class_table.specs.declared.kind.Kind.{Kind}
-use Rattle.roopl_semantics.specs.Store.{Value, OfClass, Store, Binding, State, main_name}
-use Rattle.roopl_semantics.specs.Value.{Cell, Slot, Part}
+use Rattle.roopl_semantics.specs.Store.{Value, Store, State, main_name}
 use Rattle.roopl_semantics.specs.Execution.{Setting, bound}
 use Rattle.roopl_semantics.specs.Laws.{holders_among}
 use Rattle.sound_execution.specs.Sound.{named_fits, head_named, is_live, AllFit, local_type, value_of, held, cell_kind, part_kind}
-use Rattle.class_table.specs.Inheritance.{kind_of_var}
 use Rattle.sound_execution.proofs.Objects.{all_live}
 use Rattle.sound_execution.proofs.Invocations.{types_of_params, bound_values}
 use Rattle.statement_laws.specs.Form.{Scope, Moved, pairs}
 use Rattle.method_calls.specs.Names.{deeper}
-use Rattle.statement_laws.specs.Frames.{Caller, Under, cell_in, cell_at, OpenFrame}
-use Rattle.frame_facts.proofs.FramesFit.{enters, leaves}
-use Rattle.statement_laws.specs.Stands.{local_of, shape_of, extra, moved_value, moved_values, MovedFits, AllMoved, Kept, Stands}
-use Rattle.frame_facts.proofs.Bridge.{typed}
+use Rattle.statement_laws.specs.Frames.{Under, cell_in}
+use Rattle.statement_laws.specs.Stands.{shape_of, extra, moved_value, AllMoved, Kept}
 use Rattle.frame_facts.proofs.KeptMoves.{CountsAre}
 
 -- the names and their values

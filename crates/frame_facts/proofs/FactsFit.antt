@@ -1,8 +1,8 @@
 -- All facts of frames and of calls on the present object, of the one relation.
-use Rattle.std.proofs.Common.{◌≡◌, ◌≢◌, ℕ, zero, suc, ◌+◌, ◌-◌, ◌*◌, ◌^◌, ◌<◌, ◌≤◌, Bool, true, false, List, [], ◌∷◌, ◌++◌, length, map, Option, Some, None, Ok, refl, sym, ap, ◌∙◌, subst, arith}
+use Rattle.std.proofs.Common.{◌≡◌, ℕ, suc, ◌+◌, ◌^◌, ◌<◌, ◌≤◌, true, false, List, [], ◌∷◌, length, map, Option, Some, None, refl, sym, ap, ◌∙◌, subst, arith}
 use Rattle.std.proofs.lemmas.Bool.Decides.{nat_tests}
 use Rattle.std.proofs.lemmas.List.{length-map}
-use Rattle.std.specs.Prelude.{replicate, slice_index, slice_set, position, not, nat_lt}
+use Rattle.std.specs.Prelude.{position, not, nat_lt}
 use Rattle.std.specs.Option.{unwrap_or}
 use Rattle.std.specs.Str.{bytes_eq}
 use Rattle.class_table.specs.declared.kind.Kind.TheVariants as kind
@@ -10,42 +10,34 @@ use Rattle.rpp_tree.specs.declared.tree.Ident.{Ident}
 use Rattle.rpp_tree.specs.declared.tree.Var.{Var}
 use Rattle.rpp_tree.specs.Tree.{Source, Procedure}
 use Rattle.class_table.specs.declared.kind.Kind.{Kind}
-use Rattle.class_table.specs.Classes.{class_slots, class_fields, method_named}
-use Rattle.class_table.specs.Table.{table_of, slot_in, dispatch_in}
+use Rattle.class_table.specs.Classes.{class_fields}
+use Rattle.class_table.specs.Table.{table_of, dispatch_in}
 use Rattle.class_table.specs.Overrides.{parameters_of}
-use Rattle.class_table.specs.Expressions.{variable_type}
-use Rattle.class_table.specs.Program.{setting_in}
-use Rattle.paired_code.specs.Machine.{Image}
-use Rattle.paired_code.specs.Layout.{Routine, Tidy}
-use Rattle.pisa_isa.specs.Image.{Segments}
 use Rattle.roopl_semantics.specs.Store.{Value, OfClass, Store, Binding, State}
-use Rattle.roopl_semantics.specs.Value.{Cell, Slot, Part, own_class}
 use Rattle.class_table.specs.Members.{field_of}
-use Rattle.roopl_semantics.specs.Layout.{HasStatics}
 use Rattle.roopl_semantics.specs.Execution.{Setting, bound}
 use Rattle.class_table.specs.Inheritance.{is_or_inherits, kind_of_var}
-use Rattle.sound_execution.specs.Sound.{named_fits, head_named, local_type, value_of, cell_kind, part_kind}
-use Rattle.sound_execution.proofs.Classes.{KnowsClasses, IsFound}
+use Rattle.sound_execution.specs.Sound.{named_fits, head_named, local_type, cell_kind, part_kind}
+use Rattle.sound_execution.proofs.Classes.{KnowsClasses}
 use Rattle.sound_execution.proofs.Invocations.{types_of_params}
 use Rattle.sound_execution.proofs.Values.{variable_fits}
-use Rattle.open_frame.proofs.TableWords.{places_of}
-use Rattle.statement_laws.specs.Form.{World, Scope, Moved, Routines, pairs}
+use Rattle.statement_laws.specs.Form.{Scope, Moved, Routines, pairs}
 use Rattle.method_calls.specs.Facts.{FrameFacts}
 use Rattle.statement_laws.specs.Frames.{Under, cell_in, cell_at, OpenFrame}
 use Rattle.frame_facts.proofs.FramesFit.{means, class_stays, enters, leaves}
-use Rattle.statement_laws.specs.Stands.{local_of, shape_of, extra, spot_in, moved_value, moved_values, Kept, Stands}
+use Rattle.statement_laws.specs.Stands.{local_of, shape_of, extra, moved_values, Stands}
 use Rattle.frame_facts.proofs.Bridge.{typed, as_many_vars}
 use Rattle.frame_facts.proofs.FactsMoves.{same_means, cell_is, moves_in, moves_back}
 use Rattle.frame_facts.proofs.EntersFit.{pairs_values, HaveKinds, kept_enters, kept_leaves, counts_enter, counts_leave}
 use Rattle.frame_facts.proofs.FramePlaces.{frame_small, object_small, frame_end, saves, puts, put_words, puts_back}
 use Rattle.frame_facts.proofs.ClassPlaces.{class_above, table_read}
 use Rattle.class_table.specs.Program.{IsAccepted}
-use Rattle.class_table.proofs.FoundMethods.{Dispatched, dispatched_method, own_range, slot_inside}
+use Rattle.class_table.proofs.FoundMethods.{dispatched_method, own_range}
 use Rattle.sound_execution.proofs.Accepted.{knows_classes}
 use Rattle.sound_execution.proofs.Plainness.{program_plain}
 use Rattle.statement_laws.specs.Worlds.{Place, world_of}
 use Rattle.method_calls.specs.Facts.{HasPlace}
-use Rattle.method_calls.specs.Names.{AllTyped, HasMethod, IsVariable, deeper, put, known_of}
+use Rattle.method_calls.specs.Names.{AllTyped, HasMethod, deeper, known_of}
 use Rattle.frame_facts.specs.Laws.{Route, IsLinked}
 use Rattle.frame_facts.proofs.Bridge.{reads_of}
 

@@ -1,21 +1,16 @@
 -- The facts of moves, of the one relation.
-use Rattle.std.proofs.Common.{◌≡◌, ◌≢◌, ℕ, zero, suc, ◌+◌, ◌-◌, ◌*◌, ◌^◌, ◌<◌, ◌≤◌, Bool, true, false, List, [], ◌∷◌, ◌++◌, length, map, Option, Some, None, Ok, refl, sym, ap, ◌∙◌, subst, arith}
-use Rattle.std.proofs.lemmas.Bool.Decides.{nat_tests}
+use Rattle.std.proofs.Common.{◌≡◌, ◌≢◌, ℕ, zero, suc, ◌+◌, ◌-◌, ◌<◌, ◌≤◌, true, List, [], ◌∷◌, length, map, Option, Some, None, refl, sym, ap, ◌∙◌, subst, arith}
 use Rattle.std.proofs.lemmas.List.{length-map}
-use Rattle.std.proofs.lemmas.List.Quantifiers.{position-Some}
-use Rattle.std.proofs.Math.ListN.{length-set}
-use Rattle.std.specs.Prelude.{slice_index, slice_set, position, not, nat_lt}
+use Rattle.std.specs.Prelude.{slice_index, slice_set, position}
 use Rattle.std.specs.Option.{unwrap_or, option_map, option_or}
 use Rattle.std.specs.Str.{bytes_eq}
 use Rattle.rpp_tree.specs.declared.tree.Ident.{Ident}
 use Rattle.rpp_tree.specs.declared.tree.Var.{Var}
-use Rattle.class_table.specs.declared.kind.Kind.{Kind}
 use Rattle.class_table.specs.Classes.{class_fields}
 use Rattle.class_table.specs.Table.{table_of, field_in}
 use Rattle.class_table.specs.Program.{setting_in}
-use Rattle.class_table.specs.Expressions.{variable_type}
 use Rattle.roopl_semantics.specs.Store.{Value, State, is_zero, cleared}
-use Rattle.roopl_semantics.specs.Value.{Cell, Slot, Part, cell_named, read, written}
+use Rattle.roopl_semantics.specs.Value.{Cell, cell_named, read, written}
 use Rattle.class_table.specs.Members.{field_of, field_name}
 use Rattle.roopl_semantics.specs.Execution.{Setting}
 use Rattle.sound_execution.specs.Sound.{cell_kind}
@@ -29,16 +24,13 @@ use Rattle.class_table.specs.Refusal.{unknown_name}
 use Rattle.class_table.proofs.Tables.{table_reads}
 use Rattle.statement_laws.specs.Form.{Scope, Moved}
 use Rattle.method_calls.specs.Facts.{MovesIn, MovesBack, address}
-use Rattle.statement_laws.specs.Frames.{Under, base, stack_base, address_of, value_word, cell_at, cell_in, OpenFrame}
-use Rattle.statement_laws.specs.declared.spot.Spot.{Spot}
-use Rattle.statement_laws.specs.declared.spot.Spot.TheVariants.{Field, Frame}
+use Rattle.statement_laws.specs.Frames.{Under, base, address_of, value_word, cell_at, cell_in, OpenFrame}
 use Rattle.frame_facts.proofs.FramesFit.{means, class_stays}
 use Rattle.frame_facts.proofs.SlotMoves.{zero_word, other_word, cleared_word}
 use Rattle.statement_laws.specs.Stands.{shape_of, extra, moved_value, moved_values, spot_at, spot_in, Kept, Reads, Stands}
-use Rattle.rpp_tree.specs.Tree.{Variable}
 use Rattle.frame_facts.proofs.Bridge.{reads_of, set_words, shape_names, typed, before_long, long_by, as_many_vars}
 use Rattle.frame_facts.proofs.KeptMoves.{kept_up, kept_back, counts_up, counts_back}
-use Rattle.frame_facts.proofs.MovesFit.{frame_address, place_of, frame_long, cell_inside, cell_low, frame_read, frame_as, frame_write, up, up_empty, frame_up, up_value, frame_down}
+use Rattle.frame_facts.proofs.MovesFit.{frame_address, place_of, frame_long, cell_inside, cell_low, frame_read, frame_as, frame_write, up_empty, frame_up, up_value, frame_down}
 use Rattle.method_calls.specs.Names.{IsVariable}
 
 pub set_apart : (cells : List ℕ) (a b x y : ℕ) → a ≢ b → slice_set (slice_set cells a x) b y ≡ slice_set (slice_set cells b y) a x

@@ -1,5 +1,5 @@
 -- Addresses of an open frame, its class's table, and what is put by in it.
-use Rattle.std.proofs.Common.{◌≡◌, ℕ, ◌+◌, ◌-◌, ◌*◌, ◌^◌, ◌<◌, ◌≤◌, Bool, true, false, List, [], ◌∷◌, length, refl, sym, subst, arith}
+use Rattle.std.proofs.Common.{◌≡◌, ℕ, ◌+◌, ◌*◌, ◌^◌, ◌<◌, ◌≤◌, Bool, true, false, List, [], ◌∷◌, length, refl, sym, subst, arith}
 use Rattle.std.specs.Prelude.{replicate, nat_eq, slice_index, slice_set, not, nat_lt, if◌then◌else◌}
 use Rattle.buddy_book.specs.Place.{Placing, block_of}
 use Rattle.roopl_semantics.specs.Store.{OfClass, State, main_name}

@@ -1,7 +1,6 @@
 -- What blocks with a local variable need of an open frame, for a variable of any type.
-use Rattle.std.proofs.Common.{inl, inr, ◌≡◌, ◌≢◌, ℕ, zero, suc, ◌+◌, ◌-◌, ◌*◌, ◌^◌, ◌<◌, ◌≤◌, Bool, true, false, List, [], ◌∷◌, ◌++◌, length, map, Option, Some, None, refl, sym, ap, ◌∙◌, subst, arith}
-use Rattle.std.proofs.lemmas.Bool.{eqb-true, ltb-true}
-use Rattle.std.proofs.lemmas.Bool.Decides.{nat_tests}
+use Rattle.std.proofs.Common.{inl, inr, ◌≡◌, ℕ, suc, ◌+◌, ◌-◌, ◌^◌, ◌<◌, ◌≤◌, Bool, true, false, List, [], ◌∷◌, length, map, Option, Some, None, refl, sym, ap, ◌∙◌, subst, arith}
+use Rattle.std.proofs.lemmas.Bool.{eqb-true}
 use Rattle.std.specs.Prelude.{nat_eq, nat_lt, not, ◌⊎◌, ◌&&◌, ◌||◌, slice_index, slice_set, position, bit_xor, Result, Ok, Err}
 use Rattle.std.specs.Int.Bits.{xor_self}
 use Rattle.std.specs.Option.{unwrap_or, option_map}
@@ -12,26 +11,25 @@ use Rattle.rpp_tree.specs.declared.tree.Var.{Var}
 use Rattle.rpp_tree.specs.Tree.{Expression, Number, Null, Variable, Element, Binary, Source, nodes}
 use Rattle.class_table.specs.declared.kind.Kind.{Kind}
 use Rattle.class_table.specs.Expressions.{occurs}
-use Rattle.paired_code.specs.Machine.{Image}
 use Rattle.paired_code.specs.Does.{Fine}
 use Rattle.roopl_semantics.specs.Run.{after_cost, given}
 use Rattle.roopl_semantics.specs.Store.{Value, Word, Nil, Name, Binding, State, main_name, number_of, same_value}
-use Rattle.roopl_semantics.specs.Value.{Cell, Slot, Part, cell_named, variable_value, read, value, evaluated, element_of, element_cell, read_cell, slot_or_field, combined}
-use Rattle.roopl_semantics.specs.Execution.{Setting, opened, closed, rest_of}
-use Rattle.roopl_semantics.specs.Laws.{one_if_name, holders_among}
-use Rattle.sound_execution.specs.Sound.{fits, value_of, held, local_type, AllFit}
+use Rattle.roopl_semantics.specs.Value.{Slot, Part, variable_value, read, value, evaluated, element_of, element_cell, read_cell, slot_or_field, combined}
+use Rattle.roopl_semantics.specs.Execution.{Setting, opened, closed}
+use Rattle.roopl_semantics.specs.Laws.{one_if_name}
+use Rattle.sound_execution.specs.Sound.{fits, value_of, local_type, AllFit}
 use Rattle.class_table.specs.Inheritance.{kind_of_var}
 use Rattle.sound_execution.proofs.Classes.{KnowsClasses}
 use Rattle.class_table.proofs.FirstPlaces.{position_cons}
 use Rattle.sound_execution.proofs.Values.{ValueFits, int_value, value_fits, IsInt}
-use Rattle.statement_laws.specs.Form.{World, Scope, Moved, Routines, with_var, told}
+use Rattle.statement_laws.specs.Form.{World, Scope, with_var, told}
 use Rattle.method_calls.specs.Facts.{LocalFacts, new_word}
-use Rattle.statement_laws.specs.Frames.{Under, value_word, stack_words, memory, OpenFrame}
+use Rattle.statement_laws.specs.Frames.{Under, value_word, OpenFrame}
 use Rattle.frame_facts.proofs.SlotMoves.{new_set, new_clear}
-use Rattle.statement_laws.specs.Stands.{local_of, shape_of, extra, Kept, Stands}
+use Rattle.statement_laws.specs.Stands.{shape_of, extra, Stands}
 use Rattle.method_calls.specs.Names.{IntInit}
 use Rattle.frame_facts.proofs.Bridge.{set_words, typed, callers_long, before_long, as_many_vars}
-use Rattle.frame_facts.proofs.MovesFit.{frame_address, frame_long, place_of, frame_read}
+use Rattle.frame_facts.proofs.MovesFit.{frame_address, frame_long, frame_read}
 use Rattle.frame_facts.proofs.FactsMoves.{same_means}
 use Rattle.frame_facts.proofs.FramePlaces.{frame_small}
 use Rattle.class_table.specs.Program.{IsAccepted}

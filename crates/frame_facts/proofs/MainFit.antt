@@ -1,5 +1,5 @@
 -- What main needs of its open frame.
-use Rattle.std.proofs.Common.{◌≡◌, ◌≢◌, ℕ, zero, suc, ◌+◌, ◌-◌, ◌*◌, ◌^◌, ◌<◌, ◌≤◌, Bool, true, false, List, [], ◌∷◌, ◌++◌, length, map, Option, Some, None, refl, sym, ap, ◌∙◌, subst, arith}
+use Rattle.std.proofs.Common.{◌≡◌, ℕ, zero, suc, ◌+◌, ◌-◌, ◌*◌, ◌^◌, ◌<◌, ◌≤◌, List, [], ◌∷◌, ◌++◌, length, map, refl, sym, ap, ◌∙◌, subst, arith}
 use Rattle.std.specs.Prelude.{replicate, slice_index, slice_set}
 use Rattle.std.specs.List.{All}
 use Rattle.rpp_words.specs.Words.{IsWord}
@@ -10,24 +10,23 @@ use Rattle.rpp_words.specs.declared.input.Limits.{Limits}
 use Rattle.rpp_tree.specs.declared.tree.Var.{Var}
 use Rattle.rpp_tree.specs.Tree.{Source}
 use Rattle.buddy_book.specs.Book.{start}
-use Rattle.paired_code.specs.Machine.{Image}
 use Rattle.pisa_isa.specs.Image.{Segments}
 use Rattle.pisa_isa.specs.Loaded.{loaded, statics_at, heap_base, fixed_cells, empty_heads, with_words}
-use Rattle.roopl_semantics.specs.Store.{Binding, State, main_name}
+use Rattle.roopl_semantics.specs.Store.{Binding, main_name}
 use Rattle.rpp_words.specs.Limits.{IsLimits}
 use Rattle.roopl_semantics.specs.Source.{IsValid, main_body, starting}
 use Rattle.class_table.specs.Classes.{main_of}
-use Rattle.roopl_semantics.specs.Layout.{HasStatics, layout, no_placing, placed_layout}
+use Rattle.roopl_semantics.specs.Layout.{HasStatics}
 use Rattle.roopl_semantics.specs.Execution.{Setting}
 use Rattle.sound_execution.proofs.Starting.{starting_sound}
 use Rattle.roopl_semantics.proofs.Starting.{starts_loaded}
 use Rattle.open_frame.proofs.Entering.{starting_grounded}
-use Rattle.statement_laws.specs.Form.{World, Scope, Moved, Routines}
+use Rattle.statement_laws.specs.Form.{Scope}
 use Rattle.method_calls.specs.Facts.{MainFacts}
-use Rattle.statement_laws.specs.Frames.{Under, stack_base, stack_words, memory, before_stack, filled_to, OpenFrame}
+use Rattle.statement_laws.specs.Frames.{Under, stack_words, before_stack, filled_to}
 use Rattle.frame_facts.proofs.FramesFit.{fill_more, base_is, ends}
-use Rattle.statement_laws.specs.Stands.{extra, Kept, Stands}
-use Rattle.frame_facts.proofs.MovesFit.{frame_address, frame_long}
+use Rattle.statement_laws.specs.Stands.{Stands}
+use Rattle.frame_facts.proofs.MovesFit.{frame_long}
 use Rattle.frame_facts.proofs.FramePlaces.{all_small}
 use Rattle.class_table.specs.Program.{IsAccepted}
 use Rattle.roopl_semantics.proofs.MainPlace.{class_inside}

@@ -1,13 +1,12 @@
 -- Reads and writes of any cell of an open frame, and values that move up into the frame above, and back.
-use Rattle.std.proofs.Common.{◌≡◌, ◌≢◌, ℕ, zero, suc, ◌+◌, ◌-◌, ◌*◌, ◌^◌, ◌<◌, ◌≤◌, Bool, true, false, List, [], ◌∷◌, ◌++◌, length, map, Option, Some, None, refl, sym, ap, ◌∙◌, subst, arith, length-append}
+use Rattle.std.proofs.Common.{◌≡◌, ℕ, ◌+◌, ◌-◌, ◌*◌, ◌<◌, ◌≤◌, List, [], ◌∷◌, ◌++◌, length, map, Some, refl, sym, ap, ◌∙◌, subst, arith, length-append}
 use Rattle.std.proofs.lemmas.List.{length-map, length-replicate}
-use Rattle.std.proofs.Math.ListN.{length-set}
 use Rattle.std.specs.Prelude.{replicate, slice_index, slice_set, is_some}
-use Rattle.std.specs.Option.{unwrap_or, option_map}
+use Rattle.std.specs.Option.{option_map}
 use Rattle.class_table.specs.declared.kind.Kind.{Kind}
 use Rattle.buddy_book.specs.Place.{Placing}
 use Rattle.roopl_semantics.specs.Store.{Value, OfClass, Store, Binding, State, object_at, class_of_head}
-use Rattle.roopl_semantics.specs.Value.{Cell, Slot, Part, read, written, with_value}
+use Rattle.roopl_semantics.specs.Value.{Cell, Slot, Part, read, written}
 use Rattle.roopl_semantics.specs.Execution.{Setting}
 use Rattle.sound_execution.specs.Sound.{head_of, head_named, local_type, value_of, cell_kind}
 use Rattle.sound_execution.proofs.Lists.{all_inside}
@@ -16,9 +15,9 @@ use Rattle.sound_execution.proofs.Cells.{heads_written}
 use Rattle.statement_laws.specs.Form.{Scope, Moved}
 use Rattle.statement_laws.specs.Frames.{Caller, Under, base, stack_base, address_of, value_word, values_of, frame_words, callers_words, above_words, stack_words, memory, before_stack, StandsAt, CallersStand, OpenFrame}
 use Rattle.frame_facts.proofs.FramesFit.{frame_at, fits_above}
-use Rattle.frame_facts.proofs.SlotMoves.{slot_set, slot_get, above_set, above_get, above_clear, above_zero_word, above_in, until, below, length_with, names_with}
-use Rattle.statement_laws.specs.Stands.{shape_of, extra, moved_value, moved_values, CallersFit, Kept, Reads}
-use Rattle.frame_facts.proofs.Bridge.{typed, stack_fits, callers_long, own_long, before_long, part_low, part_read, part_write, as_many_vars}
+use Rattle.frame_facts.proofs.SlotMoves.{slot_set, slot_get, above_set, above_get, above_clear, above_zero_word, until, below, length_with, names_with}
+use Rattle.statement_laws.specs.Stands.{shape_of, extra, moved_values, CallersFit, Reads}
+use Rattle.frame_facts.proofs.Bridge.{stack_fits, callers_long, before_long, part_low, part_read, part_write}
 
 pub class_at : (store : Store) (n c : ℕ) → head_named store n ≡ Some (OfClass c) → class_of_head (object_at store n).head ≡ c
 class_at store n c h =

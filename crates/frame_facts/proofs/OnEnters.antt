@@ -1,11 +1,10 @@
 -- A frame with its arguments and its receiver taken is the open frame of the receiver's method, and back: what is kept goes over.
 use Rattle.std.proofs.Common.{◌≡◌, ◌≢◌, ℕ, ◌+◌, ◌<◌, Bool, true, false, List, [], ◌∷◌, length, map, Some, refl, sym, ap, ◌∙◌, subst, arith}
 use Rattle.std.proofs.lemmas.Bool.{ltb-true, ltb-false}
-use Rattle.std.specs.Prelude.{replicate, nat_lt, nat_eq, if◌then◌else◌}
+use Rattle.std.specs.Prelude.{replicate, nat_lt, if◌then◌else◌}
 use Rattle.class_table.specs.declared.kind.Kind.TheVariants as kind
 use Rattle.rpp_tree.specs.declared.tree.Ident.{Ident}
 use Rattle.class_table.specs.declared.kind.Kind.{Kind}
-use Rattle.class_table.specs.Inheritance.{is_or_inherits}
 use Rattle.roopl_semantics.specs.Store.{Value, Name, OfClass, State, main_name, object_at, class_of_head}
 use Rattle.roopl_semantics.specs.Execution.{Setting, bound}
 use Rattle.roopl_semantics.specs.Laws.{one_if_name, holders_among}
@@ -15,7 +14,7 @@ use Rattle.sound_execution.proofs.Stores.{same_number, other_number}
 use Rattle.sound_execution.proofs.Invocations.{types_of_params, bound_values}
 use Rattle.statement_laws.specs.Form.{Scope, Moved, pairs}
 use Rattle.statement_laws.specs.Frames.{Under, cell_in}
-use Rattle.statement_laws.specs.Stands.{shape_of, extra, receiver_held, moved_value, Kept}
+use Rattle.statement_laws.specs.Stands.{shape_of, extra, receiver_held, Kept}
 use Rattle.statement_laws.specs.Worlds.{Place}
 use Rattle.method_calls.specs.Names.{deeper_on}
 use Rattle.frame_facts.proofs.KeptMoves.{CountsAre}

@@ -1,15 +1,14 @@
 -- The words of variables and of the frame above, in the memory of an open frame.
-use Rattle.std.proofs.Common.{◌≡◌, ◌≢◌, ℕ, zero, suc, ◌+◌, ◌-◌, ◌*◌, ◌<◌, ◌≤◌, Bool, true, false, List, [], ◌∷◌, ◌++◌, length, map, replicate, refl, sym, ap, ◌∙◌, subst, arith, append-nil, append_assoc, length-append}
-use Rattle.std.specs.Prelude.{slice_index, slice_set, slice_get, nat_eq}
+use Rattle.std.proofs.Common.{◌≡◌, ◌≢◌, ℕ, zero, suc, ◌+◌, ◌-◌, ◌*◌, ◌<◌, ◌≤◌, true, false, List, [], ◌∷◌, ◌++◌, length, map, replicate, refl, sym, ap, ◌∙◌, subst, arith, append-nil, append_assoc, length-append}
+use Rattle.std.specs.Prelude.{slice_index, slice_set}
 use Rattle.std.proofs.lemmas.Bool.Decides.{nat_tests}
-use Rattle.std.proofs.lemmas.List.{length-replicate, replicate-append-replicate}
+use Rattle.std.proofs.lemmas.List.{replicate-append-replicate}
 use Rattle.buddy_book.specs.Place.{Placing}
-use Rattle.roopl_semantics.specs.Store.{Value, Word, Nil, Name, Binding, State, Store, is_zero, cleared}
-use Rattle.roopl_semantics.specs.Value.{Slot, read, written, with_value, value_at}
+use Rattle.roopl_semantics.specs.Store.{Value, Word, Nil, Name, Binding, Store, is_zero, cleared}
+use Rattle.roopl_semantics.specs.Value.{with_value, value_at}
 use Rattle.roopl_semantics.specs.Execution.{Setting}
-use Rattle.statement_laws.specs.Form.{Scope}
-use Rattle.statement_laws.specs.Frames.{Caller, Under, base, stack_base, value_word, values_of, value_words, frame_words, callers_words, above_words, stack_words, memory, before_stack, address_of, OpenFrame}
-use Rattle.frame_facts.proofs.FramesFit.{frame_at, length_values, length_map, length_callers, length_frame}
+use Rattle.statement_laws.specs.Frames.{Caller, Under, base, stack_base, value_word, values_of, value_words, frame_words, callers_words, above_words, stack_words, memory, before_stack}
+use Rattle.frame_facts.proofs.FramesFit.{frame_at, length_values, length_map, length_frame}
 
 -- ---- lists
 

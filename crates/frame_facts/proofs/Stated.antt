@@ -1,7 +1,7 @@
 -- The laws in the form of their statements.
-use Rattle.std.proofs.Common.{◌≡◌, ℕ, ◌<◌, ◌≤◌, List, length, subst, arith}
+use Rattle.std.proofs.Common.{◌≤◌, length, subst, arith}
 use Rattle.roopl_semantics.proofs.MainPlace.{class_inside}
-use Rattle.frame_facts.specs.Laws.{FramesAreOpen, ReceiversAreOpen, LocalsAreOpen, MainIsOpen, most_statics}
+use Rattle.frame_facts.specs.Laws.{FramesAreOpen, ReceiversAreOpen, LocalsAreOpen, MainIsOpen}
 use Rattle.frame_facts.proofs.FactsFit.{frame_facts}
 use Rattle.frame_facts.proofs.ReceiversFit.{receiver_facts}
 use Rattle.frame_facts.proofs.LocalsFit.{local_facts}

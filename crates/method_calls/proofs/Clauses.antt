@@ -19,11 +19,11 @@ use Rattle.statement_laws.specs.declared.spot.Spot.TheVariants.{Field, Frame}
 use Rattle.statement_laws.specs.Cells.{around}
 use Rattle.statement_laws.specs.Form.{World, Scope, StmtLaw, told}
 use Rattle.statement_laws.specs.Stands.{spot_in}
-use Rattle.statement_laws.specs.Worlds.{Place, world_of, rates_of}
-use Rattle.method_calls.specs.CallCode.{addi, fetch_row, depth_code, moves_code, move_code, moves_of, last_cells, behind_of, checked_of, front_code, front_on_code, front_on_of, call_code, call_on_code, own_cells, nil_code, take_code, onto_code, method_code, main_code, main_cells, local_open, local_code, save_row, spot_row, exch}
+use Rattle.statement_laws.specs.Worlds.{world_of, rates_of}
+use Rattle.method_calls.specs.CallCode.{addi, fetch_row, depth_code, moves_code, move_code, moves_of, last_cells, behind_of, checked_of, front_on_of, call_code, call_on_code, own_cells, nil_code, take_code, onto_code, method_code, main_code, main_cells, local_open, local_code, save_row, spot_row, exch}
 use Rattle.method_calls.specs.Facts.{Known, FrameFacts}
 use Rattle.method_calls.specs.Names.{known_of, receivers_of, slot_of}
-use Rattle.method_calls.specs.Laws.{LocalCode, OwnCallCode, CallOnCode, MethodCode, MainCode, AreVariables, NamesApart, quiet}
+use Rattle.method_calls.specs.Laws.{LocalCode, OwnCallCode, CallOnCode, MethodCode, MainCode, AreVariables, quiet}
 use Rattle.method_calls.proofs.Moves.{AllVariables}
 use Rattle.method_calls.proofs.Methods.{method_law}
 use Rattle.method_calls.proofs.OwnCalls.{call_law}

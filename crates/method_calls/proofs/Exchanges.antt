@@ -1,5 +1,5 @@
 -- An exchange where there is the cell.
-use Rattle.std.proofs.Common.{◌≡◌, ℕ, ◌<◌, Bool, true, false, length, refl, ap, ◌∙◌, arith}
+use Rattle.std.proofs.Common.{◌≡◌, ℕ, ◌<◌, Bool, true, false, length, refl, arith}
 use Rattle.std.specs.Prelude.{nat_lt, if◌then◌else◌, slice_index, slice_set}
 use Rattle.std.proofs.lemmas.Bool.Decides.{nat_tests}
 use Rattle.paired_code.specs.Machine.{Memory}

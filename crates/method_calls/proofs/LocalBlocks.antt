@@ -18,12 +18,12 @@ use Rattle.roopl_semantics.specs.Run.{Run, ◌>>=◌, give, fault_if, after_cost
 use Rattle.roopl_semantics.specs.Store.{Value, State, same_value}
 use Rattle.roopl_semantics.specs.Value.{Slot, read, evaluated}
 use Rattle.roopl_semantics.specs.Execution.{exec, statement, opened, closed, with_local, delocal_fault, constructed, element_call, element_name}
-use Rattle.statement_laws.specs.Form.{World, Scope, Moved, Open, holding, Owes, StmtLaw, BlockLaw, ValueLaw, with_var, registers, told, one, turned}
+use Rattle.statement_laws.specs.Form.{World, Scope, Moved, Open, holding, Owes, StmtLaw, BlockLaw, ValueLaw, with_var, told, one, turned}
 use Rattle.method_calls.specs.CallCode.{exch, spot_row, local_open, local_code}
 use Rattle.statement_laws.specs.declared.spot.Spot.TheVariants.{Frame}
 use Rattle.method_calls.specs.Facts.{LocalFacts, new_word}
 use Rattle.statement_laws.proofs.Told.{told_after, told_bind, same_then}
-use Rattle.statement_laws.proofs.Rules.{meets_rate, meets_told, meets_slack, meets_less, meets_then, meets_later, Late, late, late_then, late_counts, meets_plus, as_known, will_in, will_two, will_two_back}
+use Rattle.statement_laws.proofs.Rules.{meets_rate, meets_told, meets_less, meets_then, meets_later, Late, late, late_then, late_counts, as_known, will_in, will_two, will_two_back}
 use Rattle.statement_laws.proofs.Rows.{here, next, will_row}
 use Rattle.method_calls.proofs.Addresses.{mk, will_find_spot, will_leave_spot}
 use Rattle.paired_code.specs.Rows.{line}

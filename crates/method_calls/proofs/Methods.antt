@@ -5,7 +5,7 @@ use Rattle.rpp_tree.specs.Tree.{Procedure}
 use Rattle.paired_code.specs.declared.part.Symbol.{Symbol}
 use Rattle.paired_code.specs.Machine.{Memory}
 use Rattle.paired_code.specs.Pieces.{Will}
-use Rattle.paired_code.specs.Does.{Told, Fine, Fault, More, told_then, Meets, fine}
+use Rattle.paired_code.specs.Does.{Fine, told_then, Meets, fine}
 use Rattle.paired_code.proofs.Laws.{will_more}
 use Rattle.roopl_semantics.specs.Store.{State}
 use Rattle.roopl_semantics.specs.Execution.{exec, in_direction}

@@ -4,12 +4,11 @@ use Rattle.std.specs.Prelude.{not, nat_lt, slice_index, slice_set}
 use Rattle.std.proofs.lemmas.List.{get_or-set_other}
 use Rattle.std.proofs.Math.ListN.{length-set}
 use Rattle.rpp_tree.specs.declared.tree.Ident.{Ident}
-use Rattle.paired_code.specs.declared.part.Symbol.{Symbol}
 use Rattle.paired_code.specs.Machine.{Memory, Image}
 use Rattle.paired_code.specs.Layout.{check_cells}
 use Rattle.paired_code.specs.Pieces.{Outcome, Done, Trapped, Will, after}
 use Rattle.paired_code.specs.Does.{Fault, Meets, fine, faults}
-use Rattle.paired_code.proofs.Laws.{Next, will_of, will_more, will_seq, will_seq_back}
+use Rattle.paired_code.proofs.Laws.{Next, will_of, will_more, will_seq_back}
 use Rattle.paired_code.proofs.Small.{runs_check_zero, runs_check_other, runs_empty}
 use Rattle.roopl_semantics.specs.Run.{◌>>=◌, fault_if}
 use Rattle.roopl_semantics.specs.Store.{Value, State, is_zero}
@@ -21,7 +20,7 @@ use Rattle.statement_laws.specs.declared.spot.Spot.{Spot}
 use Rattle.statement_laws.specs.declared.spot.Spot.TheVariants.{Field, Frame}
 use Rattle.method_calls.specs.Facts.{address, IsNear, MovesBack, Known, FrameFacts, out_from, vals_from}
 use Rattle.statement_laws.proofs.Told.{told_after, plus_none}
-use Rattle.statement_laws.proofs.Rules.{will_two, will_two_back, will_in, will_in_trap, will_around, meets_told, meets_slack, meets_later}
+use Rattle.statement_laws.proofs.Rules.{will_two, will_two_back, will_in, will_in_trap, meets_told, meets_slack, meets_later}
 use Rattle.statement_laws.proofs.Rows.{here, next, will_row}
 use Rattle.method_calls.proofs.Addresses.{mk, will_find_spot, will_leave_spot, will_find_above, will_leave_above}
 use Rattle.paired_code.specs.Rows.{line}

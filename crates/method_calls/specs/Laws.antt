@@ -1,5 +1,5 @@
 -- What the code of calls, methods, main and blocks with a local variable does, from what their parts do.
-use Rattle.std.specs.Prelude.{◌≡◌, ◌≢◌, ℕ, Bool, false, List, [], ◌∷◌, length, map, Option, Some, None}
+use Rattle.std.specs.Prelude.{◌≡◌, ◌≢◌, ℕ, Bool, false, List, [], ◌∷◌, map, Some, None}
 use Rattle.rpp_words.specs.declared.input.FieldWord.{FieldWord}
 use Rattle.rpp_tree.specs.declared.tree.Ident.{Ident}
 use Rattle.rpp_tree.specs.declared.tree.Var.{Var}
@@ -19,7 +19,7 @@ use Rattle.statement_laws.specs.Form.{World, Scope, with_var, ValueLaw, BlockLaw
 use Rattle.statement_laws.specs.Stands.{spot_in}
 use Rattle.statement_laws.specs.Worlds.{Place, rates_of, world_of}
 use Rattle.method_calls.specs.Facts.{Known, FrameFacts, ReceiverFacts, LocalFacts, MainFacts, new_word}
-use Rattle.method_calls.specs.Names.{IsVariable, HasMethod, IsReceiver, IsInit, known_of, receivers_of, slot_of, class_named}
+use Rattle.method_calls.specs.Names.{HasMethod, IsReceiver, IsInit, known_of, receivers_of, slot_of, class_named}
 
 -- ---- blocks with a local variable
 

@@ -1,6 +1,7 @@
 -- What contracts see of a machine.
-use Rattle.std.specs.Prelude.{ℕ, List}
-use Rattle.pisa_isa.specs.Machine.{State}
+use Rattle.std.specs.Prelude.{ℕ, ◌+◌, List, Option, Some, None}
+use Rattle.pisa_isa.specs.declared.machine.Stop.{Stop}
+use Rattle.pisa_isa.specs.Machine.{State, next}
 use Rattle.pisa_isa.specs.Image.{Segments, IsImage}
 use Rattle.pisa_isa.specs.Runs.{started, IsReached}
 
@@ -18,3 +19,8 @@ first_position image regs cells = record { image = image; state = started image.
 pub record IsMachine (position : Position) : Type 0 where
   pub is_image : IsImage position.image
   pub reached : IsReached position.image.code position.made position.state
+
+-- the position behind a step, which may be a stop
+abbrev pub stepped : Option Stop → Position → Position
+stepped (Some why) p = p
+stepped None p = record p { state = next p.image.code p.state; made = p.made + 1 }

@@ -1,6 +1,6 @@
 //! Machines that own their image and their memory: runs of at most so many steps, and steps back.
 //! A machine always stands at a position of its run, so each step that it made can be taken back.
-//! Every step, forward or back, is counted by the caller's counter.
+//! Every step, forward or back, is counted by the caller's counter. Probes may watch a run; none of them changes it.
 #![tactic(auto)]
 
 mod machine;
@@ -8,6 +8,7 @@ mod page;
 mod pages;
 mod run;
 mod steps;
+mod telling;
 #[cfg(test)]
 mod tests;
 

@@ -1,15 +1,17 @@
 // Machines.
-ghost use Rattle.std.specs.Prelude.{◌≡◌, ◌<◌, ◌≤◌, ◌^◌, ◌+◌, ◌-◌, ◌↔◌, pos, false, All, length, slice_get, vec_len, IsTrue, IsFalse, IfOk, if◌then◌else◌};
+ghost use Rattle.std.specs.Prelude.{◌≡◌, IsSome, ◌<◌, ◌≤◌, ◌^◌, ◌+◌, ◌-◌, ◌↔◌, pos, false, All, length, slice_get, vec_len, IsTrue, IsFalse, IfOk, if◌then◌else◌};
 ghost use Rattle.rpp_words.specs.Words.{IsWord};
-ghost use Rattle.pisa_isa.specs.Machine.{state_of, back, IsNext};
+ghost use Rattle.pisa_isa.specs.Machine.{state_of, stop, fetch, back, IsCode, IsNext};
 ghost use Rattle.pisa_isa.specs.Image.{IsImage, start_of};
-ghost use Rattle.pisa_isa.specs.Runs.{run, counted};
-ghost use Rattle.pisa_machine.specs.Position.{Position, IsMachine, first_position};
+ghost use Rattle.pisa_isa.specs.Runs.{run, counted, counted_by, stop_at_bound};
+ghost use Rattle.pisa_machine.specs.Position.{Position, IsMachine, first_position, stepped};
+ghost use Rattle.pisa_machine.specs.Told.{step_at, place_of as number_of};
 
 use crate::page::Pages;
-use crate::run::{RunEnd, run_from, steps_of};
+use crate::run::{RunEnd, count_step, run_from, steps_of, stop_at_bound};
 use crate::steps::Steps;
-use pisa_isa::{Cells, Core, Image, unstep};
+use pisa_isa::{Cell, Cells, Core, Image, Stop, step, unstep};
+use rpp_probes::StepAt;
 use rpp_words::NoMemory;
 use std::alloc::Global;
 use std::marker::Model;
@@ -63,6 +65,18 @@ fn start_core(image: &Image, regs: [u32; 32]) -> Core
     }
 }
 
+/// The number of a place in the code.
+fn place_of(code: &[Cell], pc: i64) -> u32
+    requires { IsCode code.now }
+    ensures { IsSome (fetch code.now pc) → result ≡ number_of pc }
+{
+    if pc >= 0 && (pc as usize) < code.len() {
+        pc as u32
+    } else {
+        0
+    }
+}
+
 impl Machine {
     /// A machine at the start of a run of an image, with these registers and data cells. The cells stand in pages of 4,096
     /// words, which are reserved whole here, so that no call that runs the machine takes memory.
@@ -105,6 +119,44 @@ impl Machine {
         );
         self.made += end.spent - steps_of(end.stop);
         end
+    }
+
+    /// The step that is next, where there is a cell at its place.
+    pub(crate) fn next_step(&self) -> StepAt
+        ensures step { IsSome (fetch self.now.image.code self.now.state.pc) → result ≡ step_at self.now.state }
+        ensures machine { IsMachine self.now }
+    {
+        StepAt {
+            place: place_of(self.image.code(), self.core.pc),
+            back: self.core.back,
+        }
+    }
+
+    /// Makes one step, or answers why the machine stops, and counts what counts as a step.
+    pub(crate) fn make_step<L: Ledger>(&mut self, steps: &mut Steps<L>) -> Option<Stop>
+        requires { self.old.made + 1 < 2 ^ 63 }
+        ensures stops { result ≡ stop self.old.image.code self.old.state }
+        ensures stepped { self.new ≡ stepped result self.old }
+        ensures counter { steps.new ≡ steps.old + counted_by result }
+    {
+        match step(&mut self.core, self.image.code(), &mut self.cells) {
+            Some(stop) => {
+                count_step(Some(stop), steps);
+                Some(stop)
+            }
+            None => {
+                count_step(None, steps);
+                self.made += 1;
+                None
+            }
+        }
+    }
+
+    /// Why a run ends here where it has made the steps that it may.
+    pub(crate) fn stop_here(&self) -> Stop
+        ensures { result ≡ stop_at_bound (fetch self.now.image.code self.now.state.pc) self.now.state.pc }
+    {
+        stop_at_bound(self.image.code(), self.core.pc)
     }
 
     /// Takes the last step back, or answers false where none is left.

@@ -27,6 +27,16 @@ pub(crate) fn steps_of(stop: Stop) -> u64
     }
 }
 
+/// Counts a step, which may be a stop, where it is one that counts.
+pub(crate) fn count_step<L: Ledger>(stop: Option<Stop>, steps: &mut Steps<L>)
+    ensures { steps.new ≡ steps.old + counted_by stop }
+{
+    match stop {
+        Some(Stop::OffCode(_) | Stop::Bound) => {}
+        _ => steps.tick(),
+    }
+}
+
 /// Makes one step, or answers why the machine stops, and counts what counts as a step.
 fn counted_step<C: Cells, L: Ledger>(
     core: &mut Core,
@@ -51,7 +61,7 @@ fn counted_step<C: Cells, L: Ledger>(
 }
 
 /// Where the allowed steps were made.
-fn stop_at_bound(code: &[Cell], pc: i64) -> Stop
+pub(crate) fn stop_at_bound(code: &[Cell], pc: i64) -> Stop
     ensures { result ≡ stop_at_bound (fetch code.now pc) pc }
 {
     if pc >= 0 && (pc as usize) < code.len() {

@@ -1,5 +1,6 @@
 use super::*;
-use rpp_ports::{MemoryShelf, MemorySink, Named, Probe};
+use rpp_ports::{MemoryShelf, MemorySink, Named};
+use rpp_probes::Probe;
 use std::alloc::{AllocError, Global};
 use std::test::Fail;
 

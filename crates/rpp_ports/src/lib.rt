@@ -1,7 +1,7 @@
-//! The outside as the program sees it: a shelf of texts by name, a sink for output, and a probe that
-//! watches a run. The layers above work over any `Shelf`, `Sink` and `Probe`, and rest on the traits'
-//! clauses alone; only `main` makes the `FileShelf` and the `OutSink`. The ports in memory are for
-//! tests and for callers that hold their texts, and fix which of their calls fail.
+//! The outside as the program sees it: a shelf of texts by name, and a sink for output. The layers
+//! above work over any `Shelf` and `Sink`, and rest on the traits' clauses alone; only `main` makes
+//! the `FileShelf` and the `OutSink`. The ports in memory are for tests and for callers that hold
+//! their texts, and fix which of their calls fail.
 #![tactic(auto)]
 
 mod failing;
@@ -9,7 +9,6 @@ mod file_shelf;
 mod memory_shelf;
 mod memory_sink;
 mod out_sink;
-mod probe;
 mod shelf;
 mod sink;
 
@@ -17,7 +16,6 @@ pub use file_shelf::FileShelf;
 pub use memory_shelf::{MemoryShelf, Named};
 pub use memory_sink::MemorySink;
 pub use out_sink::OutSink;
-pub use probe::Probe;
 pub use shelf::{Shelf, ShelfFault};
 pub use sink::{Sink, SinkFault};
 

@@ -1,19 +1,18 @@
 -- New objects and arrays.
-use Rattle.std.proofs.Common.{◌≡◌, ℕ, zero, suc, ◌+◌, ◌-◌, ◌^◌, ◌<◌, ◌≤◌, refl, sym, ap, subst, ◌∙◌, arith, List, [], ◌∷◌, length, replicate, Bool, true, false, Some, None}
-use Rattle.std.specs.Prelude.{◌||◌, nat_lt, is_none, Option}
-use Rattle.buddy_book.specs.Place.{Log, Taken, count_taken, place}
-use Rattle.roopl_semantics.specs.Run.{Run, Done, Fault, More, after_cost, ◌>>=◌, give, fault_if}
-use Rattle.roopl_semantics.specs.Store.{State, Value, Name, Head, Object}
+use Rattle.std.proofs.Common.{◌≡◌, ℕ, ◌+◌, refl, sym, ap, subst, ◌∙◌, List, ◌∷◌, length, Bool, true, false}
+use Rattle.std.specs.Prelude.{◌||◌, nat_lt, is_none}
+use Rattle.buddy_book.specs.Place.{Taken, count_taken, place}
+use Rattle.roopl_semantics.specs.Run.{Run, ◌>>=◌, give, fault_if}
+use Rattle.roopl_semantics.specs.Store.{State, Value, Name, Head}
 use Rattle.roopl_semantics.specs.Value.{Cell, written}
 use Rattle.roopl_semantics.specs.Execution.{Setting, allocated, order_of_cells, new_object, heap_full_fault}
 use Rattle.store_table.specs.declared.value.Value.{Value as Held}
 use Rattle.store_table.specs.HeapView.{Kept, asked_for, TookBlock, TookNone}
 use Rattle.source_steps.specs.declared.scope.Scope.{Scope as Chain}
 use Rattle.source_steps.specs.declared.expressions.Setting.{Setting as Here}
-use Rattle.source_steps.specs.Metered.{Metered, Went, Stopped, stopped, metered}
-use Rattle.source_steps.specs.StateView.{IsFramed, state_of, setting_of}
+use Rattle.source_steps.specs.Metered.{Went, Stopped, stopped, metered}
+use Rattle.source_steps.specs.StateView.{state_of, setting_of}
 use Rattle.source_steps.proofs.Fuelled.{gives, left_none}
-use Rattle.source_steps.proofs.Moves.{after_none}
 
 abbrev full : Setting → ℕ → State → Bool
 full setting size st = nat_lt setting.limits.heap (order_of_cells size) || is_none (place setting.limits.heap (Taken (2 + count_taken st.log) (order_of_cells size) ∷ st.log))

@@ -1,5 +1,5 @@
 -- Blocks with a local variable.
-use Rattle.std.proofs.Common.{◌≡◌, ℕ, refl, sym, ap, subst, ◌∙◌, List, [], ◌∷◌, map, Bool, true, false}
+use Rattle.std.proofs.Common.{◌≡◌, ℕ, sym, ap, subst, ◌∙◌, List, ◌∷◌, map}
 use Rattle.rpp_tree.specs.Tree.{Expression, Statements, Lvalue, Source}
 use Rattle.roopl_semantics.specs.Run.{Run, ◌>>=◌}
 use Rattle.roopl_semantics.specs.Store.{State, Value, Binding}
@@ -11,7 +11,7 @@ use Rattle.source_steps.specs.declared.scope.Scope.{Scope as Chain}
 use Rattle.store_table.specs.HeapView.{Kept as Heap}
 use Rattle.source_steps.specs.declared.expressions.Setting.{Setting as Here}
 use Rattle.store_table.specs.ValueView.{value_of}
-use Rattle.source_steps.specs.Metered.{Metered, Went, metered, Failed, Gives}
+use Rattle.source_steps.specs.Metered.{Went, metered, Failed}
 use Rattle.source_steps.specs.StateView.{IsInner, names_of, bindings, state_of, setting_of}
 use Rattle.source_steps.specs.Ends.{runs, local_end}
 use Rattle.source_steps.proofs.Fuelled.{goes, fails}

@@ -1,12 +1,12 @@
 -- The moves of values into a call and back.
-use Rattle.std.proofs.Common.{◌≡◌, ℕ, zero, suc, ◌+◌, ◌<◌, ◌≤◌, refl, sym, ap, subst, ◌∙◌, arith, List, [], ◌∷◌, ◌++◌, length, map, take, Bool, true, false, Some, None}
+use Rattle.std.proofs.Common.{◌≡◌, ℕ, zero, suc, ◌+◌, ◌≤◌, refl, sym, ap, subst, ◌∙◌, arith, List, [], ◌∷◌, ◌++◌, length, map, take, Bool, true, false}
 use Rattle.std.proofs.lemmas.List.{length-map}
 use Rattle.std.specs.Prelude.{not, min}
 use Rattle.rpp_tree.specs.declared.tree.Var.{Var}
 use Rattle.rpp_tree.specs.Tree.{End, Procedure}
 use Rattle.class_table.specs.Members.{no_procedure}
 use Rattle.roopl_semantics.specs.Run.{Run, Done, Fault, More, after_cost, ◌>>=◌, give, fault_if}
-use Rattle.roopl_semantics.specs.Store.{State, Value, Binding, cleared, is_zero}
+use Rattle.roopl_semantics.specs.Store.{State, Value, cleared, is_zero}
 use Rattle.roopl_semantics.specs.Value.{Cell, read, written}
 use Rattle.roopl_semantics.specs.Execution.{Setting, Runner, bound, moved_out, moved_back, in_direction, invoked, exec, touched_fault}
 use Rattle.std.specs.Prelude.{Result}

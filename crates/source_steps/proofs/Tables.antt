@@ -1,5 +1,5 @@
 -- Variables by their places, and fields by the table of classes.
-use Rattle.std.proofs.Common.{◌≡◌, ℕ, zero, suc, ◌+◌, ◌<◌, ◌≤◌, refl, sym, ap, ◌∙◌, arith, List, [], ◌∷◌, ◌++◌, length, Some, None, Bool, true, false, map, replicate}
+use Rattle.std.proofs.Common.{◌≡◌, ℕ, zero, suc, ◌≤◌, refl, sym, ap, ◌∙◌, arith, List, [], ◌∷◌, ◌++◌, length, Some, None, Bool, true, false, map, replicate}
 use Rattle.std.proofs.lemmas.Bool.{ltb-true, ltb-false}
 use Rattle.std.proofs.lemmas.Option.{slice_get_past}
 use Rattle.std.proofs.lemmas.List.{length-map}
@@ -15,7 +15,7 @@ use Rattle.class_table.specs.Members.{field_of, fields, fields_of, fields_along,
 use Rattle.class_table.proofs.Numbers.{length-each_below}
 use Rattle.class_table.specs.Classes.{class_fields}
 use Rattle.class_table.proofs.Tables.{table_reads}
-use Rattle.roopl_semantics.specs.Store.{Value, Nil, Binding, State}
+use Rattle.roopl_semantics.specs.Store.{Value, Nil, State}
 use Rattle.roopl_semantics.specs.Value.{Slot, Part, value_at, with_value, slot_of, slot_or_field, cell_named, own_class}
 use Rattle.roopl_semantics.specs.Execution.{bound}
 use Rattle.store_table.specs.declared.value.Value.{Value as Held}

@@ -1,5 +1,5 @@
 -- How a statement ends.
-use Rattle.std.specs.Prelude.{ℕ, suc, ◌+◌, List, Bool, true, false, not, ◌||◌, nat_eq, length, map, replicate, Option, Some, None, Result, Ok, Err}
+use Rattle.std.specs.Prelude.{ℕ, suc, ◌+◌, List, Bool, true, false, not, ◌||◌, nat_eq, length, map, replicate, Option, Some, None, Result}
 use Rattle.std.specs.Option.{unwrap_or}
 use Rattle.rpp_words.specs.Words.{is_less}
 use Rattle.rpp_tree.specs.Tree.{Expression, Statement, Statements, Source}

@@ -6,7 +6,7 @@ use Rattle.roopl_semantics.specs.Store.{Value, Name, object_at, Store, Binding, 
 use Rattle.roopl_semantics.specs.Execution.{Setting, bound}
 use Rattle.roopl_semantics.specs.Value.{Cell, Part, nil_fault, index_fault}
 use Rattle.store_table.specs.declared.value.Value.{Value as Held}
-use Rattle.store_table.specs.ValueView.{value_of, values_of}
+use Rattle.store_table.specs.ValueView.{values_of}
 use Rattle.store_table.specs.HeapView.{Kept}
 use Rattle.source_steps.specs.declared.scope.Scope.{Scope as Chain}
 use Rattle.source_steps.specs.declared.scope.Scope.TheVariants as chain

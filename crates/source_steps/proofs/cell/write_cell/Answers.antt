@@ -1,4 +1,4 @@
-use Rattle.std.proofs.Common.{◌≡◌, ap, ◌∙◌, arith, List, length, slice_set}
+use Rattle.std.proofs.Common.{ap, ◌∙◌, List, length}
 use Rattle.roopl_semantics.specs.Store.{Binding, State}
 use Rattle.source_steps.specs.StateView.{state_of, frame_of}
 use Rattle.source_steps.proofs.Tables.{frame_set, length_set}

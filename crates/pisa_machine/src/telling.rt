@@ -1,0 +1,90 @@
+// Runs that probes watch.
+ghost use Rattle.std.specs.Prelude.{◌≡◌, ◌≤◌, ◌<◌, ◌^◌, ◌+◌, ◌++◌, map, replicate, IfOk, IfErr, OnOk, string_bytes};
+ghost use Rattle.pisa_isa.specs.Runs.{run, counted};
+ghost use Rattle.pisa_machine.specs.Position.{IsMachine};
+ghost use Rattle.pisa_machine.specs.Told.{counted_steps, BreaksOff};
+ghost use Rattle.rpp_probes.specs.Tally.{left_after, lines_after, IsCutShort};
+
+use crate::machine::Machine;
+use crate::run::{RunEnd, steps_of};
+use crate::steps::Steps;
+use pisa_isa::Stop;
+use rpp_probes::{Probes, StepAt};
+use rpp_words::NoMemory;
+use std::alloc::Global;
+use std::sync::ledger::Ledger;
+
+// Tells probes a step at which the machine stops, where it counts as a step.
+fn tell_stop<P: Probes>(
+    alloc: Global,
+    probes: &mut P,
+    lines: &mut Vec<String>,
+    step: StepAt,
+    stop: Stop,
+) -> Result<(), NoMemory>
+    ensures told { OnOk result (P.watches probes.new ≡ left_after (replicate (counted stop) step) (P.watches probes.old)) }
+    ensures lines { OnOk result (map string_bytes lines.new.items ≡
+        map string_bytes lines.old.items ++ lines_after (replicate (counted stop) step) (P.watches probes.old)) }
+    ensures cut_short { IfErr result (λ _. IsCutShort step (P.watches probes.old) (P.watches probes.new)
+        (map string_bytes lines.old.items) (map string_bytes lines.new.items)) }
+    ensures counts { IfErr result (λ _. counted stop ≡ 1) }
+{
+    if steps_of(stop) == 0 {
+        return Ok(());
+    }
+    match probes.tell(alloc, lines, step) {
+        Ok(()) => Ok(()),
+        Err(NoMemory) => Err(NoMemory),
+    }
+}
+
+impl Machine {
+    /// Runs at most `bound` steps, and counts those that it makes, as `run` does; and tells the probes each counted step, in the
+    /// order of the list. A probe that ends with a step is dropped, and its line is added to `lines`; the others keep their order.
+    /// After want of memory the machine stands after the step during which it came.
+    pub fn run_told<L: Ledger, P: Probes>(
+        &mut self,
+        alloc: Global,
+        bound: u64,
+        probes: &mut P,
+        lines: &mut Vec<String>,
+        steps: &mut Steps<L>,
+    ) -> Result<RunEnd, NoMemory>
+        requires { self.old.made + bound < 2 ^ 63 }
+        ensures runs { IfOk result (λ end. run self.old.image.code bound self.old.state
+            ≡ record { why = end.stop; spent = end.spent; last = self.new.state }) }
+        ensures made { IfOk result (λ end. self.new.made + counted end.stop ≡ self.old.made + end.spent) }
+        ensures within { IfOk result (λ end. end.spent ≤ bound) }
+        ensures counter { IfOk result (λ end. steps.new ≡ steps.old + end.spent) }
+        ensures told { OnOk result (P.watches probes.new ≡
+            left_after (counted_steps self.old.image.code bound self.old.state) (P.watches probes.old)) }
+        ensures lines { OnOk result (map string_bytes lines.new.items ≡ map string_bytes lines.old.items
+            ++ lines_after (counted_steps self.old.image.code bound self.old.state) (P.watches probes.old)) }
+        ensures broken_off { IfErr result (λ _. BreaksOff bound self.old self.new steps.old steps.new
+            (P.watches probes.old) (P.watches probes.new) (map string_bytes lines.old.items) (map string_bytes lines.new.items)) }
+        ensures image { self.new.image ≡ self.old.image }
+        ensures machine { IsMachine self.old }
+    {
+        let _before = self.made();
+        for made in 0..bound {
+            let step = self.next_step();
+            match self.make_step(steps) {
+                None => match probes.tell(alloc, lines, step) {
+                    Ok(()) => {}
+                    Err(NoMemory) => return Err(NoMemory),
+                },
+                Some(stop) => {
+                    let spent = made + steps_of(stop);
+                    return match tell_stop(alloc, probes, lines, step, stop) {
+                        Ok(()) => Ok(RunEnd { stop, spent }),
+                        Err(NoMemory) => Err(NoMemory),
+                    };
+                }
+            }
+        }
+        Ok(RunEnd {
+            stop: self.stop_here(),
+            spent: bound,
+        })
+    }
+}

@@ -1,0 +1,3 @@
+pub mod Told
+pub mod Marking
+pub mod Folds

@@ -1,0 +1,62 @@
+-- The tallies of the three probes.
+use Rattle.std.specs.Prelude.{◌≡◌, ℕ, ◌+◌, ◌-◌, ◌^◌, ◌==◌, nat_lt, min, max, Bool, false, List, [], ◌∷◌, ◌++◌, length, sum, slice_set, codes, if◌then◌else◌}
+use Rattle.std.specs.Fmt.{decimal}
+use Rattle.rpp_probes.specs.declared.probe.StepAt.{StepAt}
+use Rattle.rpp_probes.specs.declared.coverage.TheConstants.{MOST_PLACES}
+use Rattle.rpp_probes.specs.Tally.{Watch}
+
+-- a count one higher, or at its last value
+abbrev pub risen : ℕ → ℕ
+risen count = min (count + 1) (2 ^ 64 - 1)
+
+abbrev pub never : List ℕ → Bool
+never tally = false
+
+-- the forward steps, and the backward ones
+abbrev pub steps_rule : List ℕ → StepAt → List ℕ
+steps_rule (forward ∷ back ∷ rest) step = if step.back then forward ∷ risen back ∷ [] else risen forward ∷ back ∷ []
+steps_rule tally step = tally
+
+abbrev pub steps_line : List ℕ → List ℕ
+steps_line (forward ∷ back ∷ rest) = codes "forward " ++ (decimal forward ++ (codes " back " ++ decimal back))
+steps_line tally = []
+
+abbrev pub step_tally : (forward back : ℕ) → Watch
+step_tally forward back = record { tally = forward ∷ back ∷ []; rule = steps_rule; is_end = never; shown = steps_line }
+
+-- the greatest place, where there was a step
+abbrev pub deepest_rule : List ℕ → StepAt → List ℕ
+deepest_rule [] step = step.place ∷ []
+deepest_rule (deepest ∷ rest) step = max deepest step.place ∷ []
+
+abbrev pub deepest_line : List ℕ → List ℕ
+deepest_line [] = codes "deepest none"
+deepest_line (deepest ∷ rest) = codes "deepest " ++ decimal deepest
+
+abbrev pub deepest_place : List ℕ → Watch
+deepest_place places = record { tally = places; rule = deepest_rule; is_end = never; shown = deepest_line }
+
+-- the limit, how many steps were told, and a mark for each place of the table
+abbrev pub coverage_rule : List ℕ → StepAt → List ℕ
+coverage_rule (limit ∷ steps ∷ marks) step = limit ∷ risen steps ∷ (if nat_lt step.place MOST_PLACES then slice_set marks step.place 1 else marks)
+coverage_rule tally step = tally
+
+-- the step was told with which there are as many as the limit
+abbrev pub coverage_end : List ℕ → Bool
+coverage_end (limit ∷ steps ∷ marks) = steps == limit
+coverage_end tally = false
+
+-- how many places are marked
+abbrev pub coverage_line : List ℕ → List ℕ
+coverage_line (limit ∷ steps ∷ marks) = codes "places " ++ decimal (sum marks)
+coverage_line tally = []
+
+abbrev pub coverage : (limit steps : ℕ) (marks : List ℕ) → Watch
+coverage limit steps marks = record { tally = limit ∷ steps ∷ marks; rule = coverage_rule; is_end = coverage_end; shown = coverage_line }
+
+-- no step was told, and none of the places of the table is marked
+pub record CoversNothing (limit : ℕ) (w : Watch) : Type 0 where
+  pub marks : List ℕ
+  pub is : w ≡ coverage limit 0 marks
+  pub count : length marks ≡ MOST_PLACES
+  pub unmarked : sum marks ≡ 0

@@ -1,0 +1,85 @@
+-- What a probe is, and what becomes of probes that are told the counted steps of a run.
+use Rattle.std.specs.Prelude.{◌≡◌, ℕ, Bool, false, not, ◌||◌, List, [], ◌∷◌, ◌++◌, length, map, filter, IsTrue, if◌then◌else◌}
+use Rattle.std.specs.List.{flat_map}
+use Rattle.rpp_probes.specs.declared.probe.StepAt.{StepAt}
+
+-- a tally, and what never changes: the rule from a tally and a step to the next tally, the end test of a tally, and its line
+pub record Watch : Type 0 where
+  pub tally : List ℕ
+  pub rule : List ℕ → StepAt → List ℕ
+  pub is_end : List ℕ → Bool
+  pub shown : List ℕ → List ℕ
+
+-- the end test holds of the tally
+abbrev pub has_ended : Watch → Bool
+has_ended w = w.is_end w.tally
+
+-- the line of the tally
+abbrev pub line_of : Watch → List ℕ
+line_of w = w.shown w.tally
+
+-- once a step is told
+abbrev pub told : StepAt → Watch → Watch
+told step w = record w { tally = w.rule w.tally step }
+
+-- once the steps of a run are told: the fold of the rule over them, up to and with the first step after which the end test holds
+abbrev pub told_all : List StepAt → Watch → Watch
+told_all [] w = w
+told_all (step ∷ steps) w = if has_ended (told step w) then told step w else told_all steps (told step w)
+
+-- whether there is such a step
+abbrev pub ends_in : List StepAt → Watch → Bool
+ends_in [] w = false
+ends_in (step ∷ steps) w = has_ended (told step w) || ends_in steps (told step w)
+
+-- the probes of a list that no step of a run has ended, in their order
+abbrev pub left_after : List StepAt → List Watch → List Watch
+left_after steps ws = map (told_all steps) (filter (λ w. not (ends_in steps w)) ws)
+
+-- the probes that go on behind a step
+abbrev pub going : StepAt → List Watch → List Watch
+going step ws = filter (λ w. not (has_ended w)) (map (told step) ws)
+
+-- the lines of those that end with it
+abbrev pub lines_at : StepAt → List Watch → List (List ℕ)
+lines_at step ws = map line_of (filter has_ended (map (told step) ws))
+
+-- the lines of the probes that the steps of a run end, in the order of their ends
+abbrev pub lines_after : List StepAt → List Watch → List (List ℕ)
+lines_after [] ws = []
+lines_after (step ∷ steps) ws = lines_at step ws ++ lines_after steps (going step ws)
+
+-- No memory was found for the line of a probe that ended with a step: those in front of it were told the step, and the lines
+-- of those that ended are kept; those behind it were not told.
+pub record IsCutShort (step : StepAt) (old new : List Watch) (before after : List (List ℕ)) : Type 0 where
+  pub front : List Watch
+  pub ended : Watch
+  pub behind : List Watch
+  pub parts : old ≡ front ++ ended ∷ behind
+  pub ends : IsTrue (has_ended (told step ended))
+  pub left : new ≡ going step front ++ told step ended ∷ behind
+  pub lines : after ≡ before ++ lines_at step front
+
+-- one probe of a list is told a step, and goes on or not
+pub record TellsAt (step : StepAt) (at : ℕ) (old new : List Watch) (goes : Bool) : Type 0 where
+  pub front : List Watch
+  pub one : Watch
+  pub behind : List Watch
+  pub parts : old ≡ front ++ one ∷ behind
+  pub count : length front ≡ at
+  pub left : new ≡ front ++ told step one ∷ behind
+  pub goes_on : goes ≡ not (has_ended (told step one))
+
+-- one probe of a list is dropped, and its line kept
+pub record DropsAt (at : ℕ) (old new : List Watch) (before after : List (List ℕ)) : Type 0 where
+  pub front : List Watch
+  pub one : Watch
+  pub behind : List Watch
+  pub parts : old ≡ front ++ one ∷ behind
+  pub count : length front ≡ at
+  pub left : new ≡ front ++ behind
+  pub line : after ≡ before ++ line_of one ∷ []
+
+-- lines as they are printed, each with a line feed
+abbrev pub lines_shown : List (List ℕ) → List ℕ
+lines_shown lines = flat_map (λ line. line ++ 10 ∷ []) lines

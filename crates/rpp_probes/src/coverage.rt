@@ -1,0 +1,83 @@
+// Which places a run has come to.
+ghost use Rattle.std.specs.Prelude.{◌≡◌, ◌+◌, ◌<◌, ◌≤◌, ◌^◌, IfOk, length, slice_set, sum, vec_len};
+ghost use Rattle.rpp_probes.specs.declared.coverage.TheConstants.{MOST_PLACES};
+ghost use Rattle.rpp_probes.specs.Marks.{AreMarks};
+ghost use Rattle.rpp_probes.specs.Rules.{coverage, CoversNothing};
+
+use crate::Probe;
+use rpp_words::NoMemory;
+use std::alloc::{AllocError, Global};
+
+/// How many places the table has.
+pub const MOST_PLACES: u32 = 4_194_304;
+
+/// Marks the places below 4,194,304, and ends with the step with which it was told as many as its limit. Where the limit is 0,
+/// it never ends.
+#[derive(Drop)]
+pub struct Coverage {
+    limit: u64,
+    steps: u64,
+    places: u64,
+    marks: Vec<u8>,
+    ghost whole: { length marks.items ≡ MOST_PLACES },
+    ghost are_marks: { AreMarks marks.items },
+    ghost counted: { sum marks.items ≡ places },
+}
+
+// A table of so many places, none of which is marked.
+fn unmarked(alloc: Global, count: usize) -> Result<Vec<u8>, AllocError>
+    ensures count { IfOk result (λ marks. length marks.items ≡ count) }
+    ensures marks { IfOk result (λ marks. AreMarks marks.items) }
+    ensures nothing { IfOk result (λ marks. sum marks.items ≡ 0) }
+{
+    let mut marks = Vec::with_capacity(alloc, count)?;
+    marks.resize(count, 0)?;
+    Ok(marks)
+}
+
+// Marks a place, and answers how many places more are marked.
+fn mark(marks: &mut Vec<u8>, place: usize) -> u64
+    requires place { place < length marks.old.items }
+    requires marks { AreMarks marks.old.items }
+    ensures marked { marks.new.items ≡ slice_set marks.old.items place 1 }
+    ensures more { sum marks.new.items ≡ sum marks.old.items + result }
+    ensures marks { AreMarks marks.new.items }
+    ensures few { sum marks.new.items ≤ length marks.new.items }
+{
+    let old = marks[place];
+    marks[place] = 1;
+    u64::from(1 - old)
+}
+
+impl Coverage {
+    /// No place so far, with the number of the step at which it ends.
+    pub fn new(alloc: Global, limit: u64) -> Result<Coverage, NoMemory>
+        requires { limit < 2 ^ 63 }
+        ensures { IfOk result (λ probe. CoversNothing limit (⟦<Coverage as Probe>⟧.watch probe)) }
+    {
+        Ok(Coverage {
+            limit,
+            steps: 0,
+            places: 0,
+            marks: unmarked(alloc, MOST_PLACES as usize)?,
+        })
+    }
+}
+
+impl Probe for Coverage {
+    ghost watch = { λ p. coverage p.limit p.steps p.marks.items };
+
+    fn told(&mut self, pc: u32, _back: bool) -> bool {
+        if pc < MOST_PLACES {
+            self.places += mark(&mut self.marks, pc as usize);
+        }
+        self.steps = self.steps.saturating_add(1);
+        self.steps != self.limit
+    }
+
+    fn line(&self, out: &mut String) -> Result<(), NoMemory> {
+        let places = self.places;
+        let line = format!(in *out.allocator(); "places {places}")?;
+        Ok(out.push_str(line.as_str())?)
+    }
+}

@@ -1,0 +1,137 @@
+// Telling a list of probes.
+ghost use Rattle.std.specs.Prelude.{◌≡◌, ◌+◌, ◌<◌, ◌++◌, List, not, map, vec_len, IfOk, IfErr, OnOk, OnErr, string_bytes};
+ghost use Rattle.rpp_probes.specs.Tally.{Watch, told, has_ended, line_of as line_shown, going, lines_at, IsCutShort, TellsAt, DropsAt, lines_shown};
+
+use crate::{Probe, StepAt};
+use rpp_words::NoMemory;
+use std::alloc::Global;
+
+// Tells a probe, and answers whether it goes on.
+fn tell(probe: &mut Box<dyn Probe>, step: StepAt) -> bool
+    ensures told { watch probe.new ≡ told step (watch probe.old) }
+    ensures goes_on { result ≡ not (has_ended (watch probe.new)) }
+{
+    probe.told(step.place, step.back)
+}
+
+// Appends the line of a probe.
+fn add_line(probe: &Box<dyn Probe>, out: &mut String) -> Result<(), NoMemory>
+    ensures ok { OnOk result (string_bytes out.new ≡ string_bytes out.old ++ line_shown (watch probe.now)) }
+    ensures err { OnErr result (string_bytes out.new ≡ string_bytes out.old) }
+{
+    probe.line(out)
+}
+
+// The line of a probe.
+fn line_of(alloc: Global, probe: &Box<dyn Probe>) -> Result<String, NoMemory>
+    ensures { IfOk result (λ line. string_bytes line ≡ line_shown (watch probe.now)) }
+{
+    let mut line = String::new(alloc);
+    match add_line(probe, &mut line) {
+        Ok(()) => Ok(line),
+        Err(NoMemory) => Err(NoMemory),
+    }
+}
+
+// Tells the probe at a place of the list, and answers whether it goes on.
+fn tell_at(probes: &mut Vec<Box<dyn Probe>>, at: usize, step: StepAt) -> bool
+    requires { at < vec_len probes.old }
+    ensures told { TellsAt step at (map watch probes.old.items) (map watch probes.new.items) result }
+    ensures count { vec_len probes.new ≡ vec_len probes.old }
+{
+    tell(&mut probes[at], step)
+}
+
+// Keeps the line of a probe that has ended, and drops the probe.
+fn drop_at(
+    alloc: Global,
+    probes: &mut Vec<Box<dyn Probe>>,
+    lines: &mut Vec<String>,
+    at: usize,
+) -> Result<(), NoMemory>
+    requires { at < vec_len probes.old }
+    ensures dropped { IfOk result (λ _. DropsAt at (map watch probes.old.items) (map watch probes.new.items)
+        (map string_bytes lines.old.items) (map string_bytes lines.new.items)) }
+    ensures count { OnOk result (vec_len probes.new + 1 ≡ vec_len probes.old) }
+    ensures kept { OnErr result (map watch probes.new.items ≡ map watch probes.old.items) }
+    ensures lines { OnErr result (map string_bytes lines.new.items ≡ map string_bytes lines.old.items) }
+{
+    let line = line_of(alloc, &probes[at])?;
+    lines.push(line)?;
+    let _ended = probes.remove(at);
+    Ok(())
+}
+
+// Tells each probe of a list a step, in the order of the list.
+fn tell_all(
+    alloc: Global,
+    probes: &mut Vec<Box<dyn Probe>>,
+    lines: &mut Vec<String>,
+    step: StepAt,
+) -> Result<(), NoMemory>
+    ensures told { OnOk result (map watch probes.new.items ≡ going step (map watch probes.old.items)) }
+    ensures lines { OnOk result (map string_bytes lines.new.items ≡
+        map string_bytes lines.old.items ++ lines_at step (map watch probes.old.items)) }
+    ensures cut_short { IfErr result (λ _. IsCutShort step (map watch probes.old.items) (map watch probes.new.items)
+        (map string_bytes lines.old.items) (map string_bytes lines.new.items)) }
+{
+    let mut at = 0;
+    while at < probes.len() {
+        if tell_at(probes, at, step) {
+            at += 1;
+        } else {
+            match drop_at(alloc, probes, lines, at) {
+                Ok(()) => {}
+                Err(NoMemory) => return Err(NoMemory),
+            }
+        }
+    }
+    Ok(())
+}
+
+// Appends the lines of the probes of a list, in its order, each with a line feed.
+fn add_lines(probes: &[Box<dyn Probe>], out: &mut String) -> Result<(), NoMemory>
+    ensures { OnOk result (string_bytes out.new ≡ string_bytes out.old ++ lines_shown (map line_shown (map watch probes.now))) }
+{
+    for probe in probes {
+        add_line(probe, out)?;
+        out.push('\n')?;
+    }
+    Ok(())
+}
+
+/// Probes that watch a run together, in an order. A layer that tells them takes any such list, and never sees what it holds.
+pub trait Probes {
+    /// The probes, in their order.
+    ghost watches: { Self → List Watch };
+
+    /// Tells each probe a step. The line of each that ends with it is added to `lines`, and the probe is dropped; the others keep
+    /// their order. Where no memory is found for a line, its probe stays, and those behind it are not told.
+    fn tell(&mut self, alloc: Global, lines: &mut Vec<String>, step: StepAt) -> Result<(), NoMemory>
+        ensures told { OnOk result (watches self.new ≡ going step (watches self.old)) }
+        ensures lines { OnOk result (map string_bytes lines.new.items ≡
+            map string_bytes lines.old.items ++ lines_at step (watches self.old)) }
+        ensures cut_short { IfErr result (λ _. IsCutShort step (watches self.old) (watches self.new)
+            (map string_bytes lines.old.items) (map string_bytes lines.new.items)) };
+
+    /// Appends the lines of the probes, each with a line feed.
+    fn show(&self, out: &mut String) -> Result<(), NoMemory>
+        ensures { OnOk result (string_bytes out.new ≡ string_bytes out.old ++ lines_shown (map line_shown (watches self.now))) };
+}
+
+impl Probes for Vec<Box<dyn Probe>> {
+    ghost watches = { λ probes. map (λ b. (Probe-box b).watch b.value) probes.items };
+
+    fn tell(
+        &mut self,
+        alloc: Global,
+        lines: &mut Vec<String>,
+        step: StepAt,
+    ) -> Result<(), NoMemory> {
+        tell_all(alloc, self, lines, step)
+    }
+
+    fn show(&self, out: &mut String) -> Result<(), NoMemory> {
+        add_lines(self, out)
+    }
+}
