@@ -1,9 +1,9 @@
 -- Images, one after the other.
-use Rattle.std.proofs.Common.{◌≡◌, ◌∙◌, sym, ap, refl, ℕ, ◌+◌, ◌<◌, ◌≤◌, List, [], ◌∷◌, ◌++◌, length, map, get_or, drop, drop_of_length-le, append_assoc, append-nil, Result, Ok, Err, arith}
+use Rattle.std.proofs.Common.{◌≡◌, ◌∙◌, sym, ap, refl, ℕ, ◌+◌, ◌<◌, ◌≤◌, List, [], ◌∷◌, ◌++◌, length, map, get_or, drop, drop_of_length-le, append_assoc, append-nil, Result, Ok, Err}
 use Rattle.pisa_isa.specs.Image.{Segments}
 use Rattle.pisa_isa.specs.Notes.{NotedImage}
 use Rattle.pisa_image.specs.declared.error.ImageError.{ImageError}
-use Rattle.pisa_image.specs.declared.error.ImageError.TheVariants.{NotOneToOne, NoStart, NoFinish, ImageTruncated, ImageMagic, ImageField, ImageTrailing, NoMemory}
+use Rattle.pisa_image.specs.declared.error.ImageError.TheVariants.{NoMemory}
 use Rattle.pisa_image.specs.Reading.{image_at, Fails}
 use Rattle.cluster_commands.specs.ClusterPlans.{with_image, images_at}
 use Rattle.cluster_commands.proofs.Fronts.{front_line}

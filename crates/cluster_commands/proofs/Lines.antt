@@ -1,5 +1,5 @@
 -- The lines of processors and cells, one after the other.
-use Rattle.std.proofs.Common.{◌≡◌, ◌∙◌, sym, ap, refl, ℕ, zero, suc, ◌+◌, List, [], ◌∷◌, ◌++◌, drop, slice_get, option_map, Option, Some, None, append_assoc, arith}
+use Rattle.std.proofs.Common.{◌≡◌, ◌∙◌, sym, ap, ℕ, zero, suc, List, [], ◌∷◌, ◌++◌, drop, slice_get, option_map, Some, append_assoc}
 use Rattle.std.proofs.lemmas.Option.{same_Some}
 use Rattle.pisa_isa.specs.declared.machine.Core.{Core}
 use Rattle.pisa_cluster.specs.declared.processor.Processor.{Processor}

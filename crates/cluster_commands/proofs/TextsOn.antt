@@ -1,5 +1,5 @@
 -- The texts of image files, one after the other.
-use Rattle.std.proofs.Common.{◌≡◌, ◌∙◌, sym, ap, subst, refl, ℕ, ◌≤◌, List, [], ◌∷◌, ◌++◌, length, Option, Some, None, Result, Ok, Err, append_assoc}
+use Rattle.std.proofs.Common.{◌≡◌, ◌∙◌, sym, ap, subst, ℕ, ◌≤◌, List, [], ◌∷◌, ◌++◌, length, Option, Some, None, Result, Ok, Err, append_assoc}
 use Rattle.std.specs.Prelude.{IsSomeAnd, IfSome, IfOk}
 use Rattle.rpp_ports.specs.Ports.{Texts}
 use Rattle.rpp_plan.specs.declared.reading.TheConstants.{MOST_IMAGE}

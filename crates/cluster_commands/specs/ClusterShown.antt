@@ -1,5 +1,5 @@
 -- What a cluster prints: a line for each event, and then how it ends.
-use Rattle.std.specs.Prelude.{◌≡◌, ℕ, zero, suc, Bool, nat_eq, if◌then◌else◌, List, [], ◌∷◌, ◌++◌, length, Option, Some, None, codes}
+use Rattle.std.specs.Prelude.{◌≡◌, ℕ, zero, suc, nat_eq, if◌then◌else◌, List, [], ◌∷◌, ◌++◌, length, Option, Some, None, codes}
 use Rattle.std.specs.Fmt.{decimal, signed_decimal}
 use Rattle.rpp_words.specs.Texts.{line_end}
 use Rattle.pisa_isa.specs.declared.machine.Stop.{Stop}

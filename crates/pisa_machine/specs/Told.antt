@@ -1,7 +1,7 @@
 -- What a run tells probes.
 use Rattle.std.specs.Prelude.{◌≡◌, ◌<◌, ◌+◌, ℕ, ℤ, pos, negsuc, List, [], ◌∷◌, ◌++◌, map}
 use Rattle.pisa_isa.specs.declared.cell.Cell.{Cell}
-use Rattle.pisa_isa.specs.Machine.{State, stop, next}
+use Rattle.pisa_isa.specs.Machine.{State}
 use Rattle.pisa_isa.specs.Runs.{run, visited, made_in}
 use Rattle.rpp_probes.specs.declared.probe.StepAt.{StepAt}
 use Rattle.rpp_probes.specs.Tally.{Watch, left_after, lines_after, IsCutShort}

@@ -2,3 +2,4 @@ pub mod Reported
 pub mod Turned
 pub mod ValidInput
 pub mod ProgramTargets
+pub mod Telling

@@ -1,5 +1,5 @@
 -- A plan of a command on programs writes its target, or nothing.
-use Rattle.std.proofs.Common.{ℕ, Bool, true, false, List, [], None, Some, Ok, Err, inl, inr, refl}
+use Rattle.std.proofs.Common.{◌≡◌, ℕ, Bool, true, false, List, [], None, Some, Ok, Err, inl, inr, refl}
 use Rattle.std.specs.declared.option.Option.{Option}
 use Rattle.std.specs.Prelude.{Result}
 use Rattle.rpp_words.specs.declared.input.Limits.{Limits}
@@ -15,6 +15,12 @@ use Rattle.program_codegen.specs.declared.unbuilt.Unbuilt.{Unbuilt}
 use Rattle.program_codegen.specs.Unbuilt.{unbuilt}
 use Rattle.rpp_plan.specs.Plans.{Planned, WithInput, WritesOnly}
 use Rattle.program_commands.specs.ProgramPlans.{IfBuilt, OfProgram, IsBuiltPlan, IsBuiltImage, WritesImage, IsCheckPlan, IsCompilePlan, ChecksFile, CompilesFile, GoesOn, IsLimitedPlan, IsInputPlan, IsGoPlan, ReportsStop}
+use Rattle.roopl_semantics.specs.Run.{Run, Done as OverWith, Fault, More}
+use Rattle.roopl_semantics.specs.Store.{State}
+use Rattle.roopl_semantics.specs.Source.{source}
+use Rattle.pisa_loader.specs.Limiting.{limits_refusal}
+use Rattle.source_meaning.specs.declared.whole.TheConstants.{MOST_OPEN}
+use Rattle.program_commands.specs.Explained.{explained, IsExplainedInput, IsExplainedWithin, IsExplainPlan, Explains}
 use Rattle.rpp_plan.proofs.Writes.{of_text, along}
 
 stop_writes : (turns : Bool) (why : Stop) (program : Source) (limits : Limits) (input : List FieldWord) (cells first : List ℕ) (spent steps : ℕ) (p : Planned) → ReportsStop turns why program limits input cells first spent steps p → WritesOnly p None
@@ -69,3 +75,28 @@ compiles_file_writes file image texts p h = of_text (texts file) _ _ (WritesOnly
 pub goes_on_writes : (turns : Bool) (file : List ℕ) (input : Option (List ℕ)) (heap deep steps : ℕ) (texts : Texts) (p : Planned) → GoesOn turns file input heap deep steps texts p → WritesOnly p None
 goes_on_writes turns file input heap deep steps texts p h =
     of_text (texts file) _ _ (WritesOnly p None) h (λ text g. of_input turns texts input text heap deep steps p g)
+
+explained_writes : (program : Source) (run : Run State) (p : Planned) → p ≡ explained program run → WritesOnly p None
+explained_writes program (OverWith end cost) p h = along p _ None h (inl refl)
+explained_writes program (Fault code cost) p h = along p _ None h (inl refl)
+explained_writes program More p h = along p _ None h (inl refl)
+
+explained_input_writes : (input : Result (List FieldWord) LoadError) (program : Source) (limits : Limits) (fuel : ℕ) (p : Planned) → IsExplainedInput input program limits fuel p → WritesOnly p None
+explained_input_writes (Err e) program limits fuel p h = along p _ None h (inl refl)
+explained_input_writes (Ok input) program limits fuel p h = explained_writes program (source program limits input fuel) p h
+
+explained_within_writes : (refusal : Option LoadError) (given : List ℕ) (program : Source) (limits : Limits) (fuel : ℕ) (p : Planned) → IsExplainedWithin refusal given program limits fuel p → WritesOnly p None
+explained_within_writes (Some e) given program limits fuel p h = along p _ None h (inl refl)
+explained_within_writes None given program limits fuel p h = explained_input_writes (given_input program given) program limits fuel p h
+
+explain_writes : (text given : List ℕ) (heap deep fuel : ℕ) (p : Planned) → IsExplainPlan text given heap deep fuel p → WritesOnly p None
+explain_writes text given heap deep fuel p g =
+    judged_writes g.judgement _ None p (λ program q h. explained_within_writes (limits_refusal heap deep MOST_OPEN) given program (record { heap = heap; deep = deep }) fuel q h) g.plan
+
+explain_of_input : (texts : Texts) (input : Option (List ℕ)) (text : List ℕ) (heap deep fuel : ℕ) (p : Planned) → WithInput texts input (λ given. IsExplainPlan text given heap deep fuel p) → WritesOnly p None
+explain_of_input texts None text heap deep fuel p g = explain_writes text [] heap deep fuel p g
+explain_of_input texts (Some name) text heap deep fuel p h = of_text (texts name) _ _ (WritesOnly p None) h (λ given g. explain_writes text given heap deep fuel p g)
+
+pub explains_writes : (file : List ℕ) (input : Option (List ℕ)) (heap deep fuel : ℕ) (texts : Texts) (p : Planned) → Explains file input heap deep fuel texts p → WritesOnly p None
+explains_writes file input heap deep fuel texts p h =
+    of_text (texts file) _ _ (WritesOnly p None) h (λ text g. explain_of_input texts input text heap deep fuel p g)

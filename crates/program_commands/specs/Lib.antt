@@ -1,3 +1,4 @@
 pub mod ProgramPlans
 pub mod GoRun
 pub mod Inputs
+pub mod Explained

@@ -4,10 +4,12 @@
 
 mod checking;
 mod compiling;
+mod explaining;
 mod going;
 mod settable;
 mod turning;
 
 pub use checking::check;
 pub use compiling::compile_file;
+pub use explaining::explain;
 pub use going::{Request, go};

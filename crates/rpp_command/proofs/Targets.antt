@@ -2,11 +2,11 @@
 use Rattle.std.proofs.Common.{ℕ, true, false, List, None, Some, inl, inr, option_map, IfSome, subst}
 use Rattle.std.specs.declared.option.Option.{Option}
 use Rattle.rpp_ports.specs.Ports.{Texts}
-use Rattle.rpp_command.specs.Lines.{Asked, Check, Compile, Asm, ListImage, Flip, ShowInverse, Generate, Cluster, RunImage, Debug, Go, Turn}
+use Rattle.rpp_command.specs.Lines.{Asked, Check, Compile, Asm, ListImage, Flip, ShowInverse, Generate, Cluster, RunImage, Debug, Go, Turn, Explain}
 use Rattle.rpp_plan.specs.Plans.{Planned, Written, WritesOnly}
 use Rattle.rpp_command.specs.Plans.{IsPlan}
 use Rattle.rpp_command.specs.Causes.{target_of, KeepsButTarget}
-use Rattle.program_commands.proofs.ProgramTargets.{checks_file_writes, compiles_file_writes, goes_on_writes}
+use Rattle.program_commands.proofs.ProgramTargets.{checks_file_writes, compiles_file_writes, goes_on_writes, explains_writes}
 use Rattle.cluster_commands.proofs.ClusterTargets.{clusters_files_writes}
 use Rattle.text_commands.proofs.TextTargets.{shows_inverse_writes, generates_writes}
 use Rattle.image_commands.proofs.ImageTargets.{assembles_file_writes, lists_file_writes, flips_file_writes, runs_file_writes, debugs_file_writes}
@@ -25,6 +25,7 @@ plan_writes (RunImage image heap deep steps state save) texts p h = runs_file_wr
 plan_writes (Debug image heap deep script) texts p h = debugs_file_writes image heap deep script texts p h
 plan_writes (Go file heap deep steps input) texts p h = goes_on_writes false file input heap deep steps texts p h
 plan_writes (Turn file heap deep steps input) texts p h = goes_on_writes true file input heap deep steps texts p h
+plan_writes (Explain file heap deep fuel input) texts p h = explains_writes file input heap deep fuel texts p h
 
 -- where nothing is written, each name keeps its text
 kept_all : (old new : Option Texts) (name : Option (List ℕ)) → KeepsButTarget old new None → KeepsButTarget old new name

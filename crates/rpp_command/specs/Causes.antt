@@ -2,7 +2,7 @@
 use Rattle.std.specs.Prelude.{◌≡◌, ℕ, List, [], ◌∷◌, ⊤, None, Some}
 use Rattle.std.specs.declared.option.Option.{Option}
 use Rattle.rpp_ports.specs.Ports.{Texts, KeepsOthers}
-use Rattle.rpp_command.specs.Lines.{Asked, Check, Compile, Asm, ListImage, Flip, ShowInverse, Generate, Cluster, RunImage, Debug, Go, Turn}
+use Rattle.rpp_command.specs.Lines.{Asked, Check, Compile, Asm, ListImage, Flip, ShowInverse, Generate, Cluster, RunImage, Debug, Go, Turn, Explain}
 use Rattle.rpp_plan.specs.Files.{Needed, source, assembly, image_file, input_files, state_files}
 use Rattle.image_commands.specs.DebugPlans.{script_file}
 use Rattle.cluster_commands.specs.ClusterPlans.{cluster_files}
@@ -21,6 +21,7 @@ files_of (RunImage image heap deep steps state save) = image_file image ∷ stat
 files_of (Debug image heap deep script) = image_file image ∷ script_file script ∷ []
 files_of (Go file heap deep steps given) = source file ∷ input_files given
 files_of (Turn file heap deep steps given) = source file ∷ input_files given
+files_of (Explain file heap deep fuel given) = source file ∷ input_files given
 
 -- the files that the words have read, none where they are no line
 abbrev pub needed : Option Asked → List Needed
@@ -41,6 +42,7 @@ target_of (RunImage image heap deep steps state save) = save
 target_of (Debug image heap deep script) = None
 target_of (Go file heap deep steps given) = None
 target_of (Turn file heap deep steps given) = None
+target_of (Explain file heap deep fuel given) = None
 
 -- the file that the words may have written
 abbrev pub target : Option Asked → Option (List ℕ)

@@ -21,6 +21,7 @@ pub data Asked : Type 0 where
   Debug : (image : List ℕ) (heap deep : ℕ) (script : List ℕ) → Asked
   Go : (file : List ℕ) (heap deep steps : ℕ) (input : Option (List ℕ)) → Asked
   Turn : (file : List ℕ) (heap deep steps : ℕ) (input : Option (List ℕ)) → Asked
+  Explain : (file : List ℕ) (heap deep fuel : ℕ) (input : Option (List ℕ)) → Asked
 
 abbrev pub asked : Line → Asked
 asked (line.Check file) = Check (string_bytes file)
@@ -35,6 +36,7 @@ asked (line.Run image heap deep steps names) = RunImage (string_bytes image) hea
 asked (line.Debug image heap deep script) = Debug (string_bytes image) heap deep (string_bytes script)
 asked (line.Go file heap deep steps input) = Go (string_bytes file) heap deep steps (option_map string_bytes input)
 asked (line.Turn file heap deep steps input) = Turn (string_bytes file) heap deep steps (option_map string_bytes input)
+asked (line.Explain file heap deep fuel input) = Explain (string_bytes file) heap deep fuel (option_map string_bytes input)
 
 -- the number after the digits so far, if the rest are digits
 abbrev pub digits_after : ℕ → List ℕ → Option ℕ
@@ -59,6 +61,16 @@ abbrev pub go_line_of : (turns : Bool) → List (List ℕ) → Option Asked
 go_line_of turns (file ∷ heap ∷ deep ∷ steps ∷ []) = go_with turns file (number_of heap) (number_of deep) (number_of steps) None
 go_line_of turns (file ∷ heap ∷ deep ∷ steps ∷ input ∷ []) = go_with turns file (number_of heap) (number_of deep) (number_of steps) (Some input)
 go_line_of turns _ = None
+
+-- a file, an order of the heap, a depth, the most that a run may cost, and the file of an input, if there is one
+abbrev pub explain_with : List ℕ → Option ℕ → Option ℕ → Option ℕ → Option (List ℕ) → Option Asked
+explain_with file (Some heap) (Some deep) (Some fuel) input = Some (Explain file heap deep fuel input)
+explain_with file _ _ _ input = None
+
+abbrev pub explain_line_of : List (List ℕ) → Option Asked
+explain_line_of (file ∷ heap ∷ deep ∷ fuel ∷ []) = explain_with file (number_of heap) (number_of deep) (number_of fuel) None
+explain_line_of (file ∷ heap ∷ deep ∷ fuel ∷ input ∷ []) = explain_with file (number_of heap) (number_of deep) (number_of fuel) (Some input)
+explain_line_of _ = None
 
 -- an image, an order of the heap, a depth, a number of steps, and the files of two states, if there are such
 abbrev pub run_with : List ℕ → Option ℕ → Option ℕ → Option ℕ → (state save : Option (List ℕ)) → Option Asked
@@ -117,23 +129,29 @@ abbrev pub files_line_of : (List ℕ → List ℕ → Asked) → List (List ℕ)
 files_line_of make (from ∷ to ∷ []) = Some (make from to)
 files_line_of make _ = None
 
+-- the line of a command on sources
+unfoldable pub source_line_of : (name : List ℕ) → List (List ℕ) → Option Asked
+source_line_of name args =
+    if bytes_eq name (codes "check") then check_line_of args
+    else if bytes_eq name (codes "compile") then files_line_of Compile args
+    else if bytes_eq name (codes "show-inverse") then files_line_of ShowInverse args
+    else if bytes_eq name (codes "generate") then generate_line_of args
+    else if bytes_eq name (codes "go") then go_line_of false args
+    else if bytes_eq name (codes "turn") then go_line_of true args
+    else if bytes_eq name (codes "explain") then explain_line_of args
+    else None
+
 -- the line that the words are, if they are one
 unfoldable pub line_of : List (List ℕ) → Option Asked
 line_of [] = None
 line_of (name ∷ args) =
-    if bytes_eq name (codes "check") then check_line_of args
-    else if bytes_eq name (codes "compile") then files_line_of Compile args
-    else if bytes_eq name (codes "asm") then files_line_of Asm args
+    if bytes_eq name (codes "asm") then files_line_of Asm args
     else if bytes_eq name (codes "list") then files_line_of ListImage args
     else if bytes_eq name (codes "flip") then files_line_of Flip args
-    else if bytes_eq name (codes "show-inverse") then files_line_of ShowInverse args
-    else if bytes_eq name (codes "generate") then generate_line_of args
-    else if bytes_eq name (codes "cluster") then cluster_line_of args
     else if bytes_eq name (codes "run") then run_line_of args
     else if bytes_eq name (codes "debug") then debug_line_of args
-    else if bytes_eq name (codes "go") then go_line_of false args
-    else if bytes_eq name (codes "turn") then go_line_of true args
-    else None
+    else if bytes_eq name (codes "cluster") then cluster_line_of args
+    else source_line_of name args
 
 -- the numbers of a line that are no sizes of texts have at most 18 digits; those of `cluster` are in their ranges
 abbrev pub HasShortNumbers : Asked → Type 0
@@ -149,3 +167,4 @@ HasShortNumbers (RunImage image heap deep steps state save) = (heap < 10 ^ 18) �
 HasShortNumbers (Debug image heap deep script) = (heap < 10 ^ 18) × (deep < 10 ^ 18)
 HasShortNumbers (Go file heap deep steps input) = (heap < 10 ^ 18) × (deep < 10 ^ 18) × (steps < 10 ^ 18)
 HasShortNumbers (Turn file heap deep steps input) = (heap < 10 ^ 18) × (deep < 10 ^ 18) × (steps < 10 ^ 18)
+HasShortNumbers (Explain file heap deep fuel input) = (heap < 10 ^ 18) × (deep < 10 ^ 18) × (fuel < 10 ^ 18)

@@ -15,6 +15,8 @@ mod cluster_tests;
 #[cfg(test)]
 mod debug_tests;
 #[cfg(test)]
+mod explain_tests;
+#[cfg(test)]
 mod image_tests;
 #[cfg(test)]
 mod run_tests;

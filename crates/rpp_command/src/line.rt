@@ -1,6 +1,6 @@
 // What the words ask for.
 ghost use Rattle.std.specs.Prelude.{◌≡◌, ◌<◌, ◌≤◌, ◌^◌, map, option_map, IfOk, IfSome, string_bytes};
-ghost use Rattle.rpp_command.specs.Lines.{asked, line_of, check_line_of, files_line_of, Compile, Asm, ListImage, Flip, ShowInverse, generate_line_of, generate_with as generate_asked, items_of, cluster_line_of, cluster_with as cluster_asked, common_of, run_line_of, run_with as run_asked, debug_line_of, debug_with as debug_asked, go_line_of, go_with as go_asked, number_of, HasShortNumbers};
+ghost use Rattle.rpp_command.specs.Lines.{asked, line_of, source_line_of, check_line_of, files_line_of, Compile, Asm, ListImage, Flip, ShowInverse, generate_line_of, generate_with as generate_asked, items_of, cluster_line_of, cluster_with as cluster_asked, common_of, run_line_of, run_with as run_asked, debug_line_of, debug_with as debug_asked, go_line_of, go_with as go_asked, explain_line_of, explain_with as explain_asked, number_of, HasShortNumbers};
 ghost use Rattle.rpp_plan.specs.Files.{state_of_names, save_of_names};
 
 use rpp_plan::StateNames;
@@ -84,6 +84,15 @@ pub enum Line {
         steps: u64,
         input: Option<String>,
     },
+    /// Interprets a program: its file, the order of the heap, the depth, the most that it may cost,
+    /// and the file of its input, if there is one.
+    Explain {
+        file: String,
+        heap: u64,
+        deep: u64,
+        fuel: u64,
+        input: Option<String>,
+    },
 }
 
 /// The line that the words are, if they are one.
@@ -96,18 +105,30 @@ pub fn read_words(alloc: Global, words: &[String]) -> Result<Option<Line>, NoMem
         return Ok(None);
     };
     match name.as_str() {
-        "check" => check_line(args),
-        "compile" => compile_line(args),
         "asm" => asm_line(args),
         "list" => list_line(args),
         "flip" => flip_line(args),
-        "show-inverse" => show_inverse_line(args),
-        "generate" => generate_line(args),
-        "cluster" => cluster_line(alloc, args),
         "run" => run_line(args),
         "debug" => debug_line(args),
+        "cluster" => cluster_line(alloc, args),
+        other => source_line(other, args),
+    }
+}
+
+// The line of a command on sources.
+#[tactic(auto, unfolding(crate::specs::Lines::source_line_of))]
+fn source_line(name: &str, args: &[String]) -> Result<Option<Line>, NoMemory>
+    ensures line { IfOk result (λ line. option_map asked line ≡ source_line_of name.now (map string_bytes args.now)) }
+    ensures numbers { IfOk result (λ line. IfSome line (λ line. HasShortNumbers (asked line))) }
+{
+    match name {
+        "check" => check_line(args),
+        "compile" => compile_line(args),
+        "show-inverse" => show_inverse_line(args),
+        "generate" => generate_line(args),
         "go" => go_line(args, false),
         "turn" => go_line(args, true),
+        "explain" => explain_line(args),
         _ => Ok(None),
     }
 }
@@ -385,6 +406,47 @@ fn go_with(
         heap,
         deep,
         steps,
+        input,
+    }))
+}
+
+fn explain_line(args: &[String]) -> Result<Option<Line>, NoMemory>
+    ensures line { IfOk result (λ line. option_map asked line ≡ explain_line_of (map string_bytes args.now)) }
+    ensures numbers { IfOk result (λ line. IfSome line (λ line. HasShortNumbers (asked line))) }
+{
+    match args {
+        [file, heap, deep, fuel] => explain_with(file, heap, deep, fuel, None),
+        [file, heap, deep, fuel, input] => {
+            explain_with(file, heap, deep, fuel, Some(input.clone()?))
+        }
+        _ => Ok(None),
+    }
+}
+
+fn explain_with(
+    file: &String,
+    heap: &String,
+    deep: &String,
+    fuel: &String,
+    input: Option<String>,
+) -> Result<Option<Line>, NoMemory>
+    ensures line { IfOk result (λ line. option_map asked line ≡ explain_asked (string_bytes file.now) (number_of (string_bytes heap.now)) (number_of (string_bytes deep.now)) (number_of (string_bytes fuel.now)) (option_map string_bytes input)) }
+    ensures numbers { IfOk result (λ line. IfSome line (λ line. HasShortNumbers (asked line))) }
+{
+    let Some(heap) = read_number(heap.as_str()) else {
+        return Ok(None);
+    };
+    let Some(deep) = read_number(deep.as_str()) else {
+        return Ok(None);
+    };
+    let Some(fuel) = read_number(fuel.as_str()) else {
+        return Ok(None);
+    };
+    Ok(Some(Line::Explain {
+        file: file.clone()?,
+        heap,
+        deep,
+        fuel,
         input,
     }))
 }

@@ -13,7 +13,7 @@ use crate::line::{Line, read_words};
 use cluster_commands::cluster;
 use image_commands::{Room, asm, debug, flip, list, run};
 use pisa_machine::Steps;
-use program_commands::{Request, check, compile_file, go};
+use program_commands::{Request, check, compile_file, explain, go};
 use rpp_plan::{NoPlan, Plan, Sizes, Verdict};
 use rpp_ports::{Shelf, Sink};
 use rpp_probes::Probe;
@@ -230,6 +230,23 @@ fn plan_line<S: Shelf, L: Ledger>(
                 },
             },
             counter,
+        ),
+        Line::Explain {
+            file,
+            heap,
+            deep,
+            fuel,
+            input,
+        } => explain(
+            alloc,
+            shelf,
+            file.as_str(),
+            input,
+            Sizes {
+                heap: *heap,
+                deep: *deep,
+                bound: *fuel,
+            },
         ),
     }
 }

@@ -1,6 +1,6 @@
 -- Two reads one after the other.
-use Rattle.std.proofs.Common.{subst, ℕ, ◌-◌, ◌≤◌, List, [], ◌∷◌, Some, None, Ok, Err, inl, inr, arith, ⊎_elim}
-use Rattle.std.specs.Prelude.{◌⊎◌, Result, IfSome, string_bytes}
+use Rattle.std.proofs.Common.{subst, ℕ, ◌≤◌, List, [], ◌∷◌, Some, None, Ok, Err, inl, inr, arith, ⊎_elim}
+use Rattle.std.specs.Prelude.{Result, IfSome, string_bytes}
 use Rattle.std.specs.declared.option.Option.{Option}
 use Rattle.std.proofs.lemmas.Bool.Decides.{nat_tests}
 use Rattle.rpp_ports.specs.Ports.{Texts, Rose, ReadCause}

@@ -1,5 +1,5 @@
 -- Methods that run, and calls.
-use Rattle.std.proofs.Common.{◌≡◌, ℕ, zero, suc, ◌+◌, ◌-◌, ◌<◌, ◌≤◌, refl, sym, ap, subst, ◌∙◌, arith, List, [], ◌∷◌, ◌++◌, length, map, take, Bool, true, false, Some, None}
+use Rattle.std.proofs.Common.{◌≡◌, ℕ, zero, suc, ◌+◌, ◌≤◌, refl, sym, ap, subst, ◌∙◌, arith, List, [], ◌∷◌, ◌++◌, length, map, take, Bool, Some, None}
 use Rattle.std.proofs.lemmas.List.{length-map}
 use Rattle.std.specs.Prelude.{Result, Ok, Err, OnOk, min}
 use Rattle.rpp_tree.specs.declared.tree.Var.{Var}
@@ -8,7 +8,7 @@ use Rattle.rpp_tree.specs.Tree.{Procedure, Statements, Whole, Call}
 use Rattle.class_table.specs.Classes.{method_named}
 use Rattle.class_table.specs.Members.{no_procedure}
 use Rattle.roopl_semantics.specs.Run.{Run, ◌>>=◌, spend, fault_if}
-use Rattle.roopl_semantics.specs.Store.{State, Value, Binding, class_of_head, object_at, is_nil, number_of}
+use Rattle.roopl_semantics.specs.Store.{State, Binding, class_of_head, object_at, is_nil, number_of}
 use Rattle.roopl_semantics.specs.Value.{Cell, read, cell_named, own_class}
 use Rattle.roopl_semantics.specs.Execution.{Setting, Runner, bound, moved_out, moved_back, in_direction, invoked, exec, statement, cells_named, is_too_deep}
 use Rattle.store_table.specs.declared.value.Value.{Value as Held}
@@ -17,11 +17,11 @@ use Rattle.store_table.specs.HeapView.{Kept}
 use Rattle.source_steps.specs.declared.stop.Stop.{Stop}
 use Rattle.source_steps.specs.declared.scope.Scope.{Scope as Chain}
 use Rattle.source_steps.specs.declared.expressions.Setting.{Setting as Here}
-use Rattle.source_steps.specs.Metered.{Metered, Went, metered, Failed, Gives}
+use Rattle.source_steps.specs.Metered.{Went, metered, Failed, Gives}
 use Rattle.source_steps.specs.Ends.{runs, invoked_nothing}
 use Rattle.source_steps.specs.StateView.{IsFramed, OwnValues, names_of, bindings, entered, state_of, setting_of}
 use Rattle.source_steps.proofs.Fuelled.{goes, fails}
-use Rattle.source_steps.proofs.Moves.{bound_cut, bindings_bound, bound_values, invoked_is, invoked_none, start, back_from}
+use Rattle.source_steps.proofs.Moves.{bound_cut, bindings_bound, bound_values, invoked_is, invoked_none, back_from}
 
 take_values : (count : ℕ) (items : List Held) → values_of (take count items) ≡ take count (values_of items)
 take_values zero items = refl

@@ -1,5 +1,5 @@
 -- The methods that the table of classes finds.
-use Rattle.std.proofs.Common.{◌≡◌, ℕ, zero, suc, ◌<◌, ◌≤◌, refl, sym, ap, ◌∙◌, arith, List, [], length, Some, None, Bool, true, false, map}
+use Rattle.std.proofs.Common.{◌≡◌, ℕ, zero, suc, ◌≤◌, refl, sym, ap, ◌∙◌, arith, List, [], length, Some, None, Bool, true, false, map}
 use Rattle.std.proofs.lemmas.Bool.{ltb-true, ltb-false}
 use Rattle.std.proofs.lemmas.Option.{slice_get_past}
 use Rattle.std.proofs.lemmas.List.{length-map}
@@ -13,7 +13,7 @@ use Rattle.class_table.specs.Rules.{class_names}
 use Rattle.class_table.specs.Chains.{parents, parent_named, chain, with_last}
 use Rattle.class_table.specs.Members.{class_at, no_class, no_procedure, slots, slots_of, slots_along, with_methods}
 use Rattle.class_table.specs.Overrides.{run_at}
-use Rattle.class_table.specs.Classes.{class_slots, method_slot, method_named}
+use Rattle.class_table.specs.Classes.{class_slots, method_named}
 use Rattle.class_table.proofs.Numbers.{length-each_below}
 use Rattle.class_table.proofs.Tables.{table_reads}
 use Rattle.source_steps.specs.Ends.{slot_or_first}

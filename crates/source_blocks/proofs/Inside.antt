@@ -1,8 +1,8 @@
 -- Blocks of a few statements, and a block before others.
-use Rattle.std.proofs.Common.{◌≡◌, ℕ, zero, suc, ◌+◌, ◌-◌, ◌<◌, ◌≤◌, refl, sym, ap, subst, ◌∙◌, arith, List, Option, Some, None}
+use Rattle.std.proofs.Common.{◌≡◌, ℕ, zero, suc, ◌-◌, ◌≤◌, refl, sym, ap, subst, ◌∙◌, arith, List, Option, Some, None}
 use Rattle.std.specs.Prelude.{Result, Ok, Err}
 use Rattle.rpp_tree.specs.Tree.{Expression, Null, Statement, Statements, End, Then, joined, Source}
-use Rattle.roopl_semantics.specs.Run.{Run, Done, Fault, More, ◌>>=◌, give, spend}
+use Rattle.roopl_semantics.specs.Run.{Run, ◌>>=◌, spend}
 use Rattle.roopl_semantics.specs.Store.{State, Nil}
 use Rattle.roopl_semantics.specs.Value.{evaluated}
 use Rattle.roopl_semantics.specs.Execution.{Setting, Runner, statement, exec, opened, with_local}
@@ -10,7 +10,7 @@ use Rattle.source_steps.specs.declared.stop.Stop.{Stop}
 use Rattle.source_steps.specs.declared.stop.Stop.TheVariants as stop
 use Rattle.source_steps.specs.Metered.{Metered, Went, Stopped, Out, left_of, went, metered, chain, Failed, Gives}
 use Rattle.source_steps.specs.Ends.{local_end}
-use Rattle.source_steps.proofs.Fuelled.{metered_then, goes, fails, gives, enough, left_at_most, spent_one, block_next, block_fails, spend_fails}
+use Rattle.source_steps.proofs.Fuelled.{metered_then, fails, gives, enough, left_at_most, spent_one, block_next, block_fails, spend_fails}
 
 -- ---- a block before others
 

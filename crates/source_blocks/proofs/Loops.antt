@@ -1,8 +1,5 @@
 -- The loops over the statements of a block.
-use Rattle.std.proofs.Common.{◌≡◌, ℕ, zero, suc, ◌+◌, ◌-◌, ◌<◌, ◌≤◌, refl, sym, ap, subst, ◌∙◌, arith, List, [], ◌∷◌, ◌++◌, length, map, take, drop, get_or, add-one, Some, None, Bool, true, false}
-use Rattle.std.proofs.Math.Seq.{drop-cons, take-suc}
-use Rattle.std.specs.Prelude.{Result, Ok, Err}
-use Rattle.std.specs.Result.{IsErrAnd}
+use Rattle.std.proofs.Common.{◌≡◌, ℕ, zero, suc, ◌+◌, ◌-◌, ◌<◌, ◌≤◌, refl, sym, ap, subst, ◌∙◌, arith, List, [], ◌∷◌, ◌++◌, length, map, take, drop, get_or}
 use Rattle.rpp_tree.specs.declared.tree.Stmt.{Stmt}
 use Rattle.rpp_tree.specs.Tree.{Statement, Statements, Then, End, joined}
 use Rattle.rpp_tree.specs.Views.{statement_of, statements_of}
@@ -14,7 +11,7 @@ use Rattle.store_table.specs.declared.value.Value.{Value as Held}
 use Rattle.source_steps.specs.declared.scope.Scope.{Scope as Chain}
 use Rattle.store_table.specs.HeapView.{Kept as Heap}
 use Rattle.source_steps.specs.declared.expressions.Setting.{Setting as Here}
-use Rattle.source_steps.specs.Metered.{Metered, Went, metered, Failed, Gives}
+use Rattle.source_steps.specs.Metered.{Went, metered, Failed}
 use Rattle.source_steps.specs.StateView.{IsFramed, state_of, setting_of}
 use Rattle.source_steps.specs.Ends.{does, runs}
 use Rattle.source_steps.proofs.Fuelled.{block_next, block_fails, spend_fails}

@@ -1,6 +1,5 @@
 -- The turns of a loop.
-use Rattle.std.proofs.Common.{◌≡◌, ℕ, zero, suc, ◌+◌, ◌-◌, ◌<◌, ◌≤◌, refl, sym, ap, subst, ◌∙◌, arith, List, Bool, true, false}
-use Rattle.std.specs.Prelude.{Result, Ok, Err}
+use Rattle.std.proofs.Common.{◌≡◌, ℕ, zero, suc, ◌-◌, ◌<◌, ◌≤◌, sym, ap, subst, ◌∙◌, arith, List, Bool, true, false}
 use Rattle.rpp_tree.specs.Tree.{Expression, Statements}
 use Rattle.roopl_semantics.specs.Run.{Run, ◌>>=◌, fault_if}
 use Rattle.roopl_semantics.specs.Store.{State, Value}
@@ -11,7 +10,7 @@ use Rattle.store_table.specs.declared.value.Value.{Value as Held}
 use Rattle.source_steps.specs.declared.scope.Scope.{Scope as Chain}
 use Rattle.store_table.specs.HeapView.{Kept as Heap}
 use Rattle.source_steps.specs.declared.expressions.Setting.{Setting as Here}
-use Rattle.source_steps.specs.Metered.{Metered, Went, metered, Failed, Gives}
+use Rattle.source_steps.specs.Metered.{Went, metered, Failed}
 use Rattle.source_steps.specs.StateView.{IsFramed, state_of, setting_of}
 use Rattle.source_steps.proofs.Fuelled.{goes, fails, gives}
 

@@ -1,9 +1,9 @@
 -- A run with so much fuel, and a run within it.
 use Rattle.std.proofs.Common.{◌≡◌, ℕ, ◌-◌, ◌≤◌, refl, sym, ap, subst, ◌∙◌, arith, Bool, true, false, if◌then◌else◌, Some, None}
-use Rattle.std.proofs.lemmas.Bool.{leb-true, leb-false}
+use Rattle.std.proofs.lemmas.Bool.{leb-true}
 use Rattle.std.specs.Prelude.{nat_le, Result, Ok, Err, IfOk}
 use Rattle.roopl_semantics.specs.Run.{Run, Done, Fault, More}
-use Rattle.std.proofs.Common.{zero, suc, List, [], ◌∷◌}
+use Rattle.std.proofs.Common.{List, [], ◌∷◌}
 use Rattle.rpp_words.specs.declared.input.FieldWord.{FieldWord}
 use Rattle.rpp_tree.specs.declared.tree.Var.{Var}
 use Rattle.rpp_tree.specs.Tree.{Source}
@@ -29,7 +29,7 @@ use Rattle.source_steps.specs.declared.stop.Stop.{Stop}
 use Rattle.source_steps.specs.declared.stop.Stop.TheVariants as stop
 use Rattle.source_meaning.specs.Outcomes.{EndsWith, IsOutcome, IsStop, StaysSo, IsUndone, IsStart}
 use Rattle.source_steps.proofs.Tables.{fields_read}
-use Rattle.source_steps.specs.Metered.{Metered, Went, Stopped, Out, went, stopped, left_of, metered, Failed}
+use Rattle.source_steps.specs.Metered.{Went, Stopped, Out, went, stopped, metered, Failed}
 
 by_done : {A : Type 0} (t : Bool) (fuel cost : ℕ) (x end : A) (left : ℕ) → (t ≡ true → cost ≤ fuel) → went x (if t then Some (fuel - cost) else None) ≡ Went end left → (if t then Done x cost else More) ≡ Done end (fuel - left)
 by_done true fuel cost x end left h e =

@@ -1,5 +1,5 @@
 -- Objects as readers outside see them: by numbers.
-use Rattle.std.specs.Prelude.{◌≡◌, ◌<◌, ℕ, List, map, length, Option, Some, None, slice_get}
+use Rattle.std.specs.Prelude.{◌≡◌, ℕ, List, map, Option, None, slice_get}
 use Rattle.std.specs.Option.{unwrap_or, option_map}
 use Rattle.roopl_semantics.specs.Store.{Head, Object, number_of, object_named}
 use Rattle.store_table.specs.ValueView.{head_of}

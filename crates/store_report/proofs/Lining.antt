@@ -1,5 +1,5 @@
 -- Lines one behind another.
-use Rattle.std.proofs.Common.{◌≡◌, ℕ, suc, ◌+◌, ◌≤◌, refl, sym, ap, ◌∙◌, arith, List, [], ◌∷◌, ◌++◌, append_assoc, length, drop, Some, None}
+use Rattle.std.proofs.Common.{◌≡◌, ℕ, suc, ◌+◌, ◌≤◌, sym, ap, ◌∙◌, arith, List, [], ◌∷◌, ◌++◌, append_assoc, length, drop, Some, None}
 use Rattle.std.specs.Prelude.{codes, Result, Ok, Err, OnOk}
 use Rattle.rpp_tree.specs.declared.tree.Var.{Var}
 use Rattle.std.specs.Fmt.{decimal}
@@ -10,10 +10,7 @@ use Rattle.store_report.proofs.Walked.{drop_at, drop_past}
 use Rattle.rpp_words.specs.Texts.{line_end}
 use Rattle.rpp_tree.specs.Tree.{Source}
 use Rattle.roopl_semantics.specs.Store.{Value, Store, object_at}
-use Rattle.roopl_semantics.specs.Report.{value_shown, field_lines, element_lines, object_lines, head_shown, cell_lines, number_shown}
-
-pub element_next : (names : List ℕ) (index : ℕ) (v : Value) (rest : List Value) → element_lines names index (v ∷ rest) ≡ element_lines names index (v ∷ []) ++ element_lines names (index + 1) rest
-element_next names index v rest = ap (λ text. text ++ element_lines names (index + 1) rest) (sym (append-nil (codes "  [" ++ decimal index ++ codes "] = " ++ value_shown names v ++ line_end)))
+use Rattle.roopl_semantics.specs.Report.{field_lines, object_lines, head_shown, cell_lines, number_shown}
 
 pub object_next : (program : Source) (store : Store) (names : List ℕ) (name : ℕ) (rest : List ℕ) → object_lines program store names (name ∷ rest) ≡ object_lines program store names (name ∷ []) ++ object_lines program store names rest
 object_next program store names name rest =

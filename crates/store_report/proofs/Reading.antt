@@ -1,5 +1,5 @@
 -- The words that are read from a memory are those of the main object that is alone in it, and so is the report.
-use Rattle.std.proofs.Common.{◌≡◌, ◌∙◌, sym, ap, refl, subst, ℕ, zero, suc, List, [], ◌∷◌, ◌++◌, map, length}
+use Rattle.std.proofs.Common.{◌≡◌, ◌∙◌, sym, ap, refl, subst, ℕ, zero, suc, List, [], ◌∷◌, ◌++◌, length}
 use Rattle.std.proofs.lemmas.List.{length-map}
 use Rattle.rpp_words.specs.declared.input.FieldWord.{FieldWord}
 use Rattle.rpp_tree.specs.declared.tree.Var.{Var}
@@ -10,7 +10,7 @@ use Rattle.roopl_semantics.specs.Alone.{alone, told_by, values_of, IsReportable}
 use Rattle.roopl_semantics.specs.Layout.{layout, main_statics, tables}
 use Rattle.roopl_semantics.specs.Source.{main_fields, starting}
 use Rattle.class_table.specs.Classes.{main_of}
-use Rattle.roopl_semantics.specs.Store.{Value, Store, State, number_of, zero_values}
+use Rattle.roopl_semantics.specs.Store.{Store, State, number_of, zero_values}
 use Rattle.roopl_semantics.specs.Walk.{run_report, word_at}
 use Rattle.pisa_isa.specs.Loaded.{loaded}
 use Rattle.roopl_semantics.proofs.Starting.{IsPlain, word, nil, ArePlain, none, more, shape_of, front, back, length-front, length-input, length-zero_values, first_values, words_of, loaded-program, layout-program}

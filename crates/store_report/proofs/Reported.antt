@@ -8,7 +8,7 @@ use Rattle.rpp_tree.specs.declared.tree.VarType.TheVariants as kind
 use Rattle.rpp_tree.specs.Tree.{Source}
 use Rattle.roopl_semantics.specs.Source.{main_fields}
 use Rattle.class_table.specs.Classes.{main_of}
-use Rattle.roopl_semantics.specs.Store.{Value, Word, Nil, number_of}
+use Rattle.roopl_semantics.specs.Store.{Value, number_of}
 use Rattle.roopl_semantics.specs.Alone.{alone, told_by, values_of}
 use Rattle.roopl_semantics.specs.Report.{newly_met, walked, numbered, field_lines, object_lines, live_line, live_count, objects_shown}
 use Rattle.roopl_semantics.specs.Layout.{is_plain_among}

@@ -1,5 +1,5 @@
 -- The lines of the main object's fields.
-use Rattle.std.specs.Prelude.{ℕ, zero, suc, ◌+◌, List, [], ◌∷◌, ◌++◌, length}
+use Rattle.std.specs.Prelude.{ℕ, zero, suc, List, [], ◌∷◌, ◌++◌, length}
 use Rattle.rpp_tree.specs.Tree.{Source}
 use Rattle.roopl_semantics.specs.declared.main_object.TheConstants.{FIRST_FIELD}
 use Rattle.roopl_semantics.specs.Source.{main_fields}

@@ -1,5 +1,5 @@
 -- The inverse program of an accepted program is accepted, so its names are ASCII.
-use Rattle.std.proofs.Common.{◌≡◌, sym, subst, ℕ, ◌<◌, true, List, arith}
+use Rattle.std.proofs.Common.{◌≡◌, sym, subst, ℕ, ◌<◌, true, arith}
 use Rattle.std.specs.List.{All}
 use Rattle.std.specs.Str.{IsAscii}
 use Rattle.std.proofs.lemmas.Bool.Decides.{nat_tests}

@@ -1,5 +1,5 @@
 -- What a script says, and the first line that is refused.
-use Rattle.std.specs.Prelude.{◌≡◌, ℕ, ◌+◌, ◌-◌, ◌*◌, ◌^◌, pos, Bool, false, ◌&&◌, ◌||◌, nat_eq, nat_le, if◌then◌else◌, List, [], ◌∷◌, ◌++◌, length, Option, Some, None, Result, Ok, Err, option_map, codes}
+use Rattle.std.specs.Prelude.{◌≡◌, ℕ, ◌+◌, ◌-◌, ◌^◌, pos, nat_eq, if◌then◌else◌, List, [], ◌∷◌, ◌++◌, Option, Some, None, Result, Ok, Err, option_map, codes}
 use Rattle.std.specs.Str.{bytes_eq}
 use Rattle.machine_texts.specs.Lines.{number_up_to, short_number, is_blank, pieces, without_returns}
 use Rattle.two_way_debugger.specs.declared.command.Command.{Command}

@@ -1,6 +1,6 @@
-use Rattle.std.proofs.Common.{◌≡◌, ◌∙◌, ◌+◌, ◌≤◌, ap, subst, sym, arith}
+use Rattle.std.proofs.Common.{◌∙◌, subst, arith}
 use Rattle.pisa_cluster.specs.declared.cluster.Moved.{Moved}
-use Rattle.pisa_cluster.specs.Schedules.{Schedule, Moves}
+use Rattle.pisa_cluster.specs.Schedules.{Moves}
 use Rattle.cluster_commands.proofs.StepsOn.{LeadsOn, one_more, stopped_at, all_made, next_serial_after}
 use Rattle.cluster_commands.proofs.following.make_steps.Goals as goal
 

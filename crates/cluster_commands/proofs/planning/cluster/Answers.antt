@@ -1,8 +1,7 @@
-use Rattle.std.proofs.Common.{◌≡◌, ◌∙◌, ap, sym, subst, subst₂, map, ◌∷◌, ◌++◌, []}
+use Rattle.std.proofs.Common.{◌≡◌, subst, subst₂, map, ◌++◌}
 use Rattle.std.specs.Prelude.{string_bytes, IfSome}
 use Rattle.std.proofs.lemmas.Result.{err_from_is_err_and}
 use Rattle.rpp_plan.specs.Plans.{planned}
-use Rattle.rpp_plan.specs.Files.{OnlyReads, image_file}
 use Rattle.rpp_plan.proofs.TwoReads.{then_reads}
 use Rattle.cluster_commands.specs.ClusterPlans.{images_at, WithImages, IsClusterPlan}
 use Rattle.cluster_commands.proofs.TextsOn.{plan_read, fails_for}

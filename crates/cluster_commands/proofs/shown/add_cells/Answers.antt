@@ -1,4 +1,4 @@
-use Rattle.std.proofs.Common.{◌≡◌, ◌+◌, ◌++◌, ap, subst, sym, drop, arith}
+use Rattle.std.proofs.Common.{◌≡◌, ◌+◌, ◌++◌, subst, sym, drop, arith}
 use Rattle.std.specs.Prelude.{string_bytes, suc}
 use Rattle.cluster_commands.specs.ClusterShown.{filled_line, filled_lines}
 use Rattle.cluster_commands.proofs.Lines.{front_cell, line_on}

@@ -1,4 +1,4 @@
-use Rattle.std.proofs.Common.{◌≡◌, ◌+◌, ◌++◌, ap, subst, sym, drop, slice_get, option_map, Some, arith}
+use Rattle.std.proofs.Common.{◌≡◌, ◌+◌, ◌++◌, subst, sym, drop, slice_get, option_map, Some, arith}
 use Rattle.std.specs.Prelude.{string_bytes, suc}
 use Rattle.pisa_cluster.specs.declared.processor.Processor.{Processor}
 use Rattle.pisa_cluster.specs.Replay.{processor_at}

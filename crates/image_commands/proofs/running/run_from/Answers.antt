@@ -1,4 +1,4 @@
-use Rattle.std.proofs.Common.{◌≡◌, sym, subst, true}
+use Rattle.std.proofs.Common.{sym, subst}
 use Rattle.std.specs.List.{All}
 use Rattle.pisa_isa.specs.Notes.{NoteLists}
 use Rattle.image_commands.specs.RunTexts.{HasAsciiText}

@@ -1,4 +1,4 @@
-use Rattle.std.proofs.Common.{◌≡◌, ◌∙◌, sym, arith}
+use Rattle.std.proofs.Common.{◌≡◌, arith}
 use Rattle.pisa_isa.specs.Runs.{counted}
 use Rattle.pisa_machine.proofs.Watched.{untold, no_lines, told_once, lines_once}
 use Rattle.pisa_machine.proofs.telling.tell_stop.Goals as goal

@@ -1,19 +1,18 @@
-use Rattle.std.proofs.Common.{◌≡◌, ◌≤◌, ◌<◌, ◌-◌, ◌+◌, List, [], ◌∷◌, length, map, refl, sym, ap, subst, ◌∙◌, arith, get_or, rules}
+use Rattle.std.proofs.Common.{◌-◌, ◌+◌, List, [], ◌∷◌, map, refl, sym, ap, subst, ◌∙◌, arith, rules}
 use Rattle.rpp_tree.specs.Tree.{Null}
 use Rattle.rpp_tree.specs.Views.{expression_of, lvalue_of, block_of, procedure_of}
-use Rattle.roopl_semantics.specs.Run.{fault_if}
 use Rattle.class_table.specs.Classes.{method_named}
 use Rattle.roopl_semantics.specs.Store.{class_of_head, object_at, is_nil, number_of}
 use Rattle.roopl_semantics.specs.Value.{read}
-use Rattle.roopl_semantics.specs.Execution.{in_direction, loop_fault, exec, invoked, moved_out}
+use Rattle.roopl_semantics.specs.Execution.{in_direction, exec, invoked, moved_out}
 use Rattle.store_table.specs.declared.value.Value.{Value as Held}
 use Rattle.store_table.specs.declared.value.Value.TheVariants as held
 use Rattle.store_table.specs.ValueView.{value_of}
 use Rattle.source_steps.specs.CellView.{cell_of}
-use Rattle.source_steps.specs.Metered.{Gives, Failed, Went, metered}
-use Rattle.source_steps.specs.StateView.{IsInner, state_of, setting_of}
+use Rattle.source_steps.specs.Metered.{Gives, metered}
+use Rattle.source_steps.specs.StateView.{state_of, setting_of}
 use Rattle.source_blocks.specs.Wrapped.{constructed_in, exchanged}
-use Rattle.source_blocks.proofs.Loops.{IsGoing, forward_rest, backward_rest, going_next, going_fails, going_out}
+use Rattle.source_blocks.proofs.Loops.{forward_rest, backward_rest, going_next, going_fails, going_out}
 use Rattle.source_blocks.proofs.Turns.{first_fails as turn_fails, test_fails, turned_out, again_fails, entry_fails, refused_there, turned_on}
 use Rattle.source_steps.proofs.Fuelled.{handed}
 use Rattle.source_steps.proofs.LocalRuns.{local_fails, local_ends}

@@ -1,8 +1,8 @@
-use Rattle.std.proofs.Common.{◌≡◌, ◌≤◌, ◌+◌, ◌*◌, ◌-◌, take, drop, map, length}
+use Rattle.std.proofs.Common.{◌+◌, ◌*◌, ◌-◌, take, drop, map}
 use Rattle.rpp_tree.specs.Views.{expression_of, statement_of, statements_of, block_of}
 use Rattle.roopl_semantics.specs.Execution.{in_direction}
 use Rattle.stmt_inverter.specs.Inverse.{inverse}
-use Rattle.source_steps.specs.StateView.{IsFramed, state_of, setting_of}
+use Rattle.source_steps.specs.StateView.{state_of}
 use Rattle.source_blocks.proofs.Loops.{IsGoing}
 use Rattle.source_blocks.proofs.Turns.{IsTurning}
 use Rattle.source_blocks.proofs.blocks.+run.Given as goal

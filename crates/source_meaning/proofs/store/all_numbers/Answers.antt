@@ -1,4 +1,4 @@
-use Rattle.std.proofs.Common.{◌≤◌, arith}
+use Rattle.std.proofs.Common.{arith}
 use Rattle.source_meaning.proofs.Numbering.{listed_next, all_listed}
 use Rattle.source_meaning.proofs.store.all_numbers.Goals as goal
 

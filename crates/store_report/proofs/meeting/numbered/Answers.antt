@@ -1,4 +1,4 @@
-use Rattle.std.proofs.Common.{◌≡◌, ◌<◌, sym, ap, ◌∙◌, arith, rules}
+use Rattle.std.proofs.Common.{sym, ap, ◌∙◌, rules}
 use Rattle.std.specs.Prelude.{slice_get}
 use Rattle.store_report.proofs.Walked.{begins, walked_out, walked_all, walks_on}
 use Rattle.store_report.proofs.meeting.numbered.Goals as goal

@@ -1,6 +1,5 @@
-use Rattle.std.proofs.Common.{◌≡◌, ◌∙◌, ◌++◌, sym, ap, subst, List}
-use Rattle.std.specs.Prelude.{All, string_bytes}
-use Rattle.rpp_tree.specs.declared.tree.Var.{Var}
+use Rattle.std.proofs.Common.{◌∙◌, sym, ap, subst}
+use Rattle.std.specs.Prelude.{All}
 use Rattle.rpp_tree.specs.Views.{source_of}
 use Rattle.class_table.specs.Table.{fields_in}
 use Rattle.store_report.specs.Ascii.{HasAsciiName}
