@@ -4,7 +4,7 @@ ghost use Rattle.method_scope.specs.declared.known.TheConstants.{MOST_VARIABLES}
 
 use rpp_tree::tree::Var;
 
-/// The frame word of a method's first variable: the words before it are those that a call puts by.
+/// The frame word of a method's outermost variable: the words before it are those that a call puts by.
 pub const FIRST_VARIABLE: u32 = 16;
 /// The most parameters and locals that stand in a frame at one time.
 pub const MOST_VARIABLES: usize = 48;

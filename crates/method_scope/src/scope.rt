@@ -18,7 +18,8 @@ use std::alloc::Global;
 use std::marker::Model;
 
 /// Where the visible variables of a method stand: each parameter and local in a word of the open
-/// frame, in their order, and each field in the present object.
+/// frame, the outermost in the first one, and each field in the present object. The last parameter
+/// is the outermost variable.
 #[derive(Drop)]
 pub struct Scope<'a> {
     checked: &'a Checked,
@@ -65,8 +66,9 @@ fn params_of(checked: &Checked, id: MethodId) -> &[Var]
 }
 
 impl<'a> Scope<'a> {
-    /// The scope at the beginning of a method's body: the parameters are visible, and the fields of
-    /// the class that declares it. The only error is that memory ran out.
+    /// The scope at the beginning of a method's body: the parameters are visible, the first as the
+    /// innermost variable, and the fields of the class that declares it. The only error is that
+    /// memory ran out.
     pub fn of_method(
         alloc: Global,
         checked: &'a Checked,
@@ -75,10 +77,11 @@ impl<'a> Scope<'a> {
         ensures { IfOk result (λ scope. scope ≡ record {
           program = checked.now;
           method = id;
-          variables = reverse (procedure_at (source_of checked.now) id).params;
+          variables = (procedure_at (source_of checked.now) id).params;
         }) }
     {
-        let variables = copy_vars(alloc, params_of(checked, id))?;
+        let mut variables = copy_vars(alloc, params_of(checked, id))?;
+        variables.reverse();
         Ok(Scope {
             checked,
             method: id,
