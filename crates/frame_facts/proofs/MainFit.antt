@@ -37,7 +37,7 @@ use Rattle.open_frame.proofs.Memory.{base_above}
 use Rattle.statement_laws.specs.Frames.{base}
 use Rattle.statement_laws.specs.Stands.{local_of, setup}
 use Rattle.statement_laws.specs.Worlds.{Place, world_of}
-use Rattle.frame_facts.specs.Laws.{most_statics}
+use Rattle.frame_facts.specs.Laws.{most_statics, OpensMain}
 use Rattle.frame_facts.proofs.Bridge.{reads_of}
 
 -- ---- every cell of the loaded memory is a word
@@ -156,18 +156,21 @@ module _ (place : Place) (image : Segments) (input : List FieldWord) (main : ℕ
   few_of_image : length image.statics ≤ 262144
   few_of_image = subst (λ z. length z ≤ 262144) same few
 
-  pub main_facts : main < place.routines.count → (place.routines.method main).body ≡ main_body place.setting.program → (place.routines.scope main).vars ≡ [] → (place.routines.scope main).class ≡ (main_of place.setting.program).class → MainFacts (world_of place) place.statics input
-  main_facts below body_is no_vars class_is = record {
-    main = main;
-    is_routine = below;
-    is_main = body_is;
-    first = first_frame place.setting.program;
-    fresh = record { is = refl };
-    object_is = refl;
-    frame_small = (let a = all_small place.setting place.statics few inside in let d = inside.deep_from in omega (arith, a, d));
-    starts = subst (λ z. Stands place.setting z (place.routines.scope main) (first_frame place.setting.program) [] (starting place.setting.program input) (loaded z place.setting.limits input)) (sym same)
-        (begins place.setting.program place.setting.limits image has few_of_image inside input valid statics_words (place.routines.scope main) no_vars class_is (class_inside place.setting.program accepted));
-    base_in = λ st cells h. (let l = frame_long place.setting place.statics (place.routines.scope main) (first_frame place.setting.program) [] st cells (reads_of h) in let b : 40 + length place.statics ≤ base place.setting place.statics = base_above (setup place.setting place.statics) in omega (arith, l, b));
-    base_is = λ st cells h. base_is place.setting place.statics (place.routines.scope main) (first_frame place.setting.program) [] st cells h.frame refl;
-    ends = λ st cells h. ends place.setting place.statics (place.routines.scope main) st cells main_name (main_of place.setting.program).class statics_at h.frame (no_frame st.frame (h.frame.names_are ∙ ap (map (λ (v : Var). v.name.text)) no_vars)) inside.deep_from;
+  pub main_opens : main < place.routines.count → (place.routines.method main).body ≡ main_body place.setting.program → (place.routines.scope main).vars ≡ [] → (place.routines.scope main).class ≡ (main_of place.setting.program).class → OpensMain place input main
+  main_opens below body_is no_vars class_is = record {
+    facts = record {
+      main = main;
+      is_routine = below;
+      is_main = body_is;
+      first = first_frame place.setting.program;
+      fresh = record { is = refl };
+      object_is = refl;
+      frame_small = (let a = all_small place.setting place.statics few inside in let d = inside.deep_from in omega (arith, a, d));
+      starts = subst (λ z. Stands place.setting z (place.routines.scope main) (first_frame place.setting.program) [] (starting place.setting.program input) (loaded z place.setting.limits input)) (sym same)
+          (begins place.setting.program place.setting.limits image has few_of_image inside input valid statics_words (place.routines.scope main) no_vars class_is (class_inside place.setting.program accepted));
+      base_in = λ st cells h. (let l = frame_long place.setting place.statics (place.routines.scope main) (first_frame place.setting.program) [] st cells (reads_of h) in let b : 40 + length place.statics ≤ base place.setting place.statics = base_above (setup place.setting place.statics) in omega (arith, l, b));
+      base_is = λ st cells h. base_is place.setting place.statics (place.routines.scope main) (first_frame place.setting.program) [] st cells h.frame refl;
+      ends = λ st cells h. ends place.setting place.statics (place.routines.scope main) st cells main_name (main_of place.setting.program).class statics_at h.frame (no_frame st.frame (h.frame.names_are ∙ ap (map (λ (v : Var). v.name.text)) no_vars)) inside.deep_from;
+    };
+    routine_is = refl;
   }

@@ -5,7 +5,7 @@ use Rattle.frame_facts.specs.Laws.{FramesAreOpen, ReceiversAreOpen, LocalsAreOpe
 use Rattle.frame_facts.proofs.FactsFit.{frame_facts}
 use Rattle.frame_facts.proofs.ReceiversFit.{receiver_facts}
 use Rattle.frame_facts.proofs.LocalsFit.{local_facts}
-use Rattle.frame_facts.proofs.MainFit.{main_facts}
+use Rattle.frame_facts.proofs.MainFit.{main_opens}
 use Rattle.frame_facts.proofs.StaticsWords.{statics_words}
 
 pub frames_are_open : FramesAreOpen
@@ -21,6 +21,6 @@ pub main_is_open : MainIsOpen
 main_is_open place image input main accepted has same few short inside valid below body_is no_vars class_is =
     let main_in = class_inside place.setting.program accepted in
     let few' : length image.statics ≤ 262144 = subst (λ z. length z ≤ 262144) same few in
-    main_facts place image input main accepted has same few inside valid
+    main_opens place image input main accepted has same few inside valid
     (statics_words place.setting.program image has few' short (omega (arith, main_in)))
     below body_is no_vars class_is

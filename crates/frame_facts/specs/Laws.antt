@@ -66,6 +66,11 @@ LocalsAreOpen =
     (place : Place) → IsAccepted place.setting.program → length place.statics ≤ most_statics
     → LocalFacts (world_of place) (IsInit place.setting.program)
 
+-- the facts of `main` are those of this routine
+pub record OpensMain (place : Place) (input : List FieldWord) (main : ℕ) : Type 0 where
+  pub facts : MainFacts (world_of place) place.statics input
+  pub routine_is : facts.main ≡ main
+
 -- where a routine is the one of `main`, the loaded memory is its open frame, and where that ends, it is the layout
 abbrev pub MainIsOpen : Type 0
 MainIsOpen =
@@ -75,4 +80,4 @@ MainIsOpen =
     → IsLimits place.setting.limits → IsValid place.setting.program input
     → main < place.routines.count → (place.routines.method main).body ≡ main_body place.setting.program
     → (place.routines.scope main).vars ≡ [] → (place.routines.scope main).class ≡ (main_of place.setting.program).class
-    → MainFacts (world_of place) place.statics input
+    → OpensMain place input main
