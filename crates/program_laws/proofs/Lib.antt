@@ -1,0 +1,6 @@
+pub mod Entries
+pub mod FewStatics
+pub mod Tables
+pub mod RunsFollow
+pub mod ProgramStands
+pub mod Stated
