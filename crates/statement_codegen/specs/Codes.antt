@@ -1,0 +1,48 @@
+-- What the code of statements, blocks and methods does wherever an image of its program is linked.
+use Rattle.std.specs.Prelude.{◌≡◌, ℕ, ◌+◌, ◌≤◌, List, length}
+use Rattle.rpp_tree.specs.declared.tree.Ident.{Ident}
+use Rattle.rpp_tree.specs.declared.limits.TheConstants.{MOST_NODES}
+use Rattle.rpp_tree.specs.Limits.{statement_locals}
+use Rattle.rpp_tree.specs.Tree.{Statement, Statements, Procedure, statement_nodes}
+use Rattle.rpp_tree.specs.Views.{source_of}
+use Rattle.class_table.specs.Statements.{passed, check_statement}
+use Rattle.sound_execution.specs.Plain.{StatementHasWords}
+use Rattle.paired_code.specs.declared.part.Symbol.{Symbol}
+use Rattle.method_scope.specs.declared.known.TheConstants.{MOST_VARIABLES}
+use Rattle.method_scope.specs.Visible.{Visible}
+use Rattle.statement_laws.specs.Form.{Scope, StmtLaw, BlockLaw, MethodLaw}
+use Rattle.statement_laws.specs.Stands.{shape_of}
+use Rattle.statement_laws.specs.Worlds.{Place, world_of}
+use Rattle.frame_facts.specs.Laws.{IsLinked}
+use Rattle.expression_laws.specs.Typing.{typing_in}
+
+-- the scope of the laws, of what is visible
+abbrev pub scope_of : Visible → Scope
+scope_of v = record { class = v.method.class; vars = v.variables }
+
+-- the code of a statement where this is visible
+pub record IsStatementCode (v : Visible) (statement : Statement) (cells : List Symbol) : Type 0 where
+  pub law : (place : Place) (routine : ℕ → Ident → ℕ) → IsLinked place routine → place.setting.program ≡ source_of v.program
+      → StmtLaw (world_of place) (scope_of v) statement cells
+
+-- the code of a block
+pub record IsBlockCode (v : Visible) (body : Statements) (cells : List Symbol) : Type 0 where
+  pub law : (place : Place) (routine : ℕ → Ident → ℕ) → IsLinked place routine → place.setting.program ≡ source_of v.program
+      → BlockLaw (world_of place) (scope_of v) body cells
+
+-- the code of a method (the body of its routine)
+pub record IsMethodCode (v : Visible) (method : Procedure) (cells : List Symbol) : Type 0 where
+  pub law : (place : Place) (routine : ℕ → Ident → ℕ) → IsLinked place routine → place.setting.program ≡ source_of v.program
+      → MethodLaw (world_of place) (scope_of v) method cells
+
+-- the rules of types pass a statement where this is visible
+abbrev pub Passes : Visible → Statement → Type 0
+Passes v statement =
+    check_statement (typing_in (source_of v.program) (scope_of v)) (shape_of (source_of v.program) (scope_of v)) statement ≡ passed
+
+-- a statement that the rules pass, whose literals are words, with few enough nodes, and locals beside what is visible
+pub record IsAllowed (v : Visible) (statement : Statement) : Type 0 where
+  pub rules : Passes v statement
+  pub has_words : StatementHasWords statement
+  pub few_nodes : statement_nodes statement ≤ MOST_NODES
+  pub few_locals : length v.variables + statement_locals statement ≤ MOST_VARIABLES
