@@ -1,12 +1,12 @@
 -- The code of calls that the rules of types pass, and of methods, wherever an image of the program is linked.
-use Rattle.std.proofs.Common.{◌≡◌, ◌≢◌, ℕ, ◌+◌, ◌^◌, ◌<◌, ◌≤◌, Bool, true, false, List, [], ◌∷◌, length, map, Some, None, refl, sym, ap, ◌∙◌, subst, arith}
+use Rattle.std.proofs.Common.{◌≡◌, ◌≢◌, ℕ, ◌^◌, ◌<◌, ◌≤◌, Bool, true, false, List, [], ◌∷◌, length, map, Some, None, refl, sym, ap, ◌∙◌, subst}
 use Rattle.std.proofs.lemmas.List.Elements.{All-head, All-tail}
 use Rattle.std.specs.Prelude.{Ok, nat_eq, ◌&&◌, Result, Err, IfOk}
 use Rattle.std.specs.List.{All}
 use Rattle.std.specs.Option.{unwrap_or}
 use Rattle.std.specs.Str.{bytes_eq}
 use Rattle.rpp_tree.specs.declared.tree.Ident.{Ident}
-use Rattle.rpp_tree.specs.Tree.{Whole, Call, Source, Procedure}
+use Rattle.rpp_tree.specs.Tree.{Whole, Call, Source}
 use Rattle.rpp_tree.specs.Views.{source_of}
 use Rattle.class_table.specs.declared.kind.Kind.{Kind}
 use Rattle.class_table.specs.declared.kind.Kind.TheVariants as kind
@@ -29,12 +29,12 @@ use Rattle.sound_execution.proofs.Keeping.{exec_keeps}
 use Rattle.statement_laws.specs.declared.spot.Spot.{Spot}
 use Rattle.statement_laws.specs.Form.{Scope, StmtLaw}
 use Rattle.statement_laws.specs.Frames.{Under, cell_in}
-use Rattle.statement_laws.specs.Stands.{shape_of, spot_in, extra, moved_values, Stands}
+use Rattle.statement_laws.specs.Stands.{shape_of, spot_in, extra, Stands}
 use Rattle.statement_laws.specs.Worlds.{Place, world_of}
 use Rattle.method_scope.specs.Visible.{Visible, spot_of}
 use Rattle.method_calls.specs.Facts.{IsNear}
 use Rattle.method_calls.specs.Names.{AllTyped, HasMethod, slot_of, class_found, class_named, known_of}
-use Rattle.method_calls.specs.Laws.{NotAmong, AllApart, NamesApart, AreVariables, OwnCallCode, CallOnCode, MethodCode}
+use Rattle.method_calls.specs.Laws.{NotAmong, AllApart, AreVariables, OwnCallCode, CallOnCode, MethodCode}
 use Rattle.frame_facts.specs.Laws.{IsLinked}
 use Rattle.frame_facts.proofs.Bridge.{reads_of, typed}
 use Rattle.frame_facts.proofs.FactsFit.{known}
@@ -42,10 +42,10 @@ use Rattle.frame_facts.proofs.FactsMoves.{same_means}
 use Rattle.frame_facts.proofs.FramesFit.{means}
 use Rattle.frame_facts.proofs.Stated.{frames_are_open, receivers_are_open}
 use Rattle.expression_laws.specs.Typing.{known_of as names_of, typing_in}
-use Rattle.statement_codegen.specs.Codes.{scope_of, IsStatementCode, IsBlockCode, IsMethodCode, Passes}
+use Rattle.statement_codegen.specs.Codes.{scope_of}
 use Rattle.statement_codegen.specs.Laws.{CallLaw, RoutineLaw}
 use Rattle.statement_codegen.proofs.Names.{spot_same}
-use Rattle.statement_codegen.proofs.PassedCalls.{PassedCall, passed_call, PassedReceiver, passed_receiver}
+use Rattle.statement_codegen.proofs.PassedCalls.{PassedCall, passed_call, passed_receiver}
 
 -- where a name stands, in a scope of a program
 abbrev pub stands_at : Source → Scope → Ident → Spot

@@ -1,5 +1,5 @@
 -- What a name means in a scope: its type, its class, and where it stands.
-use Rattle.std.proofs.Common.{◌≡◌, ℕ, suc, ◌+◌, ◌<◌, ◌≤◌, Bool, true, false, List, [], ◌∷◌, length, map, Option, Some, None, refl, sym, ap, ◌∙◌, arith}
+use Rattle.std.proofs.Common.{◌≡◌, ℕ, ◌+◌, ◌<◌, ◌≤◌, Bool, true, false, List, [], ◌∷◌, length, map, Option, Some, None, refl, sym, ap, ◌∙◌, arith}
 use Rattle.std.specs.Prelude.{Ok, nat_lt, position, slice_get, if◌then◌else◌}
 use Rattle.std.specs.Option.{unwrap_or, option_map, option_or, ok_or}
 use Rattle.std.specs.Str.{bytes_eq}
@@ -27,7 +27,7 @@ use Rattle.statement_laws.specs.declared.spot.Spot.{Spot}
 use Rattle.statement_laws.specs.declared.spot.Spot.TheVariants.{Field, Frame}
 use Rattle.statement_laws.specs.Form.{Scope}
 use Rattle.statement_laws.specs.Stands.{local_of, shape_of, spot_at, spot_in}
-use Rattle.method_scope.specs.Visible.{Known, word_named, type_named, field_type, kind_named, spot_named, spot_of}
+use Rattle.method_scope.specs.Visible.{Known, word_named, type_named, field_type, kind_named, spot_of}
 use Rattle.method_calls.specs.Facts.{IsNear}
 use Rattle.method_calls.specs.Names.{class_of_kind, class_found, class_named}
 use Rattle.frame_facts.proofs.Bridge.{shape_names}

@@ -1,8 +1,8 @@
 -- What the rules of types say of a call that they pass: its class has the method, and its arguments are variables of the
 -- types of the parameters, no two of one name.
-use Rattle.std.proofs.Common.{◌≡◌, ℕ, suc, ◌<◌, ◌≤◌, Bool, true, false, List, [], ◌∷◌, length, map, Option, Some, None, refl, sym, ap, ◌∙◌, arith}
+use Rattle.std.proofs.Common.{◌≡◌, ℕ, ◌<◌, Bool, true, List, [], ◌∷◌, length, map, Option, Some, None, refl, sym, ap, ◌∙◌, arith}
 use Rattle.std.proofs.lemmas.Bool.{eqb-true}
-use Rattle.std.specs.Prelude.{nat_eq, is_some, not, ◌||◌, Ok, Err}
+use Rattle.std.specs.Prelude.{nat_eq, is_some, Ok}
 use Rattle.std.specs.Option.{unwrap_or, is_none, ok_or}
 use Rattle.rpp_tree.specs.declared.tree.Ident.{Ident}
 use Rattle.rpp_tree.specs.declared.tree.Var.{Var}
@@ -14,7 +14,7 @@ use Rattle.class_table.specs.Table.{Table, table_of, slot_in, dispatch_in}
 use Rattle.class_table.specs.Refusal.{unknown_name, type_differs, wrong_arity}
 use Rattle.class_table.specs.Scope.{Setting, Locals, kind_of, kind_in}
 use Rattle.class_table.specs.Inheritance.{kind_of_var}
-use Rattle.class_table.specs.Expressions.{and_then, variable_type, place_type}
+use Rattle.class_table.specs.Expressions.{and_then, variable_type}
 use Rattle.class_table.specs.Statements.{passed, required, each_passes, each_passes_after, argument_known, argument_new, argument_fits, arguments_fit, receiver_kind, place_class, receiver_class, plain_receiver, slot_rules, call_rules}
 use Rattle.class_table.proofs.PassedRules.{both_passed, held, handed_on, kinds_same}
 use Rattle.class_table.proofs.FoundMethods.{slot_inside}

@@ -1,16 +1,15 @@
 -- The code of `skip`: a cell that does nothing.
-use Rattle.std.proofs.Common.{◌≡◌, ℕ, suc, ◌+◌, ◌*◌, ◌≤◌, Bool, true, false, List, [], ◌∷◌, refl, sym, ap, subst, arith}
+use Rattle.std.proofs.Common.{◌≡◌, ℕ, suc, ◌+◌, ◌*◌, ◌≤◌, Bool, true, false, List, refl, sym, subst, arith}
 use Rattle.std.specs.Prelude.{Result, Ok, Err, IfOk}
 use Rattle.rpp_tree.specs.Tree.{Skip}
 use Rattle.pisa_isa.specs.declared.cell.Op.TheVariants.{Xori}
 use Rattle.pisa_isa.specs.declared.cell.Cell.{Cell}
 use Rattle.paired_code.specs.Code.{Code}
 use Rattle.paired_code.specs.declared.part.Symbol.{Symbol}
-use Rattle.paired_code.specs.Machine.{Memory, Image}
-use Rattle.paired_code.specs.Pieces.{Done, Will}
+use Rattle.paired_code.specs.Pieces.{Done}
 use Rattle.paired_code.specs.Laws.{PlainLaw, outcome_of}
 use Rattle.paired_code.specs.Does.{Meets, fine}
-use Rattle.paired_code.proofs.Laws.{will_of, will_more}
+use Rattle.paired_code.proofs.Laws.{will_of}
 use Rattle.roopl_semantics.specs.Store.{State}
 use Rattle.statement_laws.specs.Form.{World, Scope, Open, StmtLaw, registers, told, one, turned}
 use Rattle.statement_laws.specs.Worlds.{Place, world_of}

@@ -1,5 +1,5 @@
 // Calls of methods, the bodies of their routines, and `skip`.
-ghost use Rattle.std.specs.Prelude.{◌≡◌, ◌<◌, ◌≤◌, ◌^◌, ◌+◌, ◌*◌, List, [], Some, None, map, length, IfOk};
+ghost use Rattle.std.specs.Prelude.{◌≡◌, ◌<◌, ◌≤◌, ◌^◌, ◌+◌, ◌*◌, [], Some, None, map, length, IfOk};
 ghost use Rattle.std.specs.List.{All};
 ghost use Rattle.std.specs.Option.{option_map, unwrap_or};
 ghost use Rattle.rpp_tree.specs.Views.{source_of};
