@@ -8,6 +8,5 @@ pub mod Memory
 pub mod Stands
 pub mod Sealed
 pub mod Tables
-pub mod Finished
 pub mod FieldSums
 pub mod NotesFit

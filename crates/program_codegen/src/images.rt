@@ -6,7 +6,6 @@ ghost use Rattle.pisa_isa.specs.Image.{IsImage};
 ghost use Rattle.class_table.specs.Members.{no_procedure};
 ghost use Rattle.class_table.specs.Classes.{procedure_at};
 ghost use Rattle.roopl_semantics.specs.Source.{main_body};
-ghost use Rattle.roopl_semantics.specs.Alone.{IsReportable};
 ghost use Rattle.roopl_semantics.specs.StandsFor.{StandsFor};
 ghost use Rattle.program_codegen.specs.Code.{program_code};
 ghost use Rattle.program_codegen.specs.Notes.{program_notes};
@@ -35,9 +34,6 @@ pub fn compile(alloc: Global, checked: &Checked) -> Result<Noted, NoMemory>
 
     // A mark for each statement of `main`, and the names of the main class's int fields.
     ensures notes { IfOk result (λ noted. noted.notes ≡ program_notes (source_of checked.now)) }
-
-    // As long as not every form is compiled: what is can be reported.
-    ensures reportable { OnOk result (IsReportable (source_of checked.now)) }
 {
     let code = code(alloc, checked)?;
     let statics = statics(alloc, checked.table())?;

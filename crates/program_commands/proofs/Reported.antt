@@ -14,7 +14,6 @@ use Rattle.pisa_isa.specs.Machine.{State as MachineState, stop, next}
 use Rattle.pisa_isa.specs.Runs.{End, run, after_step, counted}
 use Rattle.pisa_isa.proofs.Longer.{run-longer}
 use Rattle.pisa_machine.specs.Position.{Position}
-use Rattle.roopl_semantics.specs.Alone.{IsReportable}
 use Rattle.roopl_semantics.specs.Source.{GivesFault}
 use Rattle.roopl_semantics.specs.StandsFor.{Follows, IsFinalState, IsEnough, EndsAt, run_of, enough_steps}
 use Rattle.roopl_semantics.specs.Store.{State}
@@ -63,14 +62,14 @@ module _ (program : Source) (limits : Limits) (input : List FieldWord) (bound : 
 
   -- a plan that prints the report of that memory, and the number of steps, reports the source's store
   pub reports_store : HasRun program limits input bound end Finished spent → (lines : List ℕ) (p : Planned)
-      → ((last : State) → IsReportable program → IsMemoryOf program end.state.cells last → lines ≡ run_report program last.store end.state.cells)
+      → ((last : State) → IsMemoryOf program end.state.cells last → lines ≡ run_report program last.store end.state.cells)
       → p ≡ prints Done (lines ++ steps_line spent)
       → ReportsStore program limits input end.state.cells spent p
   reports_store has lines p shown is =
       record {
         end = (final has).end;
         gives = (final has).gives;
-        reported = is ∙ ap (λ text. prints Done (text ++ steps_line spent)) (shown (final has).end has.reportable (final_memory has));
+        reported = is ∙ ap (λ text. prints Done (text ++ steps_line spent)) (shown (final has).end (final_memory has));
       }
 
   -- where the bound ended a run, it was not enough for any cost at which the source ends

@@ -16,7 +16,6 @@ use Rattle.pisa_machine.specs.Position.{Position, first_position}
 use Rattle.roopl_semantics.specs.StandsFor.{run_of, StandsFor}
 use Rattle.store_report.specs.Memory.{IsMemoryOf, IsFirstMemoryOf}
 use Rattle.program_commands.specs.GoRun.{HasRun}
-use Rattle.roopl_semantics.specs.Alone.{IsReportable}
 use Rattle.roopl_semantics.specs.Source.{starting, IsValid}
 use Rattle.rpp_words.specs.Limits.{IsLimits}
 use Rattle.roopl_semantics.specs.Store.{State}
@@ -62,7 +61,7 @@ module _ (program : Source) (limits : Limits) (input : List FieldWord) (bound : 
 
   -- a plan that prints both reports, of the memory where the run finished and of the one where the way back did
   pub reports_turn : (has : HasRun program limits input bound end Finished spent) → (there here cells : List ℕ) (back count : ℕ) (p : Planned)
-      → ((last : State) → IsReportable program → IsMemoryOf program end.state.cells last → there ≡ run_report program last.store end.state.cells)
+      → ((last : State) → IsMemoryOf program end.state.cells last → there ≡ run_report program last.store end.state.cells)
       → ((given : List FieldWord) → IsFirstMemoryOf program cells given → here ≡ run_report program (starting program given).store cells)
       → cells ≡ first_cells → back ≡ spent → count ≡ length cells
       → p ≡ prints Done ((there ++ steps_line spent) ++ back_lines back here count)
@@ -77,7 +76,7 @@ module _ (program : Source) (limits : Limits) (input : List FieldWord) (bound : 
         gives = fin.gives;
         reported =
             is
-            ∙ ap (λ (text : List ℕ). prints Done ((text ++ steps_line spent) ++ back_lines back here count)) (shown fin.end has.reportable (final_memory program limits input bound end spent has))
+            ∙ ap (λ (text : List ℕ). prints Done ((text ++ steps_line spent) ++ back_lines back here count)) (shown fin.end (final_memory program limits input bound end spent has))
             ∙ ap (λ (text : List ℕ). prints Done ((run_report program fin.end.store end.state.cells ++ steps_line spent) ++ text))
             (same_lines back spent count (length first_cells) here (run_report program (starting program input).store first_cells) same_spent here_is (same_count ∙ ap length same_cells));
       }
@@ -96,15 +95,14 @@ module _ (program : Source) (limits : Limits) (input : List FieldWord) (bound : 
 
   -- what a run of the compiled image from the loaded memory has
   pub has_run : (image : Segments) (start : Position) (why : Stop)
-      → IsLimits limits → IsValid program input → StandsFor program image → IsReportable program
+      → IsLimits limits → IsValid program input → StandsFor program image
       → start ≡ first_position image zero_registers (loaded image.statics limits input) → end.image ≡ image
       → run start.image.code bound start.state ≡ record { why = why; spent = spent; last = end.state }
       → HasRun program limits input bound end why spent
-  has_run image start why allowed valid stands can first same ran = record {
+  has_run image start why allowed valid stands first same ran = record {
     allowed = allowed;
     valid = valid;
     stands = subst (StandsFor program) (sym same) stands;
-    reportable = can;
     runs = ap (λ (i : Segments). run_of i limits input bound) same ∙ sym (ap (λ (p : Position). run p.image.code bound p.state) first) ∙ ran;
   }
 

@@ -7,7 +7,6 @@ use Rattle.pisa_isa.specs.declared.machine.Stop.{Stop}
 use Rattle.pisa_machine.specs.Position.{Position}
 use Rattle.roopl_semantics.specs.Source.{IsValid}
 use Rattle.rpp_words.specs.Limits.{IsLimits}
-use Rattle.roopl_semantics.specs.Alone.{IsReportable}
 use Rattle.roopl_semantics.specs.StandsFor.{StandsFor, run_of}
 
 -- a machine stands where a run of at most so many steps of an image that stands for the program ended, on this input
@@ -15,5 +14,4 @@ pub record HasRun (program : Source) (limits : Limits) (input : List FieldWord) 
   pub allowed : IsLimits limits
   pub valid : IsValid program input
   pub stands : StandsFor program end.image
-  pub reportable : IsReportable program
   pub runs : run_of end.image limits input bound ≡ record { why = why; spent = spent; last = end.state }

@@ -1,10 +1,9 @@
 // `go F H D STEPS [INPUT]` and `turn` with the same words: compiles a program, runs its image and reports.
-ghost use Rattle.std.specs.Prelude.{◌≡◌, ◌≤◌, ◌<◌, ◌^◌, ◌++◌, ◌∷◌, None, length, option_map, IfOk, OnOk, IfSome, string_bytes, codes};
+ghost use Rattle.std.specs.Prelude.{◌≡◌, ◌≤◌, ◌<◌, ◌^◌, ◌++◌, ◌∷◌, None, length, option_map, IfOk, IfSome, string_bytes, codes};
 ghost use Rattle.rpp_tree.specs.Views.{source_of};
 ghost use Rattle.rpp_tree.specs.declared.limits.TheConstants.{MOST_BYTES};
 ghost use Rattle.pisa_isa.specs.Machine.{IsState};
 ghost use Rattle.pisa_isa.specs.Loaded.{loaded, loaded_state};
-ghost use Rattle.roopl_semantics.specs.Alone.{IsReportable};
 ghost use Rattle.roopl_semantics.specs.Source.{IsValid};
 ghost use Rattle.roopl_semantics.specs.StandsFor.{StandsFor};
 ghost use Rattle.rpp_words.specs.Limits.{IsLimits};
@@ -172,7 +171,6 @@ fn go_given<L: Ledger>(
 pub fn compiled_image(alloc: Global, checked: &Checked) -> Result<Image, NoMemory>
     requires { unbuilt (source_of checked.now) ≡ None }
     ensures stands { IfOk result (λ image. StandsFor (source_of checked.now) image) }
-    ensures reportable { OnOk result (IsReportable (source_of checked.now)) }
 {
     Ok(compile(alloc, checked)?.into_parts().0)
 }

@@ -1,5 +1,11 @@
 pub mod Names
-pub mod Reported
-pub mod Reading
+pub mod TablePlaces
+pub mod Texts
+pub mod Telling
+pub mod Following
+pub mod Counting
+pub mod Grounding
+pub mod Leading
+pub mod Placed
 pub mod Walked
 pub mod Lining

@@ -1,8 +1,10 @@
 -- The names of an accepted program's fields are ASCII.
-use Rattle.std.proofs.Common.{◌≡◌, ℕ, zero, suc, ◌<◌, ◌≤◌, true, List, [], ◌∷◌, ◌++◌, length, get_or, arith, ⊎_elim, slice_get}
+use Rattle.std.proofs.Common.{◌≡◌, sym, ap, subst, refl, ℕ, zero, suc, ◌<◌, ◌≤◌, Bool, true, false, List, [], ◌∷◌, ◌++◌, length, get_or, Option, None, arith, ⊎_elim, slice_get}
 use Rattle.std.specs.List.{All, flat_map}
 use Rattle.std.specs.Option.{unwrap_or}
 use Rattle.std.specs.Str.{IsAscii}
+use Rattle.std.specs.Prelude.{nat_lt}
+use Rattle.std.proofs.lemmas.Bool.{ltb-true, ltb-false}
 use Rattle.std.proofs.lemmas.Bool.Decides.{nat_tests}
 use Rattle.std.proofs.lemmas.List.{get_or_past}
 use Rattle.std.proofs.lemmas.List.Elements.{All-head, All-tail, All-nil, All-cons, All-append}
@@ -13,11 +15,14 @@ use Rattle.rpp_tree.specs.Names.{IsName, is_name_byte}
 use Rattle.rpp_tree.specs.Parts.{type_names, var_names, procedure_names, parent_names, class_names, source_names}
 use Rattle.rpp_tree.specs.Tree.{ClassText, Source}
 use Rattle.class_table.specs.Chains.{line_of}
-use Rattle.class_table.specs.Members.{class_at, no_class, fields_along}
+use Rattle.class_table.specs.First.{each_below}
+use Rattle.class_table.specs.Members.{class_at, no_class, fields_along, fields_of}
+use Rattle.class_table.specs.Table.{table_of, fields_in}
+use Rattle.class_table.proofs.Numbers.{length-each_below, each_below-get}
 use Rattle.class_table.specs.Program.{IsAccepted}
 use Rattle.roopl_semantics.specs.Source.{main_fields}
 use Rattle.class_table.specs.Classes.{main_of, class_fields}
-use Rattle.store_report.specs.Ascii.{HasAsciiName}
+use Rattle.store_report.specs.Ascii.{HasAsciiName, AreAscii}
 
 name_byte_ascii : (b : ℕ) → is_name_byte b ≡ true → b < 128
 name_byte_ascii b is = grind (arith, nat_tests)
@@ -83,3 +88,23 @@ ascii_name_at (class ∷ classes) (suc k) all = ascii_name_at classes k (right N
 
 pub ascii_class_name : (program : Source) (class : ℕ) → IsAccepted program → IsAscii (class_at program class).name.text
 ascii_class_name program class accepted = ascii_name_at program.classes class accepted.limits.names
+
+-- all names that a report prints
+
+past_none : {A : Type 0} (xs : List A) (k : ℕ) → length xs ≤ k → slice_get xs k ≡ None
+past_none [] k h = refl
+past_none (x ∷ xs) zero h = absurd (omega arith)
+past_none (x ∷ xs) (suc k) h = past_none xs k (omega arith)
+
+pub names_ascii : (program : Source) → IsAccepted program → AreAscii program (table_of program)
+names_ascii program accepted = record { fields = fields; classes = λ class. ascii_class_name program class accepted }
+  where
+    fields : (class : ℕ) → All HasAsciiName (fields_in (table_of program) class)
+    fields class = by (nat_lt class (length program.classes)) refl
+      where
+        by : (b : Bool) → nat_lt class (length program.classes) ≡ b → All HasAsciiName (fields_in (table_of program) class)
+        by true e = subst (All HasAsciiName) (sym (each_below-get (fields_of program) (length program.classes) class [] (ltb-true class (length program.classes) e))) (ascii_class_fields program class accepted)
+        by false e =
+            let past = ltb-false class (length program.classes) e in
+            let none : fields_in (table_of program) class ≡ [] = ap (λ (o : Option (List Var)). unwrap_or o []) (past_none (each_below (fields_of program) (length program.classes)) class (omega (arith, past, length-each_below (fields_of program) (length program.classes)))) in
+            subst (All HasAsciiName) (sym none) (All-nil HasAsciiName)

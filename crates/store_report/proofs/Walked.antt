@@ -4,6 +4,7 @@ use Rattle.std.specs.Prelude.{◌||◌, nat_eq, slice_get, if◌then◌else◌}
 use Rattle.std.specs.List.{list_any}
 use Rattle.std.proofs.lemmas.List.{append-nil}
 use Rattle.std.proofs.lemmas.Option.{slice_get_past}
+use Rattle.indexmap.specs.IndexSet.{insert_key}
 use Rattle.store_table.specs.declared.value.Value.{Value as Held}
 use Rattle.store_table.specs.ValueView.{value_of, values_of}
 use Rattle.std.proofs.lemmas.List.Folds.{list_any-append}
@@ -37,6 +38,14 @@ met_next names (Name n) cells = by (list_any (nat_eq n) names)
     by false =
         sym (append_assoc names (n ∷ []) (newly_met (n ∷ names) cells))
         ∙ ap (λ met. (names ++ n ∷ []) ++ met) (same_met (n ∷ names) (names ++ n ∷ []) cells (λ q. or_swap (nat_eq q n) (list_any (nat_eq q) names) ∙ sym (list_any-append (nat_eq q) names (n ∷ []))))
+
+-- a name that is put into a set of those met is one that is newly met, or was
+pub met_key : (names : List ℕ) (n : ℕ) → insert_key nat_eq names n ≡ names ++ newly_met names (Name n ∷ [])
+met_key names n = by (list_any (nat_eq n) names)
+  where
+    by : (t : Bool) → (if t then names else names ++ n ∷ []) ≡ names ++ (if t then [] else n ∷ [])
+    by true = sym (append-nil names)
+    by false = refl
 
 -- ---- parts of lists
 

@@ -1,6 +1,15 @@
 -- Names that can be printed byte by byte.
+use Rattle.std.specs.Prelude.{ℕ, All}
 use Rattle.std.specs.Str.{IsAscii}
 use Rattle.rpp_tree.specs.declared.tree.Var.{Var}
+use Rattle.rpp_tree.specs.Tree.{Source}
+use Rattle.class_table.specs.Members.{class_at}
+use Rattle.class_table.specs.Table.{Table, fields_in}
 
 abbrev pub HasAsciiName : Var → Type 0
 HasAsciiName var = IsAscii var.name.text
+
+-- all names that are printed are ASCII
+pub record AreAscii (program : Source) (table : Table) : Type 0 where
+  pub fields : (class : ℕ) → All HasAsciiName (fields_in table class)
+  pub classes : (class : ℕ) → IsAscii (class_at program class).name.text

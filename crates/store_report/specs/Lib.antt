@@ -1,3 +1,6 @@
-pub mod Lines
 pub mod Ascii
 pub mod Memory
+pub mod Told
+pub mod Leads
+pub mod Tables
+pub mod Shown

@@ -1,11 +1,16 @@
-//! The printed reports: of a store, and of a machine's memory. Of memories those of programs are reported whose runs end with a
-//! main object alone that holds no references. The layers above may use `report` and `report_store`.
+//! The printed reports: of a store, and of a machine's memory, by following the references in its cells. The layers above may
+//! use `report` and `report_store`, and `specs/Told.antt`, which says what any memory tells.
 #![tactic(auto)]
 
+mod leads;
 mod lines;
 mod meeting;
+mod memories;
 mod stores;
-mod words;
+mod tables;
+#[cfg(test)]
+mod tests;
+mod walking;
 
-pub use lines::report;
+pub use memories::report;
 pub use stores::report_store;

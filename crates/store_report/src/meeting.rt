@@ -1,40 +1,36 @@
 // The order in which the objects and arrays of a store are met.
-ghost use Rattle.std.specs.Prelude.{◌≡◌, ◌++◌, [], ◌∷◌, IfOk, OnOk, nat_eq, slice_get};
-ghost use Rattle.std.specs.List.{list_any, position};
+ghost use Rattle.std.specs.Prelude.{◌≡◌, ◌<◌, ◌^◌, ◌++◌, [], ◌∷◌, IfOk, OnOk, IfSome, nat_eq, slice_get};
+ghost use Rattle.std.specs.List.{position};
 ghost use Rattle.roopl_semantics.specs.Store.{object_at};
 ghost use Rattle.roopl_semantics.specs.Report.{newly_met, numbered as numbered_in};
 ghost use Rattle.store_table.specs.ValueView.{value_of, values_of};
 
-use std::alloc::{AllocError, Global};
+use indexmap::IndexSet;
+use rpp_words::NoMemory;
+use std::alloc::Global;
 use store_table::{Heap, Value};
 
-// Whether a name is among these.
-fn is_met(names: &[u32], name: u32) -> bool
-    ensures { result ≡ list_any (nat_eq name) names.now }
-{
-    names.iter().any(|other| name == *other)
-}
-
 /// The place of a name among these.
-pub fn place_of(names: &[u32], name: u32) -> Option<usize>
-    ensures { result ≡ position (nat_eq name) names.now }
+pub fn place_of(names: &IndexSet<u32>, name: u32) -> Option<usize>
+    ensures place { result ≡ position (nat_eq name) names.now.keys }
+    ensures small { IfSome result (λ place. place < 2 ^ 63) }
 {
-    names.iter().position(|other| name == *other)
+    let _few = names.len();
+    names.get_index_of(&name)
 }
 
 // The name that a value is, where it is not met yet.
-fn meet_value(names: &mut Vec<u32>, value: Value) -> Result<(), AllocError>
-    ensures { OnOk result (names.new.items ≡ names.old.items ++ newly_met names.old.items (value_of value ∷ [])) }
+#[tactic(auto, using(crate::proofs::Walked::met_key))]
+fn meet_value(names: &mut IndexSet<u32>, value: Value) -> Result<(), NoMemory>
+    ensures { OnOk result (names.new.keys ≡ names.old.keys ++ newly_met names.old.keys (value_of value ∷ [])) }
 {
     match value {
         Value::Word(_) => Ok(()),
         Value::Nil => Ok(()),
-        Value::Name(name) => {
-            if is_met(names, name) {
-                return Ok(());
-            }
-            Ok(names.push(name)?)
-        }
+        Value::Name(name) => match names.insert(name) {
+            Err(_) => Err(NoMemory),
+            Ok(_) => Ok(()),
+        },
     }
 }
 
@@ -48,8 +44,8 @@ fn value_at(cells: &[Value], at: usize) -> Option<Value>
 }
 
 // The names that cells hold and that are not met yet.
-fn meet(names: &mut Vec<u32>, cells: &[Value]) -> Result<(), AllocError>
-    ensures { OnOk result (names.new.items ≡ names.old.items ++ newly_met names.old.items (values_of cells.now)) }
+fn meet(names: &mut IndexSet<u32>, cells: &[Value]) -> Result<(), NoMemory>
+    ensures { OnOk result (names.new.keys ≡ names.old.keys ++ newly_met names.old.keys (values_of cells.now)) }
 {
     let size = cells.len();
     for at in 0..size {
@@ -72,17 +68,17 @@ pub fn cells_at(heap: &Heap, name: u32) -> &[Value]
 }
 
 // The same for the cells of an object or array.
-fn meet_object(names: &mut Vec<u32>, heap: &Heap, name: u32) -> Result<(), AllocError>
-    ensures { OnOk result (names.new.items ≡ names.old.items ++ newly_met names.old.items (object_at heap.now.store name).cells) }
+fn meet_object(names: &mut IndexSet<u32>, heap: &Heap, name: u32) -> Result<(), NoMemory>
+    ensures { OnOk result (names.new.keys ≡ names.old.keys ++ newly_met names.old.keys (object_at heap.now.store name).cells) }
 {
     meet(names, cells_at(heap, name))
 }
 
 /// The names that are reached from the main object, in the order of their numbers.
-pub fn numbered(alloc: Global, heap: &Heap) -> Result<Vec<u32>, AllocError>
-    ensures { IfOk result (λ names. names.items ≡ numbered_in heap.now.store) }
+pub fn numbered(alloc: Global, heap: &Heap) -> Result<IndexSet<u32>, NoMemory>
+    ensures { IfOk result (λ names. names.keys ≡ numbered_in heap.now.store) }
 {
-    let mut names = Vec::new(alloc);
+    let mut names = IndexSet::new(alloc);
     meet_object(&mut names, heap, 1)?;
     let size = heap.live();
     for next in 0..size {
@@ -95,10 +91,10 @@ pub fn numbered(alloc: Global, heap: &Heap) -> Result<Vec<u32>, AllocError>
 }
 
 /// The name at a place among these.
-pub fn name_at(names: &[u32], at: usize) -> Option<u32>
-    ensures { result ≡ slice_get names.now at }
+pub fn name_at(names: &IndexSet<u32>, at: usize) -> Option<u32>
+    ensures { result ≡ slice_get names.now.keys at }
 {
-    match names.get(at) {
+    match names.get_index(at) {
         None => None,
         Some(name) => Some(*name),
     }

@@ -15,9 +15,10 @@ ghost use Rattle.roopl_semantics.specs.Report.{report as report_in, value_shown,
 ghost use Rattle.store_table.specs.ValueView.{value_of, values_of, head_of};
 ghost use Rattle.store_report.specs.Ascii.{HasAsciiName};
 
-use crate::lines::{add_bytes, add_live, add_name, add_word};
+use crate::lines::{add_bytes, add_live, add_name, add_word, class_name};
 use crate::meeting::{cells_at, name_at, numbered, place_of};
 use class_table::Checked;
+use indexmap::IndexSet;
 use rpp_tree::tree::{Program, Var};
 use rpp_words::NoMemory;
 use source_meaning::Store;
@@ -33,13 +34,13 @@ pub fn report_store(alloc: Global, store: &Store, checked: &Checked) -> Result<S
     let names = numbered(alloc, store.heap())?;
     add_main(&mut out, checked, &names, store.heap())?;
     add_objects(&mut out, checked, &names, store.heap())?;
-    add_live(&mut out, store.live())?;
+    add_live(&mut out, u64::from(store.live()))?;
     Ok(out)
 }
 
 // The number of a name.
-fn number_in(names: &[u32], name: u32) -> usize
-    ensures { result ≡ unwrap_or (position (nat_eq name) names.now) 0 + 1 }
+fn number_in(names: &IndexSet<u32>, name: u32) -> usize
+    ensures { result ≡ unwrap_or (position (nat_eq name) names.now.keys) 0 + 1 }
 {
     match place_of(names, name) {
         None => 1,
@@ -47,15 +48,15 @@ fn number_in(names: &[u32], name: u32) -> usize
     }
 }
 
-fn add_number(out: &mut String, names: &[u32], name: u32) -> Result<(), AllocError>
-    ensures { OnOk result (string_bytes out.new ≡ string_bytes out.old ++ number_shown names.now name) }
+fn add_number(out: &mut String, names: &IndexSet<u32>, name: u32) -> Result<(), AllocError>
+    ensures { OnOk result (string_bytes out.new ≡ string_bytes out.old ++ number_shown names.now.keys name) }
 {
     let number = number_in(names, name);
     write!(out, "#{number}")
 }
 
-fn add_value(out: &mut String, names: &[u32], value: Value) -> Result<(), AllocError>
-    ensures { OnOk result (string_bytes out.new ≡ string_bytes out.old ++ value_shown names.now (value_of value)) }
+fn add_value(out: &mut String, names: &IndexSet<u32>, value: Value) -> Result<(), AllocError>
+    ensures { OnOk result (string_bytes out.new ≡ string_bytes out.old ++ value_shown names.now.keys (value_of value)) }
 {
     match value {
         Value::Word(word) => add_word(out, word),
@@ -68,12 +69,12 @@ fn add_value(out: &mut String, names: &[u32], value: Value) -> Result<(), AllocE
 fn add_field(
     out: &mut String,
     indent: &str,
-    names: &[u32],
+    names: &IndexSet<u32>,
     field: &Var,
     value: Value,
 ) -> Result<(), AllocError>
     requires { IsAscii field.now.name.text }
-    ensures { OnOk result (string_bytes out.new ≡ string_bytes out.old ++ (indent.now ++ field.now.name.text ++ codes " = " ++ value_shown names.now (value_of value) ++ line_end)) }
+    ensures { OnOk result (string_bytes out.new ≡ string_bytes out.old ++ (indent.now ++ field.now.name.text ++ codes " = " ++ value_shown names.now.keys (value_of value) ++ line_end)) }
 {
     out.push_str(indent)?;
     add_name(out, &field.name.text)?;
@@ -86,12 +87,12 @@ fn add_field(
 fn add_fields(
     out: &mut String,
     indent: &str,
-    names: &[u32],
+    names: &IndexSet<u32>,
     fields: &[Var],
     values: &[Value],
 ) -> Result<(), AllocError>
     requires { All HasAsciiName fields.now }
-    ensures { OnOk result (string_bytes out.new ≡ string_bytes out.old ++ field_lines indent.now names.now fields.now (values_of values.now)) }
+    ensures { OnOk result (string_bytes out.new ≡ string_bytes out.old ++ field_lines indent.now names.now.keys fields.now (values_of values.now)) }
 {
     match fields {
         [] => Ok(()),
@@ -108,11 +109,11 @@ fn add_fields(
 // The line of an element.
 fn add_element(
     out: &mut String,
-    names: &[u32],
+    names: &IndexSet<u32>,
     index: usize,
     value: Value,
 ) -> Result<(), AllocError>
-    ensures { OnOk result (string_bytes out.new ≡ string_bytes out.old ++ element_lines names.now index (value_of value ∷ [])) }
+    ensures { OnOk result (string_bytes out.new ≡ string_bytes out.old ++ element_lines names.now.keys index (value_of value ∷ [])) }
 {
     write!(out, "  [{index}] = ")?;
     add_value(out, names, value)?;
@@ -120,8 +121,8 @@ fn add_element(
 }
 
 // The lines of elements.
-fn add_elements(out: &mut String, names: &[u32], values: &[Value]) -> Result<(), AllocError>
-    ensures { OnOk result (string_bytes out.new ≡ string_bytes out.old ++ element_lines names.now 0 (values_of values.now)) }
+fn add_elements(out: &mut String, names: &IndexSet<u32>, values: &[Value]) -> Result<(), AllocError>
+    ensures { OnOk result (string_bytes out.new ≡ string_bytes out.old ++ element_lines names.now.keys 0 (values_of values.now)) }
 {
     for (index, value) in values.iter().enumerate() {
         add_element(out, names, index, *value)?;
@@ -130,15 +131,6 @@ fn add_elements(out: &mut String, names: &[u32], values: &[Value]) -> Result<(),
 }
 
 // The name of a class.
-fn class_name(program: &Program, class: u32) -> &[u8]
-    ensures { result.now ≡ (class_at (source_of program.now) class).name.text }
-{
-    match program.classes.get(class as usize) {
-        None => &[],
-        Some(class) => class.name.text.bytes(),
-    }
-}
-
 fn add_class(out: &mut String, program: &Program, class: u32) -> Result<(), AllocError>
     requires { IsAccepted (source_of program.now) }
     ensures { OnOk result (string_bytes out.new ≡ string_bytes out.old ++ (class_at (source_of program.now) class).name.text) }
@@ -165,11 +157,11 @@ fn add_class_fields(
     out: &mut String,
     indent: &str,
     checked: &Checked,
-    names: &[u32],
+    names: &IndexSet<u32>,
     class: u32,
     values: &[Value],
 ) -> Result<(), AllocError>
-    ensures { OnOk result (string_bytes out.new ≡ string_bytes out.old ++ field_lines indent.now names.now (class_fields (source_of checked.now) class) (values_of values.now)) }
+    ensures { OnOk result (string_bytes out.new ≡ string_bytes out.old ++ field_lines indent.now names.now.keys (class_fields (source_of checked.now) class) (values_of values.now)) }
 {
     let table = checked.table();
     let fields = table.fields(class);
@@ -180,11 +172,11 @@ fn add_class_fields(
 fn add_cells(
     out: &mut String,
     checked: &Checked,
-    names: &[u32],
+    names: &IndexSet<u32>,
     head: Head,
     values: &[Value],
 ) -> Result<(), AllocError>
-    ensures { OnOk result (string_bytes out.new ≡ string_bytes out.old ++ cell_lines (source_of checked.now) names.now (head_of head) (values_of values.now)) }
+    ensures { OnOk result (string_bytes out.new ≡ string_bytes out.old ++ cell_lines (source_of checked.now) names.now.keys (head_of head) (values_of values.now)) }
 {
     match head {
         Head::Class(class) => add_class_fields(out, "  ", checked, names, class, values),
@@ -206,11 +198,11 @@ fn head_at(heap: &Heap, name: u32) -> Head
 fn add_first(
     out: &mut String,
     checked: &Checked,
-    names: &[u32],
+    names: &IndexSet<u32>,
     heap: &Heap,
     name: u32,
 ) -> Result<(), AllocError>
-    ensures { OnOk result (string_bytes out.new ≡ string_bytes out.old ++ (number_shown names.now name ++ codes " " ++ head_shown (source_of checked.now) (object_at heap.now.store name).head ++ codes " count " ++ decimal (object_at heap.now.store name).count ++ line_end)) }
+    ensures { OnOk result (string_bytes out.new ≡ string_bytes out.old ++ (number_shown names.now.keys name ++ codes " " ++ head_shown (source_of checked.now) (object_at heap.now.store name).head ++ codes " count " ++ decimal (object_at heap.now.store name).count ++ line_end)) }
 {
     let count = heap.count_of(name);
     let head = head_at(heap, name);
@@ -225,11 +217,11 @@ fn add_first(
 fn add_object(
     out: &mut String,
     checked: &Checked,
-    names: &[u32],
+    names: &IndexSet<u32>,
     heap: &Heap,
     name: u32,
 ) -> Result<(), AllocError>
-    ensures { OnOk result (string_bytes out.new ≡ string_bytes out.old ++ object_lines (source_of checked.now) heap.now.store names.now (name ∷ [])) }
+    ensures { OnOk result (string_bytes out.new ≡ string_bytes out.old ++ object_lines (source_of checked.now) heap.now.store names.now.keys (name ∷ [])) }
 {
     let head = head_at(heap, name);
     let cells = cells_at(heap, name);
@@ -240,10 +232,10 @@ fn add_object(
 fn add_objects(
     out: &mut String,
     checked: &Checked,
-    names: &[u32],
+    names: &IndexSet<u32>,
     heap: &Heap,
 ) -> Result<(), AllocError>
-    ensures { OnOk result (string_bytes out.new ≡ string_bytes out.old ++ object_lines (source_of checked.now) heap.now.store names.now names.now) }
+    ensures { OnOk result (string_bytes out.new ≡ string_bytes out.old ++ object_lines (source_of checked.now) heap.now.store names.now.keys names.now.keys) }
 {
     let size = names.len();
     for at in 0..size {
@@ -267,10 +259,10 @@ fn main_class(checked: &Checked) -> u32
 fn add_main(
     out: &mut String,
     checked: &Checked,
-    names: &[u32],
+    names: &IndexSet<u32>,
     heap: &Heap,
 ) -> Result<(), AllocError>
-    ensures { OnOk result (string_bytes out.new ≡ string_bytes out.old ++ field_lines [] names.now (main_fields (source_of checked.now)) (object_at heap.now.store main_name).cells) }
+    ensures { OnOk result (string_bytes out.new ≡ string_bytes out.old ++ field_lines [] names.now.keys (main_fields (source_of checked.now)) (object_at heap.now.store main_name).cells) }
 {
     let class = main_class(checked);
     let cells = cells_at(heap, 1);

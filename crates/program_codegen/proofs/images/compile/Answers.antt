@@ -14,7 +14,6 @@ use Rattle.program_codegen.specs.Notes.{program_notes}
 use Rattle.program_codegen.specs.Statics.{statics_in}
 use Rattle.roopl_semantics.proofs.MainPlace.{class_inside}
 use Rattle.program_codegen.proofs.Accepted.{IsCompiled, compiled}
-use Rattle.program_codegen.proofs.Finished.{reportable}
 use Rattle.program_codegen.proofs.NotesFit.{notes_fit}
 use Rattle.program_codegen.proofs.Sealed.{code_in_range, code_in_limit, sealable}
 use Rattle.program_codegen.proofs.Stands.{stands_for}
@@ -72,8 +71,3 @@ returns-clause-stands c =
     let is = compiled program c.table.ensures.accepted c.requires c.in_ok-code.ensures.words in
     let image = sealed_is program c.in-Ok.image c.in_ok-code.code.items c.in_ok-statics.statics.items c.table.result.now is c.in-Ok.ensures.image c.in_ok-code.ensures.code c.in_ok-statics.ensures.cells c.table.ensures.table in
     subst (StandsFor program) (sym (ap (λ (n : NotedImage). n.image) c.seal-in-Ok.ensures ∙ image)) (stands_for program is)
-
-pub returns-clause-reportable : goal.returns-clause-reportable
-returns-clause-reportable c =
-    let program = source_of c.args.checked.now in
-    reportable program (compiled program c.table.ensures.accepted c.requires c.in_ok-code.ensures.words)

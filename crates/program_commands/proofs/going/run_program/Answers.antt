@@ -20,7 +20,7 @@ report_run-requires-clause-run g c =
     let image = c.in_ok-image.image in
     let first : c.in_ok-machine.machine ≡ first_position image zero_registers (loaded image.statics c.args.setting.now.limits c.args.setting.now.input.words.items) = c.in_ok-machine.ensures.machine in
     has_run (source_of c.args.checked.now) c.args.setting.now.limits c.args.setting.now.input.words.items c.args.setting.now.bound c.run-end.new.self c.run-end.result.spent image c.in_ok-machine.machine c.run-end.result.stop
-    c.requires.limits c.requires.valid c.in_ok-image.ensures.stands c.in_ok-image.ensures.reportable
+    c.requires.limits c.requires.valid c.in_ok-image.ensures.stands
     first (c.run-end.ensures.image ∙ ap (λ (p : Position). p.image) first) c.run-end.ensures.runs
 
 pub returns : goal.returns
@@ -34,7 +34,7 @@ returns g c =
     let same : end.image ≡ image = c.run-end.ensures.image ∙ ap (λ (p : Position). p.image) first in
     let has =
     has_run program limits input c.args.setting.now.bound end c.run-end.result.spent image c.in_ok-machine.machine c.run-end.result.stop
-    c.requires.limits c.requires.valid c.in_ok-image.ensures.stands c.in_ok-image.ensures.reportable
+    c.requires.limits c.requires.valid c.in_ok-image.ensures.stands
     first same c.run-end.ensures.runs in
     let begins : IsMachine (first_position image zero_registers (loaded image.statics limits input)) = subst IsMachine first c.run-end.ensures.machine in
     let is_image : IsImage end.image = subst IsImage (sym same) begins.is_image in

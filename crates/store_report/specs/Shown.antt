@@ -1,0 +1,68 @@
+-- The text of what is met, as the code makes it.
+use Rattle.std.specs.Prelude.{ℕ, ◌+◌, List, [], ◌∷◌, ◌++◌, map, length, replicate, codes}
+use Rattle.std.specs.Fmt.{decimal}
+use Rattle.rpp_words.specs.Texts.{line_end}
+use Rattle.rpp_tree.specs.declared.tree.Var.{Var}
+use Rattle.rpp_tree.specs.Tree.{Source}
+use Rattle.class_table.specs.Table.{Table, fields_in}
+use Rattle.roopl_semantics.specs.Store.{Value, Word, Head, OfClass, OfInts, OfObjects}
+use Rattle.roopl_semantics.specs.Report.{Text, number_shown, field_lines, element_lines, head_shown, live_line}
+use Rattle.roopl_semantics.specs.Walk.{word_at}
+use Rattle.pisa_isa.specs.Loaded.{statics_at}
+use Rattle.store_report.specs.declared.leads.Lead.{Lead}
+use Rattle.store_report.specs.declared.leads.Lead.TheVariants as lead
+use Rattle.store_report.specs.Told.{reference_told}
+use Rattle.store_report.specs.Leads.{Met, address_met, leads_of, class_at_table, met_all}
+
+-- what a word tells
+abbrev pub value_by : Lead → ℕ → Value
+value_by lead.Int word = Word word
+value_by lead.Object word = reference_told word
+value_by lead.Ints word = reference_told word
+value_by (lead.Objects class) word = reference_told word
+
+-- what the cells from an address on tell
+abbrev pub values_by : List ℕ → ℕ → List Lead → List Value
+values_by cells address [] = []
+values_by cells address (lead ∷ leads) = value_by lead (word_at cells address) ∷ values_by cells (address + 1) leads
+
+abbrev pub head_by : List ℕ → Lead → ℕ → Head
+head_by tables lead.Int word = OfInts 0
+head_by tables lead.Object word = OfClass (class_at_table tables word)
+head_by tables lead.Ints word = OfInts word
+head_by tables (lead.Objects class) word = OfObjects class word
+
+abbrev pub addresses_of : Met → List ℕ
+addresses_of met = map address_met met
+
+-- the lines of an object's or array's cells
+abbrev pub cells_by : Table → List ℕ → List ℕ → List ℕ → ℕ → Lead → ℕ → Text
+cells_by table tables cells names at lead.Int word = []
+cells_by table tables cells names at lead.Object word =
+    let fields = fields_in table (class_at_table tables word) in
+    field_lines (codes "  ") names fields (values_by cells (at + 2) (leads_of table fields))
+cells_by table tables cells names at lead.Ints word =
+    element_lines names 0 (values_by cells (at + 2) (replicate word lead.Int))
+cells_by table tables cells names at (lead.Objects class) word =
+    element_lines names 0 (values_by cells (at + 2) (replicate word lead.Object))
+
+-- the head line and the lines of what is met at an address
+abbrev pub object_by : Source → Table → List ℕ → List ℕ → List ℕ → ℕ × Lead → Text
+object_by program table tables cells names entry =
+    number_shown names entry.0 ++ codes " " ++ head_shown program (head_by tables entry.1 (word_at cells entry.0))
+    ++ codes " count " ++ decimal (word_at cells (entry.0 + 1)) ++ line_end
+    ++ cells_by table tables cells names entry.0 entry.1 (word_at cells entry.0)
+
+abbrev pub objects_by : Source → Table → List ℕ → List ℕ → List ℕ → Met → Text
+objects_by program table tables cells names [] = []
+objects_by program table tables cells names (entry ∷ rest) =
+    object_by program table tables cells names entry ++ objects_by program table tables cells names rest
+
+-- the whole text
+abbrev pub report_by : Source → Table → List ℕ → List Var → List ℕ → Text
+report_by program table tables fields cells =
+    let met = met_all table tables fields cells in
+    let names = addresses_of met in
+    field_lines [] names fields (values_by cells (statics_at + 2) (leads_of table fields))
+    ++ objects_by program table tables cells names met
+    ++ live_line (length met)

@@ -1,0 +1,68 @@
+-- What the cells of a memory tell of the objects that are reached, and the report of them. Names are addresses here.
+use Rattle.std.specs.Prelude.{ℕ, ◌+◌, nat_eq, List, [], ◌∷◌, ◌++◌, length, map, codes, if◌then◌else◌}
+use Rattle.std.specs.Option.{unwrap_or}
+use Rattle.std.specs.Fmt.{decimal}
+use Rattle.rpp_words.specs.Texts.{line_end}
+use Rattle.rpp_tree.specs.declared.tree.VarType.{VarType}
+use Rattle.rpp_tree.specs.declared.tree.VarType.TheVariants as kind
+use Rattle.rpp_tree.specs.Tree.{Source}
+use Rattle.class_table.specs.Classes.{class_number}
+use Rattle.roopl_semantics.specs.Store.{Value, Word, Nil, Name, Head, OfClass, OfInts, OfObjects, Object}
+use Rattle.roopl_semantics.specs.Source.{main_fields}
+use Rattle.roopl_semantics.specs.Report.{Text, number_shown, field_lines, head_shown, cell_lines, live_line}
+use Rattle.roopl_semantics.specs.Walk.{word_at, class_with_table, types_of, Reference, types_at, reached}
+use Rattle.pisa_isa.specs.Loaded.{statics_at}
+
+-- what a word tells in a cell of a reference type: nil, or the address of a block
+abbrev pub reference_told : ℕ → Value
+reference_told word = if nat_eq word 0 then Nil else Name word
+
+-- what a word tells in a cell of this type
+abbrev pub value_told : VarType → ℕ → Value
+value_told kind.Int word = Word word
+value_told (kind.Class class) word = reference_told word
+value_told kind.IntArray word = reference_told word
+value_told (kind.ClassArray class) word = reference_told word
+
+-- what the cells of these types from an address on tell
+abbrev pub values_told : List ℕ → ℕ → List VarType → List Value
+values_told cells address [] = []
+values_told cells address (type ∷ types) =
+    value_told type (word_at cells address) ∷ values_told cells (address + 1) types
+
+-- what is reached by a reference of this type, by its head word: an object's is its class's table, an array's its length
+abbrev pub head_told : Source → VarType → ℕ → Head
+head_told program kind.Int word = OfInts 0
+head_told program (kind.Class class) word = OfClass (unwrap_or (class_with_table program word) 0)
+head_told program kind.IntArray word = OfInts word
+head_told program (kind.ClassArray class) word = OfObjects (unwrap_or (class_number program class.text) 0) word
+
+-- the object or array at a reference: its head, its count and its cells
+abbrev pub object_told : Source → List ℕ → Reference → Object
+object_told program cells reference = record {
+  head = head_told program reference.type (word_at cells reference.at);
+  count = word_at cells (reference.at + 1);
+  cells = values_told cells (reference.at + 2) (types_at program cells reference);
+}
+
+abbrev pub address_of : Reference → ℕ
+address_of reference = reference.at
+
+-- the lines of what is reached, by these references in turn
+abbrev pub lines_told : Source → List ℕ → List ℕ → List Reference → Text
+lines_told program cells addresses [] = []
+lines_told program cells addresses (reference ∷ rest) =
+    let object = object_told program cells reference in
+    number_shown addresses reference.at ++ codes " " ++ head_shown program object.head
+    ++ codes " count " ++ decimal object.count ++ line_end
+    ++ cell_lines program addresses object.head object.cells
+    ++ lines_told program cells addresses rest
+
+-- the report that the cells of a memory tell
+abbrev pub report_told : Source → List ℕ → Text
+report_told program cells =
+    let references = reached program cells in
+    let addresses = map address_of references in
+    field_lines [] addresses (main_fields program) (values_told cells (statics_at + 2) (types_of (main_fields program)))
+    ++ lines_told program cells addresses references
+    ++ live_line (length references)
