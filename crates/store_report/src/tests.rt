@@ -13,7 +13,7 @@ use std::process::Abort;
 use std::test::Fail;
 
 fn checked<R: Abort>(rt: &R, alloc: Global, text: &[u8]) -> Result<Checked, Fail> {
-    assert!(rt; text.len() <= MOST_BYTES);
+    assert!(rt; text.len() <= MOST_BYTES as usize);
     let tokens = lex(alloc, text)?;
     let program = parse(alloc, &tokens, text.len() as u32)?;
     let table = ClassTable::build(alloc, &program, text.len() as u32)?;
