@@ -1,0 +1,5 @@
+pub mod Places
+pub mod Rows
+pub mod Ranges
+pub mod Built
+pub mod Pieces

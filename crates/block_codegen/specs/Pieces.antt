@@ -1,0 +1,76 @@
+-- The blocks of which code is made, and the pieces of their statements.
+use Rattle.std.specs.Prelude.{◌≡◌, ℕ, ◌+◌, ◌*◌, ◌<◌, ◌≤◌, List, length, All}
+use Rattle.rpp_tree.specs.declared.tree.Ident.{Ident}
+use Rattle.rpp_tree.specs.declared.limits.TheConstants.{MOST_BYTES}
+use Rattle.rpp_tree.specs.Tree.{Statement, Statements, Source}
+use Rattle.rpp_tree.specs.Views.{source_of}
+use Rattle.rpp_tree.specs.Parts.{statement_places, block_places, statement_tokens, block_tokens}
+use Rattle.rpp_tree.specs.Limits.{locals, AreSmall, AreInnerSmall}
+use Rattle.class_table.specs.Statements.{passed, check_statements}
+use Rattle.paired_code.specs.declared.part.Symbol.{Symbol}
+use Rattle.paired_code.specs.Code.{Code}
+use Rattle.sound_execution.specs.Plain.{BlockHasWords}
+use Rattle.statement_laws.specs.Form.{Scope, StmtLaw}
+use Rattle.statement_laws.specs.Stands.{shape_of}
+use Rattle.statement_laws.specs.Worlds.{Place, world_of}
+use Rattle.method_scope.specs.declared.known.TheConstants.{MOST_VARIABLES}
+use Rattle.method_scope.specs.Visible.{Visible}
+use Rattle.frame_facts.specs.Laws.{IsLinked}
+use Rattle.expression_laws.specs.Typing.{typing_in}
+use Rattle.statement_codegen.specs.Codes.{scope_of, IsStatementCode, IsBlockCode, IsAllowed}
+use Rattle.block_codegen.specs.Rows.{inner_rows, block_rows}
+use Rattle.block_codegen.specs.Ranges.{MarksOf, IsCovered}
+use Rattle.block_codegen.specs.Built.{IsBuiltStatement, IsBuilt}
+
+-- ---- what code is made for
+
+-- a place in a source
+abbrev pub IsPlace : ℕ → Type 0
+IsPlace at = at < MOST_BYTES
+
+-- A statement that stands where this is visible: it is allowed there, the statements in it keep the limits of
+-- expressions, it stands at places that a source can have, and it is built.
+pub record StatementStands (v : Visible) (statement : Statement) : Type 0 where
+  pub allowed : IsAllowed v statement
+  pub inner_small : AreInnerSmall statement
+  pub places : All IsPlace (statement_places statement)
+  pub built : IsBuiltStatement statement
+
+-- A block that stands there: the rules of types pass it, its literals are words, it keeps the limits of expressions,
+-- it stands at places that a source can have, its locals have room in the frame, and it is built.
+pub record StandsIn (v : Visible) (body : Statements) : Type 0 where
+  pub rules : check_statements (typing_in (source_of v.program) (scope_of v)) (shape_of (source_of v.program) (scope_of v)) body
+      ≡ passed
+  pub has_words : BlockHasWords body
+  pub small : AreSmall body
+  pub places : All IsPlace (block_places body)
+  pub room : length v.variables + locals body ≤ MOST_VARIABLES
+  pub built : IsBuilt body
+
+-- ---- what is made
+
+-- the code of a statement in a scope, wherever an image of the program is linked
+pub record IsRowCode (program : Source) (s : Scope) (statement : Statement) (cells : List Symbol) : Type 0 where
+  pub law : (place : Place) (routine : ℕ → Ident → ℕ) → IsLinked place routine → place.setting.program ≡ program
+      → StmtLaw (world_of place) s statement cells
+
+-- the marks of the piece are those of the statements of a block: each has its code under its mark
+abbrev pub HaveMarks : Visible → Statements → Code → Type 0
+HaveMarks v body p = MarksOf (IsRowCode (source_of v.program)) (block_rows (scope_of v) body) p
+
+-- at most so many cells for each token
+abbrev pub cells_a_token : ℕ
+cells_a_token = 200
+
+-- the piece of a statement before it is marked: it has the marks of the statements that stand in it
+pub record InnerPiece (v : Visible) (statement : Statement) (p : Code) : Type 0 where
+  pub law : IsStatementCode v statement p.cells
+  pub marks : MarksOf (IsRowCode (source_of v.program)) (inner_rows (scope_of v) statement) p
+  pub size : length p.cells ≤ cells_a_token * statement_tokens statement
+
+-- the piece of a block
+pub record BlockPiece (v : Visible) (body : Statements) (p : Code) : Type 0 where
+  pub law : IsBlockCode v body p.cells
+  pub marks : HaveMarks v body p
+  pub covered : IsCovered p
+  pub size : length p.cells ≤ cells_a_token * block_tokens body

@@ -1,0 +1,56 @@
+-- Marks of statements: one for each, over its cells, apart or nested as the statements are.
+use Rattle.std.specs.Prelude.{◌≡◌, ℕ, ◌-◌, ◌<◌, ◌≤◌, ◌⊎◌, Bool, true, ◌&&◌, nat_le, nat_lt, List, [], ◌∷◌, length, take, drop, All}
+use Rattle.std.specs.List.{list_any, AllZip}
+use Rattle.std.specs.List.Sorted.{IsPermutation}
+use Rattle.rpp_tree.specs.Tree.{Statement}
+use Rattle.block_codegen.specs.Places.{statement_place}
+use Rattle.pisa_isa.specs.declared.notes.Mark.{Mark}
+use Rattle.paired_code.specs.declared.part.Symbol.{Symbol}
+use Rattle.paired_code.specs.Code.{Code}
+use Rattle.statement_laws.specs.Form.{Scope}
+use Rattle.block_codegen.specs.Rows.{Row}
+
+-- the second range lies in the first
+abbrev pub LiesIn : Mark → Mark → Type 0
+LiesIn k j = (k.first ≤ j.first) × (j.end ≤ k.end)
+
+-- no cell lies in both
+abbrev pub LiesApart : Mark → Mark → Type 0
+LiesApart k j = (k.end ≤ j.first) ⊎ (j.end ≤ k.first)
+
+-- Behind each statement come those that stand in it, whose ranges lie in its own, and then others, whose
+-- ranges lie apart.
+abbrev pub AreNested : List Row → List Mark → Type 0
+AreNested [] [] = Unit {0}
+AreNested [] (k ∷ ks) = ⊥
+AreNested (r ∷ rs) [] = ⊥
+AreNested (r ∷ rs) (k ∷ ks) =
+    (r.inside ≤ length ks) × All (LiesIn k) (take r.inside ks) × All (LiesApart k) (drop r.inside ks)
+    × AreNested rs ks
+
+module _ (Law : Scope → Statement → List Symbol → Type 0) where
+  -- a mark stands at the place of a statement, and the cells of its range have the statement's law
+  pub record IsRange (cells : List Symbol) (r : Row) (k : Mark) : Type 0 where
+    pub place : k.at ≡ statement_place r.statement
+    pub in_order : k.first ≤ k.end
+    pub within : k.end ≤ length cells
+    pub law : Law r.scope r.statement (take (k.end - k.first) (drop k.first cells))
+
+  -- the marks of a piece are one range for each of these statements
+  pub record MarksOf (rows : List Row) (p : Code) : Type 0 where
+    pub ranges : List Mark
+    pub same : IsPermutation p.marks ranges
+    pub each : AllZip (IsRange p.cells) rows ranges
+    pub nested : AreNested rows ranges
+
+-- whether a cell lies in the range of a mark
+abbrev pub holds_cell : ℕ → Mark → Bool
+holds_cell i k = nat_le k.first i && nat_lt i k.end
+
+-- or in that of one of these
+abbrev pub is_marked : List Mark → ℕ → Bool
+is_marked marks i = list_any (holds_cell i) marks
+
+-- each cell lies in a mark's range
+abbrev pub IsCovered : Code → Type 0
+IsCovered p = (i : ℕ) → i < length p.cells → is_marked p.marks i ≡ true

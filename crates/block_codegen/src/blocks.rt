@@ -1,0 +1,102 @@
+// The code of blocks, and of the statements that hold them.
+ghost use Rattle.std.specs.Prelude.{◌≡◌, ◌*◌, ◌≤◌, length, IfOk, OnOk};
+ghost use Rattle.rpp_tree.specs.Parts.{block_tokens};
+ghost use Rattle.block_codegen.specs.Places.{statement_place};
+ghost use Rattle.rpp_tree.specs.Views.{statement_of, block_of};
+ghost use Rattle.pisa_isa.specs.declared.notes.TheConstants.{LAST_PLACE};
+ghost use Rattle.paired_code.specs.Code.{seq_code, marked_code};
+ghost use Rattle.statement_codegen.specs.Codes.{IsBlockCode};
+ghost use Rattle.block_codegen.specs.Ranges.{IsCovered};
+ghost use Rattle.block_codegen.specs.Pieces.{StatementStands, StandsIn, HaveMarks, cells_a_token, InnerPiece, BlockPiece};
+
+use crate::plain::{place_of, plain_piece};
+use method_scope::Scope;
+use paired_code::{Piece, empty, marked, seq};
+use rpp_tree::tree::{Block, Stmt};
+use rpp_words::NoMemory;
+use statement_codegen::{from_code, if_code, local_code};
+use std::alloc::Global;
+
+/// The code of a block in this scope: the code of its statements, one after the other, with a mark over the
+/// cells of each. Where it is made, the scope is as before; after an error nothing is known of it. It has at most
+/// 200 cells for each token of the block. The only error is that memory ran out.
+pub fn block_code(alloc: Global, body: &Block, scope: &mut Scope) -> Result<Piece, NoMemory>
+    requires stands { StandsIn scope.old (block_of body.now) }
+    ensures law { IfOk result (λ p. IsBlockCode scope.old (block_of body.now) p.cells) }
+    ensures marks { IfOk result (λ p. HaveMarks scope.old (block_of body.now) p) }
+    ensures covered { IfOk result (λ p. IsCovered p) }
+    ensures size { IfOk result (λ p. length p.cells ≤ cells_a_token * block_tokens (block_of body.now)) }
+    ensures few { IfOk result (λ p. length p.marks ≤ block_tokens (block_of body.now)) }
+    ensures scope { OnOk result (scope.new ≡ scope.old) }
+{
+    block_piece(alloc, body, scope)
+}
+
+// A piece, and then the piece of a statement with its mark.
+fn then_marked(before: Piece, s: &Stmt, inner: Piece) -> Result<Piece, NoMemory>
+    requires place { statement_place (statement_of s.now) ≤ LAST_PLACE }
+    ensures code { IfOk result (λ p. p ≡
+        seq_code before (marked_code (statement_place (statement_of s.now)) inner)) }
+{
+    seq(before, marked(place_of(s), inner)?)
+}
+
+#[cycle(blocks)]
+fn block_piece(alloc: Global, body: &Block, scope: &mut Scope) -> Result<Piece, NoMemory>
+    requires stands { StandsIn scope.old (block_of body.now) }
+    ensures piece { IfOk result (λ p. BlockPiece scope.old (block_of body.now) p) }
+    ensures scope { OnOk result (scope.new ≡ scope.old) }
+{
+    let mut piece = empty(alloc);
+    for stmt in &body.list {
+        let inner = inner_piece(alloc, stmt, scope)?;
+        piece = then_marked(piece, stmt, inner)?;
+    }
+    Ok(piece)
+}
+
+// A statement with the marks of those that it holds.
+#[cycle(blocks)]
+fn inner_piece(alloc: Global, s: &Stmt, scope: &mut Scope) -> Result<Piece, NoMemory>
+    requires stands { StatementStands scope.old (statement_of s.now) }
+    ensures piece { IfOk result (λ p. InnerPiece scope.old (statement_of s.now) p) }
+    ensures scope { OnOk result (scope.new ≡ scope.old) }
+{
+    match s {
+        Stmt::If {
+            test,
+            yes,
+            no,
+            after,
+            ..
+        } => {
+            let yes = block_piece(alloc, yes, scope)?;
+            let no = block_piece(alloc, no, scope)?;
+            if_code(alloc, test, yes, no, after, scope)
+        }
+        Stmt::From {
+            entry,
+            first,
+            again,
+            until,
+            ..
+        } => {
+            let first = block_piece(alloc, first, scope)?;
+            let again = block_piece(alloc, again, scope)?;
+            from_code(alloc, entry, first, again, until, scope)
+        }
+        Stmt::Local {
+            var,
+            value,
+            body,
+            end_value,
+            ..
+        } => {
+            scope.push(alloc, var)?;
+            let body = block_piece(alloc, body, scope)?;
+            scope.pop();
+            local_code(alloc, var, value, body, end_value, scope)
+        }
+        _ => plain_piece(alloc, s, scope),
+    }
+}
