@@ -25,7 +25,25 @@ pub fn load(alloc: Global, image: Image, limits: Limits, input: &Input) -> Resul
         machine ≡ first_position image zero_registers (loaded image.statics limits input.now.words.items)) }
     ensures image { IfOk result (λ machine. IsImage machine.image) }
 {
-    let cells = memory(alloc, image.statics(), limits, &input.words)?;
+    load_more(alloc, image, limits, input, 0)
+}
+
+/// The machine that `load` makes, with so many cells of 0 behind its memory.
+pub fn load_more(
+    alloc: Global,
+    image: Image,
+    limits: Limits,
+    input: &Input,
+    more: u32,
+) -> Result<Machine, NoMemory>
+    requires limits { IsLimits limits }
+    requires input { IsInputOf image.statics input.now.words.items }
+    requires room { more ≤ 2 ^ 24 }
+    ensures machine { IfOk result (λ machine.
+        machine ≡ first_position image zero_registers (loaded image.statics limits input.now.words.items ++ replicate more 0)) }
+    ensures image { IfOk result (λ machine. IsImage machine.image) }
+{
+    let cells = memory(alloc, image.statics(), limits, &input.words, more)?;
     Machine::start_with(alloc, image, [0; 32], cells)
 }
 
@@ -39,28 +57,33 @@ pub(crate) fn memory_size(statics: u32, limits: Limits) -> u32
     heap_base(limits.heap, statics) + heap_size(limits.heap) + FRAME_WORDS * limits.deep
 }
 
-/// The memory of a run that begins with these static cells, this input and an empty heap.
+/// The memory of a run that begins with these static cells, this input and an empty heap, and so many
+/// cells of 0 behind it.
 fn memory(
     alloc: Global,
     statics: &[u32],
     limits: Limits,
     input: &[FieldWord],
+    more: u32,
 ) -> Result<Vec<u32>, AllocError>
     requires limits { IsLimits limits }
     requires statics { length statics.now ≤ MOST_STATICS }
     requires input { IsInputOf statics.now input.now }
-    ensures items { IfOk result (λ cells. cells.items ≡ loaded statics.now limits input.now) }
+    requires room { more ≤ 2 ^ 24 }
+    ensures items { IfOk result (λ cells. cells.items ≡ loaded statics.now limits input.now ++ replicate more 0) }
     ensures len { IfOk result (λ cells. vec_len cells < 2 ^ 32) }
 {
     let count = statics.len() as u32;
     let base = heap_base(limits.heap, count);
     let words = with_words(alloc, statics, input)?;
-    let mut cells = Vec::with_capacity(alloc, memory_size(count, limits) as usize)?;
+    let size = memory_size(count, limits) + more;
+    let mut cells = Vec::with_capacity(alloc, size as usize)?;
     add_fixed(&mut cells, limits, base)?;
     cells.extend_from_slice(&words)?;
     add_zeros(&mut cells, base - FIXED_CELLS - count)?;
     add_zeros(&mut cells, heap_size(limits.heap))?;
     add_zeros(&mut cells, FRAME_WORDS * limits.deep)?;
+    add_zeros(&mut cells, more)?;
     Ok(cells)
 }
 
