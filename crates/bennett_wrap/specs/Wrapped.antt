@@ -1,0 +1,127 @@
+-- An image whose run computes, copies and computes back.
+use Rattle.std.specs.Prelude.{◌≡◌, ◌≤◌, ◌<◌, ◌+◌, ◌-◌, ◌*◌, ◌^◌, ℕ, List, [], ◌∷◌, ◌++◌, length, map, replicate, take, drop, slice_get, slice_index, Some, if◌then◌else◌}
+use Rattle.std.specs.List.{All, position_or_len}
+use Rattle.rpp_words.specs.Words.{IsWord}
+use Rattle.pisa_isa.specs.declared.cell.Cell.{Cell}
+use Rattle.pisa_isa.specs.declared.machine.Stop.TheVariants.{Finished, Trap, Bound}
+use Rattle.pisa_isa.specs.Machine.{State}
+use Rattle.pisa_isa.specs.Image.{is_start, is_finish}
+use Rattle.pisa_isa.specs.Runs.{End, run, started, zero_registers}
+use Rattle.pisa_isa.specs.Ends.{MeetsEndsOnce}
+use Rattle.pisa_isa.specs.Flipped.{flipped}
+use Rattle.paired_code.specs.Cells.{bra}
+use Rattle.paired_code.specs.Layout.{between}
+use Rattle.bennett_wrap.specs.Copying.{copy_cells, count_at}
+
+-- ---- the cells
+
+-- a branch in the place of FINISH
+abbrev pub left_by : Cell → Cell → Cell
+left_by jump c = if is_finish c then jump else c
+
+-- a branch in the place of START
+abbrev pub entered_by : Cell → Cell → Cell
+entered_by jump c = if is_start c then jump else c
+
+-- the place of the first FINISH cell
+abbrev pub finish_of : List Cell → ℕ
+finish_of code = position_or_len is_finish code
+
+-- how many cells the copy code has
+abbrev pub copy_size : List ℕ → ℕ
+copy_size cells = 11 + 8 * length cells
+
+-- where the copy code ends, behind code of n cells and the branch to it
+abbrev pub copied_at : ℕ → List ℕ → ℕ
+copied_at n cells = n + 1 + copy_size cells
+
+-- where the flipped code is entered, for a FINISH cell at f
+abbrev pub entered_at : (n f : ℕ) → List ℕ → ℕ
+entered_at n f cells = copied_at n cells + 1 + (n - 1 - f)
+
+-- the code, the copy code and the flipped code, joined by two pairs of branches
+abbrev pub joined : List Cell → (n f : ℕ) → List ℕ → List Cell
+joined code n f cells =
+    map (left_by (bra (between f n))) code
+    ++ bra (between n f) ∷ []
+    ++ copy_cells cells
+    ++ bra (between (copied_at n cells) (entered_at n f cells)) ∷ []
+    ++ map (entered_by (bra (between (entered_at n f cells) (copied_at n cells)))) (flipped code)
+
+abbrev pub wrapped_code : List Cell → List ℕ → List Cell
+wrapped_code code cells = joined code (length code) (finish_of code) cells
+
+-- what stands between the first and the last cell
+abbrev pub inner : List Cell → List Cell
+inner code = drop 1 (take (length code - 1) code)
+
+-- ---- its runs
+
+-- where a run on these cells begins
+abbrev pub begun_on : List Cell → List ℕ → State
+begun_on code cells = started code zero_registers cells
+
+-- the run of at most so many steps
+abbrev pub run_on : List Cell → (bound : ℕ) → List ℕ → End
+run_on code bound cells = run code bound (begun_on code cells)
+
+-- Memory for which the copy code is made: cell 4 holds the number of its cells, each cell that is copied is one of them, and
+-- so many addresses are left behind it.
+pub record HasRoom (a cells : List ℕ) : Type 0 where
+  pub words : All IsWord a
+  pub counted : slice_get a count_at ≡ Some (length a)
+  pub among : All (λ c. c < length a) cells
+  pub room : length a + length cells < 2 ^ 32
+
+-- one zero for each cell that is copied
+abbrev pub with_zeros : List ℕ → List ℕ → List ℕ
+with_zeros a cells = a ++ replicate (length cells) 0
+
+-- what cells hold
+abbrev pub values_at : List ℕ → List ℕ → List ℕ
+values_at b cells = map (slice_index b) cells
+
+-- the run finished in so many steps, with zero registers and these cells
+pub record FinishesWith (e : End) (count : ℕ) (cells : List ℕ) : Type 0 where
+  pub why : e.why ≡ Finished
+  pub spent : e.spent ≡ count
+  pub registers : e.last.regs ≡ zero_registers
+  pub memory : e.last.cells ≡ cells
+
+-- the run trapped in so many steps, and from cell n on so many zeros stand
+pub record TrapsWith (e : End) (w count n zeros : ℕ) : Type 0 where
+  pub why : e.why ≡ Trap w
+  pub spent : e.spent ≡ count
+  pub results : drop n e.last.cells ≡ replicate zeros 0
+
+-- the run is narrow: it passes START and FINISH at its two ends alone
+abbrev pub IsNarrow : List Cell → (bound : ℕ) → List ℕ → Type 0
+IsNarrow code bound a = MeetsEndsOnce code bound (begun_on code a)
+
+-- the run is narrow and finishes with zero registers, and cell 4 has kept the number of the cells
+pub record Computes (code : List Cell) (bound : ℕ) (a : List ℕ) : Type 0 where
+  pub narrow : IsNarrow code bound a
+  pub finished : (run_on code bound a).why ≡ Finished
+  pub registers : (run_on code bound a).last.regs ≡ zero_registers
+  pub kept : slice_get (run_on code bound a).last.cells count_at ≡ Some (length a)
+
+-- how many steps it takes to compute in n steps, to copy and to compute back
+abbrev pub steps_wrapped : ℕ → List ℕ → ℕ
+steps_wrapped n cells = 2 * n + 13 + 8 * length cells
+
+-- what the wrapped code does on a memory with zeros behind it, by what the code does on the memory
+pub record Wrapped (code : List Cell) (cells : List ℕ) (wrapped : List Cell) : Type 0 where
+  -- where the run finishes, the wrapped run finishes with the first memory, and with the results behind it
+  pub finishes : (a : List ℕ) (bound enough : ℕ) → HasRoom a cells → Computes code bound a
+      → steps_wrapped (run_on code bound a).spent cells ≤ enough
+      → FinishesWith (run_on wrapped enough (with_zeros a cells)) (steps_wrapped (run_on code bound a).spent cells)
+      (a ++ values_at (run_on code bound a).last.cells cells)
+  -- where it traps, the wrapped run does so in as many steps, and nothing is copied
+  pub traps : (a : List ℕ) (bound enough w : ℕ) → HasRoom a cells → IsNarrow code bound a
+      → (run_on code bound a).why ≡ Trap w → (run_on code bound a).spent ≤ enough
+      → TrapsWith (run_on wrapped enough (with_zeros a cells)) w (run_on code bound a).spent (length a) (length cells)
+  -- where it is not over after so many steps, the wrapped run is not over after so many; so where it never ends, neither
+  -- does that
+  pub goes_on : (a : List ℕ) (bound : ℕ) → HasRoom a cells → IsNarrow code bound a
+      → (run_on code bound a).why ≡ Bound
+      → (run_on wrapped bound (with_zeros a cells)).why ≡ Bound
