@@ -1,0 +1,5 @@
+pub mod Bounds
+pub mod Room
+pub mod Told
+pub mod Fields
+pub mod IntFields
