@@ -12,6 +12,7 @@ use Rattle.roopl_semantics.specs.Elements.{elements, index_elements, own_element
 use Rattle.expr_uncompute.specs.Number.{index_of}
 use Rattle.expr_uncompute.specs.Code
 use Rattle.expr_uncompute.specs.Steps.{operator_steps, operand_steps, open_steps, prepare_steps, parts_steps, value_steps, test_steps, fetch_steps, place_steps, compare_steps, apart_steps, both_apart_steps, update_steps, swap_steps, tokens, place_tokens}
+use Rattle.expr_uncompute.specs.Found.{found_place_steps, found_value_steps, found_places_steps}
 
 -- ---- steps
 
@@ -134,6 +135,23 @@ update_most target e = let a = place_less target in let b = fetch_most e in let 
 
 pub swap_most : (left right : Lvalue) → swap_steps left right ≤ 304 * (1 + index_nodes left + index_nodes right + read_cost (own_element left ++ own_element right) (index_elements left ++ index_elements right))
 swap_most left right = let a = place_most left in let b = place_most right in let c = both_apart_most left right in omega arith
+
+-- what is found around a middle, there and back
+pub found_place_most : (target : Lvalue) → 2 * found_place_steps target ≤ 162 * (1 + index_nodes target + read_cost (own_element target) (index_elements target))
+found_place_most (Whole name) = omega arith
+found_place_most (Item name index) = let a = place_less (Item name index) in let b = compare_is index in omega arith
+
+pub found_value_most : (target : Lvalue) (e : Expression) → 2 * found_value_steps target e ≤ 162 * (1 + index_nodes target + nodes e + read_cost (own_element target) (index_elements target ++ elements e))
+found_value_most target e = let a = place_less target in let b = fetch_most e in let c = apart_is target e in omega arith
+
+pub found_places_most : (source target : Lvalue) → 2 * found_places_steps source target ≤ 304 * (1 + index_nodes source + index_nodes target + read_cost (own_element target) (index_elements source ++ index_elements target))
+found_places_most source (Whole name) = let a = place_less source in omega arith
+found_places_most source (Item name index) =
+    let a = place_less source in
+    let b = place_less (Item name index) in
+    let c = index_compare_is source in
+    let d = compare_is index in
+    omega (arith, length-append (index_elements source) (elements index))
 
 -- so do faults of a shared array
 pub update_sharing_most : (target : Lvalue) (e : Expression) → place_steps target + fetch_steps e + apart_steps target (index_of target) e ≤ 162 * (1 + index_nodes target + nodes e + read_cost (own_element target) (index_elements target ++ elements e))
@@ -330,6 +348,39 @@ module _ (spot : List ℕ → Spot) (free : ℕ) where
       let a = compare_all (spot name.text) e in
       let c = compare_all (spot name.text) e' in
       omega (arith, length-append (Code.compare_all spot (spot name.text) e) (Code.compare_all spot (spot name.text) e'))
+
+  -- and with a middle
+  pub place_around : (target : Lvalue) (mid : List Symbol) → length (Code.around (Code.found_place_cells spot free target) mid) ≤ length mid + 80 * (1 + place_tokens target)
+  place_around target mid =
+      let p = Code.place_cells spot free target 0 Code.place in
+      let k = Code.apart_cells spot target (index_of target) (Null 0) in
+      let a = place_cells target 0 Code.place in
+      let d = apart_cells target (index_of target) (Null 0) in
+      let t = index_tokens target in
+      omega (arith, length_around (p ++ k) mid, length-append p k)
+
+  pub value_around : (target : Lvalue) (e : Expression) (mid : List Symbol) → length (Code.around (Code.found_value_cells spot free target e) mid) ≤ length mid + 80 * (place_tokens target + tokens e)
+  value_around target e mid =
+      let p = Code.place_cells spot free target 0 Code.place in
+      let v = Code.fetch_cells spot free e (Code.place_words target) Code.amount in
+      let a = place_cells target 0 Code.place in
+      let c = fetch_cells e (Code.place_words target) Code.amount in
+      let k = Code.apart_cells spot target (index_of target) e in
+      let d = apart_cells target (index_of target) e in
+      let t = index_tokens target in
+      omega (arith, length_around ((p ++ v) ++ k) mid, length-append (p ++ v) k, length-append p v)
+
+  pub places_around : (source target : Lvalue) (mid : List Symbol) → length (Code.around (Code.found_places_cells spot free source target) mid) ≤ length mid + 80 * (place_tokens source + place_tokens target)
+  places_around source target mid =
+      let p = Code.place_cells spot free source 0 Code.place in
+      let v = Code.place_cells spot free target (Code.place_words source) Code.other_place in
+      let a = place_cells source 0 Code.place in
+      let c = place_cells target (Code.place_words source) Code.other_place in
+      let k = Code.apart_cells spot target (index_of source) (index_of target) in
+      let d = apart_cells target (index_of source) (index_of target) in
+      let t = index_tokens source in
+      let u = index_tokens target in
+      omega (arith, length_around ((p ++ v) ++ k) mid, length-append (p ++ v) k, length-append p v)
 
   pub update_cells : (o : UpdateOp) (target : Lvalue) (e : Expression) → length (Code.update_cells spot free o target e) ≤ 80 * (place_tokens target + 1 + tokens e)
   update_cells o target e =

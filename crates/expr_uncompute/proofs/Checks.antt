@@ -1,12 +1,12 @@
 -- The checks of an element, and its address.
 use Rattle.std.proofs.Common.{◌≡◌, ◌≢◌, ℕ, Bool, true, false, ◌+◌, ◌^◌, ◌<◌, ◌≤◌, true, false, List, [], ◌∷◌, length, refl, sym, ap, ◌∙◌, arith}
-use Rattle.std.specs.Prelude.{slice_index, slice_set, bit_xor, bit_or, nat_eq, nat_lt, not}
+use Rattle.std.specs.Prelude.{slice_index, slice_set, nat_lt, not}
 use Rattle.std.proofs.lemmas.Bool.Decides.{nat_tests}
 use Rattle.pisa_isa.specs.Table.{word_of}
 use Rattle.rpp_words.specs.Words.{is_less, sum_of}
 use Rattle.paired_code.specs.Machine.{Memory}
 use Rattle.roopl_semantics.specs.Operators.{truth_word}
-use Rattle.expr_uncompute.specs.Code.{content, left_operand, right_operand, left_truth, right_truth, nought, outcome, exch, sltx, xori, orx, nil_check, index_check, point_cells}
+use Rattle.expr_uncompute.specs.Code.{content, left_operand, right_operand, nought, outcome, exch, sltx, xori, nil_check, index_check, point_cells}
 use Rattle.expr_uncompute.specs.Number.{Bases}
 use Rattle.expr_uncompute.proofs.Comparing.{not_less, above, not_above, past_end}
 use Rattle.expr_uncompute.proofs.Goes.{Goes, Traps, goes_cons, goes_around, goes_to, goes_xor, goes_set, goes_xor_to, goes_add, goes_addi, goes_exch, goes_check, traps_check, traps_mid}

@@ -1,37 +1,33 @@
 -- Places and values found, for any code that uses them: what stands in the registers then, and what takes it away again.
-use Rattle.std.proofs.Common.{◌≡◌, ℕ, ◌+◌, ◌≤◌, Bool, true, false, List, ◌++◌, length, refl, sym, ap, ◌∙◌, subst, arith}
+use Rattle.std.proofs.Common.{◌≡◌, ℕ, ◌+◌, Bool, true, false, List, ◌++◌, length, refl, sym, ap, ◌∙◌, subst, arith}
 use Rattle.std.specs.Prelude.{Ok, Err}
 use Rattle.rpp_tree.specs.Tree.{Expression, Lvalue}
 use Rattle.paired_code.specs.declared.part.Symbol.{Symbol}
-use Rattle.paired_code.specs.Machine.{Memory, Image, reg, with_reg}
-use Rattle.paired_code.specs.Pieces.{Trapped, Runs}
+use Rattle.paired_code.specs.Machine.{Memory, Image, reg}
 use Rattle.statement_laws.specs.declared.spot.Spot.{Spot}
-use Rattle.expr_uncompute.specs.Code.{words, place_words, amount, place, other_place, around, place_cells, fetch_cells, apart_cells}
-use Rattle.expr_uncompute.specs.Number.{number, read_of, index_of, place_address, shares}
-use Rattle.expr_uncompute.specs.Steps.{place_steps, fetch_steps, apart_steps}
+use Rattle.expr_uncompute.specs.Code.{words, place_words, place, other_place, around, place_cells, apart_cells, found_value_cells}
+use Rattle.expr_uncompute.specs.Number.{number, read_of, index_of, place_address, shares, update_shares}
+use Rattle.expr_uncompute.specs.Steps.{place_steps, apart_steps}
 use Rattle.expr_uncompute.specs.Laws.{bases_of, Ready}
 use Rattle.expr_uncompute.specs.Promises.{SeesIn, CanRun, IsTrap}
-use Rattle.expr_uncompute.proofs.Goes.{Goes, Traps, goes_to, goes_seq, traps_around, traps_then}
+use Rattle.expr_uncompute.specs.Found.{found, found_value_steps}
+use Rattle.expr_uncompute.proofs.Goes.{Goes, Traps, goes_to, goes_seq, traps_around, traps_then, traps_first}
 use Rattle.expr_uncompute.proofs.Numbers.{Agree, sees_same}
 use Rattle.expr_uncompute.proofs.Scratch.{keeping, mem}
 use Rattle.expr_uncompute.proofs.Whole.{as_mem}
 use Rattle.expr_uncompute.proofs.PlaceLaws.{FitPlace, placed, place_points, place_goes, place_traps}
 use Rattle.expr_uncompute.proofs.Written.{filled, both_placed, placed_below, placed_length, placed_words}
 use Rattle.expr_uncompute.proofs.KeptApart.{index_seen, shares_same, apart_goes, apart_traps}
-use Rattle.expr_uncompute.proofs.Updates.{found_goes, both_found, placed_is}
-use Rattle.expr_uncompute.proofs.Statements.{fit_from}
-
--- a value in `amount`, and the addresses of a place and of a second one
-abbrev pub kept_at : (v a a' : ℕ) → List ℕ → Memory → Memory
-kept_at v a a' cells m = record (with_reg (with_reg (with_reg m amount v) place a) other_place a') { cells = cells }
+use Rattle.expr_uncompute.proofs.Updates.{held_goes, both_found, placed_is}
+use Rattle.expr_uncompute.proofs.Statements.{fit_from, run_traps}
 
 module _ (spot : List ℕ → Spot) (free : ℕ) (m : Memory) where
-  shown_as : (n : ℕ) → Ready free n m → (v a a' : ℕ) (cells : List ℕ) → mem (bases_of m) (reg m) (keeping v a a') cells ≡ kept_at v a a' cells m
-  shown_as n h v a a' cells = sym (ap (kept_at v a a' cells) (as_mem free n m h))
+  pub shown_as : (n : ℕ) → Ready free n m → (v a a' : ℕ) (cells : List ℕ) → mem (bases_of m) (reg m) (keeping v a a') cells ≡ found v a a' cells m
+  shown_as n h v a a' cells = sym (ap (found v a a' cells) (as_mem free n m h))
 
   -- the address of a place
   pub place_found : (target : Lvalue) (a : ℕ) → Ready free (place_words target) m → SeesIn spot free m (read_of target) → place_address spot (bases_of m) m.cells target ≡ Ok a
-      → Goes (place_cells spot free target 0 place) (place_steps target) m (kept_at 0 a 0 (placed spot free (bases_of m) target 0 m.cells) m)
+      → Goes (place_cells spot free target 0 place) (place_steps target) m (found 0 a 0 (placed spot free (bases_of m) target 0 m.cells) m)
   place_found target a h s n =
       let fit : FitPlace spot free (bases_of m) target 0 m.cells = record {
         all = h.words;
@@ -43,9 +39,9 @@ module _ (spot : List ℕ → Spot) (free : ℕ) (m : Memory) where
       goes_to refl (sym (as_mem free (place_words target) m h)) (shown_as (place_words target) h 0 a 0 _) (place_goes spot free (bases_of m) place (reg m) 0 0 0 0 a 0 a (place_points spot free (bases_of m) (reg m) 0 0 a) 0 m.cells target fit n)
 
   -- or its fault, whatever is to be done with it
-  pub place_fails : (target : Lvalue) (c : ℕ) (mid : List Symbol) → Ready free (place_words target) m → SeesIn spot free m (read_of target) → place_address spot (bases_of m) m.cells target ≡ Err c
-      → (im : Image) (d : Bool) → IsTrap im (around (place_cells spot free target 0 place) mid) d m c (place_steps target)
-  place_fails target c mid h s n im d =
+  pub place_fails : (target : Lvalue) (c : ℕ) (check mid : List Symbol) → Ready free (place_words target) m → SeesIn spot free m (read_of target) → place_address spot (bases_of m) m.cells target ≡ Err c
+      → (im : Image) (d : Bool) → IsTrap im (around (place_cells spot free target 0 place ++ check) mid) d m c (place_steps target)
+  place_fails target c check mid h s n im d =
       let fit : FitPlace spot free (bases_of m) target 0 m.cells = record {
         all = h.words;
         sees = s;
@@ -53,18 +49,17 @@ module _ (spot : List ℕ → Spot) (free : ℕ) (m : Memory) where
         small = h.small;
         empty = λ k lo hi. h.empty k (omega arith) (omega arith);
       } in
-      let t = (traps_around mid (place_traps spot free (bases_of m) place (reg m) 0 0 0 target 0 c m.cells fit n)).runs im d in
-      (t.0, t.1, subst (λ z. Runs im (around (place_cells spot free target 0 place) mid) d z (Trapped c t.0)) (sym (as_mem free (place_words target) m h)) t.2)
+      run_traps spot free m (place_words target) h im d _ (place_steps target) c (traps_around mid (traps_first check (place_traps spot free (bases_of m) place (reg m) 0 0 0 target 0 c m.cells fit n)))
 
-  -- a place and a value
-  pub value_found : (target : Lvalue) (e : Expression) (a v : ℕ) → CanRun spot free (place_words target + words e) (read_of target) e m → place_address spot (bases_of m) m.cells target ≡ Ok a → number spot (bases_of m) m.cells e ≡ Ok v
-      → Goes (place_cells spot free target 0 place ++ fetch_cells spot free e (place_words target) amount) (place_steps target + fetch_steps e) m (kept_at v a 0 (filled spot free (bases_of m) target e m.cells) m)
-  value_found target e a v h na nv =
-      goes_to refl (sym (as_mem free (place_words target + words e) m h.ready)) (shown_as (place_words target + words e) h.ready v a 0 _) (found_goes spot free (bases_of m) (reg m) target e m.cells a v (fit_from spot free m target (words e) h.ready h.first) h.second na nv)
+  -- a place and a value, and the check of arrays
+  pub value_held : (target : Lvalue) (e : Expression) (a v : ℕ) → CanRun spot free (place_words target + words e) (read_of target) e m → place_address spot (bases_of m) m.cells target ≡ Ok a → number spot (bases_of m) m.cells e ≡ Ok v → update_shares spot (bases_of m) m.cells target e ≡ false
+      → Goes (found_value_cells spot free target e) (found_value_steps target e) m (found v a 0 (filled spot free (bases_of m) target e m.cells) m)
+  value_held target e a v h na nv apart =
+      goes_to refl (sym (as_mem free (place_words target + words e) m h.ready)) (shown_as (place_words target + words e) h.ready v a 0 _) (held_goes spot free (bases_of m) (reg m) target e m.cells a v (fit_from spot free m target (words e) h.ready h.first) h.second na nv apart)
 
   -- two places
   pub places_found : (target other : Lvalue) (a a' : ℕ) → CanRun spot free (place_words target + place_words other) (read_of target) (read_of other) m → place_address spot (bases_of m) m.cells target ≡ Ok a → place_address spot (bases_of m) m.cells other ≡ Ok a'
-      → Goes (place_cells spot free target 0 place ++ place_cells spot free other (place_words target) other_place) (place_steps target + place_steps other) m (kept_at 0 a a' (both_placed spot free (bases_of m) target other m.cells) m)
+      → Goes (place_cells spot free target 0 place ++ place_cells spot free other (place_words target) other_place) (place_steps target + place_steps other) m (found 0 a a' (both_placed spot free (bases_of m) target other m.cells) m)
   places_found target other a a' h na na' =
       goes_to refl (sym (as_mem free (place_words target + place_words other) m h.ready)) (shown_as (place_words target + place_words other) h.ready 0 a a' _) (both_found spot free (bases_of m) (reg m) target other m.cells a a' (fit_from spot free m target (place_words other) h.ready h.first) h.second na na')
 
@@ -72,7 +67,7 @@ module _ (spot : List ℕ → Spot) (free : ℕ) (m : Memory) where
 
   -- a place whose array is none of those of which two expressions read elements
   pub place_held : (target : Lvalue) (e e' : Expression) (a : ℕ) → Ready free (place_words target) m → SeesIn spot free m (read_of target) → SeesIn spot free m e → SeesIn spot free m e' → place_address spot (bases_of m) m.cells target ≡ Ok a → shares spot (bases_of m) m.cells target e e' ≡ false
-      → Goes (place_cells spot free target 0 place ++ apart_cells spot target e e') (place_steps target + apart_steps target e e') m (kept_at 0 a 0 (placed spot free (bases_of m) target 0 m.cells) m)
+      → Goes (place_cells spot free target 0 place ++ apart_cells spot target e e') (place_steps target + apart_steps target e e') m (found 0 a 0 (placed spot free (bases_of m) target 0 m.cells) m)
   place_held target e e' a h s t t' n apart =
       let ys : List ℕ = placed spot free (bases_of m) target 0 m.cells in
       let below : Agree (reg m 4 + free) m.cells ys = placed_below spot free (bases_of m) target m.cells in
@@ -98,7 +93,7 @@ module _ (spot : List ℕ → Spot) (free : ℕ) (m : Memory) where
 
   -- two places, of which the second changes
   pub places_held : (target other : Lvalue) (a a' : ℕ) → CanRun spot free (place_words target + place_words other) (read_of target) (read_of other) m → place_address spot (bases_of m) m.cells target ≡ Ok a → place_address spot (bases_of m) m.cells other ≡ Ok a' → shares spot (bases_of m) m.cells other (index_of target) (index_of other) ≡ false
-      → Goes ((place_cells spot free target 0 place ++ place_cells spot free other (place_words target) other_place) ++ apart_cells spot other (index_of target) (index_of other)) (place_steps target + place_steps other + apart_steps other (index_of target) (index_of other)) m (kept_at 0 a a' (both_placed spot free (bases_of m) target other m.cells) m)
+      → Goes ((place_cells spot free target 0 place ++ place_cells spot free other (place_words target) other_place) ++ apart_cells spot other (index_of target) (index_of other)) (place_steps target + place_steps other + apart_steps other (index_of target) (index_of other)) m (found 0 a a' (both_placed spot free (bases_of m) target other m.cells) m)
   places_held target other a a' h na na' apart =
       let ys : List ℕ = both_placed spot free (bases_of m) target other m.cells in
       let k = placed_is spot free (bases_of m) (reg m) target other m.cells (fit_from spot free m target (place_words other) h.ready h.first) h.second in

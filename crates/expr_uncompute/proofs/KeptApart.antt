@@ -1,5 +1,5 @@
 -- A changed element's array is none of those of which elements are read, or fault 16.
-use Rattle.std.proofs.Common.{◌≡◌, ◌≢◌, ℕ, ◌+◌, ◌^◌, ◌<◌, ◌≤◌, Bool, true, false, List, [], ◌∷◌, ◌++◌, length, refl, sym, ap, ◌∙◌, arith}
+use Rattle.std.proofs.Common.{◌≡◌, ℕ, ◌+◌, ◌^◌, ◌<◌, ◌≤◌, Bool, true, false, List, [], ◌∷◌, ◌++◌, length, refl, ap, ◌∙◌, arith}
 use Rattle.std.specs.Prelude.{slice_index, slice_set, nat_eq, ◌||◌}
 use Rattle.rpp_words.specs.Words.{is_less}
 use Rattle.rpp_tree.specs.Tree.{Expression, Number, Null, Variable, Element, Binary, Lvalue, Whole, Item}
@@ -14,7 +14,7 @@ use Rattle.expr_uncompute.proofs.Comparing.{equal}
 use Rattle.expr_uncompute.proofs.Goes.{Goes, Traps, nothing, goes_cons, goes_seq, goes_around, goes_set, goes_xor, goes_xor_to, goes_check, traps_check, traps_mid, traps_then, traps_first, traps_more}
 use Rattle.expr_uncompute.proofs.Numbers.{Agree, AllWords}
 use Rattle.expr_uncompute.proofs.Reading.{reach_goes, copy_goes, left_takes}
-use Rattle.expr_uncompute.proofs.Scratch.{Scratch, keeping, mem}
+use Rattle.expr_uncompute.proofs.Scratch.{keeping, mem}
 
 one_is_not : ◌≡◌ {A = ℕ} 1 0 → ⊥
 one_is_not e = omega arith

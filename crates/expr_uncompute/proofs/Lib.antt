@@ -24,6 +24,9 @@ pub mod Meaning
 pub mod Sharing
 pub mod SourceLaws
 pub mod Meeting
+pub mod Enclosing
+pub mod Kept
 pub mod FoundLaws
+pub mod AroundLaws
 pub mod StatementRows
 pub mod Transport

@@ -14,7 +14,7 @@ use Rattle.paired_code.specs.Pieces.{Done, Trapped, Runs}
 use Rattle.paired_code.specs.declared.part.Symbol.{Symbol}
 use Rattle.roopl_semantics.specs.Operators.{updated}
 use Rattle.statement_laws.specs.declared.spot.Spot.{Spot}
-use Rattle.expr_uncompute.specs.Code.{words, place_words, update_cells, swap_cells}
+use Rattle.expr_uncompute.specs.Code.{words, place_words, update_middle, swap_middle, update_cells, swap_cells}
 use Rattle.expr_uncompute.specs.Number.{Bases, number, read_of, index_of, place_address, update_shares, swap_shares, Sees, SamePlace}
 use Rattle.expr_uncompute.specs.Steps.{place_steps, fetch_steps, apart_steps, both_apart_steps, update_steps, swap_steps}
 use Rattle.expr_uncompute.specs.Laws.{bases_of, Ready, turned, updated_at, swapped_at, Stays, BothStay}
@@ -24,7 +24,7 @@ use Rattle.expr_uncompute.proofs.Numbers.{words_set, number_word}
 use Rattle.expr_uncompute.proofs.Stored.{same_number}
 use Rattle.expr_uncompute.proofs.Whole.{as_mem}
 use Rattle.expr_uncompute.proofs.Written.{FitFrom, same_turned, place_turned}
-use Rattle.expr_uncompute.proofs.Updates.{place_low, update_goes, update_traps_place, update_traps_value, update_traps_sharing, swap_goes, swap_traps_first, swap_traps_second, swap_traps_sharing}
+use Rattle.expr_uncompute.proofs.Updates.{place_low, update_goes, found_traps_place, found_traps_value, found_traps_sharing, swap_goes, both_traps_first, both_traps_second, swap_traps_sharing}
 
 updated_word : (op : UpdateOp) (x v : ℕ) → x < 2 ^ 32 → v < 2 ^ 32 → updated op x v < 2 ^ 32
 updated_word update.Add x v h k = omega arith
@@ -79,7 +79,7 @@ module _ (spot : List ℕ → Spot) (free : ℕ) (m : Memory) where
     empty = λ a lo hi. h.empty a (omega arith) (omega arith);
   }
 
-  place_kept : (target : Lvalue) (zs zs' : List ℕ) (a : ℕ) → SamePlace spot (bases_of m) zs zs' target → place_address spot (bases_of m) zs target ≡ Ok a → place_address spot (bases_of m) zs' target ≡ Ok a
+  pub place_kept : (target : Lvalue) (zs zs' : List ℕ) (a : ℕ) → SamePlace spot (bases_of m) zs zs' target → place_address spot (bases_of m) zs target ≡ Ok a → place_address spot (bases_of m) zs' target ≡ Ok a
   place_kept (Whole name) zs zs' a h n = n
   place_kept (Item name index) zs zs' a h n = h.0 ∙ n
 
@@ -90,7 +90,7 @@ module _ (spot : List ℕ → Spot) (free : ℕ) (m : Memory) where
       let t : record m { cells = cells } ≡ mem (bases_of m) (reg m) (keeping 0 0 0) cells = ap (with_cells cells) same in
       subst (λ z. Runs im p d z (Done (record m { cells = cells }) k)) (sym same) (subst (λ z. Runs im p d (mem (bases_of m) (reg m) (keeping 0 0 0) m.cells) (Done z k)) (sym t) r)
 
-  run_traps : (n : ℕ) → Ready free n m → (im : Image) (d : Bool) (p : List Symbol) (x c : ℕ) → TrapsBoth p x c (mem (bases_of m) (reg m) (keeping 0 0 0) m.cells) → (k : ℕ) × (k ≤ x) × Runs im p d m (Trapped c k)
+  pub run_traps : (n : ℕ) → Ready free n m → (im : Image) (d : Bool) (p : List Symbol) (x c : ℕ) → TrapsBoth p x c (mem (bases_of m) (reg m) (keeping 0 0 0) m.cells) → (k : ℕ) × (k ≤ x) × Runs im p d m (Trapped c k)
   run_traps n h im d p x c t = let a = t.runs im d in (a.0, a.1, subst (λ z. Runs im p d z (Trapped c a.0)) (sym (as_mem free n m h)) a.2)
 
   -- one word written below
@@ -147,14 +147,14 @@ module _ (spot : List ℕ → Spot) (free : ℕ) (m : Memory) where
 
     -- a fault of the place, and then one of the value
     pub update_place_fault : (d : Bool) (c : ℕ) → place_address spot (bases_of m) m.cells target ≡ Err c → (k : ℕ) × (k ≤ place_steps target) × Runs im (update_cells spot free op target value) d m (Trapped c k)
-    update_place_fault d c n = run_traps (place_words target + words value) ready im d _ _ c (update_traps_place spot free (bases_of m) (reg m) op target value m.cells c (fit_from target (words value) ready place_sees) n)
+    update_place_fault d c n = run_traps (place_words target + words value) ready im d _ _ c (found_traps_place spot free (bases_of m) (reg m) target value _ (update_middle op) m.cells c (fit_from target (words value) ready place_sees) n)
 
     pub update_value_fault : (d : Bool) (a c : ℕ) → place_address spot (bases_of m) m.cells target ≡ Ok a → number spot (bases_of m) m.cells value ≡ Err c → (k : ℕ) × (k ≤ place_steps target + fetch_steps value) × Runs im (update_cells spot free op target value) d m (Trapped c k)
-    update_value_fault d a c na n = run_traps (place_words target + words value) ready im d _ _ c (update_traps_value spot free (bases_of m) (reg m) op target value m.cells a c (fit_from target (words value) ready place_sees) value_sees na n)
+    update_value_fault d a c na n = run_traps (place_words target + words value) ready im d _ _ c (found_traps_value spot free (bases_of m) (reg m) target value _ (update_middle op) m.cells a c (fit_from target (words value) ready place_sees) value_sees na n)
 
     -- and then one of a shared array
     pub update_sharing_fault : (d : Bool) (a v : ℕ) → place_address spot (bases_of m) m.cells target ≡ Ok a → number spot (bases_of m) m.cells value ≡ Ok v → update_shares spot (bases_of m) m.cells target value ≡ true → (k : ℕ) × (k ≤ place_steps target + fetch_steps value + apart_steps target (index_of target) value) × Runs im (update_cells spot free op target value) d m (Trapped 16 k)
-    update_sharing_fault d a v na nv shared = run_traps (place_words target + words value) ready im d _ _ 16 (update_traps_sharing spot free (bases_of m) (reg m) op target value m.cells a v (fit_from target (words value) ready place_sees) value_sees na nv shared)
+    update_sharing_fault d a v na nv shared = run_traps (place_words target + words value) ready im d _ _ 16 (found_traps_sharing spot free (bases_of m) (reg m) target value (update_middle op) m.cells a v (fit_from target (words value) ready place_sees) value_sees na nv shared)
 
   module _ (left right : Lvalue) (ready : Ready free (place_words left + place_words right) m) (left_sees : Sees spot (bases_of m) (reg m 4 + free) m.cells (read_of left)) (right_sees : Sees spot (bases_of m) (reg m 4 + free) m.cells (read_of right)) (im : Image) where
     -- either way the words are swapped; one cell stays
@@ -188,10 +188,10 @@ module _ (spot : List ℕ → Spot) (free : ℕ) (m : Memory) where
             (swap_goes spot free (bases_of m) (reg m) left right (swapped_at p q m.cells) m.cells p q fit' fit s.right_sees right_sees (place_kept left m.cells _ p s.left_same np) np (place_kept right m.cells _ q s.right_same nq) nq (place_turned spot free (bases_of m) left m.cells _ s.left_same) (place_turned spot free (bases_of m) right m.cells _ s.right_same) s.apart apart back).back im
 
     pub swap_left_fault : (d : Bool) (c : ℕ) → place_address spot (bases_of m) m.cells left ≡ Err c → (k : ℕ) × (k ≤ place_steps left) × Runs im (swap_cells spot free left right) d m (Trapped c k)
-    swap_left_fault d c n = run_traps (place_words left + place_words right) ready im d _ _ c (swap_traps_first spot free (bases_of m) (reg m) left right m.cells c (fit_from left (place_words right) ready left_sees) n)
+    swap_left_fault d c n = run_traps (place_words left + place_words right) ready im d _ _ c (both_traps_first spot free (bases_of m) (reg m) left right _ swap_middle m.cells c (fit_from left (place_words right) ready left_sees) n)
 
     pub swap_right_fault : (d : Bool) (p c : ℕ) → place_address spot (bases_of m) m.cells left ≡ Ok p → place_address spot (bases_of m) m.cells right ≡ Err c → (k : ℕ) × (k ≤ place_steps left + place_steps right) × Runs im (swap_cells spot free left right) d m (Trapped c k)
-    swap_right_fault d p c np n = run_traps (place_words left + place_words right) ready im d _ _ c (swap_traps_second spot free (bases_of m) (reg m) left right m.cells p c (fit_from left (place_words right) ready left_sees) right_sees np n)
+    swap_right_fault d p c np n = run_traps (place_words left + place_words right) ready im d _ _ c (both_traps_second spot free (bases_of m) (reg m) left right _ swap_middle m.cells p c (fit_from left (place_words right) ready left_sees) right_sees np n)
 
     pub swap_sharing_fault : (d : Bool) (p q : ℕ) → place_address spot (bases_of m) m.cells left ≡ Ok p → place_address spot (bases_of m) m.cells right ≡ Ok q → swap_shares spot (bases_of m) m.cells left right ≡ true → (k : ℕ) × (k ≤ place_steps left + place_steps right + both_apart_steps left right) × Runs im (swap_cells spot free left right) d m (Trapped 16 k)
     swap_sharing_fault d p q np nq shared = run_traps (place_words left + place_words right) ready im d _ _ 16 (swap_traps_sharing spot free (bases_of m) (reg m) left right m.cells p q (fit_from left (place_words right) ready left_sees) right_sees np nq shared)

@@ -1,23 +1,22 @@
 -- What a relation gives of the state after a write, it gives by the addresses of the state before.
-use Rattle.std.proofs.Common.{◌≡◌, ◌≢◌, ℕ, ◌+◌, ◌<◌, ◌≤◌, Bool, true, false, List, ◌++◌, length, refl, sym, ap, ◌∙◌, subst, arith}
+use Rattle.std.proofs.Common.{◌≡◌, ℕ, ◌+◌, false, List, ◌++◌, refl, sym, ap, ◌∙◌}
 use Rattle.std.specs.Prelude.{slice_index, slice_set, Result, Ok, Err}
 use Rattle.rpp_tree.specs.declared.tree.BinOp.{BinOp}
 use Rattle.rpp_tree.specs.declared.tree.UpdateOp.{UpdateOp}
 use Rattle.rpp_tree.specs.Tree.{Expression, Number, Null, Variable, Element, Binary, Lvalue, Whole, Item, Source}
-use Rattle.paired_code.specs.Machine.{Memory, reg}
+use Rattle.paired_code.specs.Machine.{Memory}
 use Rattle.roopl_semantics.specs.Operators.{updated}
-use Rattle.roopl_semantics.specs.Store.{Value, Word, Nil, Name, State, number_of, object_at}
+use Rattle.roopl_semantics.specs.Store.{Value, Word, Nil, Name, State, number_of}
 use Rattle.roopl_semantics.specs.Value.{Cell, Slot, Part, cell_named, variable_value, read, written, value, cell_of}
 use Rattle.roopl_semantics.specs.Elements.{elements, index_elements, own_element, share_array}
 use Rattle.roopl_semantics.specs.Execution.{Setting}
 use Rattle.statement_laws.specs.declared.spot.Spot.{Spot}
 use Rattle.expr_uncompute.specs.Code.{words, place_words}
-use Rattle.expr_uncompute.specs.Number.{Bases, address_of, word_of, read_of, index_of, place_address, update_shares, swap_shares, Sees}
+use Rattle.expr_uncompute.specs.Number.{Bases, read_of, index_of}
 use Rattle.expr_uncompute.specs.Laws.{bases_of, swapped_at}
-use Rattle.expr_uncompute.specs.Promises.{free_at, SeesIn, CanRun}
-use Rattle.expr_uncompute.specs.Means.{shown, cell_address, AreOperands, words as both_words, compared, OperandsOf, IsInt, StandsArray, HasWord, Means, MeansPlace, TellsShares, SameValues, SameCells}
+use Rattle.expr_uncompute.specs.Promises.{CanRun}
+use Rattle.expr_uncompute.specs.Means.{shown, cell_address, AreOperands, words as both_words, compared, OperandsOf, IsInt, StandsArray, Means, MeansPlace, TellsShares, SameValues, SameCells}
 use Rattle.expr_uncompute.proofs.Sharing.{update_shares_is, swap_shares_is}
-use Rattle.expr_uncompute.proofs.SourceLaws.{Updating, Swapping}
 use Rattle.expr_uncompute.proofs.StatementRows.{UpdateFacts, SwapFacts}
 
 module _ (address slot address' slot' : ℕ → ℕ) (sa : (n : ℕ) → address n ≡ address' n) (ss : (i : ℕ) → slot i ≡ slot' i) where

@@ -1,5 +1,5 @@
 -- Updates of a place by a value, and swaps of two places.
-use Rattle.std.proofs.Common.{◌≡◌, ◌≢◌, ℕ, ◌+◌, ◌^◌, ◌<◌, ◌≤◌, true, false, List, [], ◌∷◌, ◌++◌, length, length-set, refl, sym, ap, ◌∙◌, subst, arith, ⊎_elim}
+use Rattle.std.proofs.Common.{◌≡◌, ◌≢◌, ℕ, ◌+◌, ◌^◌, ◌<◌, true, false, List, [], ◌∷◌, ◌++◌, length, length-set, refl, sym, ap, ◌∙◌, subst, arith, ⊎_elim}
 use Rattle.std.specs.Prelude.{slice_index, slice_set, Ok, Err}
 use Rattle.std.proofs.lemmas.List.{get_or-set_same, get_or-set_other, set_comm, set-set}
 use Rattle.std.proofs.lemmas.Bool.{cases_eq}
@@ -10,7 +10,7 @@ use Rattle.paired_code.specs.Machine.{Memory}
 use Rattle.paired_code.specs.declared.part.Symbol.{Symbol}
 use Rattle.roopl_semantics.specs.Operators.{updated}
 use Rattle.statement_laws.specs.declared.spot.Spot.{Spot}
-use Rattle.expr_uncompute.specs.Code.{words, content, amount, place, other_place, first_word, second_word, exch, update_cell, place_words, place_cells, fetch_cells, apart_cells, both_apart_cells, update_cells, swap_cells}
+use Rattle.expr_uncompute.specs.Code.{around, words, content, amount, place, other_place, first_word, second_word, exch, update_cell, place_words, place_cells, fetch_cells, apart_cells, both_apart_cells, update_cells, swap_cells}
 use Rattle.expr_uncompute.specs.Number.{Bases, number, word_of, element_at, read_of, index_of, place_address, update_shares, swap_shares, Sees, Same, SamePlace}
 use Rattle.expr_uncompute.specs.Steps.{place_steps, fetch_steps, apart_steps, both_apart_steps, update_steps, swap_steps}
 use Rattle.expr_uncompute.proofs.Goes.{Goes, Traps, TrapsBoth, goes_seq, goes_cons, goes_to, goes_around, goes_xor, goes_add, goes_sub, goes_exch, traps_first, traps_then, traps_around}
@@ -157,6 +157,24 @@ module _ (spot : List ℕ → Spot) (free : ℕ) (b : Bases) where
         → Goes ((place_cells spot free target 0 place ++ fetch_cells spot free e (place_words target) amount) ++ apart_cells spot target (index_of target) e) (place_steps target + fetch_steps e + apart_steps target (index_of target) e) (mem b f (keeping 0 0 0) zs) (mem b f (keeping v a 0) (filled spot free b target e zs))
     held_goes zs a v h s na nv apart = goes_seq (found_goes zs a v h s na nv) (apart_goes_on zs a v h s apart)
 
+    -- the place's fault comes first, whatever is to be done
+    pub found_traps_place : (check mid : List Symbol) (zs : List ℕ) (c : ℕ) → FitFrom spot free b target (words e) zs → place_address spot b zs target ≡ Err c
+        → TrapsBoth (around ((place_cells spot free target 0 place ++ fetch_cells spot free e (place_words target) amount) ++ check) mid) (place_steps target) c (mem b f (keeping 0 0 0) zs)
+    found_traps_place check mid zs c h n =
+        traps_around mid (traps_first check (traps_first (fetch_cells spot free e (place_words target) amount) (place_traps spot free b place f 0 0 0 target 0 c zs (place_fits spot free b target (words e) zs h) n)))
+
+    pub found_traps_value : (check mid : List Symbol) (zs : List ℕ) (a c : ℕ) → FitFrom spot free b target (words e) zs → Sees spot b low zs e → place_address spot b zs target ≡ Ok a → number spot b zs e ≡ Err c
+        → TrapsBoth (around ((place_cells spot free target 0 place ++ fetch_cells spot free e (place_words target) amount) ++ check) mid) (place_steps target + fetch_steps e) c (mem b f (keeping 0 0 0) zs)
+    found_traps_value check mid zs a c h s na n =
+        let zs1 : List ℕ = placed spot free b target 0 zs in
+        traps_around mid (traps_first check (traps_then (place_goes spot free b place f 0 0 0 0 a 0 a (place_points spot free b f 0 0 a) 0 zs target (place_fits spot free b target (words e) zs h) na)
+        (fetch_traps spot free b f a 0 e (place_words target) zs1 (value_fits spot free b target e zs h s) c (number_same spot b low zs zs1 (placed_below spot free b target zs) e s ∙ n))))
+
+    -- and then that of a shared array
+    pub found_traps_sharing : (mid : List Symbol) (zs : List ℕ) (a v : ℕ) → FitFrom spot free b target (words e) zs → Sees spot b low zs e → place_address spot b zs target ≡ Ok a → number spot b zs e ≡ Ok v → update_shares spot b zs target e ≡ true
+        → TrapsBoth (around ((place_cells spot free target 0 place ++ fetch_cells spot free e (place_words target) amount) ++ apart_cells spot target (index_of target) e) mid) (place_steps target + fetch_steps e + apart_steps target (index_of target) e) 16 (mem b f (keeping 0 0 0) zs)
+    found_traps_sharing mid zs a v h s na nv shared = traps_around mid (traps_then (found_goes zs a v h s na nv) (sharing_traps zs a v h s shared))
+
   module _ (f : ℕ → ℕ) (op : UpdateOp) (target : Lvalue) (e : Expression) where
     -- forward: the word at the place is updated
     pub update_goes : (zs zs' : List ℕ) (a v : ℕ) → FitFrom spot free b target (words e) zs → FitFrom spot free b target (words e) zs' → Sees spot b low zs e → Sees spot b low zs' e → place_address spot b zs target ≡ Ok a → place_address spot b zs' target ≡ Ok a → number spot b zs e ≡ Ok v → number spot b zs' e ≡ Ok v → SamePlace spot b zs zs' target → Same spot b zs zs' e → update_shares spot b zs target e ≡ false → update_shares spot b zs' target e ≡ false → zs' ≡ slice_set zs a (updated op (slice_index zs a) v)
@@ -177,25 +195,9 @@ module _ (spot : List ℕ → Spot) (free : ℕ) (b : Bases) where
         ∙ filled_written spot free b (λ z. slice_set z a y) (write_one spot free b a y al) target e zs h.sees (subst (λ z. Sees spot b low z (read_of target)) q h'.sees) (subst (λ z. SamePlace spot b zs z target) q sp) s (subst (λ z. Sees spot b low z e) q s') (subst (λ z. Same spot b zs z e) q sv) in
         goes_around (held_goes f target e zs a v h s na nv apart) mid (goes_to refl refl (ap (mem b f (keeping v a 0)) over) (held_goes f target e zs' a v h' s' na' nv' apart'))
 
-    -- the place's fault comes first
-    pub update_traps_place : (zs : List ℕ) (c : ℕ) → FitFrom spot free b target (words e) zs → place_address spot b zs target ≡ Err c → TrapsBoth (update_cells spot free op target e) (place_steps target) c (mem b f (keeping 0 0 0) zs)
-    update_traps_place zs c h n =
-        traps_around (exch content place ∷ update_cell op content amount ∷ exch content place ∷ []) (traps_first (apart_cells spot target (index_of target) e) (traps_first (fetch_cells spot free e (place_words target) amount) (place_traps spot free b place f 0 0 0 target 0 c zs (place_fits spot free b target (words e) zs h) n)))
-
-    pub update_traps_value : (zs : List ℕ) (a c : ℕ) → FitFrom spot free b target (words e) zs → Sees spot b low zs e → place_address spot b zs target ≡ Ok a → number spot b zs e ≡ Err c → TrapsBoth (update_cells spot free op target e) (place_steps target + fetch_steps e) c (mem b f (keeping 0 0 0) zs)
-    update_traps_value zs a c h s na n =
-        let zs1 : List ℕ = placed spot free b target 0 zs in
-        traps_around (exch content place ∷ update_cell op content amount ∷ exch content place ∷ []) (traps_first (apart_cells spot target (index_of target) e) (traps_then (place_goes spot free b place f 0 0 0 0 a 0 a (place_points spot free b f 0 0 a) 0 zs target (place_fits spot free b target (words e) zs h) na)
-        (fetch_traps spot free b f a 0 e (place_words target) zs1 (value_fits spot free b target e zs h s) c (number_same spot b low zs zs1 (placed_below spot free b target zs) e s ∙ n))))
-
-    -- and then that of a shared array
-    pub update_traps_sharing : (zs : List ℕ) (a v : ℕ) → FitFrom spot free b target (words e) zs → Sees spot b low zs e → place_address spot b zs target ≡ Ok a → number spot b zs e ≡ Ok v → update_shares spot b zs target e ≡ true → TrapsBoth (update_cells spot free op target e) (place_steps target + fetch_steps e + apart_steps target (index_of target) e) 16 (mem b f (keeping 0 0 0) zs)
-    update_traps_sharing zs a v h s na nv shared =
-        traps_around (exch content place ∷ update_cell op content amount ∷ exch content place ∷ []) (traps_then (found_goes f target e zs a v h s na nv) (sharing_traps f target e zs a v h s shared))
-
   -- ---- swaps
 
-  address_same : (target : Lvalue) (zs zs' : List ℕ) → Agree low zs zs' → Sees spot b low zs (read_of target) → place_address spot b zs' target ≡ place_address spot b zs target
+  pub address_same : (target : Lvalue) (zs zs' : List ℕ) → Agree low zs zs' → Sees spot b low zs (read_of target) → place_address spot b zs' target ≡ place_address spot b zs target
   address_same (Whole name) zs zs' ag s = refl
   address_same (Item name index) zs zs' ag s =
       ap (λ z. element_at zs' z (number spot b zs' index)) (ag _ s.0)
@@ -276,14 +278,16 @@ module _ (spot : List ℕ → Spot) (free : ℕ) (b : Bases) where
         ∙ both_written spot free b (λ z. slice_set (slice_set z p (slice_index zs q)) q (slice_index zs p)) (write_two spot free b p (slice_index zs q) q (slice_index zs p) pl ql) target other zs h.sees (subst (λ z. Sees spot b low z (read_of target)) e h'.sees) (subst (λ z. SamePlace spot b zs z target) e st) s (subst (λ z. Sees spot b low z (read_of other)) e s') (subst (λ z. SamePlace spot b zs z other) e so) in
         goes_around (both_held zs p q h s np nq apart) mid' (goes_to refl refl (ap (mem b f (keeping 0 p q)) over) (both_held zs' p q h' s' np' nq' apart'))
 
-    pub swap_traps_first : (zs : List ℕ) (c : ℕ) → FitFrom spot free b target (place_words other) zs → place_address spot b zs target ≡ Err c → TrapsBoth (swap_cells spot free target other) (place_steps target) c (mem b f (keeping 0 0 0) zs)
-    swap_traps_first zs c h n =
-        traps_around (exch first_word place ∷ exch second_word other_place ∷ exch second_word place ∷ exch first_word other_place ∷ []) (traps_first (both_apart_cells spot target other) (traps_first (place_cells spot free other (place_words target) other_place) (place_traps spot free b place f 0 0 0 target 0 c zs (place_fits spot free b target (place_words other) zs h) n)))
+    pub both_traps_first : (check mid : List Symbol) (zs : List ℕ) (c : ℕ) → FitFrom spot free b target (place_words other) zs → place_address spot b zs target ≡ Err c
+        → TrapsBoth (around ((place_cells spot free target 0 place ++ place_cells spot free other (place_words target) other_place) ++ check) mid) (place_steps target) c (mem b f (keeping 0 0 0) zs)
+    both_traps_first check mid zs c h n =
+        traps_around mid (traps_first check (traps_first (place_cells spot free other (place_words target) other_place) (place_traps spot free b place f 0 0 0 target 0 c zs (place_fits spot free b target (place_words other) zs h) n)))
 
-    pub swap_traps_second : (zs : List ℕ) (p c : ℕ) → FitFrom spot free b target (place_words other) zs → Sees spot b low zs (read_of other) → place_address spot b zs target ≡ Ok p → place_address spot b zs other ≡ Err c → TrapsBoth (swap_cells spot free target other) (place_steps target + place_steps other) c (mem b f (keeping 0 0 0) zs)
-    swap_traps_second zs p c h s np n =
+    pub both_traps_second : (check mid : List Symbol) (zs : List ℕ) (p c : ℕ) → FitFrom spot free b target (place_words other) zs → Sees spot b low zs (read_of other) → place_address spot b zs target ≡ Ok p → place_address spot b zs other ≡ Err c
+        → TrapsBoth (around ((place_cells spot free target 0 place ++ place_cells spot free other (place_words target) other_place) ++ check) mid) (place_steps target + place_steps other) c (mem b f (keeping 0 0 0) zs)
+    both_traps_second check mid zs p c h s np n =
         let zs1 : List ℕ = placed spot free b target 0 zs in
-        traps_around (exch first_word place ∷ exch second_word other_place ∷ exch second_word place ∷ exch first_word other_place ∷ []) (traps_first (both_apart_cells spot target other) (traps_then (place_goes spot free b place f 0 0 0 0 p 0 p (place_points spot free b f 0 0 p) 0 zs target (place_fits spot free b target (place_words other) zs h) np)
+        traps_around mid (traps_first check (traps_then (place_goes spot free b place f 0 0 0 0 p 0 p (place_points spot free b f 0 0 p) 0 zs target (place_fits spot free b target (place_words other) zs h) np)
         (place_traps spot free b other_place f 0 p 0 other (place_words target) c zs1 (other_fits spot free b target other zs h s) (address_same other zs zs1 (placed_below spot free b target zs) s ∙ n))))
 
     pub swap_traps_sharing : (zs : List ℕ) (p q : ℕ) → FitFrom spot free b target (place_words other) zs → Sees spot b low zs (read_of other) → place_address spot b zs target ≡ Ok p → place_address spot b zs other ≡ Ok q → swap_shares spot b zs target other ≡ true → TrapsBoth (swap_cells spot free target other) (place_steps target + place_steps other + both_apart_steps target other) 16 (mem b f (keeping 0 0 0) zs)

@@ -12,7 +12,7 @@ use Rattle.expr_uncompute.proofs.Stored.{home, stored, parted, IsWrite, stored_l
 use Rattle.expr_uncompute.proofs.Prepare.{Fit, stored_words}
 use Rattle.expr_uncompute.proofs.PlaceLaws.{FitPlace, placed}
 
-set_lifts : (zs ys : List ℕ) (a y k : ℕ) → length ys ≡ length zs → slice_index ys k ≡ slice_index zs k → slice_index (slice_set ys a y) k ≡ slice_index (slice_set zs a y) k
+pub set_lifts : (zs ys : List ℕ) (a y k : ℕ) → length ys ≡ length zs → slice_index ys k ≡ slice_index zs k → slice_index (slice_set ys a y) k ≡ slice_index (slice_set zs a y) k
 set_lifts zs ys a y k l e = ⊎_elim (λ q. same q) (λ n. get_or-set_other ys a k y 0 n ∙ e ∙ sym (get_or-set_other zs a k y 0 n)) (cases_eq k a)
   where
     same : k ≡ a → slice_index (slice_set ys a y) k ≡ slice_index (slice_set zs a y) k

@@ -217,6 +217,13 @@ update_cell update.Add d s = add d s
 update_cell update.Sub d s = sub d s
 update_cell update.Xor d s = xor d s
 
+-- the word of a place updated by the value, and the words of two places swapped
+abbrev pub update_middle : UpdateOp → List Symbol
+update_middle op = exch content place ∷ update_cell op content amount ∷ exch content place ∷ []
+
+abbrev pub swap_middle : List Symbol
+swap_middle = exch first_word place ∷ exch second_word other_place ∷ exch second_word place ∷ exch first_word other_place ∷ []
+
 module _ (spot : List ℕ → Spot) where
   -- a changed element's array, by its spot, compared with those of which an expression reads elements
   abbrev pub compare_all : Spot → Expression → List Symbol
@@ -296,12 +303,24 @@ module _ (spot : List ℕ → Spot) (free : ℕ) where
   place_cells (Item name index) i into =
       prepare_cells index i ++ around (checked_cells name.text index i ++ point_cells) (xor into right_operand ∷ [])
 
+  -- what a statement finds, and the check that the place that changes is an element of no array that is read: a place
+  abbrev pub found_place_cells : Lvalue → List Symbol
+  found_place_cells target = place_cells target 0 place ++ apart_cells spot target (index_of target) (Null 0)
+
+  -- a place and a value
+  abbrev pub found_value_cells : Lvalue → Expression → List Symbol
+  found_value_cells target value = (place_cells target 0 place ++ fetch_cells value (place_words target) amount) ++ apart_cells spot target (index_of target) value
+
+  -- two places, of which the second changes
+  abbrev pub found_places_cells : (source target : Lvalue) → List Symbol
+  found_places_cells source target = (place_cells source 0 place ++ place_cells target (place_words source) other_place) ++ apart_cells spot target (index_of source) (index_of target)
+
   -- an update of a place by a value
   abbrev pub update_cells : UpdateOp → Lvalue → Expression → List Symbol
   update_cells op target value =
-      around ((place_cells target 0 place ++ fetch_cells value (place_words target) amount) ++ apart_cells spot target (index_of target) value) (exch content place ∷ update_cell op content amount ∷ exch content place ∷ [])
+      around (found_value_cells target value) (update_middle op)
 
   -- the words of two places swapped; where they are one, it stays as it is
   abbrev pub swap_cells : Lvalue → Lvalue → List Symbol
   swap_cells left right =
-      around ((place_cells left 0 place ++ place_cells right (place_words left) other_place) ++ both_apart_cells spot left right) (exch first_word place ∷ exch second_word other_place ∷ exch second_word place ∷ exch first_word other_place ∷ [])
+      around ((place_cells left 0 place ++ place_cells right (place_words left) other_place) ++ both_apart_cells spot left right) swap_middle

@@ -1,5 +1,6 @@
 // The check that a place that changes is an element of no array of which an element is read.
 ghost use Rattle.std.specs.Prelude.{◌≡◌, ◌<◌, ◌^◌, [], ◌∷◌, IfOk};
+ghost use Rattle.rpp_tree.specs.Tree.{Null};
 ghost use Rattle.rpp_tree.specs.Views.{expression_of, lvalue_of};
 ghost use Rattle.paired_code.specs.Code.{unmarked};
 ghost use Rattle.expr_uncompute.specs.Code.{sltx as sltx_cell, xori as xori_cell, compare_cells, compare_all as cells_of_all, apart_cells, both_apart_cells};
@@ -120,8 +121,23 @@ pub fn apart(alloc: Global, names: &Names, place: &Place, value: &Expr) -> Resul
     }
 }
 
-// A place that changes against two indexes.
-fn apart_from(
+/// The check of a place alone: against its index.
+pub fn own_apart(alloc: Global, names: &Names, place: &Place) -> Result<Piece, NoMemory>
+    ensures { IfOk result (λ p.
+        p ≡ unmarked (apart_cells (spot_of_name (known_by names.now)) (lvalue_of place.now)
+        (index_of (lvalue_of place.now)) (Null 0))) }
+{
+    match &place.index {
+        None => Ok(empty(alloc)),
+        Some(index) => {
+            let first = compare_all(alloc, names, spot_of(names, &place.name.text), index)?;
+            seq(first, empty(alloc))
+        }
+    }
+}
+
+/// The check of a place that changes against two indexes.
+pub fn apart_from(
     alloc: Global,
     names: &Names,
     changed: &Place,

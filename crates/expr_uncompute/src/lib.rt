@@ -5,14 +5,19 @@
 #![tactic(auto)]
 
 mod apart;
+mod around;
 mod cells;
 mod expressions;
+mod found;
+mod middles;
 mod places;
 mod rows;
 #[cfg(test)]
 mod tests;
 mod values;
 
+pub use around::{place_and_value_around, place_around, places_around};
 pub use expressions::{swap_code, test_code, update_code, value_code};
+pub use found::{AMOUNT, OTHER_PLACE, PLACE};
 pub use method_scope::{Scope, Spot};
 pub use rows::{FRAME, OBJECT};
