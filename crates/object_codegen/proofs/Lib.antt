@@ -1,0 +1,17 @@
+pub mod Leading
+pub mod Over
+pub mod Touching
+pub mod Copying
+pub mod Uncopied
+pub mod CopyLaws
+pub mod Walking
+pub mod Deleting
+pub mod Filling
+pub mod NewLaws
+pub mod Taken
+pub mod MakeLaws
+pub mod SizeOrders
+pub mod SizeRows
+pub mod SizeOrdering
+pub mod Bounds
+pub mod Clauses

@@ -1,0 +1,184 @@
+-- The cells of `copy` and `uncopy`, `new` and `delete`: one piece for both directions.
+use Rattle.std.specs.Prelude.{ℕ, ◌^◌, false, List, [], ◌∷◌, ◌++◌}
+use Rattle.rpp_words.specs.Words.{negated}
+use Rattle.pisa_isa.specs.declared.cell.Op.TheVariants.{Rl, Srlvx, Andix}
+use Rattle.paired_code.specs.declared.part.Symbol.{Symbol}
+use Rattle.paired_code.specs.declared.part.Symbol.TheVariants.{Own, Enter}
+use Rattle.paired_code.specs.Layout.{mirror_cells, check_cells, loop_cells}
+use Rattle.object_codegen.specs.declared.shape.Shape.{Shape}
+use Rattle.object_codegen.specs.declared.shape.Shape.TheVariants.{Fixed, Lengthy}
+use Rattle.expr_uncompute.specs.Code.{content, outcome, nought, left_truth, right_truth, amount, place, other_place, first_word, with_word, three, xor, add, exch, addi, xori, sltx, around}
+
+-- ---- checks of a place
+
+-- the word at the address in r is nil, or the fault
+abbrev pub nil_place : (r code : ℕ) → List Symbol
+nil_place r code = around (exch content r ∷ []) (check_cells content code)
+
+-- it is not nil, or the fault
+abbrev pub some_place : (r code : ℕ) → List Symbol
+some_place r code = around (exch content r ∷ sltx outcome nought content ∷ xori outcome 1 ∷ []) (check_cells outcome code)
+
+-- ---- copies
+
+-- the word at the address in r xored into `first_word`
+abbrev pub load_cells : ℕ → List Symbol
+load_cells r = around (exch content r ∷ []) (xor first_word content ∷ [])
+
+-- the words at the two places are the same, and the places are two
+abbrev pub same_words : List Symbol
+same_words = around (load_cells place ++ load_cells other_place) (check_cells first_word 10)
+
+abbrev pub two_places : List Symbol
+two_places = around (sltx outcome place other_place ∷ sltx outcome other_place place ∷ xori outcome 1 ∷ []) (check_cells outcome 10)
+
+-- what is tried before a copy, and before its inverse
+abbrev pub copy_checks : List Symbol
+copy_checks = some_place place 5 ++ nil_place other_place 4
+
+abbrev pub uncopy_checks : List Symbol
+uncopy_checks = some_place place 5 ++ (same_words ++ two_places)
+
+-- the reference xored into the second place
+abbrev pub refer_cells : List Symbol
+refer_cells = around (exch content other_place ∷ []) (xor content first_word ∷ [])
+
+-- one more variable has it
+abbrev pub count_cells : List Symbol
+count_cells = around (addi first_word 1 ∷ []) (around (exch content first_word ∷ []) (addi content 1 ∷ []))
+
+abbrev pub copy_alter : List Symbol
+copy_alter = around (load_cells place) (refer_cells ++ count_cells)
+
+abbrev pub copy_mid : List Symbol
+copy_mid = copy_checks ++ (copy_alter ++ mirror_cells uncopy_checks)
+
+-- ---- objects and arrays
+
+-- the first word of its block, xored into `content`; a length stands in register r
+abbrev pub mark_cell : ℕ → Shape → Symbol
+mark_cell r (Fixed table fields) = xori content table
+mark_cell r Lengthy = xor content r
+
+abbrev pub mark_fault : Shape → ℕ
+mark_fault (Fixed table fields) = 11
+mark_fault Lengthy = 12
+
+-- the number of its cells added to register d
+abbrev pub grow_cell : ℕ → Shape → Symbol
+grow_cell d (Fixed table fields) = addi d fields
+grow_cell d Lengthy = add d amount
+
+-- the reference is not nil, or fault 5
+abbrev pub some_reference : List Symbol
+some_reference = around (sltx outcome nought first_word ∷ xori outcome 1 ∷ []) (check_cells outcome 5)
+
+-- the first word of the block is what it is to be
+abbrev pub same_mark : Shape → List Symbol
+same_mark shape = around (exch content first_word ∷ mark_cell amount shape ∷ []) (check_cells content (mark_fault shape))
+
+-- one variable has it
+abbrev pub single : List Symbol
+single = around (addi first_word 1 ∷ exch content first_word ∷ xori content 1 ∷ []) (check_cells content 6)
+
+-- the flag turns where the word is past the first one, and where it is before the end
+abbrev pub walk_head : List Symbol
+walk_head = sltx outcome left_truth first_word ∷ sltx outcome first_word right_truth ∷ []
+
+abbrev pub walk_tail : List Symbol
+walk_tail = nil_place first_word 7 ++ addi first_word 1 ∷ []
+
+abbrev pub walk_cells : List Symbol
+walk_cells = loop_cells outcome walk_head walk_tail
+
+-- where the cells begin and end
+abbrev pub ends_cells : Shape → List Symbol
+ends_cells shape = addi first_word 2 ∷ xor left_truth first_word ∷ xor right_truth first_word ∷ grow_cell right_truth shape ∷ []
+
+-- all cells are 0
+abbrev pub zeros_cells : Shape → List Symbol
+zeros_cells shape = around (ends_cells shape) (around (xori outcome 1 ∷ []) walk_cells ++ mirror_cells (grow_cell first_word shape ∷ []))
+
+-- what is tried before a delete
+abbrev pub delete_checks : Shape → List Symbol
+delete_checks shape = around (load_cells place) (some_reference ++ (same_mark shape ++ (single ++ zeros_cells shape)))
+
+-- the length is above 0
+abbrev pub positive : List Symbol
+positive = around (sltx outcome nought amount ∷ xori outcome 1 ∷ []) (check_cells outcome 13)
+
+-- what is tried before a new
+abbrev pub new_checks : Shape → List Symbol
+new_checks (Fixed table fields) = nil_place place 4
+new_checks Lengthy = nil_place place 4 ++ positive
+
+-- the first word of a block, and the number of its cells, where a length is v
+abbrev pub mark_of : ℕ → Shape → ℕ
+mark_of v (Fixed table fields) = table
+mark_of v Lengthy = v
+
+abbrev pub size_of : ℕ → Shape → ℕ
+size_of v (Fixed table fields) = fields
+size_of v Lengthy = v
+
+-- ---- the change
+
+-- the allocator's registers, the place and the length while it is called
+abbrev pub order : ℕ
+order = 12
+
+abbrev pub block : ℕ
+block = 13
+
+abbrev pub at_place : ℕ
+at_place = 14
+
+abbrev pub at_length : ℕ
+at_length = 15
+
+-- the place and the length leave the registers that the allocator uses
+abbrev pub move_cells : Shape → List Symbol
+move_cells (Fixed table fields) = xor at_place place ∷ xor place at_place ∷ []
+move_cells Lengthy = xor at_place place ∷ xor place at_place ∷ xor at_length amount ∷ xor amount at_length ∷ []
+
+-- the block gets its first word and its count, and the place its address
+abbrev pub fill_cells : Shape → List Symbol
+fill_cells shape =
+    mark_cell at_length shape ∷ exch content block ∷ (around (addi block 1 ∷ []) (xori content 1 ∷ exch content block ∷ []) ++ exch block at_place ∷ [])
+
+-- the allocator is routine 0
+abbrev pub new_alter : Shape → List Symbol → List Symbol
+new_alter shape orders = around (move_cells shape ++ orders) (Enter 0 false ∷ fill_cells shape)
+
+-- `new` along, `delete` back, with what finds the order
+abbrev pub new_mid : Shape → List Symbol → List Symbol
+new_mid shape orders = new_checks shape ++ (new_alter shape orders ++ mirror_cells (delete_checks shape))
+
+-- ---- the order of an array's block
+
+-- the length shifted right, and one bit of the order
+abbrev pub shifted : ℕ
+shifted = left_truth
+
+abbrev pub one_bit : ℕ
+one_bit = right_truth
+
+abbrev pub turn_left : (d n : ℕ) → Symbol
+turn_left d n = with_word Rl d n
+
+abbrev pub srlvx : (d s t : ℕ) → Symbol
+srlvx d s t = three Srlvx d s t
+
+abbrev pub andix : (d s w : ℕ) → Symbol
+andix d s w = Own (record { op = Andix; a = d; b = s; c = 0; imm = w })
+
+-- bit k of the order: whether the length is not below 2 to the order with this bit
+abbrev pub order_bit : (k : ℕ) → List Symbol
+order_bit k =
+    around (addi order (2 ^ k) ∷ srlvx shifted at_length order ∷ []) (sltx one_bit nought shifted ∷ [])
+    ++ turn_left one_bit k ∷ add order one_bit ∷ andix one_bit order (2 ^ k) ∷ []
+
+-- 1 and the logarithm of the length's successor, bit by bit
+abbrev pub order_cells : List Symbol
+order_cells =
+    addi at_length 1 ∷ (order_bit 4 ++ (order_bit 3 ++ (order_bit 2 ++ (order_bit 1 ++ (order_bit 0 ++ addi order 1 ∷ addi at_length (negated 1) ∷ [])))))

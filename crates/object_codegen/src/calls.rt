@@ -1,0 +1,100 @@
+// The code of objects and arrays, by what it does.
+ghost use Rattle.std.specs.Prelude.{◌≡◌, ◌≤◌, ◌+◌, ◌*◌, [], ◌++◌, length, IfOk};
+ghost use Rattle.rpp_tree.specs.Tree.{index_nodes};
+ghost use Rattle.rpp_tree.specs.Views.{expression_of, lvalue_of};
+ghost use Rattle.roopl_semantics.specs.Elements.{index_elements, own_element, read_cost};
+ghost use Rattle.expr_uncompute.specs.Code.{words as words_of, place_words as words_of_place};
+ghost use Rattle.expr_uncompute.specs.Steps.{tokens, place_tokens};
+ghost use Rattle.method_scope.specs.Visible.{spot_of, free_of, known_in};
+ghost use Rattle.object_codegen.specs.News.{ObjectLaw, ArrayLaw};
+ghost use Rattle.object_codegen.specs.Promises.{CopyLaw, copy_steps};
+
+use crate::copies::copy_middle;
+use crate::news::new_middle;
+use crate::orders::{fixed_order, order_code};
+use crate::shape::Shape;
+use expr_uncompute::{Scope, place_and_value_around, place_around, places_around};
+use paired_code::Piece;
+use rpp_tree::tree::{Expr, Place};
+use rpp_words::NoMemory;
+use std::alloc::Global;
+
+/// A copy of the reference in the place `source` into the place `target`, which is nil: the count
+/// of what it refers to grows by 1. Run back it is the inverse, which empties the second place
+/// where both refer to the same. Faults, in this order: those of the two places; 16 where the
+/// second is an element of an array that an index reads; 5 where the first is nil; along, 4 where
+/// the second is not nil; back, 10 where the references differ or the places are one. The only
+/// error is that memory ran out.
+pub fn copy_code(
+    alloc: Global,
+    source: &Place,
+    target: &Place,
+    scope: &Scope,
+) -> Result<Piece, NoMemory>
+    requires room { words_of_place (lvalue_of source.now) + words_of_place (lvalue_of target.now) ≤
+        1000 }
+    ensures law { IfOk result (λ p.
+        CopyLaw (spot_of (known_in scope.now)) (free_of (known_in scope.now))
+        (lvalue_of source.now) (lvalue_of target.now) p.cells) }
+    ensures marks { IfOk result (λ p. p.marks ≡ []) }
+    ensures steps { copy_steps (lvalue_of source.now) (lvalue_of target.now) ≤ 370 *
+        (1 + index_nodes (lvalue_of source.now) + index_nodes (lvalue_of target.now) + read_cost
+        (own_element (lvalue_of target.now))
+        (index_elements (lvalue_of source.now) ++ index_elements (lvalue_of target.now))) }
+    ensures size { IfOk result (λ p.
+        length p.cells ≤ 71 + 80 * (place_tokens (lvalue_of source.now) + place_tokens
+        (lvalue_of target.now))) }
+{
+    let middle = copy_middle(alloc)?;
+    places_around(alloc, source, target, scope, middle)
+}
+
+/// A new object of the class whose table has this address, with so many fields, in a block of this
+/// order, which the routine 0 of the image takes; its address goes into the place. Run back it is
+/// the inverse, which gives the block back. Faults: those of the place, and 16 where it is an
+/// element of an array that its index reads; along, 4 where the place is not nil, and 8 where there
+/// is no block; back, 5 where it is nil, 11 where the table is another, 6 where the count is not 1,
+/// 7 where a field is not 0. The only error is that memory ran out.
+pub fn object_code(
+    alloc: Global,
+    table: u32,
+    fields: u32,
+    order: u32,
+    place: &Place,
+    scope: &Scope,
+) -> Result<Piece, NoMemory>
+    requires room { words_of_place (lvalue_of place.now) ≤ 1000 }
+    ensures law { IfOk result (λ p.
+        ObjectLaw (spot_of (known_in scope.now)) (free_of (known_in scope.now)) table fields order
+        (lvalue_of place.now) p.cells) }
+    ensures marks { IfOk result (λ p. p.marks ≡ []) }
+    ensures size { IfOk result (λ p. length p.cells ≤ 87 + 80 * (1 + place_tokens
+        (lvalue_of place.now))) }
+{
+    let orders = fixed_order(alloc, order)?;
+    let middle = new_middle(alloc, Shape::Fixed(table, fields), orders)?;
+    place_around(alloc, place, scope, middle)
+}
+
+/// A new array of zeros or of nil, with a length: as `object_code`, and the faults of the length
+/// come after those of the place; along, 13 after 4 where it is not above 0; back, 12 in the place
+/// of 11 where the array's length is another.
+pub fn array_code(
+    alloc: Global,
+    size: &Expr,
+    place: &Place,
+    scope: &Scope,
+) -> Result<Piece, NoMemory>
+    requires room { words_of_place (lvalue_of place.now) + words_of (expression_of size.now) ≤
+        1000 }
+    ensures law { IfOk result (λ p.
+        ArrayLaw (spot_of (known_in scope.now)) (free_of (known_in scope.now))
+        (lvalue_of place.now) (expression_of size.now) p.cells) }
+    ensures marks { IfOk result (λ p. p.marks ≡ []) }
+    ensures size { IfOk result (λ p. length p.cells ≤ 184 + 80 *
+        (place_tokens (lvalue_of place.now) + tokens (expression_of size.now))) }
+{
+    let orders = order_code(alloc)?;
+    let middle = new_middle(alloc, Shape::Lengthy, orders)?;
+    place_and_value_around(alloc, place, size, scope, middle)
+}

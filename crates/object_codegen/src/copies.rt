@@ -1,0 +1,91 @@
+// The code of copies.
+ghost use Rattle.std.specs.Prelude.{◌≡◌, ◌++◌, IfOk};
+ghost use Rattle.paired_code.specs.Code.{unmarked};
+ghost use Rattle.object_codegen.specs.Code.{same_words as same_cells, two_places as two_cells, copy_checks as copy_checks_cells, uncopy_checks as uncopy_checks_cells, refer_cells, count_cells, copy_alter, copy_mid};
+
+use crate::cells::{addi, enclosed, exch, sltx, xor, xori};
+use crate::guards::{CONTENT, OUTCOME, REFERENCE, load, nil_place, some_place};
+use expr_uncompute::{OTHER_PLACE, PLACE};
+use paired_code::{Piece, check_zero, mirror, seq};
+use rpp_words::NoMemory;
+use std::alloc::Global;
+
+fn same_words(alloc: Global) -> Result<Piece, NoMemory>
+    ensures { IfOk result (λ p. p ≡ unmarked same_cells) }
+{
+    let first = load(alloc, PLACE)?;
+    let second = load(alloc, OTHER_PLACE)?;
+    let both = seq(first, second)?;
+    let check = check_zero(alloc, REFERENCE, 10)?;
+    enclosed(alloc, both, check)
+}
+
+fn two_places(alloc: Global) -> Result<Piece, NoMemory>
+    ensures { IfOk result (λ p. p ≡ unmarked two_cells) }
+{
+    let below = sltx(alloc, OUTCOME, PLACE, OTHER_PLACE)?;
+    let above = sltx(alloc, OUTCOME, OTHER_PLACE, PLACE)?;
+    let turned = xori(alloc, OUTCOME, 1)?;
+    let row = seq(below, above)?;
+    let row = seq(row, turned)?;
+    let check = check_zero(alloc, OUTCOME, 10)?;
+    enclosed(alloc, row, check)
+}
+
+fn copy_checks(alloc: Global) -> Result<Piece, NoMemory>
+    ensures { IfOk result (λ p. p ≡ unmarked copy_checks_cells) }
+{
+    let some = some_place(alloc, PLACE, 5)?;
+    let nil = nil_place(alloc, OTHER_PLACE, 4)?;
+    seq(some, nil)
+}
+
+fn uncopy_checks(alloc: Global) -> Result<Piece, NoMemory>
+    ensures { IfOk result (λ p. p ≡ unmarked uncopy_checks_cells) }
+{
+    let some = some_place(alloc, PLACE, 5)?;
+    let same = same_words(alloc)?;
+    let two = two_places(alloc)?;
+    let rest = seq(same, two)?;
+    seq(some, rest)
+}
+
+fn refer(alloc: Global) -> Result<Piece, NoMemory>
+    ensures { IfOk result (λ p. p ≡ unmarked refer_cells) }
+{
+    let word = exch(alloc, CONTENT, OTHER_PLACE)?;
+    let put = xor(alloc, CONTENT, REFERENCE)?;
+    enclosed(alloc, word, put)
+}
+
+fn count(alloc: Global) -> Result<Piece, NoMemory>
+    ensures { IfOk result (λ p. p ≡ unmarked count_cells) }
+{
+    let at = addi(alloc, REFERENCE, 1)?;
+    let word = exch(alloc, CONTENT, REFERENCE)?;
+    let up = addi(alloc, CONTENT, 1)?;
+    let change = enclosed(alloc, word, up)?;
+    enclosed(alloc, at, change)
+}
+
+fn alter(alloc: Global) -> Result<Piece, NoMemory>
+    ensures { IfOk result (λ p. p ≡ unmarked copy_alter) }
+{
+    let loaded = load(alloc, PLACE)?;
+    let referred = refer(alloc)?;
+    let counted = count(alloc)?;
+    let change = seq(referred, counted)?;
+    enclosed(alloc, loaded, change)
+}
+
+/// The middle of a copy: its mirror is that of an uncopy.
+pub fn copy_middle(alloc: Global) -> Result<Piece, NoMemory>
+    ensures { IfOk result (λ p. p ≡ unmarked copy_mid) }
+{
+    let before = copy_checks(alloc)?;
+    let change = alter(alloc)?;
+    let inverse = uncopy_checks(alloc)?;
+    let behind = mirror(alloc, &inverse)?;
+    let rest = seq(change, behind)?;
+    seq(before, rest)
+}

@@ -1,0 +1,58 @@
+// What is tried of the word of a place.
+ghost use Rattle.std.specs.Prelude.{◌≡◌, ◌≢◌, ◌<◌, [], ◌∷◌, IfOk};
+ghost use Rattle.paired_code.specs.Code.{unmarked};
+ghost use Rattle.object_codegen.specs.Code.{nil_place as nil_cells, some_place as some_cells, load_cells};
+
+use crate::cells::{enclosed, exch, sltx, xor, xori};
+use paired_code::{Piece, check_zero, seq};
+use rpp_words::NoMemory;
+use std::alloc::Global;
+
+/// The word of a place.
+pub const CONTENT: u8 = 6;
+
+/// Always 0.
+pub const NOUGHT: u8 = 7;
+
+/// The flag of a check.
+pub const OUTCOME: u8 = 10;
+
+/// The address of an object or array.
+pub const REFERENCE: u8 = 22;
+
+/// The word at the address in the register is nil, or the fault.
+pub fn nil_place(alloc: Global, at: u8, code: u32) -> Result<Piece, NoMemory>
+    requires register { at < 32 }
+    requires apart { CONTENT ≢ at }
+    ensures { IfOk result (λ p. p ≡ unmarked (nil_cells at code)) }
+{
+    let word = exch(alloc, CONTENT, at)?;
+    let check = check_zero(alloc, CONTENT, code)?;
+    enclosed(alloc, word, check)
+}
+
+/// It is not nil, or the fault.
+pub fn some_place(alloc: Global, at: u8, code: u32) -> Result<Piece, NoMemory>
+    requires register { at < 32 }
+    requires apart { CONTENT ≢ at }
+    ensures { IfOk result (λ p. p ≡ unmarked (some_cells at code)) }
+{
+    let word = exch(alloc, CONTENT, at)?;
+    let above = sltx(alloc, OUTCOME, NOUGHT, CONTENT)?;
+    let turned = xori(alloc, OUTCOME, 1)?;
+    let row = seq(word, above)?;
+    let row = seq(row, turned)?;
+    let check = check_zero(alloc, OUTCOME, code)?;
+    enclosed(alloc, row, check)
+}
+
+//// The word at the address in the register xored into the reference.
+pub fn load(alloc: Global, at: u8) -> Result<Piece, NoMemory>
+    requires register { at < 32 }
+    requires apart { CONTENT ≢ at }
+    ensures { IfOk result (λ p. p ≡ unmarked (load_cells at)) }
+{
+    let word = exch(alloc, CONTENT, at)?;
+    let taken = xor(alloc, REFERENCE, CONTENT)?;
+    enclosed(alloc, word, taken)
+}
