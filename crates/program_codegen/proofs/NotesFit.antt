@@ -1,109 +1,36 @@
--- The notes of a compiled program fit its image.
-use Rattle.std.proofs.Common.{◌≡◌, sym, subst, refl, ℕ, zero, suc, ◌+◌, ◌-◌, ◌*◌, ◌<◌, ◌≤◌, Bool, true, false, cond, List, [], ◌∷◌, ◌++◌, length, arith, slice_get, lit≤, lit<, length-append, replicate}
-use Rattle.std.specs.Prelude.{All, sum_by, nat_le, nat_lt, ◌&&◌, if◌then◌else◌}
-use Rattle.std.specs.List.{list_all, flat_map}
+-- The marks of a linked image, with the names of the main object's int fields, are notes that fit it.
+use Rattle.std.proofs.Common.{◌≡◌, ◌∙◌, sym, ap, subst, refl, ℕ, suc, ◌+◌, ◌-◌, ◌*◌, ◌<◌, ◌≤◌, Bool, true, false, cond, List, [], ◌∷◌, length, arith, lit≤, length-append, replicate}
+use Rattle.std.specs.Prelude.{sum_by, nat_le, nat_lt, ◌&&◌, if◌then◌else◌}
+use Rattle.std.specs.List.{list_all}
 use Rattle.std.specs.Char.{is_ascii_alphabetic}
-use Rattle.std.specs.Option.{unwrap_or}
 use Rattle.std.proofs.lemmas.Bool.{and_from}
 use Rattle.std.proofs.lemmas.Bool.Decides.{nat_tests}
-use Rattle.std.proofs.lemmas.List.{take_at, drop_at, length-replicate}
-use Rattle.std.proofs.lemmas.List.Elements.{All-nil, All-cons, All-tail, All-weaker, All-take, All-drop}
+use Rattle.std.proofs.lemmas.List.{length-replicate}
+use Rattle.std.proofs.lemmas.List.Elements.{All-tail, All-weaker}
 use Rattle.std.proofs.lemmas.List.Sums.{sum_by-cons, sum_by-le, list_all-from_AllPass}
 use Rattle.rpp_words.specs.declared.input.TheConstants.{FIXED_CELLS}
 use Rattle.rpp_tree.specs.declared.tree.Ident.{Ident}
 use Rattle.rpp_tree.specs.declared.tree.Var.{Var}
-use Rattle.rpp_tree.specs.declared.limits.TheConstants.{MOST_BYTES}
 use Rattle.rpp_tree.specs.Names.{IsName}
-use Rattle.rpp_tree.specs.Parts.{name_places, parent_names, var_places, statement_places, block_places, procedure_places, class_places, source_places, source_names}
-use Rattle.rpp_tree.specs.Tree.{Statement, Statements, Update, Swap, If, From, Construct, Local, New, Delete, Copy, Uncopy, Call, Skip, End, Then, Source}
-use Rattle.rpp_tree.specs.Views.{statements_of}
+use Rattle.rpp_tree.specs.Parts.{source_names}
+use Rattle.rpp_tree.specs.Tree.{Source}
 use Rattle.class_table.specs.Classes.{main_of}
-use Rattle.class_table.specs.Members.{class_at, no_class, no_procedure}
 use Rattle.class_table.specs.Program.{IsAccepted}
-use Rattle.pisa_isa.specs.declared.cell.Op.TheVariants.{Finish}
-use Rattle.pisa_isa.specs.declared.notes.TheConstants.{MOST_MARKS, LAST_PLACE, MOST_NAMES, MOST_NAME_BYTES}
-use Rattle.pisa_isa.specs.declared.notes.Mark.{Mark}
+use Rattle.pisa_isa.specs.declared.notes.TheConstants.{MOST_NAMES, MOST_NAME_BYTES}
 use Rattle.pisa_isa.specs.declared.notes.FieldName.{FieldName}
-use Rattle.pisa_isa.specs.Notes.{is_name_byte, is_name, is_within, mark_fits, name_fits, names_fit, fits}
-use Rattle.pisa_isa.proofs.Noting.{fits_by}
+use Rattle.pisa_isa.specs.declared.notes.Mark.{Mark}
+use Rattle.pisa_isa.specs.Image.{Segments}
+use Rattle.pisa_isa.specs.Notes.{NoteLists, NotedImage, is_name_byte, is_name, name_fits, names_fit, fits}
+use Rattle.pisa_isa.proofs.Noting.{fitting, fits_by}
 use Rattle.roopl_semantics.specs.Layout.{tables}
-use Rattle.roopl_semantics.specs.Source.{main_fields, main_body, is_int_type}
-use Rattle.program_codegen.specs.Code.{one, statement_code, block_code, program_code, places, program_statics, program_image}
-use Rattle.program_codegen.specs.Notes.{statement_place, block_marks, field_names, program_notes}
-use Rattle.program_codegen.proofs.Accepted.{IsCompiled}
+use Rattle.roopl_semantics.specs.Source.{main_fields, is_int_type}
+use Rattle.roopl_semantics.specs.StandsFor.{StandsFor}
+use Rattle.roopl_semantics.proofs.MainPlace.{class_inside}
+use Rattle.program_codegen.specs.Notes.{field_names, HasMarks, AreNotes}
 use Rattle.program_codegen.proofs.FieldSums.{field_count, name_count, field_names_sum}
-use Rattle.program_codegen.proofs.Values.{statement_count}
 
 at_most : (a b : ℕ) → a ≤ b → nat_le a b ≡ true
 at_most a b h = grind (arith, nat_tests)
-
--- ---- parts of what holds of all
-
-left : {A : Type 0} (P : A → Type 0) (xs ys : List A) → All P (xs ++ ys) → All P xs
-left P xs ys all = subst (All P) (take_at xs ys (length xs) refl) (All-take P (length xs) (xs ++ ys) all)
-
-right : {A : Type 0} (P : A → Type 0) (xs ys : List A) → All P (xs ++ ys) → All P ys
-right P xs ys all = subst (All P) (drop_at xs ys (length xs) refl) (All-drop P (length xs) (xs ++ ys) all)
-
-part : {A B : Type 0} (P : B → Type 0) (f : A → List B) (xs : List A) (k : ℕ) (d : A) → All P (f d) → All P (flat_map f xs) → All P (f (unwrap_or (slice_get xs k) d))
-part P f [] k d none all = none
-part P f (x ∷ xs) zero d none all = left P (f x) (flat_map f xs) all
-part P f (x ∷ xs) (suc k) d none all = part P f xs k d none (right P (f x) (flat_map f xs) all)
-
--- ---- places
-
-abbrev IsPlace : ℕ → Type 0
-IsPlace at = at < MOST_BYTES
-
-only_first : All IsPlace (0 ∷ [])
-only_first = All-cons IsPlace 0 [] (lit< tt) (All-nil IsPlace)
-
-main_places : (program : Source) → All IsPlace (source_places program) → All IsPlace (block_places (main_body program))
-main_places program all =
-    let id = main_of program in
-    let class = class_at program id.class in
-    let method = unwrap_or (slice_get class.methods id.method) no_procedure in
-    let in_class = part IsPlace class_places program.classes id.class no_class only_first all in
-    let in_methods = right IsPlace (class.name.at ∷ name_places (parent_names class.parent) ++ flat_map var_places class.fields) (flat_map procedure_places class.methods) in_class in
-    let in_method = part IsPlace procedure_places class.methods id.method no_procedure only_first in_methods in
-    right IsPlace (method.name.at ∷ flat_map var_places method.params) (block_places method.body) in_method
-
-own_place : (s : Statement) → All IsPlace (statement_places s) → IsPlace (statement_place s)
-own_place (Update at op target value) all = all 0 0 (omega arith)
-own_place (Swap at left right) all = all 0 0 (omega arith)
-own_place (If at test taken other after) all = all 0 0 (omega arith)
-own_place (From at entry first again exit) all = all 0 0 (omega arith)
-own_place (Construct at class name body end) all = all 0 0 (omega arith)
-own_place (Local at var value body end_var end_value) all = all 0 0 (omega arith)
-own_place (New at made target) all = all 0 0 (omega arith)
-own_place (Delete at made target) all = all 0 0 (omega arith)
-own_place (Copy at kind source target) all = all 0 0 (omega arith)
-own_place (Uncopy at kind source target) all = all 0 0 (omega arith)
-own_place (Call at back receiver method args) all = all 0 0 (omega arith)
-own_place (Skip at) all = all 0 0 (omega arith)
-
--- ---- marks
-
-length-block_marks : (fields : List Var) (cell : ℕ) (block : Statements) → length (block_marks fields cell block) ≡ statement_count block
-length-block_marks fields cell End = refl
-length-block_marks fields cell (Then first rest) = omega (arith, length-block_marks fields (cell + length (statement_code fields first)) rest)
-
-each_mark : (fields : List Var) (cells cell : ℕ) (block : Statements) → cell + length (block_code fields block) ≤ cells → All IsPlace (block_places block) → list_all (mark_fits cells) (block_marks fields cell block) ≡ true
-each_mark fields cells cell End within all = refl
-each_mark fields cells cell (Then first rest) within all =
-    let end = cell + length (statement_code fields first) in
-    let m : Mark = record { first = cell; end = end; at = statement_place first } in
-    let size = length-append (statement_code fields first) (block_code fields rest) in
-    let place = own_place first (left IsPlace (statement_places first) (block_places rest) all) in
-    and_from (mark_fits cells m) (list_all (mark_fits cells) (block_marks fields end rest))
-    (and_from (is_within cells m) (nat_le m.at LAST_PLACE)
-    (and_from (nat_le cell end) (nat_le end cells) (at_most cell end (omega arith)) (at_most end cells (omega (arith, size))))
-    (at_most m.at LAST_PLACE (omega (arith, place))))
-    (each_mark fields cells end rest (omega (arith, size)) (right IsPlace (statement_places first) (block_places rest) all))
-
-pub statement_count-list : (block : List Statement) → statement_count (statements_of block) ≡ length block
-statement_count-list [] = refl
-statement_count-list (first ∷ rest) = omega (arith, statement_count-list rest)
 
 -- ---- names
 
@@ -160,20 +87,48 @@ each_name statics left cell (var ∷ vars) low within few named =
 
 -- ---- the notes of a program
 
-pub notes_fit : (program : Source) → IsAccepted program → IsCompiled program → fits (program_image program) (program_notes program) ≡ true
-notes_fit program accepted built =
+-- the main object stands before the class tables
+long_enough : (program : Source) (image : Segments) → StandsFor program image → 2 + length (main_fields program) ≤ length image.statics
+long_enough program image stands =
+    let words = ap length stands.statics.words in
+    let main = length-append (replicate (length (main_fields program)) 0) (tables 1 stands.statics.places) in
+    omega (arith, words, main, length-replicate {A = ℕ} (length (main_fields program)) 0)
+
+pub notes_fit : (program : Source) (image : Segments) (notes : NoteLists) → IsAccepted program → fits image notes ≡ true → StandsFor program image → length (main_fields program) ≤ 64
+    → fits image (record { marks = notes.marks; names = field_names 42 (main_fields program) }) ≡ true
+notes_fit program image notes accepted fit stands few =
     let fields = main_fields program in
-    let code = block_code fields (main_body program) in
-    let statics = length-append (replicate (length fields) 0) (tables 1 (places program)) in
-    let bytes = field_names_sum length program (main_of program).class built.class_in in
-    let names = field_names_sum no_name program (main_of program).class built.class_in in
+    let long = long_enough program image stands in
+    let bytes = field_names_sum length program (main_of program).class (class_inside program accepted) in
+    let names = field_names_sum no_name program (main_of program).class (class_inside program accepted) in
     let limits = accepted.limits in
     let none : sum_by (name_count no_name) (source_names program) ≤ length (source_names program) * 0 =
     sum_by-le (name_count no_name) 0 (source_names program) (All-weaker (λ name. IsName name.text) (λ name. name_count no_name name ≤ 0) counts_none (source_names program) limits.names)
     in
-    fits_by (program_image program) (program_notes program) (record {
-      few_marks = at_most (length (block_marks fields 1 (main_body program))) MOST_MARKS (omega (arith, length-block_marks fields 1 (main_body program), built.few_statements));
-      each_mark = each_mark fields (length (program_code program)) 1 (main_body program) (omega (arith, length-append code (one Finish 0 0 ∷ []))) (main_places program limits.places);
-      few_names = at_most (length (field_names 42 fields)) MOST_NAMES (omega (arith, length-field_names 42 fields, built.few_fields));
-      names = each_name (length (program_statics program)) MOST_NAME_BYTES 42 fields (lit≤ tt) (omega (arith, statics, length-replicate {A = ℕ} (length fields) 0)) (omega (arith, bytes, limits.name_bytes)) (omega (arith, names, none));
+    let before = fitting image notes fit in
+    fits_by image (record { marks = notes.marks; names = field_names 42 fields }) (record {
+      few_marks = before.few_marks;
+      each_mark = before.each_mark;
+      few_names = at_most (length (field_names 42 fields)) MOST_NAMES (omega (arith, length-field_names 42 fields, few));
+      names = each_name (length image.statics) MOST_NAME_BYTES 42 fields (lit≤ tt) (omega (arith, long)) (omega (arith, bytes, limits.name_bytes)) (omega (arith, names, none));
     })
+
+-- the same of an image and notes that are these
+pub sealed_fit : (program : Source) (whole image : Segments) (notes : NoteLists) (marks : List Mark) (names : List FieldName) → IsAccepted program → fits image notes ≡ true → StandsFor program image
+    → length (main_fields program) ≤ 64 → whole ≡ image → marks ≡ notes.marks → names ≡ field_names 42 (main_fields program) → fits whole (record { marks = marks; names = names }) ≡ true
+sealed_fit program whole image notes marks names accepted fit stands few whole_is marks_are names_are =
+    ap (λ i. fits i (record { marks = marks; names = names })) whole_is
+    ∙ ap (λ ms. fits image (record { marks = ms; names = names })) marks_are
+    ∙ ap (λ ns. fits image (record { marks = notes.marks; names = ns })) names_are
+    ∙ notes_fit program image notes accepted fit stands few
+
+pub sealed_notes : (program : Source) (sealed : NotedImage) (whole image : Segments) (notes : NoteLists) (marks : List Mark) (names : List FieldName) → sealed ≡ record { image = whole; notes = record { marks = marks; names = names } }
+    → whole ≡ image → marks ≡ notes.marks → names ≡ field_names 42 (main_fields program) → HasMarks program image notes.marks → AreNotes program sealed.image sealed.notes
+sealed_notes program sealed whole image notes marks names sealed_is whole_is marks_are names_are has =
+    let same : sealed ≡ record { image = image; notes = record { marks = notes.marks; names = field_names 42 (main_fields program) } } =
+    sealed_is
+    ∙ ap (λ i. record { image = i; notes = record { marks = marks; names = names } }) whole_is
+    ∙ ap (λ ms. record { image = image; notes = record { marks = ms; names = names } }) marks_are
+    ∙ ap (λ ns. record { image = image; notes = record { marks = notes.marks; names = ns } }) names_are
+    in
+    subst (λ (n : NotedImage). AreNotes program n.image n.notes) (sym same) (record { marks = has; names = refl })

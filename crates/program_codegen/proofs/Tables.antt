@@ -1,20 +1,27 @@
--- The static cells that the class table gives, and the statements of its main method, are those of the program.
-use Rattle.std.proofs.Common.{◌≡◌, ◌∙◌, sym, ap, refl, ℕ, zero, suc, ◌+◌, ◌<◌, ◌≤◌, List, [], ◌∷◌, ◌++◌, length, replicate, arith, append_assoc}
-use Rattle.std.proofs.lemmas.List.{append-nil, length-map}
-use Rattle.rpp_tree.specs.Tree.{Statements, Source}
+-- The words of class tables, one by one, and the addresses of tables.
+use Rattle.std.proofs.Common.{◌≡◌, ◌∙◌, sym, ap, subst, refl, ℕ, zero, suc, ◌+◌, ◌<◌, List, [], ◌∷◌, ◌++◌, length, map, take, replicate, arith, append_assoc, slice_get, get_or, Some, add-one}
+use Rattle.std.specs.Prelude.{slice_index}
+use Rattle.std.proofs.lemmas.List.{append-nil, length-map, map-append}
+use Rattle.std.proofs.lemmas.Option.{unwrap_or-slice_get}
+use Rattle.rpp_tree.specs.declared.tree.Class.{Class}
+use Rattle.rpp_tree.specs.declared.tree.Program.{Program}
+use Rattle.rpp_tree.specs.Tree.{ClassText, Source}
+use Rattle.rpp_tree.specs.Views.{procedure_of, class_text_of, source_of}
 use Rattle.class_table.specs.declared.method.MethodId.{MethodId}
 use Rattle.class_table.specs.First.{each_below}
-use Rattle.class_table.specs.Members.{Slots}
+use Rattle.class_table.specs.Classes.{class_slots}
+use Rattle.class_table.specs.Members.{Slots, class_at}
+use Rattle.class_table.specs.Overrides.{run_at}
 use Rattle.class_table.specs.Rules.{name_of}
-use Rattle.class_table.specs.Classes.{class_slots, procedure_at}
-use Rattle.class_table.specs.Table.{Table, table_of, slots_in}
+use Rattle.class_table.specs.Table.{table_of, slots_in}
+use Rattle.class_table.proofs.InheritedSlots.{class_there}
+use Rattle.class_table.proofs.Numbers.{length-each_below, each_below-get, class-known}
 use Rattle.class_table.proofs.Tables.{table_reads}
-use Rattle.class_table.proofs.Numbers.{length-each_below}
-use Rattle.roopl_semantics.specs.Source.{main_fields, main_body}
-use Rattle.class_table.specs.Classes.{main_of}
 use Rattle.roopl_semantics.specs.Layout.{table_at, tables}
-use Rattle.program_codegen.specs.Code.{places, program_statics}
-use Rattle.program_codegen.specs.Statics.{address_in, places_at, places_in, statics_in}
+use Rattle.paired_code.specs.declared.part.StaticWord.{StaticWord}
+use Rattle.paired_code.specs.declared.part.StaticWord.TheVariants.{Word, Routine as RoutinePlace}
+use Rattle.paired_code.specs.Link.{static_word}
+use Rattle.program_laws.specs.Methods.{methods_before, routine_of}
 
 -- one table more
 tables-push : (n : ℕ) (before : List (List ℕ)) (last : List ℕ) → tables n (before ++ last ∷ []) ≡ tables n before ++ (n + length before) ∷ last
@@ -29,38 +36,109 @@ tables-next f n =
     let e : 1 + length (each_below f n) ≡ n + 1 = omega (arith, length-each_below f n) in
     tables-push 1 (each_below f n) (f n) ∙ ap (λ k. tables 1 (each_below f n) ++ k ∷ f n) e
 
-same_below : {A : Type 0} (f g : ℕ → A) (n : ℕ) → ((k : ℕ) → k < n → f k ≡ g k) → each_below f n ≡ each_below g n
-same_below f g zero same = refl
-same_below f g (suc n) same =
-    ap (λ xs. xs ++ f n ∷ []) (same_below f g n (λ k h. same k (omega arith))) ∙ ap (λ x. each_below g n ++ x ∷ []) (same n (omega arith))
+pub zeros-read : (places : List ℕ) (n : ℕ) → map (static_word places) (replicate n (Word 0)) ≡ replicate n 0
+zeros-read places zero = refl
+zeros-read places (suc n) = ap (λ ws. 0 ∷ ws) (zeros-read places n)
 
-module _ (program : Source) where
-  slots_same : (k : ℕ) → k < length program.classes → slots_in (table_of program) k ≡ class_slots program k
-  slots_same k h = (table_reads program k h).slots
+pub slots_read : (program : Source) (class : ℕ) → class < length program.classes → slots_in (table_of program) class ≡ class_slots program class
+slots_read program class inside = (table_reads program class inside).slots
 
-  address_same : (k : ℕ) → k ≤ length program.classes → address_in (table_of program) (length (main_fields program)) k ≡ table_at program k
-  address_same zero h = refl
-  address_same (suc k) h =
-      ap (λ a. a + (1 + length (slots_in (table_of program) k))) (address_same k (omega arith))
-      ∙ ap (λ (s : Slots). table_at program k + (1 + length s)) (slots_same k (omega arith))
+pub many_classes : (program : Source) → length (table_of program).names ≡ length program.classes
+many_classes program = length-map program.classes name_of
 
-  places_same : places_in (table_of program) ≡ places program
-  places_same =
-      ap (each_below (places_at (table_of program))) (length-map program.classes name_of)
-      ∙ same_below (places_at (table_of program)) (λ class. replicate (length (class_slots program class)) 1) (length program.classes)
-      (λ k h. ap (λ (s : Slots). replicate (length s) 1) (slots_same k h))
+-- the address of the next table
+pub table_next : (program : Source) (before : ℕ) → before < length program.classes → table_at program (before + 1) ≡ table_at program before + (1 + length (slots_in (table_of program) before))
+table_next program before inside =
+    ap (table_at program) (add-one before) ∙ ap (λ (s : Slots). table_at program before + (1 + length s)) (sym (slots_read program before inside))
 
-  pub statics_same : (main_of program).class < length program.classes → statics_in (table_of program) ≡ program_statics program
-  statics_same inside =
-      let fields = (table_reads program (main_of program).class inside).fields in
-      ap (λ vars. address_in (table_of program) (length vars) (main_of program).class ∷ 1 ∷ (replicate (length vars) 0 ++ tables 1 (places_in (table_of program)))) fields
-      ∙ ap (λ a. a ∷ 1 ∷ (replicate (length (main_fields program)) 0 ++ tables 1 (places_in (table_of program)))) (address_same (main_of program).class (omega arith))
-      ∙ ap (λ ps. table_at program (main_of program).class ∷ 1 ∷ (replicate (length (main_fields program)) 0 ++ tables 1 ps)) places_same
+-- the word of one slot more
+slot_more : (f : MethodId → ℕ) (slots : Slots) (k : ℕ) → k < length slots → map (λ x. f x.1) (take (suc k) slots) ≡ map (λ x. f x.1) (take k slots) ++ f (run_at slots k) ∷ []
+slot_more f [] k h = absurd (omega arith)
+slot_more f (x ∷ slots) zero h = refl
+slot_more f (x ∷ slots) (suc k) h = ap (λ ws. f x.1 ∷ ws) (slot_more f slots k (omega arith))
 
--- the statements that are read of the table's main method
-pub body_read : (program text : Source) (table : Table) (main : MethodId) (body : Statements) → text ≡ program → table ≡ table_of program → main ≡ table.main → body ≡ (procedure_at text main).body → body ≡ main_body program
-body_read program text table main body text_is table_is main_is body_is =
-    body_is
-    ∙ ap (λ p. (procedure_at p main).body) text_is
-    ∙ ap (λ (id : MethodId). (procedure_at program id).body) main_is
-    ∙ ap (λ (t : Table). (procedure_at program t.main).body) table_is
+pub slots_next : (f : MethodId → ℕ) (slots : Slots) (k : ℕ) → k < length slots → map (λ x. f x.1) (take (k + 1) slots) ≡ map (λ x. f x.1) (take k slots) ++ f (run_at slots k) ∷ []
+slots_next f slots k h = ap (λ n. map (λ (x : List ℕ × MethodId). f x.1) (take n slots)) (add-one k) ∙ slot_more f slots k h
+
+-- the number of the first routine of a class, and the next one
+pub first_read : (program : Source) (firsts : List ℕ) (class : ℕ) → firsts ≡ each_below (methods_before program.classes) (length program.classes) → class < length program.classes → slice_index firsts class ≡ methods_before program.classes class
+first_read program firsts class is inside =
+    ap (λ xs. slice_index xs class) is
+    ∙ sym (unwrap_or-slice_get (each_below (methods_before program.classes) (length program.classes)) class 0)
+    ∙ each_below-get (methods_before program.classes) (length program.classes) class 0 inside
+
+next_first : (classes : List ClassText) (k : ℕ) (class : ClassText) → slice_get classes k ≡ Some class → methods_before classes (suc k) ≡ methods_before classes k + length class.methods
+next_first [] k class h = absurd (cc)
+next_first (c ∷ classes) zero class h =
+    let e : c ≡ class = cc in
+    let z : methods_before classes 0 ≡ 0 = none classes in
+    omega (arith, z, ap (λ (x : ClassText). length x.methods) e)
+  where
+    none : (cs : List ClassText) → methods_before cs 0 ≡ 0
+    none [] = refl
+    none (x ∷ cs) = refl
+next_first (c ∷ classes) (suc k) class h = omega (arith, next_first classes k class h)
+
+pub firsts_next : (classes : List ClassText) (k : ℕ) (class : ClassText) → slice_get classes k ≡ Some class → methods_before classes (k + 1) ≡ methods_before classes k + length class.methods
+firsts_next classes k class h = ap (methods_before classes) (add-one k) ∙ next_first classes k class h
+
+-- before the first class there are none
+pub none_before : (classes : List ClassText) → 0 ≡ methods_before classes 0
+none_before [] = refl
+none_before (class ∷ classes) = refl
+
+pub first_counted : (program : Program) (k : ℕ) (items : List Class) (x : Class) → items ≡ program.classes.items → k < length items → x ≡ get_or items k x
+    → methods_before (source_of program).classes (k + 1) ≡ methods_before (source_of program).classes k + length x.methods.items
+first_counted program k items x same h is =
+    let inside : k < length program.classes.items = subst (λ (xs : List Class). k < length xs) same h in
+    let here : x ≡ get_or program.classes.items k x = is ∙ ap (λ xs. get_or xs k x) same in
+    let there = class_there (source_of program).classes k (omega (arith, length-map program.classes.items class_text_of)) in
+    firsts_next (source_of program).classes k (class_at (source_of program) k) there
+    ∙ ap (λ (c : ClassText). methods_before (source_of program).classes k + length c.methods) (class-known program k x inside ∙ ap class_text_of (sym here))
+    ∙ ap (λ n. methods_before (source_of program).classes k + n) (length-map x.methods.items procedure_of)
+
+-- ---- what is pushed
+
+module _ (places : List ℕ) (program : Source) where
+  abbrev pub read : List StaticWord → List ℕ
+  read words = map (static_word places) words
+
+  -- the main object, and then the tables
+  pub statics_read : (at count : ℕ) (w0 w1 w2 w3 w4 : List StaticWord) (ts : List ℕ) → w0 ≡ [] → w1 ≡ w0 ++ Word at ∷ [] → w2 ≡ w1 ++ Word 1 ∷ []
+      → w3 ≡ w2 ++ replicate count (Word 0) → read w4 ≡ read w3 ++ ts → read w4 ≡ at ∷ 1 ∷ (replicate count 0 ++ ts)
+  statics_read at count w0 w1 w2 w3 w4 ts e0 e1 e2 e3 e4 =
+      let all : w3 ≡ Word at ∷ Word 1 ∷ replicate count (Word 0) =
+      e3 ∙ ap (λ w. w ++ replicate count (Word 0)) (e2 ∙ ap (λ w. w ++ Word 1 ∷ []) (e1 ∙ ap (λ w. w ++ Word at ∷ []) e0))
+      in
+      e4 ∙ ap (λ w. read w ++ ts) all ∙ ap (λ zs. (at ∷ 1 ∷ zs) ++ ts) (zeros-read places count)
+
+  -- the routine of a slot
+  pub slot_pushed : (class slot : ℕ) (before words after : List StaticWord) (number : ℕ) → slot < length (class_slots program class)
+      → number ≡ routine_of program (run_at (class_slots program class) slot) → after ≡ words ++ RoutinePlace number ∷ []
+      → read words ≡ read before ++ map (λ x. slice_index places (0 + routine_of program x.1)) (take slot (class_slots program class))
+      → read after ≡ read before ++ map (λ x. slice_index places (0 + routine_of program x.1)) (take (slot + 1) (class_slots program class))
+  slot_pushed class slot before words after number low is pushed so_far =
+      let f : MethodId → ℕ = λ id. slice_index places (0 + routine_of program id) in
+      let slots = class_slots program class in
+      let e : number ≡ 0 + routine_of program (run_at slots slot) = omega (arith, is) in
+      ap read pushed
+      ∙ map-append (static_word places) words (RoutinePlace number ∷ [])
+      ∙ ap (λ ws. ws ++ slice_index places number ∷ []) so_far
+      ∙ ap (λ n. (read before ++ map (λ x. f x.1) (take slot slots)) ++ slice_index places n ∷ []) e
+      ∙ append_assoc (read before) (map (λ x. f x.1) (take slot slots)) (f (run_at slots slot) ∷ [])
+      ∙ ap (λ ws. read before ++ ws) (sym (slots_next f slots slot low))
+
+  -- the table of a class
+  pub table_pushed : (f : ℕ → List ℕ) (class : ℕ) (before words pushed after : List StaticWord) → pushed ≡ words ++ Word (class + 1) ∷ []
+      → read words ≡ read before ++ tables 1 (each_below f class) → read after ≡ read pushed ++ f class
+      → read after ≡ read before ++ tables 1 (each_below f (class + 1))
+  table_pushed f class before words pushed after is so_far last =
+      last
+      ∙ ap (λ ws. read ws ++ f class) is
+      ∙ ap (λ ws. ws ++ f class) (map-append (static_word places) words (Word (class + 1) ∷ []))
+      ∙ ap (λ ws. (ws ++ (class + 1) ∷ []) ++ f class) so_far
+      ∙ grouped (read before) (tables 1 (each_below f class)) (f class) (class + 1)
+      ∙ ap (λ ws. read before ++ ws) (sym (tables-next f class) ∙ ap (λ n. tables 1 (each_below f n)) (sym (add-one class)))
+    where
+      grouped : (xs ys zs : List ℕ) (k : ℕ) → ((xs ++ ys) ++ k ∷ []) ++ zs ≡ xs ++ (ys ++ k ∷ zs)
+      grouped xs ys zs k = simp append_assoc

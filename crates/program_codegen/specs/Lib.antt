@@ -1,5 +1,3 @@
 pub mod Unbuilt
-pub mod Code
-pub mod Words
-pub mod Statics
 pub mod Notes
+pub mod Routines

@@ -1,12 +1,13 @@
-//! The code of a checked program. What is compiled so far is the method `main` with updates of int fields by a number or
-//! a field, and `skip`, over classes of any fields; `first_unbuilt` names the first form beyond that. The layer above may
-//! use `compile`, whose image stands for its program and has the cells of its statements and int fields noted.
+//! The code of a checked program: a routine for each method, and the piece that runs `main`, linked over the main
+//! object and the class tables. What is not compiled yet makes, deletes or refers to objects and arrays;
+//! `first_unbuilt` names its first form. The layer above may use `compile`, whose image stands for its program and has
+//! the cells of its statements and int fields noted.
 #![tactic(auto)]
 
-mod cells;
 mod images;
 mod notes;
-mod statements;
+mod numbers;
+mod routines;
 mod statics;
 mod unbuilt;
 

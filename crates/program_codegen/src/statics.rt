@@ -1,37 +1,50 @@
 // The static cells of a program.
-ghost use Rattle.std.specs.Prelude.{◌≡◌, ◌≤◌, ◌+◌, ◌++◌, replicate, vec_len, IfOk, OnOk};
-ghost use Rattle.roopl_semantics.specs.Layout.{tables};
-ghost use Rattle.program_codegen.specs.Statics.{address_in, places_in, statics_in};
+ghost use Rattle.std.specs.Prelude.{◌≡◌, ◌≤◌, ◌<◌, ◌++◌, ℕ, List, map, length, replicate, IfOk, OnOk};
+ghost use Rattle.rpp_tree.specs.Views.{source_of};
+ghost use Rattle.roopl_semantics.specs.Layout.{table_at as address_of, tables};
+ghost use Rattle.roopl_semantics.specs.Source.{main_fields};
+ghost use Rattle.paired_code.specs.declared.part.StaticWord.TheVariants.{Word};
+ghost use Rattle.paired_code.specs.Link.{static_word};
+ghost use Rattle.program_laws.specs.Methods.{slot_places, table_places, statics_of};
+ghost use Rattle.program_codegen.specs.Routines.{first_numbers};
 
-use class_table::ClassTable;
+use crate::numbers::routine_number;
+use class_table::Checked;
+use paired_code::StaticWord;
 use roopl_semantics::FIRST_FIELD;
+use rpp_words::NoMemory;
 use std::alloc::{AllocError, Global};
 
-/// The code place of `main`.
-pub const MAIN_AT: u32 = 1;
-
-/// The static cells of a program: the main object, and the table of each class.
-pub fn statics(alloc: Global, table: &ClassTable) -> Result<Vec<u32>, AllocError>
-    requires { table.now.main.class ≤ 256 }
-    ensures cells { IfOk result (λ statics. statics.items ≡ statics_in table.now) }
-    ensures few { IfOk result (λ statics. vec_len statics ≤ 65858) }
+/// The static cells of a program, wherever its routines stand: the main object, and the table of each class. The first
+/// routine of each class has this number.
+pub fn statics(
+    alloc: Global,
+    checked: &Checked,
+    firsts: &[u32],
+) -> Result<Vec<StaticWord>, NoMemory>
+    requires firsts { firsts.now ≡ first_numbers (source_of checked.now) }
+    ensures { IfOk result (λ words. (places : List ℕ) →
+        map (static_word places) words.items ≡ statics_of (source_of checked.now) 0 places) }
 {
-    let class = table.main().class;
-    let fields = table.fields(class).len();
-    let mut statics = Vec::new(alloc);
-    statics.push(table_at(table, fields as u32, class))?;
-    statics.push(1)?;
-    statics.resize(fields + 2, 0)?;
-    add_tables(&mut statics, table)?;
-    Ok(statics)
+    let class = checked.table().main().class;
+    let fields = checked.table().fields(class).len() as u32;
+    let mut words = Vec::new(alloc);
+    words.push(StaticWord::Word(table_at(checked, fields, class)))?;
+    words.push(StaticWord::Word(1))?;
+    add_zeros(&mut words, fields)?;
+    add_tables(&mut words, checked, firsts)?;
+    Ok(words)
 }
 
 // The address of a class's table, behind so many fields of the main object.
-fn table_at(table: &ClassTable, fields: u32, class: u32) -> u32
-    requires fields { fields ≤ 64 }
-    requires class { class ≤ 256 }
-    ensures { result ≡ address_in table.now fields class }
+fn table_at(checked: &Checked, fields: u32, class: u32) -> u32
+    requires fields { fields ≡ length (main_fields (source_of checked.now)) }
+    requires few { fields ≤ 64 }
+    requires inside { class ≤ length (source_of checked.now).classes }
+    requires small { class ≤ 256 }
+    ensures { result ≡ address_of (source_of checked.now) class }
 {
+    let table = checked.table();
     let mut at = FIRST_FIELD + fields;
     for before in 0..class {
         at += 1 + table.slot_count(before);
@@ -39,25 +52,49 @@ fn table_at(table: &ClassTable, fields: u32, class: u32) -> u32
     at
 }
 
-// The tables of all classes: the class's number from 1 on, and the code place of each method slot.
-fn add_tables(statics: &mut Vec<u32>, table: &ClassTable) -> Result<(), AllocError>
-    ensures tables { OnOk result (statics.new.items ≡ statics.old.items ++ tables 1 (places_in table.now)) }
-    ensures few { OnOk result (vec_len statics.new ≤ vec_len statics.old + 65792) }
+// So many zeros.
+fn add_zeros(words: &mut Vec<StaticWord>, count: u32) -> Result<(), AllocError>
+    ensures { OnOk result (words.new.items ≡ words.old.items ++ replicate count (Word 0)) }
 {
-    for class in 0..table.class_count() {
-        statics.push(class + 1)?;
-        add_places(statics, table.slot_count(class))?;
+    for _ in 0..count {
+        words.push(StaticWord::Word(0))?;
     }
     Ok(())
 }
 
-// The code place of `main`, so many times.
-fn add_places(statics: &mut Vec<u32>, count: u32) -> Result<(), AllocError>
-    ensures places { OnOk result (statics.new.items ≡ statics.old.items ++ replicate count MAIN_AT) }
-    ensures len { OnOk result (vec_len statics.new ≡ vec_len statics.old + count) }
+// The tables of all classes: the class's number from 1 on, and the routine of the method in each slot.
+fn add_tables(
+    words: &mut Vec<StaticWord>,
+    checked: &Checked,
+    firsts: &[u32],
+) -> Result<(), AllocError>
+    requires firsts { firsts.now ≡ first_numbers (source_of checked.now) }
+    ensures { OnOk result ((places : List ℕ) → map (static_word places) words.new.items
+        ≡ map (static_word places) words.old.items ++ tables 1 (table_places (source_of checked.now) 0 places)) }
 {
-    for _ in 0..count {
-        statics.push(MAIN_AT)?;
+    for class in 0..checked.table().class_count() {
+        words.push(StaticWord::Word(class + 1))?;
+        add_slots(words, checked, firsts, class)?;
+    }
+    Ok(())
+}
+
+// The routine of the method in each slot of a class.
+fn add_slots(
+    words: &mut Vec<StaticWord>,
+    checked: &Checked,
+    firsts: &[u32],
+    class: u32,
+) -> Result<(), AllocError>
+    requires firsts { firsts.now ≡ first_numbers (source_of checked.now) }
+    requires inside { class < length (source_of checked.now).classes }
+    ensures { OnOk result ((places : List ℕ) → map (static_word places) words.new.items
+        ≡ map (static_word places) words.old.items ++ slot_places (source_of checked.now) 0 places class) }
+{
+    let table = checked.table();
+    for slot in 0..table.slot_count(class) {
+        let number = routine_number(firsts, table.dispatch(class, slot));
+        words.push(StaticWord::Routine(number))?;
     }
     Ok(())
 }

@@ -1,17 +1,15 @@
 // The first form of a program that is not compiled yet.
 ghost use Rattle.std.specs.Prelude.{◌≡◌, map};
-ghost use Rattle.rpp_tree.specs.Views.{expression_of, lvalue_of, statement_of, statements_of, procedure_of, class_text_of, source_of};
-ghost use Rattle.program_codegen.specs.Unbuilt.{unbuilt_value, unbuilt_place, unbuilt_statement, unbuilt_block, unbuilt_method, unbuilt_class, unbuilt};
+ghost use Rattle.rpp_tree.specs.Views.{expression_of, lvalue_of, optional_lvalue_of, statement_of, block_of, procedure_of, class_text_of, source_of};
+ghost use Rattle.class_table.specs.First.{first_of};
+ghost use Rattle.program_codegen.specs.Unbuilt.{unbuilt_value, unbuilt_place, unbuilt_receiver, unbuilt_statement, unbuilt_block, unbuilt_method, unbuilt_class, unbuilt};
 
-use class_table::is_main;
-use rpp_tree::tree::{Class, Expr, Method, Place, Program, Stmt};
+use rpp_tree::tree::{Block, Class, Expr, Method, Place, Program, Stmt};
 
 /// A form of the language that is not compiled yet, with a place in bytes from the start of the text.
 #[derive(Clone, Copy, Debug, PartialEq, Eq)]
 pub enum Unbuilt {
-    /// A method other than the `main` without parameters. `name` is the place of its name.
-    Method { name: u32 },
-    /// A statement that is neither an update nor `skip`, an operator, `nil`, or the name of an element, at this place.
+    /// `construct`, `new`, `delete`, `copy` or `uncopy`, or the name of an element, at this place.
     Form { at: u32 },
 }
 
@@ -43,20 +41,15 @@ fn in_class(class: &Class) -> Option<Unbuilt>
 fn in_method(method: &Method) -> Option<Unbuilt>
     ensures { result ≡ unbuilt_method (procedure_of method.now) }
 {
-    if is_main(method) {
-        in_block(&method.body.list)
-    } else {
-        Some(Unbuilt::Method {
-            name: method.name.at,
-        })
-    }
+    find_in_block(&method.body)
 }
 
-fn in_block(body: &[Stmt]) -> Option<Unbuilt>
-    ensures { result ≡ unbuilt_block (statements_of (map statement_of body.now)) }
+#[cycle(find_in)]
+fn find_in_block(block: &Block) -> Option<Unbuilt>
+    ensures { result ≡ unbuilt_block (block_of block.now) }
 {
-    for statement in body {
-        let found = in_statement(statement);
+    for stmt in &block.list {
+        let found = find_in_stmt(stmt);
         if found.is_some() {
             return found;
         }
@@ -64,25 +57,86 @@ fn in_block(body: &[Stmt]) -> Option<Unbuilt>
     None
 }
 
-fn in_statement(statement: &Stmt) -> Option<Unbuilt>
-    ensures { result ≡ unbuilt_statement (statement_of statement.now) }
+#[cycle(find_in)]
+fn find_in_stmt(stmt: &Stmt) -> Option<Unbuilt>
+    ensures { result ≡ unbuilt_statement (statement_of stmt.now) }
 {
-    match statement {
-        Stmt::Update { place, value, .. } => match in_place(place) {
-            Some(found) => Some(found),
-            None => in_value(value),
-        },
-        Stmt::Skip { .. } => None,
-        Stmt::Swap { at, .. } => Some(Unbuilt::Form { at: *at }),
-        Stmt::If { at, .. } => Some(Unbuilt::Form { at: *at }),
-        Stmt::From { at, .. } => Some(Unbuilt::Form { at: *at }),
+    match stmt {
+        Stmt::Update { place, value, .. } => earlier(in_place(place), in_value(value)),
+        Stmt::Swap { left, right, .. } => earlier(in_place(left), in_place(right)),
+        Stmt::If {
+            test,
+            yes,
+            no,
+            after,
+            ..
+        } => in_turn(
+            in_value(test),
+            find_in_block(yes),
+            find_in_block(no),
+            in_value(after),
+        ),
+        Stmt::From {
+            entry,
+            first,
+            again,
+            until,
+            ..
+        } => in_turn(
+            in_value(entry),
+            find_in_block(first),
+            find_in_block(again),
+            in_value(until),
+        ),
         Stmt::Construct { at, .. } => Some(Unbuilt::Form { at: *at }),
-        Stmt::Local { at, .. } => Some(Unbuilt::Form { at: *at }),
+        Stmt::Local {
+            value,
+            body,
+            end_value,
+            ..
+        } => in_turn(
+            in_value(value),
+            find_in_block(body),
+            None,
+            in_value(end_value),
+        ),
         Stmt::New { at, .. } => Some(Unbuilt::Form { at: *at }),
         Stmt::Delete { at, .. } => Some(Unbuilt::Form { at: *at }),
         Stmt::Copy { at, .. } => Some(Unbuilt::Form { at: *at }),
         Stmt::Uncopy { at, .. } => Some(Unbuilt::Form { at: *at }),
-        Stmt::Call { at, .. } => Some(Unbuilt::Form { at: *at }),
+        Stmt::Call { receiver, .. } => in_receiver(receiver),
+        Stmt::Skip { .. } => None,
+    }
+}
+
+// The first that there is of two.
+fn earlier(before: Option<Unbuilt>, after: Option<Unbuilt>) -> Option<Unbuilt>
+    ensures { result ≡ first_of before after }
+{
+    match before {
+        Some(found) => Some(found),
+        None => after,
+    }
+}
+
+// The first that there is of four.
+fn in_turn(
+    before: Option<Unbuilt>,
+    left: Option<Unbuilt>,
+    right: Option<Unbuilt>,
+    after: Option<Unbuilt>,
+) -> Option<Unbuilt>
+    ensures { result ≡ first_of before (first_of left (first_of right after)) }
+{
+    earlier(before, earlier(left, earlier(right, after)))
+}
+
+fn in_receiver(receiver: &Option<Place>) -> Option<Unbuilt>
+    ensures { result ≡ unbuilt_receiver (optional_lvalue_of receiver.now) }
+{
+    match receiver {
+        None => None,
+        Some(place) => in_place(place),
     }
 }
 
@@ -100,11 +154,8 @@ fn in_value(value: &Expr) -> Option<Unbuilt>
 {
     match value {
         Expr::Number { .. } => None,
-        Expr::Nil { at } => Some(Unbuilt::Form { at: *at }),
+        Expr::Nil { .. } => None,
         Expr::Read(place) => in_place(place),
-        Expr::Binary { at, left, .. } => match in_value(left) {
-            Some(found) => Some(found),
-            None => Some(Unbuilt::Form { at: *at }),
-        },
+        Expr::Binary { left, right, .. } => earlier(in_value(left), in_value(right)),
     }
 }

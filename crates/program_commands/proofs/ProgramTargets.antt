@@ -14,7 +14,9 @@ use Rattle.class_table.specs.Refusal.{Refusal}
 use Rattle.program_codegen.specs.declared.unbuilt.Unbuilt.{Unbuilt}
 use Rattle.program_codegen.specs.Unbuilt.{unbuilt}
 use Rattle.rpp_plan.specs.Plans.{Planned, WithInput, WritesOnly}
-use Rattle.program_commands.specs.ProgramPlans.{IfBuilt, OfProgram, IsBuiltPlan, IsBuiltImage, WritesImage, IsCheckPlan, IsCompilePlan, ChecksFile, CompilesFile, GoesOn, IsLimitedPlan, IsInputPlan, IsGoPlan, ReportsStop}
+use Rattle.rpp_probes.specs.Tally.{Watch}
+use Rattle.program_commands.specs.ProgramPlans.{IfBuilt, OfProgram, IsBuiltImage, WritesImage, IsCheckPlan, IsCompilePlan, ChecksFile, CompilesFile, ReportsStop, RunsImage}
+use Rattle.program_commands.specs.RunPlans.{RefusesInput, RefusesSizes, RefusesRun, IsGoPlan, IsTurnPlan, IsProfilePlan, GoesOn, TurnsFile, ProfilesFile}
 use Rattle.roopl_semantics.specs.Run.{Run, Done as OverWith, Fault, More}
 use Rattle.roopl_semantics.specs.Store.{State}
 use Rattle.roopl_semantics.specs.Source.{source}
@@ -32,27 +34,46 @@ stop_writes turns Returned program limits input cells first spent steps p h = ab
 stop_writes turns (BadAddress a) program limits input cells first spent steps p h = absurd h
 stop_writes turns (OffCode a) program limits input cells first spent steps p h = absurd h
 
-input_writes : (turns : Bool) (input : Result (List FieldWord) LoadError) (program : Source) (limits : Limits) (steps : ℕ) (p : Planned) → IsInputPlan turns input program limits steps p → WritesOnly p None
-input_writes turns (Err e) program limits steps p h = along p _ None h (inl refl)
-input_writes turns (Ok input) program limits steps p h = stop_writes turns _ program limits input _ _ _ steps p h.reports
-
-limited_writes : (turns : Bool) (refusal : Option LoadError) (given : List ℕ) (program : Source) (limits : Limits) (steps : ℕ) (p : Planned) → IsLimitedPlan turns refusal given program limits steps p → WritesOnly p None
-limited_writes turns (Some e) given program limits steps p h = along p _ None h (inl refl)
-limited_writes turns None given program limits steps p h = input_writes turns (given_input program given) program limits steps p h
-
 -- what holds of the plans that P tells holds of all plans of a text: a refusal writes nothing
-told_writes : (found : Option Unbuilt) (text : List ℕ) (P : Planned → Type 0) (name : Option (List ℕ)) (p : Planned) → ((q : Planned) → P q → WritesOnly q name) → IfBuilt found text P p → WritesOnly p name
+pub told_writes : (found : Option Unbuilt) (text : List ℕ) (P : Planned → Type 0) (name : Option (List ℕ)) (p : Planned) → ((q : Planned) → P q → WritesOnly q name) → IfBuilt found text P p → WritesOnly p name
 told_writes (Some found) text P name p f h = along p _ name h.told (inl refl)
 told_writes None text P name p f h = f p h
 
-judged_writes : (judgement : Result Source Refusal) (P : Source → Planned → Type 0) (name : Option (List ℕ)) (p : Planned) → ((program : Source) (q : Planned) → P program q → WritesOnly q name) → OfProgram P judgement p → WritesOnly p name
+pub judged_writes : (judgement : Result Source Refusal) (P : Source → Planned → Type 0) (name : Option (List ℕ)) (p : Planned) → ((program : Source) (q : Planned) → P program q → WritesOnly q name) → OfProgram P judgement p → WritesOnly p name
 judged_writes (Err refusal) P name p f h = along p _ name h (inl refl)
 judged_writes (Ok program) P name p f h = f program p h
 
-go_writes : (turns : Bool) (text given : List ℕ) (heap deep steps : ℕ) (p : Planned) → IsGoPlan turns text given heap deep steps p → WritesOnly p None
-go_writes turns text given heap deep steps p g =
-    judged_writes g.judgement (λ program. IsBuiltPlan turns text given program heap deep steps) None p
-    (λ program q h. told_writes (unbuilt program) text _ None q (λ r k. limited_writes turns _ given program _ steps r k) h) g.plan
+input_refused_writes : (input : Result (List FieldWord) LoadError) (p : Planned) → RefusesInput input p → WritesOnly p None
+input_refused_writes (Err e) p h = along p _ None h (inl refl)
+input_refused_writes (Ok input) p h = absurd h
+
+sizes_refused_writes : (refusal : Option LoadError) (given : List ℕ) (program : Source) (p : Planned) → RefusesSizes refusal given program p → WritesOnly p None
+sizes_refused_writes (Some e) given program p h = along p _ None h (inl refl)
+sizes_refused_writes None given program p h = input_refused_writes (given_input program given) p h
+
+refused_writes : (text given : List ℕ) (heap deep : ℕ) (p : Planned) → RefusesRun text given heap deep p → WritesOnly p None
+refused_writes text given heap deep p g =
+    judged_writes g.judgement _ None p (λ program q h. told_writes (unbuilt program) text _ None q (λ r k. sizes_refused_writes _ given program r k) h) g.plan
+
+image_writes : (turns : Bool) (program : Source) (limits : Limits) (input : List FieldWord) (steps : ℕ) (p : Planned) → RunsImage turns program limits input steps p → WritesOnly p None
+image_writes turns program limits input steps p runs = stop_writes turns _ program limits input _ _ _ steps p runs.reports
+
+go_writes : (text given : List ℕ) (heap deep steps : ℕ) (p : Planned) → IsGoPlan text given heap deep steps p → WritesOnly p None
+go_writes text given heap deep steps p (inl refused) = refused_writes text given heap deep p refused
+go_writes text given heap deep steps p (inr to) = image_writes false to.program to.limits to.input steps p to.run
+
+turn_writes : (before after : List Watch) (text given : List ℕ) (heap deep steps : ℕ) (p : Planned) → IsTurnPlan before after text given heap deep steps p → WritesOnly p None
+turn_writes before after text given heap deep steps p (inl refused) = refused_writes text given heap deep p refused.0
+turn_writes before after text given heap deep steps p (inr to) = image_writes true to.program to.limits to.input steps p to.run.runs
+
+-- a longer text writes no more
+longer_writes : (said p : Planned) (text : List ℕ) → p ≡ record said { text = text } → WritesOnly said None → WritesOnly p None
+longer_writes said p text is h = along p (record said { text = text }) None is h
+
+profile_writes : (before after : List Watch) (text given : List ℕ) (heap deep steps : ℕ) (p : Planned) → IsProfilePlan before after text given heap deep steps p → WritesOnly p None
+profile_writes before after text given heap deep steps p (inl refused) = refused_writes text given heap deep p refused.0
+profile_writes before after text given heap deep steps p (inr to) =
+    longer_writes to.run.said p _ to.run.reported (image_writes false to.program to.limits to.input steps to.run.said to.run.runs)
 
 check_writes : (text : List ℕ) (p : Planned) → IsCheckPlan text p → WritesOnly p None
 check_writes text p g = judged_writes g.judgement _ None p (λ program q h. along q _ None h (inl refl)) g.plan
@@ -62,9 +83,9 @@ compile_writes text name p g =
     judged_writes g.judgement (IsBuiltImage text name) (Some name) p
     (λ program q h. told_writes (unbuilt program) text (WritesImage program name) (Some name) q (λ r k. along r _ (Some name) k.written (inr refl)) h) g.plan
 
-of_input : (turns : Bool) (texts : Texts) (input : Option (List ℕ)) (text : List ℕ) (heap deep steps : ℕ) (p : Planned) → WithInput texts input (λ given. IsGoPlan turns text given heap deep steps p) → WritesOnly p None
-of_input turns texts None text heap deep steps p g = go_writes turns text [] heap deep steps p g
-of_input turns texts (Some name) text heap deep steps p h = of_text (texts name) _ _ (WritesOnly p None) h (λ given g. go_writes turns text given heap deep steps p g)
+of_input : (texts : Texts) (input : Option (List ℕ)) (P : List ℕ → Type 0) (Q : Type 0) → WithInput texts input P → ((given : List ℕ) → P given → Q) → Q
+of_input texts None P Q h f = f [] h
+of_input texts (Some name) P Q h f = of_text (texts name) _ P Q h f
 
 pub checks_file_writes : (file : List ℕ) (texts : Texts) (p : Planned) → ChecksFile file texts p → WritesOnly p None
 checks_file_writes file texts p h = of_text (texts file) _ _ (WritesOnly p None) h (λ text g. check_writes text p g)
@@ -72,9 +93,17 @@ checks_file_writes file texts p h = of_text (texts file) _ _ (WritesOnly p None)
 pub compiles_file_writes : (file image : List ℕ) (texts : Texts) (p : Planned) → CompilesFile file image texts p → WritesOnly p (Some image)
 compiles_file_writes file image texts p h = of_text (texts file) _ _ (WritesOnly p (Some image)) h (λ text g. compile_writes text image p g)
 
-pub goes_on_writes : (turns : Bool) (file : List ℕ) (input : Option (List ℕ)) (heap deep steps : ℕ) (texts : Texts) (p : Planned) → GoesOn turns file input heap deep steps texts p → WritesOnly p None
-goes_on_writes turns file input heap deep steps texts p h =
-    of_text (texts file) _ _ (WritesOnly p None) h (λ text g. of_input turns texts input text heap deep steps p g)
+pub goes_on_writes : (file : List ℕ) (input : Option (List ℕ)) (heap deep steps : ℕ) (texts : Texts) (p : Planned) → GoesOn file input heap deep steps texts p → WritesOnly p None
+goes_on_writes file input heap deep steps texts p h =
+    of_text (texts file) _ _ (WritesOnly p None) h (λ text g. of_input texts input _ (WritesOnly p None) g (λ given k. go_writes text given heap deep steps p k))
+
+pub turns_file_writes : (before after : List Watch) (file : List ℕ) (input : Option (List ℕ)) (heap deep steps : ℕ) (texts : Texts) (p : Planned) → TurnsFile before after file input heap deep steps texts p → WritesOnly p None
+turns_file_writes before after file input heap deep steps texts p h =
+    of_text (texts file) _ _ (WritesOnly p None) h (λ text g. of_input texts input _ (WritesOnly p None) g (λ given k. turn_writes before after text given heap deep steps p k))
+
+pub profiles_file_writes : (before after : List Watch) (file : List ℕ) (heap deep steps : ℕ) (texts : Texts) (p : Planned) → ProfilesFile before after file heap deep steps texts p → WritesOnly p None
+profiles_file_writes before after file heap deep steps texts p h =
+    of_text (texts file) _ _ (WritesOnly p None) h (λ text g. profile_writes before after text [] heap deep steps p g)
 
 explained_writes : (program : Source) (run : Run State) (p : Planned) → p ≡ explained program run → WritesOnly p None
 explained_writes program (OverWith end cost) p h = along p _ None h (inl refl)
@@ -93,10 +122,6 @@ explain_writes : (text given : List ℕ) (heap deep fuel : ℕ) (p : Planned) �
 explain_writes text given heap deep fuel p g =
     judged_writes g.judgement _ None p (λ program q h. explained_within_writes (limits_refusal heap deep MOST_OPEN) given program (record { heap = heap; deep = deep }) fuel q h) g.plan
 
-explain_of_input : (texts : Texts) (input : Option (List ℕ)) (text : List ℕ) (heap deep fuel : ℕ) (p : Planned) → WithInput texts input (λ given. IsExplainPlan text given heap deep fuel p) → WritesOnly p None
-explain_of_input texts None text heap deep fuel p g = explain_writes text [] heap deep fuel p g
-explain_of_input texts (Some name) text heap deep fuel p h = of_text (texts name) _ _ (WritesOnly p None) h (λ given g. explain_writes text given heap deep fuel p g)
-
 pub explains_writes : (file : List ℕ) (input : Option (List ℕ)) (heap deep fuel : ℕ) (texts : Texts) (p : Planned) → Explains file input heap deep fuel texts p → WritesOnly p None
 explains_writes file input heap deep fuel texts p h =
-    of_text (texts file) _ _ (WritesOnly p None) h (λ text g. explain_of_input texts input text heap deep fuel p g)
+    of_text (texts file) _ _ (WritesOnly p None) h (λ text g. of_input texts input _ (WritesOnly p None) g (λ given k. explain_writes text given heap deep fuel p k))

@@ -1,6 +1,6 @@
--- The way back after a finished run: the flipped image restores every register and every cell.
+-- A run of a program and the way back: what its report says, and that the flipped image restores every register and every cell.
 use Rattle.std.proofs.Common.{◌≡◌, ◌∙◌, sym, ap, subst, ℕ, ◌≤◌, List, ◌++◌, length, Ok, Err}
-use Rattle.std.specs.Prelude.{Bool, Result, IfOk}
+use Rattle.std.specs.Prelude.{Bool, Result, IfOk, OnOk}
 use Rattle.rpp_words.specs.declared.input.FieldWord.{FieldWord}
 use Rattle.rpp_words.specs.declared.input.Limits.{Limits}
 use Rattle.rpp_tree.specs.Tree.{Source}
@@ -12,12 +12,12 @@ use Rattle.pisa_isa.specs.Loaded.{loaded, loaded_state}
 use Rattle.pisa_isa.specs.Machine.{IsState}
 use Rattle.pisa_isa.specs.Runs.{End, run, started, zero_registers}
 use Rattle.pisa_isa.proofs.Restored.{flipped_run_restores}
-use Rattle.pisa_machine.specs.Position.{Position, first_position}
+use Rattle.pisa_isa.proofs.Reached.{reached_is_state}
+use Rattle.pisa_machine.specs.Position.{Position, IsMachine}
 use Rattle.roopl_semantics.specs.StandsFor.{run_of, StandsFor}
 use Rattle.store_report.specs.Memory.{IsMemoryOf, IsFirstMemoryOf}
-use Rattle.program_commands.specs.GoRun.{HasRun}
-use Rattle.roopl_semantics.specs.Source.{starting, IsValid}
-use Rattle.rpp_words.specs.Limits.{IsLimits}
+use Rattle.program_commands.specs.GoRun.{IsLoaded, HasRun}
+use Rattle.roopl_semantics.specs.Source.{starting}
 use Rattle.roopl_semantics.specs.Store.{State}
 use Rattle.roopl_semantics.specs.Walk.{run_report}
 use Rattle.program_commands.proofs.Reported.{final, final_memory, soon_over}
@@ -31,33 +31,33 @@ module _ (program : Source) (limits : Limits) (input : List FieldWord) (bound : 
   first_cells = loaded end.image.statics limits input
 
   -- whatever the stop, after a finish the flipped image restores
-  pub restores : (why : Stop) → HasRun program limits input bound end why spent → IsImage end.image → IsState (loaded_state end.image limits input) → spent ≤ bound
+  pub restores : (why : Stop) → HasRun program limits input bound end why spent
       → (run_of end.image limits input bound).why ≡ Finished → Restores end.image.code (run_of end.image limits input bound) bound zero_registers first_cells
-  restores why has image begun within finished =
-      flipped_run_restores end.image.code bound zero_registers first_cells bound image.is_code image.one_start image.one_finish begun
+  restores why has finished =
+      flipped_run_restores end.image.code bound zero_registers first_cells bound has.is_image.is_code has.is_image.one_start has.is_image.one_finish has.begun
       ((has.stands.follows limits input has.allowed has.valid).clean bound finished)
-      (subst (λ n. n ≤ bound) (sym (ap (λ (e : End). e.spent) has.runs)) within)
+      (subst (λ n. n ≤ bound) (sym (ap (λ (e : End). e.spent) has.runs)) has.within)
 
-  restored : HasRun program limits input bound end Finished spent → IsImage end.image → IsState (loaded_state end.image limits input) → spent ≤ bound
+  restored : HasRun program limits input bound end Finished spent
       → Restores end.image.code (record { why = Finished; spent = spent; last = end.state }) bound zero_registers first_cells
-  restored has image begun within =
-      subst (λ (e : End). Restores end.image.code e bound zero_registers first_cells) has.runs (restores Finished has image begun within (ap (λ (e : End). e.why) has.runs))
+  restored has =
+      subst (λ (e : End). Restores end.image.code e bound zero_registers first_cells) has.runs (restores Finished has (ap (λ (e : End). e.why) has.runs))
 
   -- what the run of the flipped image from there leaves
-  pub back_cells : HasRun program limits input bound end Finished spent → IsImage end.image → IsState (loaded_state end.image limits input) → spent ≤ bound
+  pub back_cells : HasRun program limits input bound end Finished spent
       → (after : End) → run (flipped end.image.code) bound (started (flipped end.image.code) end.state.regs end.state.cells) ≡ after → after.last.cells ≡ first_cells
-  back_cells has image begun within after is = sym (ap (λ (e : End). e.last.cells) is) ∙ (restored has image begun within).memory
+  back_cells has after is = sym (ap (λ (e : End). e.last.cells) is) ∙ (restored has).memory
 
-  pub back_spent : HasRun program limits input bound end Finished spent → IsImage end.image → IsState (loaded_state end.image limits input) → spent ≤ bound
+  pub back_spent : HasRun program limits input bound end Finished spent
       → (after : End) → run (flipped end.image.code) bound (started (flipped end.image.code) end.state.regs end.state.cells) ≡ after → after.spent ≡ spent
-  back_spent has image begun within after is = sym (ap (λ (e : End). e.spent) is) ∙ (restored has image begun within).in_as_many
+  back_spent has after is = sym (ap (λ (e : End). e.spent) is) ∙ (restored has).in_as_many
 
   same_lines : (back spent count n : ℕ) (here report : List ℕ) → back ≡ spent → here ≡ report → count ≡ n → back_lines back here count ≡ back_lines spent report n
   same_lines back spent count n here report e f h = rw (e, f, h)
 
   -- the memory of the way back is that in which a run of the program begins
-  pub begun : (why : Stop) → HasRun program limits input bound end why spent → (cells : List ℕ) → cells ≡ first_cells → IsFirstMemoryOf program cells input
-  begun why has cells is = record { image = end.image; limits = limits; statics = has.stands.statics; in_range = has.allowed; valid = has.valid; loads = is }
+  pub first_memory : (why : Stop) → HasRun program limits input bound end why spent → (cells : List ℕ) → cells ≡ first_cells → IsFirstMemoryOf program cells input
+  first_memory why has cells is = record { image = end.image; limits = limits; statics = has.stands.statics; in_range = has.allowed; valid = has.valid; loads = is }
 
   -- a plan that prints both reports, of the memory where the run finished and of the one where the way back did
   pub reports_turn : (has : HasRun program limits input bound end Finished spent) → (there here cells : List ℕ) (back count : ℕ) (p : Planned)
@@ -69,7 +69,7 @@ module _ (program : Source) (limits : Limits) (input : List FieldWord) (bound : 
   reports_turn has there here cells back count p shown shown_back same_cells same_spent same_count is =
       let fin = final program limits input bound end spent has in
       let here_is : here ≡ run_report program (starting program input).store first_cells =
-      shown_back input (begun Finished has cells same_cells)
+      shown_back input (first_memory Finished has cells same_cells)
       ∙ ap (λ (memory : List ℕ). run_report program (starting program input).store memory) same_cells in
       record {
         end = fin.end;
@@ -82,31 +82,39 @@ module _ (program : Source) (limits : Limits) (input : List FieldWord) (bound : 
       }
 
   -- the plan of a run, from what its reports say
-  pub runs_image : (turns : Bool) (why : Stop) → HasRun program limits input bound end why spent → IsImage end.image → IsState (loaded_state end.image limits input) → spent ≤ bound
+  abbrev pub runs_image : (turns : Bool) (why : Stop) → HasRun program limits input bound end why spent
       → (p : Planned) → ReportsStop turns why program limits input end.state.cells first_cells spent bound p → RunsImage turns program limits input bound p
-  runs_image turns why has image begun within p reports = record {
+  runs_image turns why has p reports = record {
     image = end.image;
-    is_image = image;
+    is_image = has.is_image;
     stands = has.stands;
     in_time = λ cost ends. soon_over program end.image limits input bound cost ((has.stands.follows limits input has.allowed has.valid).in_time cost ends);
-    restores = restores why has image begun within;
+    restores = restores why has;
     reports = subst (λ (e : End). ReportsEnd turns e program limits input first_cells bound p) (sym has.runs) reports;
   }
 
-  -- what a run of the compiled image from the loaded memory has
-  pub has_run : (image : Segments) (start : Position) (why : Stop)
-      → IsLimits limits → IsValid program input → StandsFor program image
-      → start ≡ first_position image zero_registers (loaded image.statics limits input) → end.image ≡ image
+  -- a run from where the image is loaded
+  pub has_run : (start : Position) (why : Stop) → IsLoaded program limits input start → IsMachine start → end.image ≡ start.image → spent ≤ bound
       → run start.image.code bound start.state ≡ record { why = why; spent = spent; last = end.state }
       → HasRun program limits input bound end why spent
-  has_run image start why allowed valid stands first same ran = record {
-    allowed = allowed;
-    valid = valid;
-    stands = subst (StandsFor program) (sym same) stands;
-    runs = ap (λ (i : Segments). run_of i limits input bound) same ∙ sym (ap (λ (p : Position). run p.image.code bound p.state) first) ∙ ran;
+  has_run start why loads machine same within ran = record {
+    allowed = loads.allowed;
+    valid = loads.valid;
+    stands = subst (StandsFor program) (sym same) loads.stands;
+    is_image = subst IsImage (sym same) machine.is_image;
+    begun = subst (λ (i : Segments). IsState (loaded_state i limits input)) (sym same)
+        (subst IsState (ap (λ (p : Position). p.state) loads.first)
+        (reached_is_state start.image.code start.made start.state machine.is_image.is_code machine.reached));
+    within = within;
+    runs = ap (λ (i : Segments). run_of i limits input bound) same ∙ sym (ap (λ (p : Position). run start.image.code bound p.state) loads.first) ∙ ran;
   }
 
 -- what holds of an answer holds in a weaker form
 pub weaken : {A E : Type 0} (r : Result A E) (P Q : A → Type 0) → ((x : A) → P x → Q x) → IfOk r P → IfOk r Q
 weaken (Ok x) P Q f h = f x h
 weaken (Err e) P Q f h = tt
+
+-- the same, with what holds after every answer that is no error
+pub weaken_with : {A E : Type 0} (r : Result A E) (C : Type 0) (P Q : A → Type 0) → (C → (x : A) → P x → Q x) → OnOk r C → IfOk r P → IfOk r Q
+weaken_with (Ok x) C P Q f c h = f c x h
+weaken_with (Err e) C P Q f c h = tt

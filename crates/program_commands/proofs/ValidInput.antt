@@ -47,10 +47,14 @@ int_there vars field found =
     let z : 0 + found.index ≡ found.index = omega arith in
     subst (λ k. IsTrue (is_int_field (slice_get vars k))) (sym (found.is ∙ z)) found.int
 
+-- a field that can be set is an int field of the main class
+pub int_field : (program : Source) (field : ℕ) → is_field (input_fields program) field ≡ true → IsTrue (is_int_field (slice_get (main_fields program) field))
+int_field program field e = int_there (main_fields program) field (known_int (main_fields program) 0 field e)
+
 -- words for int fields, for none twice, are a valid input
 pub valid_input : (program : Source) (words : List FieldWord) → AreInput (input_fields program) words → IsValid program words
 valid_input program words are = record {
-  ints = λ k d h. int_there (main_fields program) (slice_index_or words k d).field (known_int (main_fields program) 0 (slice_index_or words k d).field (are.known k d h));
+  ints = λ k d h. int_field program (slice_index_or words k d).field (are.known k d h);
   once = are.once;
   words = are.are_words;
 }
@@ -67,5 +71,9 @@ length-statics program image has =
     let is = ap length has.words in
     omega (arith, length-append {A = ℕ} (main_statics program) (tables 1 has.places), length-replicate {A = ℕ} (length (main_fields program)) 0)
 
+-- an int field of the main object is a static cell
+pub field_fits : (program : Source) (image : Segments) (field : ℕ) → HasStatics program image → IsTrue (is_int_field (slice_get (main_fields program) field)) → 2 + field < length image.statics
+field_fits program image field has int = let in_fields = below (main_fields program) field int in omega (arith, length-statics program image has)
+
 pub input_fits : (program : Source) (image : Segments) (words : List FieldWord) → HasStatics program image → IsValid program words → All (λ (entry : FieldWord). 2 + entry.field < length image.statics) words
-input_fits program image words has valid = λ k d h. let in_fields = below (main_fields program) (slice_index_or words k d).field (valid.ints k d h) in omega (arith, length-statics program image has)
+input_fits program image words has valid = λ k d h. field_fits program image (slice_index_or words k d).field has (valid.ints k d h)

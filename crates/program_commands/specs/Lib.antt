@@ -2,3 +2,5 @@ pub mod ProgramPlans
 pub mod GoRun
 pub mod Inputs
 pub mod Explained
+pub mod RunPlans
+pub mod Readied

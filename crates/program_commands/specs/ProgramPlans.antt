@@ -1,4 +1,4 @@
--- The plans of the commands on programs.
+-- The plans of `check` and `compile`, and what a run of a program reports.
 use Rattle.std.specs.Prelude.{◌≡◌, ℕ, ◌≤◌, ◌<◌, Bool, true, false, List, ◌++◌, length, None, Some, Result, Ok, Err, codes}
 use Rattle.std.specs.declared.option.Option.{Option}
 use Rattle.std.specs.Fmt.{decimal}
@@ -12,10 +12,11 @@ use Rattle.roopl_lexer.specs.Tokens.{IsCutting}
 use Rattle.class_table.specs.Refusal.{Refusal}
 use Rattle.program_codegen.specs.declared.unbuilt.Unbuilt.{Unbuilt}
 use Rattle.program_codegen.specs.Unbuilt.{unbuilt}
-use Rattle.program_codegen.specs.Notes.{program_notes}
+use Rattle.program_codegen.specs.Notes.{AreNotes}
 use Rattle.pisa_isa.specs.declared.machine.Stop.{Stop}
 use Rattle.pisa_isa.specs.declared.machine.Stop.TheVariants.{Finished, Trap, Bound as AtBound}
 use Rattle.pisa_isa.specs.Image.{Segments, IsImage}
+use Rattle.pisa_isa.specs.Notes.{NoteLists}
 use Rattle.pisa_isa.specs.Flipped.{Restores}
 use Rattle.pisa_image.specs.ImageBytes.{image_bytes}
 use Rattle.pisa_image.specs.Reading.{noted}
@@ -29,13 +30,9 @@ use Rattle.roopl_judge.specs.Judged.{IsJudged}
 use Rattle.roopl_judge.specs.NotBuilt.{not_built}
 use Rattle.rpp_plan.specs.Refusals.{refused_line}
 use Rattle.rpp_words.specs.Texts.{line_end}
-use Rattle.pisa_loader.specs.Limiting.{limits_refusal}
-use Rattle.pisa_loader.specs.declared.error.LoadError.{LoadError}
-use Rattle.rpp_words.specs.declared.input.TheConstants.{MOST_DEEP}
-use Rattle.program_commands.specs.Inputs.{given_input}
-use Rattle.rpp_plan.specs.declared.plan.Verdict.TheVariants.{Done, SourceRefused, Trapped, Bound, InputRefused}
-use Rattle.rpp_plan.specs.Plans.{Planned, prints, writes, WithText, WithInput}
-use Rattle.rpp_plan.specs.Texts.{load_line, steps_line, cells_line}
+use Rattle.rpp_plan.specs.declared.plan.Verdict.TheVariants.{Done, SourceRefused, Trapped, Bound}
+use Rattle.rpp_plan.specs.Plans.{Planned, prints, writes, WithText}
+use Rattle.rpp_plan.specs.Texts.{steps_line, cells_line}
 use Rattle.machine_texts.specs.Stops.{fault_line}
 
 -- the source gives a store, and the plan reports it, as it stands in these cells
@@ -90,16 +87,6 @@ pub record RunsImage (turns : Bool) (program : Source) (limits : Limits) (input 
   pub restores : (run_of image limits input steps).why ≡ Finished → Restores image.code (run_of image limits input steps) steps zero_registers (loaded image.statics limits input)
   pub reports : ReportsEnd turns (run_of image limits input steps) program limits input (loaded image.statics limits input) steps p
 
--- the input is judged, and then the run is made on it
-abbrev pub IsInputPlan : (turns : Bool) → Result (List FieldWord) LoadError → Source → Limits → ℕ → Planned → Type 0
-IsInputPlan turns (Err e) program limits steps p = p ≡ prints InputRefused (load_line e)
-IsInputPlan turns (Ok input) program limits steps p = RunsImage turns program limits input steps p
-
--- the size of the memory is tried before the input
-abbrev pub IsLimitedPlan : (turns : Bool) → Option LoadError → (given : List ℕ) → Source → Limits → ℕ → Planned → Type 0
-IsLimitedPlan turns (Some e) given program limits steps p = p ≡ prints InputRefused (load_line e)
-IsLimitedPlan turns None given program limits steps p = IsInputPlan turns (given_input program given) program limits steps p
-
 -- the first form that is not built yet is told
 pub record TellsUnbuilt (text : List ℕ) (found : Unbuilt) (p : Planned) : Type 0 where
   pub tokens : List Token
@@ -122,22 +109,17 @@ pub record IsJudgedPlan (text : List ℕ) (P : Source → Planned → Type 0) (p
   pub judged : IsJudged text judgement
   pub plan : OfProgram P judgement p
 
-abbrev pub IsBuiltPlan : (turns : Bool) → (text given : List ℕ) → Source → (heap deep steps : ℕ) → Planned → Type 0
-IsBuiltPlan turns text given program heap deep steps p =
-    IfBuilt (unbuilt program) text (IsLimitedPlan turns (limits_refusal heap deep MOST_DEEP) given program (record { heap = heap; deep = deep }) steps) p
-
-abbrev pub IsGoPlan : (turns : Bool) → (text given : List ℕ) → (heap deep steps : ℕ) → Planned → Type 0
-IsGoPlan turns text given heap deep steps p = IsJudgedPlan text (λ program. IsBuiltPlan turns text given program heap deep steps) p
-
 abbrev pub IsCheckPlan : (text : List ℕ) → Planned → Type 0
 IsCheckPlan text p = IsJudgedPlan text (λ program p. p ≡ prints Done (codes "accepted" ++ line_end)) p
 
--- an image that stands for the program is written, with the notes on the program
+-- an image that stands for the program is written, with notes on the program
 pub record WritesImage (program : Source) (name : List ℕ) (p : Planned) : Type 0 where
   pub image : Segments
   pub is_image : IsImage image
   pub stands : StandsFor program image
-  pub written : p ≡ writes name (image_bytes (noted (program_notes program) image)) (cells_line (codes "compiled") image.code)
+  pub notes : NoteLists
+  pub are_notes : AreNotes program image notes
+  pub written : p ≡ writes name (image_bytes (noted notes image)) (cells_line (codes "compiled") image.code)
 
 abbrev pub IsBuiltImage : (text name : List ℕ) → Source → Planned → Type 0
 IsBuiltImage text name program p = IfBuilt (unbuilt program) text (WritesImage program name) p
@@ -152,8 +134,3 @@ ChecksFile file texts p = WithText texts file MOST_BYTES (λ text. IsCheckPlan t
 -- the plan of `compile` of this file to that of an image
 abbrev pub CompilesFile : (file image : List ℕ) → Texts → Planned → Type 0
 CompilesFile file image texts p = WithText texts file MOST_BYTES (λ text. IsCompilePlan text image p)
-
--- the plan of `go`, or of `turn`, of this file, on an input where there is one
-abbrev pub GoesOn : (turns : Bool) → (file : List ℕ) → (input : Option (List ℕ)) → (heap deep steps : ℕ) → Texts → Planned → Type 0
-GoesOn turns file input heap deep steps texts p =
-    WithText texts file MOST_BYTES (λ text. WithInput texts input (λ given. IsGoPlan turns text given heap deep steps p))

@@ -1,219 +1,123 @@
-// `go F H D STEPS [INPUT]` and `turn` with the same words: compiles a program, runs its image and reports.
-ghost use Rattle.std.specs.Prelude.{◌≡◌, ◌≤◌, ◌<◌, ◌^◌, ◌++◌, ◌∷◌, None, length, option_map, IfOk, IfSome, string_bytes, codes};
+// `go F H D STEPS [INPUT]`: compiles a program, runs its image and reports.
+ghost use Rattle.std.specs.Prelude.{◌≡◌, false, ◌≤◌, ◌<◌, ◌^◌, ◌++◌, ◌∷◌, None, length, option_map, IfOk, IfSome, string_bytes, codes};
 ghost use Rattle.rpp_tree.specs.Views.{source_of};
 ghost use Rattle.rpp_tree.specs.declared.limits.TheConstants.{MOST_BYTES};
-ghost use Rattle.pisa_isa.specs.Machine.{IsState};
-ghost use Rattle.pisa_isa.specs.Loaded.{loaded, loaded_state};
-ghost use Rattle.roopl_semantics.specs.Source.{IsValid};
+ghost use Rattle.pisa_isa.specs.Image.{IsImage};
+ghost use Rattle.pisa_isa.specs.Loaded.{loaded};
 ghost use Rattle.roopl_semantics.specs.StandsFor.{StandsFor};
-ghost use Rattle.rpp_words.specs.Limits.{IsLimits};
 ghost use Rattle.program_codegen.specs.Unbuilt.{unbuilt};
-ghost use Rattle.pisa_loader.specs.Limiting.{limits_refusal};
 ghost use Rattle.pisa_loader.specs.declared.input.TheConstants.{MOST_INPUT};
-ghost use Rattle.program_commands.specs.Inputs.{given_input};
 ghost use Rattle.rpp_plan.specs.Plans.{planned, prints, GivesPlan};
-ghost use Rattle.program_commands.specs.ProgramPlans.{RunsImage, ReportsStop, ReportsFinish, ReportsStore, IsGoPlan, IsBuiltPlan, IsLimitedPlan, IsInputPlan, GoesOn};
+ghost use Rattle.program_commands.specs.ProgramPlans.{RunsImage, ReportsStop, ReportsStore};
+ghost use Rattle.program_commands.specs.RunPlans.{IsGoPlan, GoesOn};
 ghost use Rattle.rpp_plan.specs.Texts.{steps_line};
 ghost use Rattle.machine_texts.specs.Stops.{fault_line as line_of_fault};
 ghost use Rattle.rpp_words.specs.Texts.{line_end};
-ghost use Rattle.roopl_lexer.specs.Tokens.{IsCutting};
-ghost use Rattle.program_commands.specs.GoRun.{HasRun};
+ghost use Rattle.program_commands.specs.GoRun.{IsLoaded, HasRun};
 ghost use Rattle.rpp_plan.specs.Files.{OnlyReads, source, input_files};
 
-use crate::compiling::refuse_unbuilt;
-use crate::settable::input_fields;
-use crate::turning::report_both;
+use crate::readying::ready;
+use crate::setting::{Ready, Setting};
 use class_table::Checked;
 use pisa_isa::{Image, Stop};
-use pisa_loader::{LoadError, check_limits, load, read_input};
+use pisa_loader::load;
 use pisa_machine::{Machine, RunEnd, Steps};
-use program_codegen::{compile, first_unbuilt};
-use roopl_judge::{Judged, SourceError, judge};
-use rpp_plan::{
-    NoPlan, Plan, Sizes, Verdict, fault_line, load_line, read_given, refuse_source, with_steps,
-};
+use program_codegen::compile;
+use rpp_plan::{NoPlan, Plan, Sizes, Verdict, fault_line, read_given, with_steps};
 use rpp_ports::Shelf;
-use rpp_tree::limits::MOST_BYTES;
-use rpp_words::{Input, Limits, MOST_DEEP, NoMemory};
+use rpp_words::NoMemory;
 use std::alloc::{AllocError, Global};
 use std::sync::ledger::Ledger;
 use store_report::report;
 
-/// How a program is to be run: whether it turns back after a finish, and the sizes of the run.
-#[derive(Clone, Copy, Debug, PartialEq, Eq)]
-pub struct Request {
-    pub turns: bool,
-    pub sizes: Sizes,
-}
-
-/// What a run is made with: the sizes of heap and stack, the input, the number of steps, and whether it turns back.
-#[derive(Drop)]
-pub struct Setting {
-    pub limits: Limits,
-    pub input: Input,
-    pub bound: u64,
-    pub turns: bool,
-}
-
-/// Compiles a file, runs the image on an input where there is one, and reports; and turns back after a finish, where it is to.
+/// Compiles a file, runs the image on an input where there is one, and reports.
 pub fn go<S: Shelf, L: Ledger>(
     alloc: Global,
     shelf: &mut S,
     file: &str,
     input: &Option<String>,
-    request: Request,
+    sizes: Sizes,
     steps: &mut Steps<L>,
 ) -> Result<Plan, NoPlan>
-    requires { request.sizes.bound < 2 ^ 63 }
-    ensures plan { GivesPlan (S.texts shelf.old)
-        (GoesOn request.turns file.now (option_map string_bytes input.now) request.sizes.heap request.sizes.deep request.sizes.bound) result }
+    requires { sizes.bound < 2 ^ 63 }
+    ensures plan { GivesPlan (S.texts shelf.old) (GoesOn file.now (option_map string_bytes input.now)
+        sizes.heap sizes.deep sizes.bound) result }
     ensures reads { OnlyReads (S.texts shelf.old) (S.texts shelf.new) (S.faults shelf.old) (S.faults shelf.new)
         (source file.now ∷ input_files (option_map string_bytes input.now)) result }
 {
     let given = read_given(alloc, shelf, file, input)?;
-    Ok(go_over(alloc, &given.text, &given.input, request, steps)?)
+    Ok(go_over(alloc, &given.text, &given.input, sizes, steps)?)
 }
 
 fn go_over<L: Ledger>(
     alloc: Global,
     text: &[u8],
     given: &[u8],
-    request: Request,
+    sizes: Sizes,
     steps: &mut Steps<L>,
 ) -> Result<Plan, NoMemory>
     requires text { length text.now ≤ MOST_BYTES }
     requires given { length given.now ≤ MOST_INPUT }
-    requires bound { request.sizes.bound < 2 ^ 63 }
-    ensures { IfOk result (λ plan.
-        IsGoPlan request.turns text.now given.now request.sizes.heap request.sizes.deep request.sizes.bound (planned plan)) }
+    requires bound { sizes.bound < 2 ^ 63 }
+    ensures { IfOk result (λ plan. IsGoPlan text.now given.now sizes.heap sizes.deep sizes.bound (planned plan)) }
 {
-    match judge(alloc, text) {
-        Ok(judged) => go_judged(alloc, text, given, &judged, request, steps),
-        Err(SourceError::Refused { number, at }) => Ok(refuse_source(alloc, number, at)?),
-        Err(SourceError::NoMemory) => Err(NoMemory),
+    match ready(alloc, text, given, sizes)? {
+        Ready::Refused(plan) => Ok(plan),
+        Ready::Runs(setting) => run_program(alloc, &setting, steps),
     }
 }
 
-// A form that is not built yet is told before the run.
-fn go_judged<L: Ledger>(
-    alloc: Global,
-    _text: &[u8],
-    given: &[u8],
-    judged: &Judged,
-    request: Request,
-    steps: &mut Steps<L>,
-) -> Result<Plan, NoMemory>
-    requires tokens { IsCutting _text.now judged.now.tokens.items }
-    requires given { length given.now ≤ MOST_INPUT }
-    requires bound { request.sizes.bound < 2 ^ 63 }
-    ensures { IfOk result (λ plan. IsBuiltPlan request.turns _text.now given.now (source_of judged.now.checked)
-        request.sizes.heap request.sizes.deep request.sizes.bound (planned plan)) }
-{
-    match first_unbuilt(judged.checked.program()) {
-        Some(found) => refuse_unbuilt(alloc, judged, found),
-        None => go_limited(alloc, &judged.checked, given, request, steps),
-    }
-}
-
-// The sizes of heap and stack are tried before the input.
-fn go_limited<L: Ledger>(
-    alloc: Global,
-    checked: &Checked,
-    given: &[u8],
-    request: Request,
-    steps: &mut Steps<L>,
-) -> Result<Plan, NoMemory>
-    requires built { unbuilt (source_of checked.now) ≡ None }
-    requires given { length given.now ≤ MOST_INPUT }
-    requires bound { request.sizes.bound < 2 ^ 63 }
-    ensures { IfOk result (λ plan. IsLimitedPlan request.turns (limits_refusal request.sizes.heap request.sizes.deep MOST_DEEP) given.now
-        (source_of checked.now) (record { heap = request.sizes.heap; deep = request.sizes.deep }) request.sizes.bound (planned plan)) }
-{
-    match check_limits(request.sizes.heap, request.sizes.deep, MOST_DEEP) {
-        Ok(limits) => go_given(alloc, checked, given, limits, request, steps),
-        Err(e) => Ok(Plan::prints(Verdict::InputRefused, load_line(alloc, e)?)),
-    }
-}
-
-// The input is judged, and then the run is made on it.
-fn go_given<L: Ledger>(
-    alloc: Global,
-    checked: &Checked,
-    given: &[u8],
-    limits: Limits,
-    request: Request,
-    steps: &mut Steps<L>,
-) -> Result<Plan, NoMemory>
-    requires built { unbuilt (source_of checked.now) ≡ None }
-    requires given { length given.now ≤ MOST_INPUT }
-    requires limits { IsLimits limits }
-    requires bound { request.sizes.bound < 2 ^ 63 }
-    ensures { IfOk result (λ plan. IsInputPlan request.turns (given_input (source_of checked.now) given.now)
-        (source_of checked.now) limits request.sizes.bound (planned plan)) }
-{
-    let fields = input_fields(alloc, checked)?;
-    match read_input(alloc, given, &fields) {
-        Ok(input) => {
-            let setting = Setting {
-                limits,
-                input,
-                bound: request.sizes.bound,
-                turns: request.turns,
-            };
-            run_program(alloc, checked, &setting, steps)
-        }
-        Err(LoadError::NoMemory) => Err(NoMemory),
-        Err(e) => Ok(Plan::prints(Verdict::InputRefused, load_line(alloc, e)?)),
-    }
-}
+/// The most code cells of a compiled image: 200 for each token that a program may have, and 8,192.
+pub const MOST_COMPILED: usize = 4_008_192;
 
 /// The image of a program of which every form is compiled, without what is noted of it.
+#[tactic(auto, using(crate::proofs::Sizes::few_cells))]
 pub fn compiled_image(alloc: Global, checked: &Checked) -> Result<Image, NoMemory>
     requires { unbuilt (source_of checked.now) ≡ None }
     ensures stands { IfOk result (λ image. StandsFor (source_of checked.now) image) }
+    ensures image { IfOk result (λ image. IsImage image) }
+    ensures size { IfOk result (λ image. length image.code ≤ MOST_COMPILED) }
 {
+    let _table = checked.table();
     Ok(compile(alloc, checked)?.into_parts().0)
 }
 
-// Compiles a program, loads its image with an input, runs it and reports.
-fn run_program<L: Ledger>(
-    alloc: Global,
-    checked: &Checked,
-    setting: &Setting,
-    steps: &mut Steps<L>,
-) -> Result<Plan, NoMemory>
-    requires built { unbuilt (source_of checked.now) ≡ None }
-    requires limits { IsLimits setting.now.limits }
-    requires valid { IsValid (source_of checked.now) setting.now.input.words.items }
-    requires bound { setting.now.bound < 2 ^ 63 }
-    ensures { IfOk result (λ plan. RunsImage setting.now.turns (source_of checked.now)
-        setting.now.limits setting.now.input.words.items setting.now.bound (planned plan)) }
+/// The image of the program, loaded with the input.
+pub fn loaded_program(alloc: Global, setting: &Setting) -> Result<Machine, NoMemory>
+    ensures { IfOk result (λ machine. IsLoaded (source_of setting.now.checked) setting.now.limits setting.now.input.words.items machine) }
 {
-    let image = compiled_image(alloc, checked)?;
-    let mut machine = load(alloc, image, setting.limits, &setting.input)?;
-    let end = machine.run(setting.bound, steps);
-    report_run(alloc, checked, setting, machine, end, steps)
+    let image = compiled_image(alloc, &setting.checked)?;
+    Ok(load(alloc, image, setting.limits, &setting.input)?)
 }
 
-// The plan of a run that ended.
-fn report_run<L: Ledger>(
+// Loads the image of a program with an input, runs it and reports.
+fn run_program<L: Ledger>(
     alloc: Global,
-    checked: &Checked,
     setting: &Setting,
-    machine: Machine,
-    end: RunEnd,
     steps: &mut Steps<L>,
 ) -> Result<Plan, NoMemory>
-    requires run { HasRun (source_of checked.now) setting.now.limits setting.now.input.words.items setting.now.bound machine end.stop end.spent }
-    requires begun { IsState (loaded_state machine.image setting.now.limits setting.now.input.words.items) }
-    requires within { end.spent ≤ setting.now.bound }
-    requires bound { setting.now.bound < 2 ^ 63 }
-    ensures { IfOk result (λ plan. ReportsStop setting.now.turns end.stop (source_of checked.now)
-        setting.now.limits setting.now.input.words.items machine.state.cells
-        (loaded machine.image.statics setting.now.limits setting.now.input.words.items) end.spent setting.now.bound (planned plan)) }
+    ensures { IfOk result (λ plan. RunsImage false (source_of setting.now.checked)
+        setting.now.limits setting.now.input.words.items setting.now.bound (planned plan)) }
+{
+    let mut machine = loaded_program(alloc, setting)?;
+    let end = machine.run(setting.bound, steps);
+    report_run(alloc, setting, &machine, end)
+}
+
+/// The plan of a run that ended.
+pub fn report_run(
+    alloc: Global,
+    setting: &Setting,
+    machine: &Machine,
+    end: RunEnd,
+) -> Result<Plan, NoMemory>
+    requires { HasRun (source_of setting.now.checked) setting.now.limits setting.now.input.words.items setting.now.bound machine.now end.stop end.spent }
+    ensures { IfOk result (λ plan. ReportsStop false end.stop (source_of setting.now.checked)
+        setting.now.limits setting.now.input.words.items machine.now.state.cells
+        (loaded machine.now.image.statics setting.now.limits setting.now.input.words.items) end.spent setting.now.bound (planned plan)) }
 {
     match end.stop {
-        Stop::Finished => report_finish(alloc, checked, setting, machine, end.spent, steps),
+        Stop::Finished => report_store(alloc, setting, machine, end.spent),
         Stop::Trap(code) => Ok(report_fault(alloc, code, end.spent)?),
         Stop::Bound => Ok(report_bound(alloc, setting.bound)?),
         Stop::Returned => unreachable!(),
@@ -222,43 +126,18 @@ fn report_run<L: Ledger>(
     }
 }
 
-// The plan of a run that finished, and of the way back where it turns.
-fn report_finish<L: Ledger>(
-    alloc: Global,
-    checked: &Checked,
-    setting: &Setting,
-    machine: Machine,
-    spent: u64,
-    steps: &mut Steps<L>,
-) -> Result<Plan, NoMemory>
-    requires run { HasRun (source_of checked.now) setting.now.limits setting.now.input.words.items setting.now.bound machine Stop.Finished spent }
-    requires begun { IsState (loaded_state machine.image setting.now.limits setting.now.input.words.items) }
-    requires within { spent ≤ setting.now.bound }
-    requires bound { setting.now.bound < 2 ^ 63 }
-    ensures { IfOk result (λ plan. ReportsFinish setting.now.turns (source_of checked.now)
-        setting.now.limits setting.now.input.words.items machine.state.cells
-        (loaded machine.image.statics setting.now.limits setting.now.input.words.items) spent (planned plan)) }
-{
-    if setting.turns {
-        report_both(alloc, checked, setting, machine, spent, steps)
-    } else {
-        report_store(alloc, checked, setting, &machine, spent)
-    }
-}
-
 // The plan of a run that finished.
 fn report_store(
     alloc: Global,
-    checked: &Checked,
-    _setting: &Setting,
+    setting: &Setting,
     machine: &Machine,
     spent: u64,
 ) -> Result<Plan, NoMemory>
-    requires { HasRun (source_of checked.now) _setting.now.limits _setting.now.input.words.items _setting.now.bound machine.now Stop.Finished spent }
-    ensures { IfOk result (λ plan. ReportsStore (source_of checked.now)
-        _setting.now.limits _setting.now.input.words.items machine.now.state.cells spent (planned plan)) }
+    requires { HasRun (source_of setting.now.checked) setting.now.limits setting.now.input.words.items setting.now.bound machine.now Stop.Finished spent }
+    ensures { IfOk result (λ plan. ReportsStore (source_of setting.now.checked)
+        setting.now.limits setting.now.input.words.items machine.now.state.cells spent (planned plan)) }
 {
-    let lines = report(alloc, machine, checked)?;
+    let lines = report(alloc, machine, &setting.checked)?;
     let text = with_steps(lines, spent)?;
     Ok(Plan::prints(Verdict::Done, text))
 }

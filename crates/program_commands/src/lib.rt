@@ -1,15 +1,21 @@
-//! The commands on programs: `check`, `compile`, `go` and `turn`. Each reads its files and makes a plan; the top call carries
-//! it out.
+//! The commands on programs: `check`, `compile`, `explain`, `go`, `turn` and `profile`. Each reads its files and makes a plan; the
+//! top call carries it out.
 #![tactic(auto)]
 
 mod checking;
 mod compiling;
 mod explaining;
 mod going;
+mod profiling;
+mod readying;
 mod settable;
+mod setting;
 mod turning;
 
 pub use checking::check;
-pub use compiling::compile_file;
+pub use compiling::{compile_file, refuse_unbuilt};
 pub use explaining::explain;
-pub use going::{Request, go};
+pub use going::{compiled_image, go};
+pub use profiling::profile;
+pub use settable::input_fields;
+pub use turning::turn;

@@ -11,7 +11,8 @@ use std::alloc::{AllocError, Global};
 
 /// The int fields of a program's main class.
 pub fn input_fields(alloc: Global, checked: &Checked) -> Result<Vec<InputField>, AllocError>
-    ensures { IfOk result (λ fields. fields.items ≡ fields_of (source_of checked.now)) }
+    ensures fields { IfOk result (λ fields. fields.items ≡ fields_of (source_of checked.now)) }
+    ensures few { IfOk result (λ fields. length fields.items ≤ 64) }
 {
     let table = checked.table();
     int_fields(alloc, table.fields(table.main().class))
@@ -20,7 +21,8 @@ pub fn input_fields(alloc: Global, checked: &Checked) -> Result<Vec<InputField>,
 // The int fields among these.
 fn int_fields(alloc: Global, vars: &[Var]) -> Result<Vec<InputField>, AllocError>
     requires { length vars.now ≤ 64 }
-    ensures { IfOk result (λ fields. fields.items ≡ fields_from 0 vars.now) }
+    ensures fields { IfOk result (λ fields. fields.items ≡ fields_from 0 vars.now) }
+    ensures few { IfOk result (λ fields. length fields.items ≤ length vars.now) }
 {
     let mut fields = Vec::new(alloc);
     for (number, var) in vars.iter().enumerate() {

@@ -1,44 +1,135 @@
-// What `turn` does behind `go`: the flipped image runs from where the run finished.
-ghost use Rattle.std.specs.Prelude.{◌≡◌, ◌≤◌, ◌<◌, ◌^◌, ◌++◌, IfOk, string_bytes};
+// `turn F H D STEPS [INPUT]`: what `go` does, and then the flipped image runs from where the run finished, as probes watch.
+ghost use Rattle.std.specs.Prelude.{◌≡◌, true, ◌≤◌, ◌<◌, ◌^◌, ◌++◌, ◌∷◌, length, option_map, IfOk, IfErr, OnOk, string_bytes};
 ghost use Rattle.rpp_tree.specs.Views.{source_of};
+ghost use Rattle.rpp_tree.specs.declared.limits.TheConstants.{MOST_BYTES};
+ghost use Rattle.rpp_probes.specs.Tally.{left_after};
 ghost use Rattle.pisa_isa.specs.declared.machine.Stop.TheVariants.{Finished};
-ghost use Rattle.pisa_isa.specs.Machine.{IsState};
-ghost use Rattle.pisa_isa.specs.Loaded.{loaded, loaded_state};
-ghost use Rattle.rpp_plan.specs.Plans.{planned};
-ghost use Rattle.program_commands.specs.ProgramPlans.{ReportsTurn, back_lines};
+ghost use Rattle.pisa_isa.specs.Loaded.{loaded};
+ghost use Rattle.pisa_loader.specs.declared.input.TheConstants.{MOST_INPUT};
+ghost use Rattle.rpp_plan.specs.Plans.{planned, GivesPlan};
+ghost use Rattle.rpp_plan.specs.Files.{OnlyReads, UnreadCause, source, input_files};
+ghost use Rattle.program_commands.specs.ProgramPlans.{ReportsStop, ReportsTurn, back_lines};
+ghost use Rattle.program_commands.specs.RunPlans.{IsTurnPlan, TurnsFile, TurnsImage, back_steps};
 ghost use Rattle.program_commands.specs.GoRun.{HasRun};
 
-use crate::going::Setting;
-use class_table::Checked;
+use crate::going::{loaded_program, report_run};
+use crate::readying::ready;
+use crate::setting::{Ready, Setting};
 use image_inverter::flip;
-use pisa_machine::{Machine, Steps};
-use rpp_plan::{Plan, Verdict, with_steps};
+use pisa_isa::Stop;
+use pisa_machine::{Machine, RunEnd, Steps};
+use rpp_plan::{NoPlan, Plan, Sizes, Verdict, read_given, with_steps};
+use rpp_ports::Shelf;
+use rpp_probes::Probes;
 use rpp_words::NoMemory;
 use std::alloc::{AllocError, Global};
 use std::sync::ledger::Ledger;
 use store_report::report;
 
-/// The plan of a run that finished, and of the way back.
-pub fn report_both<L: Ledger>(
+/// Does what `go` does; after a finish it runs the flipped image on from there, tells the probes each counted step of that run,
+/// and reports again. It prints no line of theirs.
+pub fn turn<S: Shelf, P: Probes, L: Ledger>(
     alloc: Global,
-    checked: &Checked,
+    shelf: &mut S,
+    file: &str,
+    input: &Option<String>,
+    sizes: Sizes,
+    probes: &mut P,
+    steps: &mut Steps<L>,
+) -> Result<Plan, NoPlan>
+    requires { sizes.bound < 2 ^ 63 }
+    ensures plan { GivesPlan (S.texts shelf.old) (TurnsFile (P.watches probes.old) (P.watches probes.new)
+        file.now (option_map string_bytes input.now)
+        sizes.heap sizes.deep sizes.bound) result }
+    ensures reads { OnlyReads (S.texts shelf.old) (S.texts shelf.new) (S.faults shelf.old) (S.faults shelf.new)
+        (source file.now ∷ input_files (option_map string_bytes input.now)) result }
+    ensures untold { IfErr result (UnreadCause (P.watches probes.new ≡ P.watches probes.old)) }
+{
+    let given = read_given(alloc, shelf, file, input)?;
+    Ok(turn_over(alloc, &given.text, &given.input, sizes, probes, steps)?)
+}
+
+fn turn_over<P: Probes, L: Ledger>(
+    alloc: Global,
+    text: &[u8],
+    given: &[u8],
+    sizes: Sizes,
+    probes: &mut P,
+    steps: &mut Steps<L>,
+) -> Result<Plan, NoMemory>
+    requires text { length text.now ≤ MOST_BYTES }
+    requires given { length given.now ≤ MOST_INPUT }
+    requires bound { sizes.bound < 2 ^ 63 }
+    ensures { IfOk result (λ plan. IsTurnPlan (P.watches probes.old) (P.watches probes.new)
+        text.now given.now sizes.heap sizes.deep sizes.bound (planned plan)) }
+{
+    match ready(alloc, text, given, sizes)? {
+        Ready::Refused(plan) => Ok(plan),
+        Ready::Runs(setting) => turn_program(alloc, &setting, probes, steps),
+    }
+}
+
+// Loads the image of a program with an input, runs it there and back, and reports.
+fn turn_program<P: Probes, L: Ledger>(
+    alloc: Global,
+    setting: &Setting,
+    probes: &mut P,
+    steps: &mut Steps<L>,
+) -> Result<Plan, NoMemory>
+    ensures { IfOk result (λ plan. TurnsImage (P.watches probes.old) (P.watches probes.new) (source_of setting.now.checked)
+        setting.now.limits setting.now.input.words.items setting.now.bound (planned plan)) }
+{
+    let mut machine = loaded_program(alloc, setting)?;
+    let end = machine.run(setting.bound, steps);
+    report_turn(alloc, setting, machine, end, probes, steps)
+}
+
+// The plan of a run that ended, and of the way back where it finished.
+fn report_turn<P: Probes, L: Ledger>(
+    alloc: Global,
+    setting: &Setting,
+    machine: Machine,
+    end: RunEnd,
+    probes: &mut P,
+    steps: &mut Steps<L>,
+) -> Result<Plan, NoMemory>
+    requires { HasRun (source_of setting.now.checked) setting.now.limits setting.now.input.words.items setting.now.bound machine end.stop end.spent }
+    ensures stop { IfOk result (λ plan. ReportsStop true end.stop (source_of setting.now.checked)
+        setting.now.limits setting.now.input.words.items machine.state.cells
+        (loaded machine.image.statics setting.now.limits setting.now.input.words.items) end.spent setting.now.bound (planned plan)) }
+    ensures told { OnOk result (P.watches probes.new ≡
+        left_after (back_steps end.stop machine.image.code machine.state setting.now.bound) (P.watches probes.old)) }
+{
+    match end.stop {
+        Stop::Finished => report_both(alloc, setting, machine, end.spent, probes, steps),
+        Stop::Trap(_code) => report_run(alloc, setting, &machine, end),
+        Stop::Bound => report_run(alloc, setting, &machine, end),
+        Stop::Returned => report_run(alloc, setting, &machine, end),
+        Stop::BadAddress(_address) => report_run(alloc, setting, &machine, end),
+        Stop::OffCode(_at) => report_run(alloc, setting, &machine, end),
+    }
+}
+
+// The plan of a run that finished, and of the way back.
+fn report_both<P: Probes, L: Ledger>(
+    alloc: Global,
     setting: &Setting,
     machine: Machine,
     spent: u64,
+    probes: &mut P,
     steps: &mut Steps<L>,
 ) -> Result<Plan, NoMemory>
-    requires run { HasRun (source_of checked.now) setting.now.limits setting.now.input.words.items setting.now.bound machine Finished spent }
-    requires begun { IsState (loaded_state machine.image setting.now.limits setting.now.input.words.items) }
-    requires within { spent ≤ setting.now.bound }
-    requires bound { setting.now.bound < 2 ^ 63 }
-    ensures { IfOk result (λ plan. ReportsTurn (source_of checked.now)
+    requires { HasRun (source_of setting.now.checked) setting.now.limits setting.now.input.words.items setting.now.bound machine Finished spent }
+    ensures turn { IfOk result (λ plan. ReportsTurn (source_of setting.now.checked)
         setting.now.limits setting.now.input.words.items machine.state.cells
         (loaded machine.image.statics setting.now.limits setting.now.input.words.items) spent (planned plan)) }
+    ensures told { OnOk result (P.watches probes.new ≡
+        left_after (back_steps Finished machine.image.code machine.state setting.now.bound) (P.watches probes.old)) }
 {
-    let there = report(alloc, &machine, checked)?;
+    let there = report(alloc, &machine, &setting.checked)?;
     let text = with_steps(there, spent)?;
-    let back = run_back(alloc, checked, setting, machine, spent, steps)?;
-    let here = report(alloc, &back.machine, checked)?;
+    let back = run_back(alloc, setting, machine, spent, probes, steps)?;
+    let here = report(alloc, &back.machine, &setting.checked)?;
     let text = with_back(text, back.spent, here.as_str(), back.machine.cells())?;
     Ok(Plan::prints(Verdict::Done, text))
 }
@@ -50,25 +141,25 @@ struct Back {
     spent: u64,
 }
 
-// Runs the flipped image from where a run finished.
-fn run_back<L: Ledger>(
+// Runs the flipped image from where a run finished, and tells the probes its steps.
+fn run_back<P: Probes, L: Ledger>(
     alloc: Global,
-    _checked: &Checked,
     setting: &Setting,
     machine: Machine,
     _spent: u64,
+    probes: &mut P,
     steps: &mut Steps<L>,
 ) -> Result<Back, NoMemory>
-    requires run { HasRun (source_of _checked.now) setting.now.limits setting.now.input.words.items setting.now.bound machine Finished _spent }
-    requires begun { IsState (loaded_state machine.image setting.now.limits setting.now.input.words.items) }
-    requires within { _spent ≤ setting.now.bound }
-    requires bound { setting.now.bound < 2 ^ 63 }
+    requires { HasRun (source_of setting.now.checked) setting.now.limits setting.now.input.words.items setting.now.bound machine Finished _spent }
     ensures cells { IfOk result (λ back. back.machine.state.cells ≡ loaded machine.image.statics setting.now.limits setting.now.input.words.items) }
     ensures spent { IfOk result (λ back. back.spent ≡ _spent) }
+    ensures told { OnOk result (P.watches probes.new ≡
+        left_after (back_steps Finished machine.image.code machine.state setting.now.bound) (P.watches probes.old)) }
 {
     let flipped = flip(alloc, machine.image())?;
     let mut machine = machine.with_image(flipped);
-    let back = machine.run(setting.bound, steps);
+    let mut lines = Vec::new(alloc);
+    let back = machine.run_told(alloc, setting.bound, probes, &mut lines, steps)?;
     Ok(Back {
         machine,
         spent: back.spent,

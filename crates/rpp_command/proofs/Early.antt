@@ -4,6 +4,7 @@ use Rattle.std.specs.declared.option.Option.{Option}
 use Rattle.std.proofs.lemmas.Bool.Decides.{nat_tests}
 use Rattle.std.proofs.Common.{arith}
 use Rattle.rpp_ports.specs.Ports.{Texts, Rose}
+use Rattle.rpp_probes.specs.Tally.{Watch}
 use Rattle.rpp_plan.specs.Plans.{Planned, Written}
 use Rattle.rpp_command.specs.declared.finish.Broken.{Broken}
 use Rattle.rpp_command.specs.declared.finish.Broken.TheVariants.{Outside, NoMemory}
@@ -32,15 +33,15 @@ breaks_by before after rose rose' failed lacks old new p broken f (inl at_file) 
 breaks_by before after rose rose' failed lacks old new p broken f (inr at_text) = inr at_text
 
 -- a plan of the line was broken off
-pub ends_early : (line : Asked) (told mid after : Option Texts) (before at now : ℕ) (failed lacks : Type 0) (old new : Option (List ℕ)) (p : Planned) (broken : Broken)
-    → IfSome told (λ texts. IsPlan line texts p) → mid ≡ told → before ≤ at
+pub ends_early : (line : Asked) (probes kept : List Watch) (told mid after : Option Texts) (before at now : ℕ) (failed lacks : Type 0) (old new : Option (List ℕ)) (p : Planned) (broken : Broken)
+    → IfSome told (λ texts. IsPlan line probes kept texts p) → mid ≡ told → before ≤ at
     → BreaksOff mid after (Rose at now) failed lacks old new p broken
-    → IfSome told (λ texts. EndsEarly (Some line) texts (Rose before now) failed lacks after old new broken)
-ends_early line None mid after before at now failed lacks old new p broken is kept later h = tt
-ends_early line (Some texts) mid after before at now failed lacks old new p broken is kept later h =
+    → IfSome told (λ texts. EndsEarly (Some line) probes kept texts (Rose before now) failed lacks after old new broken)
+ends_early line probes kept None mid after before at now failed lacks old new p broken is same later h = tt
+ends_early line probes kept (Some texts) mid after before at now failed lacks old new p broken is same later h =
     inr (record {
       plan = p;
       is_plan = is;
       broken_off = breaks_by (Some texts) after (Rose at now) (Rose before now) failed lacks old new p broken (rose_before before at now later)
-          (subst (λ (told : Option Texts). BreaksOff told after (Rose at now) failed lacks old new p broken) kept h);
+          (subst (λ (told : Option Texts). BreaksOff told after (Rose at now) failed lacks old new p broken) same h);
     })

@@ -1,8 +1,8 @@
--- Which files a line reads, and which it may write.
-use Rattle.std.specs.Prelude.{◌≡◌, ℕ, List, [], ◌∷◌, ⊤, None, Some}
+-- Which files a line reads, which it may write, and whether it tells probes.
+use Rattle.std.specs.Prelude.{◌≡◌, ℕ, Bool, true, false, List, [], ◌∷◌, ⊤, None, Some}
 use Rattle.std.specs.declared.option.Option.{Option}
 use Rattle.rpp_ports.specs.Ports.{Texts, KeepsOthers}
-use Rattle.rpp_command.specs.Lines.{Asked, Check, Compile, Asm, ListImage, Flip, ShowInverse, Generate, Cluster, RunImage, Debug, Go, Turn, Explain}
+use Rattle.rpp_command.specs.Lines.{Asked, Check, Compile, Asm, ListImage, Flip, ShowInverse, Generate, Cluster, RunImage, Debug, Go, Turn, Profile, Wrap, Explain}
 use Rattle.rpp_plan.specs.Files.{Needed, source, assembly, image_file, input_files, state_files}
 use Rattle.image_commands.specs.DebugPlans.{script_file}
 use Rattle.cluster_commands.specs.ClusterPlans.{cluster_files}
@@ -21,6 +21,8 @@ files_of (RunImage image heap deep steps state save) = image_file image ∷ stat
 files_of (Debug image heap deep script) = image_file image ∷ script_file script ∷ []
 files_of (Go file heap deep steps given) = source file ∷ input_files given
 files_of (Turn file heap deep steps given) = source file ∷ input_files given
+files_of (Profile file heap deep steps) = source file ∷ []
+files_of (Wrap file heap deep steps names given) = source file ∷ input_files given
 files_of (Explain file heap deep fuel given) = source file ∷ input_files given
 
 -- the files that the words have read, none where they are no line
@@ -42,6 +44,8 @@ target_of (RunImage image heap deep steps state save) = save
 target_of (Debug image heap deep script) = None
 target_of (Go file heap deep steps given) = None
 target_of (Turn file heap deep steps given) = None
+target_of (Profile file heap deep steps) = None
+target_of (Wrap file heap deep steps names given) = None
 target_of (Explain file heap deep fuel given) = None
 
 -- the file that the words may have written
@@ -55,3 +59,14 @@ KeepsButTarget None new name = ⊤
 KeepsButTarget (Some old) None name = ⊥
 KeepsButTarget (Some old) (Some new) None = (n : List ℕ) → new n ≡ old n
 KeepsButTarget (Some old) (Some new) (Some name) = KeepsOthers old new name
+
+-- whether a line may tell probes
+unfoldable pub tells : Asked → Bool
+tells (Turn file heap deep steps given) = true
+tells (Profile file heap deep steps) = true
+tells _ = false
+
+-- whether the words may
+abbrev pub tell : Option Asked → Bool
+tell None = false
+tell (Some line) = tells line

@@ -21,6 +21,8 @@ pub data Asked : Type 0 where
   Debug : (image : List ℕ) (heap deep : ℕ) (script : List ℕ) → Asked
   Go : (file : List ℕ) (heap deep steps : ℕ) (input : Option (List ℕ)) → Asked
   Turn : (file : List ℕ) (heap deep steps : ℕ) (input : Option (List ℕ)) → Asked
+  Profile : (file : List ℕ) (heap deep steps : ℕ) → Asked
+  Wrap : (file : List ℕ) (heap deep steps : ℕ) (names : List ℕ) (input : Option (List ℕ)) → Asked
   Explain : (file : List ℕ) (heap deep fuel : ℕ) (input : Option (List ℕ)) → Asked
 
 abbrev pub asked : Line → Asked
@@ -36,6 +38,8 @@ asked (line.Run image heap deep steps names) = RunImage (string_bytes image) hea
 asked (line.Debug image heap deep script) = Debug (string_bytes image) heap deep (string_bytes script)
 asked (line.Go file heap deep steps input) = Go (string_bytes file) heap deep steps (option_map string_bytes input)
 asked (line.Turn file heap deep steps input) = Turn (string_bytes file) heap deep steps (option_map string_bytes input)
+asked (line.Profile file heap deep steps) = Profile (string_bytes file) heap deep steps
+asked (line.Wrap file heap deep steps wanted) = Wrap (string_bytes file) heap deep steps (string_bytes wanted.names) (option_map string_bytes wanted.input)
 asked (line.Explain file heap deep fuel input) = Explain (string_bytes file) heap deep fuel (option_map string_bytes input)
 
 -- the number after the digits so far, if the rest are digits
@@ -61,6 +65,26 @@ abbrev pub go_line_of : (turns : Bool) → List (List ℕ) → Option Asked
 go_line_of turns (file ∷ heap ∷ deep ∷ steps ∷ []) = go_with turns file (number_of heap) (number_of deep) (number_of steps) None
 go_line_of turns (file ∷ heap ∷ deep ∷ steps ∷ input ∷ []) = go_with turns file (number_of heap) (number_of deep) (number_of steps) (Some input)
 go_line_of turns _ = None
+
+-- a file, an order of the heap, a depth, and a number of steps
+abbrev pub profile_with : List ℕ → Option ℕ → Option ℕ → Option ℕ → Option Asked
+profile_with file (Some heap) (Some deep) (Some steps) = Some (Profile file heap deep steps)
+profile_with file _ _ _ = None
+
+abbrev pub profile_line_of : List (List ℕ) → Option Asked
+profile_line_of (file ∷ heap ∷ deep ∷ steps ∷ []) = profile_with file (number_of heap) (number_of deep) (number_of steps)
+profile_line_of _ = None
+
+-- a file, an order of the heap, a depth, a number of steps, the names of results, and the file of an input, if there is one
+abbrev pub wrap_with : List ℕ → Option ℕ → Option ℕ → Option ℕ → (names : List ℕ) → Option (List ℕ) → Option Asked
+wrap_with file (Some heap) (Some deep) (Some steps) names input = Some (Wrap file heap deep steps names input)
+wrap_with file _ _ _ names input = None
+
+abbrev pub wrap_line_of : List (List ℕ) → Option Asked
+wrap_line_of (file ∷ heap ∷ deep ∷ steps ∷ names ∷ []) = wrap_with file (number_of heap) (number_of deep) (number_of steps) names None
+wrap_line_of (file ∷ heap ∷ deep ∷ steps ∷ names ∷ input ∷ []) =
+    wrap_with file (number_of heap) (number_of deep) (number_of steps) names (Some input)
+wrap_line_of _ = None
 
 -- a file, an order of the heap, a depth, the most that a run may cost, and the file of an input, if there is one
 abbrev pub explain_with : List ℕ → Option ℕ → Option ℕ → Option ℕ → Option (List ℕ) → Option Asked
@@ -138,6 +162,8 @@ source_line_of name args =
     else if bytes_eq name (codes "generate") then generate_line_of args
     else if bytes_eq name (codes "go") then go_line_of false args
     else if bytes_eq name (codes "turn") then go_line_of true args
+    else if bytes_eq name (codes "profile") then profile_line_of args
+    else if bytes_eq name (codes "wrap") then wrap_line_of args
     else if bytes_eq name (codes "explain") then explain_line_of args
     else None
 
@@ -167,4 +193,6 @@ HasShortNumbers (RunImage image heap deep steps state save) = (heap < 10 ^ 18) �
 HasShortNumbers (Debug image heap deep script) = (heap < 10 ^ 18) × (deep < 10 ^ 18)
 HasShortNumbers (Go file heap deep steps input) = (heap < 10 ^ 18) × (deep < 10 ^ 18) × (steps < 10 ^ 18)
 HasShortNumbers (Turn file heap deep steps input) = (heap < 10 ^ 18) × (deep < 10 ^ 18) × (steps < 10 ^ 18)
+HasShortNumbers (Profile file heap deep steps) = (heap < 10 ^ 18) × (deep < 10 ^ 18) × (steps < 10 ^ 18)
+HasShortNumbers (Wrap file heap deep steps names input) = (heap < 10 ^ 18) × (deep < 10 ^ 18) × (steps < 10 ^ 18)
 HasShortNumbers (Explain file heap deep fuel input) = (heap < 10 ^ 18) × (deep < 10 ^ 18) × (fuel < 10 ^ 18)

@@ -1,27 +1,32 @@
 -- The plans of each line.
-use Rattle.std.specs.Prelude.{true, false}
+use Rattle.std.specs.Prelude.{List}
 use Rattle.rpp_ports.specs.Ports.{Texts}
+use Rattle.rpp_probes.specs.Tally.{Watch}
 use Rattle.rpp_plan.specs.Plans.{Planned}
 use Rattle.image_commands.specs.ImagePlans.{AssemblesFile, ListsFile, FlipsFile, RunsFile}
 use Rattle.image_commands.specs.DebugPlans.{DebugsFile}
-use Rattle.program_commands.specs.ProgramPlans.{ChecksFile, CompilesFile, GoesOn}
+use Rattle.program_commands.specs.ProgramPlans.{ChecksFile, CompilesFile}
+use Rattle.program_commands.specs.RunPlans.{GoesOn, TurnsFile, ProfilesFile}
 use Rattle.program_commands.specs.Explained.{Explains}
 use Rattle.cluster_commands.specs.ClusterPlans.{ClustersFiles}
+use Rattle.wrap_commands.specs.WrapPlans.{WrapsFile}
 use Rattle.text_commands.specs.TextPlans.{ShowsInverse, Generates}
-use Rattle.rpp_command.specs.Lines.{Asked, Check, Compile, Asm, ListImage, Flip, ShowInverse, Generate, Cluster, RunImage, Debug, Go, Turn, Explain}
+use Rattle.rpp_command.specs.Lines.{Asked, Check, Compile, Asm, ListImage, Flip, ShowInverse, Generate, Cluster, RunImage, Debug, Go, Turn, Profile, Wrap, Explain}
 
--- a plan of the line, where the shelf has these texts
-unfoldable pub IsPlan : Asked → Texts → Planned → Type 0
-IsPlan (Check file) = ChecksFile file
-IsPlan (Compile file image) = CompilesFile file image
-IsPlan (Asm text image) = AssemblesFile text image
-IsPlan (ListImage image text) = ListsFile image text
-IsPlan (Flip image flipped) = FlipsFile image flipped
-IsPlan (ShowInverse file out) = ShowsInverse file out
-IsPlan (Generate seed size out) = Generates seed size out
-IsPlan (Cluster script cells images) = ClustersFiles script cells images
-IsPlan (RunImage image heap deep steps state save) = RunsFile image heap deep steps state save
-IsPlan (Debug image heap deep script) = DebugsFile image heap deep script
-IsPlan (Go file heap deep steps input) = GoesOn false file input heap deep steps
-IsPlan (Turn file heap deep steps input) = GoesOn true file input heap deep steps
-IsPlan (Explain file heap deep fuel input) = Explains file input heap deep fuel
+-- a plan of the line, where the shelf has these texts, and the list of probes is `before` as it is handed in and `after` as it is left
+unfoldable pub IsPlan : Asked → (before after : List Watch) → Texts → Planned → Type 0
+IsPlan (Check file) before after = ChecksFile file
+IsPlan (Compile file image) before after = CompilesFile file image
+IsPlan (Asm text image) before after = AssemblesFile text image
+IsPlan (ListImage image text) before after = ListsFile image text
+IsPlan (Flip image flipped) before after = FlipsFile image flipped
+IsPlan (ShowInverse file out) before after = ShowsInverse file out
+IsPlan (Generate seed size out) before after = Generates seed size out
+IsPlan (Cluster script cells images) before after = ClustersFiles script cells images
+IsPlan (RunImage image heap deep steps state save) before after = RunsFile image heap deep steps state save
+IsPlan (Debug image heap deep script) before after = DebugsFile image heap deep script
+IsPlan (Go file heap deep steps input) before after = GoesOn file input heap deep steps
+IsPlan (Turn file heap deep steps input) before after = TurnsFile before after file input heap deep steps
+IsPlan (Profile file heap deep steps) before after = ProfilesFile before after file heap deep steps
+IsPlan (Wrap file heap deep steps names input) before after = WrapsFile file names input heap deep steps
+IsPlan (Explain file heap deep fuel input) before after = Explains file input heap deep fuel

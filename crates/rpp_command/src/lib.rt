@@ -19,6 +19,8 @@ mod explain_tests;
 #[cfg(test)]
 mod image_tests;
 #[cfg(test)]
+mod profile_tests;
+#[cfg(test)]
 mod run_tests;
 #[cfg(test)]
 mod tests;
@@ -26,3 +28,7 @@ mod tests;
 mod text_tests;
 #[cfg(test)]
 mod turn_tests;
+#[cfg(test)]
+mod whole_tests;
+#[cfg(test)]
+mod wrap_tests;

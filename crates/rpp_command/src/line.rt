@@ -1,11 +1,12 @@
 // What the words ask for.
 ghost use Rattle.std.specs.Prelude.{◌≡◌, ◌<◌, ◌≤◌, ◌^◌, map, option_map, IfOk, IfSome, string_bytes};
-ghost use Rattle.rpp_command.specs.Lines.{asked, line_of, source_line_of, check_line_of, files_line_of, Compile, Asm, ListImage, Flip, ShowInverse, generate_line_of, generate_with as generate_asked, items_of, cluster_line_of, cluster_with as cluster_asked, common_of, run_line_of, run_with as run_asked, debug_line_of, debug_with as debug_asked, go_line_of, go_with as go_asked, explain_line_of, explain_with as explain_asked, number_of, HasShortNumbers};
+ghost use Rattle.rpp_command.specs.Lines.{asked, line_of, source_line_of, check_line_of, files_line_of, Compile, Asm, ListImage, Flip, ShowInverse, generate_line_of, generate_with as generate_asked, items_of, cluster_line_of, cluster_with as cluster_asked, common_of, run_line_of, run_with as run_asked, debug_line_of, debug_with as debug_asked, go_line_of, go_with as go_asked, profile_line_of, profile_with as profile_asked, wrap_line_of, wrap_with as wrap_asked, explain_line_of, explain_with as explain_asked, number_of, HasShortNumbers};
 ghost use Rattle.rpp_plan.specs.Files.{state_of_names, save_of_names};
 
 use rpp_plan::StateNames;
 use rpp_words::NoMemory;
 use std::alloc::Global;
+use wrap_commands::Wanted;
 
 /// A command with its words read.
 #[derive(Debug, Drop)]
@@ -84,6 +85,22 @@ pub enum Line {
         steps: u64,
         input: Option<String>,
     },
+    /// Compiles and runs a program as probes watch: its file, the order of the heap, the depth, and the number of steps.
+    Profile {
+        file: String,
+        heap: u64,
+        deep: u64,
+        steps: u64,
+    },
+    /// Compiles and wraps a program, and runs it: its file, the order of the heap, the depth, the number of steps, the names of
+    /// the results, and the file of its input, if there is one.
+    Wrap {
+        file: String,
+        heap: u64,
+        deep: u64,
+        steps: u64,
+        wanted: Wanted,
+    },
     /// Interprets a program: its file, the order of the heap, the depth, the most that it may cost,
     /// and the file of its input, if there is one.
     Explain {
@@ -128,6 +145,8 @@ fn source_line(name: &str, args: &[String]) -> Result<Option<Line>, NoMemory>
         "generate" => generate_line(args),
         "go" => go_line(args, false),
         "turn" => go_line(args, true),
+        "profile" => profile_line(args),
+        "wrap" => wrap_line(args),
         "explain" => explain_line(args),
         _ => Ok(None),
     }
@@ -407,6 +426,99 @@ fn go_with(
         deep,
         steps,
         input,
+    }))
+}
+
+fn profile_line(args: &[String]) -> Result<Option<Line>, NoMemory>
+    ensures line { IfOk result (λ line. option_map asked line ≡ profile_line_of (map string_bytes args.now)) }
+    ensures numbers { IfOk result (λ line. IfSome line (λ line. HasShortNumbers (asked line))) }
+{
+    match args {
+        [file, heap, deep, steps] => profile_with(file, heap, deep, steps),
+        _ => Ok(None),
+    }
+}
+
+fn profile_with(
+    file: &String,
+    heap: &String,
+    deep: &String,
+    steps: &String,
+) -> Result<Option<Line>, NoMemory>
+    ensures line { IfOk result (λ line. option_map asked line ≡ profile_asked (string_bytes file.now) (number_of (string_bytes heap.now)) (number_of (string_bytes deep.now)) (number_of (string_bytes steps.now))) }
+    ensures numbers { IfOk result (λ line. IfSome line (λ line. HasShortNumbers (asked line))) }
+{
+    let Some(heap) = read_number(heap.as_str()) else {
+        return Ok(None);
+    };
+    let Some(deep) = read_number(deep.as_str()) else {
+        return Ok(None);
+    };
+    let Some(steps) = read_number(steps.as_str()) else {
+        return Ok(None);
+    };
+    Ok(Some(Line::Profile {
+        file: file.clone()?,
+        heap,
+        deep,
+        steps,
+    }))
+}
+
+fn wrap_line(args: &[String]) -> Result<Option<Line>, NoMemory>
+    ensures line { IfOk result (λ line. option_map asked line ≡ wrap_line_of (map string_bytes args.now)) }
+    ensures numbers { IfOk result (λ line. IfSome line (λ line. HasShortNumbers (asked line))) }
+{
+    match args {
+        [file, heap, deep, steps, names] => wrap_with(
+            file,
+            heap,
+            deep,
+            steps,
+            Wanted {
+                names: names.clone()?,
+                input: None,
+            },
+        ),
+        [file, heap, deep, steps, names, input] => wrap_with(
+            file,
+            heap,
+            deep,
+            steps,
+            Wanted {
+                names: names.clone()?,
+                input: Some(input.clone()?),
+            },
+        ),
+        _ => Ok(None),
+    }
+}
+
+fn wrap_with(
+    file: &String,
+    heap: &String,
+    deep: &String,
+    steps: &String,
+    wanted: Wanted,
+) -> Result<Option<Line>, NoMemory>
+    ensures line { IfOk result (λ line. option_map asked line ≡ wrap_asked (string_bytes file.now) (number_of (string_bytes heap.now)) (number_of (string_bytes deep.now)) (number_of (string_bytes steps.now)) (string_bytes wanted.names) (option_map string_bytes wanted.input)) }
+    ensures numbers { IfOk result (λ line. IfSome line (λ line. HasShortNumbers (asked line))) }
+{
+    let Some(heap) = read_number(heap.as_str()) else {
+        return Ok(None);
+    };
+    let Some(deep) = read_number(deep.as_str()) else {
+        return Ok(None);
+    };
+    let Some(steps) = read_number(steps.as_str()) else {
+        return Ok(None);
+    };
+    Ok(Some(Line::Wrap {
+        file: file.clone()?,
+        heap,
+        deep,
+        steps,
+        wanted,
     }))
 }
 

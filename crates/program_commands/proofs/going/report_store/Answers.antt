@@ -8,6 +8,6 @@ use Rattle.program_commands.proofs.going.report_store.Goals as goal
 
 pub returns : goal.returns
 returns c =
-    reports_store (source_of c.args.checked.now) c.args._setting.now.limits c.args._setting.now.input.words.items c.args._setting.now.bound c.args.machine.now c.args.spent c.requires (string_bytes c.in_ok-lines.lines) (planned c.prints.result)
+    reports_store (source_of c.args.setting.now.checked) c.args.setting.now.limits c.args.setting.now.input.words.items c.args.setting.now.bound c.args.machine.now c.args.spent c.requires (string_bytes c.in_ok-lines.lines) (planned c.prints.result)
     c.in_ok-lines.ensures.last
     (c.prints.ensures ∙ ap (prints Done) c.in_ok-text.ensures)

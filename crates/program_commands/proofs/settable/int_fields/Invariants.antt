@@ -1,7 +1,10 @@
-use Rattle.std.proofs.Common.{◌≡◌, ◌++◌, drop}
+use Rattle.std.proofs.Common.{◌≡◌, ◌≤◌, ◌++◌, length, drop}
 use Rattle.program_commands.specs.Inputs.{fields_from}
 use Rattle.program_commands.proofs.settable.int_fields.Given as goal
 
--- the fields so far and those of what is left are the whole
 abbrev pub invariant-loop-number : goal.invariant-loop-number
-invariant-loop-number l = l.fields.items ++ fields_from l.number (drop l.number l.vars) ≡ fields_from 0 l.vars
+invariant-loop-number l = record {
+  -- the fields so far and those of what is left are the whole
+  whole : l.fields.items ++ fields_from l.number (drop l.number l.vars) ≡ fields_from 0 l.vars;
+  few : length l.fields.items ≤ l.number;
+}

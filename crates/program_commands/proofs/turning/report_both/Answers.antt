@@ -8,9 +8,9 @@ use Rattle.program_commands.specs.ProgramPlans.{back_lines}
 use Rattle.program_commands.proofs.Turned.{reports_turn}
 use Rattle.program_commands.proofs.turning.report_both.Goals as goal
 
-pub returns : goal.returns
-returns g c =
-    reports_turn (source_of c.args.checked.now) c.args.setting.now.limits c.args.setting.now.input.words.items c.args.setting.now.bound c.args.machine c.args.spent c.requires.run
+pub returns-clause-turn : goal.returns-clause-turn
+returns-clause-turn g c =
+    reports_turn (source_of c.args.setting.now.checked) c.args.setting.now.limits c.args.setting.now.input.words.items c.args.setting.now.bound c.args.machine c.args.spent c.requires
     (string_bytes c.in_ok-there.there) (string_bytes c.in_ok-here.here) c.in_ok-back.back.machine.state.cells c.in_ok-back.back.spent c.cells.result (planned c.prints.result)
     c.in_ok-there.ensures.last c.in_ok-here.ensures.first c.in_ok-back.ensures.cells c.in_ok-back.ensures.spent c.cells.ensures
     (c.prints.ensures

@@ -13,9 +13,9 @@ returns-clause-cells g c =
     let same : c.in_ok-flipped.flipped ≡ flipped_image m.image = c.in_ok-flipped.ensures.flipped ∙ ap flipped_image c.image.ensures.image in
     let first : c.with_image-machine.result ≡ first_position (flipped_image m.image) m.state.regs m.state.cells =
     c.with_image-machine.ensures ∙ ap (λ (i : Segments). first_position i m.state.regs m.state.cells) same in
-    back_cells (source_of c.args._checked.now) c.args.setting.now.limits c.args.setting.now.input.words.items c.args.setting.now.bound m c.args._spent c.requires.run c.image.ensures.machine.is_image c.requires.begun c.requires.within
-    (record { why = c.run-back.result.stop; spent = c.run-back.result.spent; last = c.run-back.new.self.state })
-    (sym (ap (λ (p : Position). run p.image.code c.args.setting.now.bound p.state) first) ∙ c.run-back.ensures.runs)
+    back_cells (source_of c.args.setting.now.checked) c.args.setting.now.limits c.args.setting.now.input.words.items c.args.setting.now.bound m c.args._spent c.requires
+    (record { why = c.in_ok-back.back.stop; spent = c.in_ok-back.back.spent; last = c.run_told.new.self.state })
+    (sym (ap (λ (p : Position). run p.image.code c.args.setting.now.bound p.state) first) ∙ c.in_ok-back.ensures.runs)
 
 pub returns-clause-spent : goal.returns-clause-spent
 returns-clause-spent g c =
@@ -23,6 +23,6 @@ returns-clause-spent g c =
     let same : c.in_ok-flipped.flipped ≡ flipped_image m.image = c.in_ok-flipped.ensures.flipped ∙ ap flipped_image c.image.ensures.image in
     let first : c.with_image-machine.result ≡ first_position (flipped_image m.image) m.state.regs m.state.cells =
     c.with_image-machine.ensures ∙ ap (λ (i : Segments). first_position i m.state.regs m.state.cells) same in
-    back_spent (source_of c.args._checked.now) c.args.setting.now.limits c.args.setting.now.input.words.items c.args.setting.now.bound m c.args._spent c.requires.run c.image.ensures.machine.is_image c.requires.begun c.requires.within
-    (record { why = c.run-back.result.stop; spent = c.run-back.result.spent; last = c.run-back.new.self.state })
-    (sym (ap (λ (p : Position). run p.image.code c.args.setting.now.bound p.state) first) ∙ c.run-back.ensures.runs)
+    back_spent (source_of c.args.setting.now.checked) c.args.setting.now.limits c.args.setting.now.input.words.items c.args.setting.now.bound m c.args._spent c.requires
+    (record { why = c.in_ok-back.back.stop; spent = c.in_ok-back.back.spent; last = c.run_told.new.self.state })
+    (sym (ap (λ (p : Position). run p.image.code c.args.setting.now.bound p.state) first) ∙ c.in_ok-back.ensures.runs)

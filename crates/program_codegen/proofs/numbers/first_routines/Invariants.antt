@@ -1,0 +1,12 @@
+use Rattle.std.proofs.Common.{◌≡◌}
+use Rattle.rpp_tree.specs.Views.{source_of}
+use Rattle.class_table.specs.First.{each_below}
+use Rattle.program_laws.specs.Methods.{methods_before}
+use Rattle.program_codegen.proofs.numbers.first_routines.Given as goal
+
+-- the numbers so far, and the next one
+abbrev pub invariant-loop-class : goal.invariant-loop-class
+invariant-loop-class l = record {
+  firsts : l.firsts.items ≡ each_below (methods_before (source_of l.program).classes) l.class-index;
+  next : l.next ≡ methods_before (source_of l.program).classes l.class-index;
+}

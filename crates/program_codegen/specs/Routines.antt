@@ -1,0 +1,22 @@
+-- The piece of a method's routine, and the numbers of routines.
+use Rattle.std.specs.Prelude.{ℕ, ◌+◌, ◌*◌, ◌≤◌, List, length}
+use Rattle.rpp_tree.specs.Parts.{block_tokens}
+use Rattle.rpp_tree.specs.Tree.{Source}
+use Rattle.class_table.specs.First.{each_below}
+use Rattle.paired_code.specs.Code.{Code}
+use Rattle.block_codegen.specs.Ranges.{MarksOf}
+use Rattle.block_codegen.specs.Pieces.{IsRowCode, cells_a_token}
+use Rattle.program_laws.specs.Methods.{Entry, methods_before}
+use Rattle.program_laws.specs.Laws.{IsRoutineCode}
+use Rattle.program_codegen.specs.Notes.{method_rows}
+
+-- it has the law of the method, a mark for each of its statements, and so many cells
+pub record IsRoutine (program : Source) (entry : Entry) (p : Code) : Type 0 where
+  pub law : IsRoutineCode program entry p.cells
+  pub marks : MarksOf (IsRowCode program) (method_rows entry) p
+  pub size : length p.cells ≤ cells_a_token * block_tokens entry.method.body + 8
+  pub few : length p.marks ≤ block_tokens entry.method.body
+
+-- the number of the first routine of each class
+abbrev pub first_numbers : Source → List ℕ
+first_numbers program = each_below (methods_before program.classes) (length program.classes)

@@ -1,0 +1,34 @@
+use Rattle.std.proofs.Common.{◌∙◌, ◌++◌, ap, map, string_bytes}
+use Rattle.rpp_tree.specs.Views.{source_of}
+use Rattle.rpp_probes.specs.Tally.{lines_after}
+use Rattle.pisa_machine.specs.Told.{counted_steps}
+use Rattle.rpp_plan.specs.Plans.{planned}
+use Rattle.program_commands.proofs.Turned.{has_run, weaken}
+use Rattle.program_commands.proofs.Watched.{profiles_image}
+use Rattle.program_commands.proofs.profiling.profile_program.Goals as goal
+
+pub report_run-requires : goal.report_run-requires
+report_run-requires g c =
+    has_run (source_of c.args.setting.now.checked) c.args.setting.now.limits c.args.setting.now.input.words.items c.args.setting.now.bound c.run_told.new.self c.in_ok-end.end.spent
+    c.in_ok-machine.machine c.in_ok-end.end.stop c.in_ok-machine.ensures c.run_told.ensures.machine c.run_told.ensures.image c.in_ok-end.ensures.within c.in_ok-end.ensures.runs
+
+pub returns : goal.returns
+returns g c =
+    let program = source_of c.args.setting.now.checked in
+    let limits = c.args.setting.now.limits in
+    let input = c.args.setting.now.input.words.items in
+    let bound = c.args.setting.now.bound in
+    let start = c.in_ok-machine.machine in
+    let end = c.run_told.new.self in
+    let before = g.P.Probes.watches c.args.probes.now in
+    let has =
+    has_run program limits input bound end c.in_ok-end.end.spent
+    start c.in_ok-end.end.stop c.in_ok-machine.ensures c.run_told.ensures.machine c.run_told.ensures.image c.in_ok-end.ensures.within c.in_ok-end.ensures.runs in
+    weaken c.with_probes.result _ _
+    (λ plan is.
+    profiles_image program limits input bound end c.in_ok-end.end.spent c.in_ok-end.end.stop has start c.in_ok-machine.ensures c.run_told.ensures.image
+    before (g.P.Probes.watches c.run_told.new.probes) (map string_bytes c.deref.result.now) c.in_ok-end.ensures.told
+    (ap (map string_bytes) c.deref.ensures.value ∙ c.in_ok-end.ensures.lines
+    ∙ ap (λ l. map string_bytes l ++ lines_after (counted_steps start.image.code bound start.state) before) c.new-lines.ensures.items)
+    (planned c.in_ok-said.said) (planned plan) c.in_ok-said.ensures is)
+    c.with_probes.ensures

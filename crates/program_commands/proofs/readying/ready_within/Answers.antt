@@ -1,0 +1,11 @@
+use Rattle.std.proofs.Common.{◌∙◌, List, subst}
+use Rattle.rpp_tree.specs.Views.{source_of}
+use Rattle.pisa_loader.specs.declared.input.InputField.{InputField}
+use Rattle.pisa_loader.specs.InputLines.{AreInput}
+use Rattle.program_commands.proofs.ValidInput.{valid_input}
+use Rattle.program_commands.proofs.readying.ready_within.Goals as goal
+
+pub invariant_of-result-clause-valid : goal.invariant_of-result-clause-valid
+invariant_of-result-clause-valid c =
+    valid_input (source_of c.args.checked) c.in-Ok.input.words.items
+    (subst (λ (fields : List InputField). AreInput fields c.in-Ok.input.words.items) (c.deref.ensures.value ∙ c.in_ok-fields.ensures.fields) c.in-Ok.ensures.input)

@@ -1,0 +1,15 @@
+use Rattle.std.proofs.Common.{ap}
+use Rattle.pisa_isa.specs.declared.machine.Stop.{Stop}
+use Rattle.program_commands.specs.RunPlans.{back_steps}
+use Rattle.program_commands.proofs.Watched.{none_told}
+use Rattle.program_commands.proofs.turning.report_turn.Goals as goal
+
+pub returns-in-Trap-clause-told : goal.returns-in-Trap-clause-told
+returns-in-Trap-clause-told g c =
+    none_told c.report_run.result (back_steps c.args.end.stop c.args.machine.image.code c.args.machine.state c.args.setting.now.bound) (g.P.Probes.watches c.args.probes.now)
+    (ap (λ (why : Stop). back_steps why c.args.machine.image.code c.args.machine.state c.args.setting.now.bound) c.in-Trap.is)
+
+pub returns-in-Bound-clause-told : goal.returns-in-Bound-clause-told
+returns-in-Bound-clause-told g c =
+    none_told c.report_run-in-Bound.result (back_steps c.args.end.stop c.args.machine.image.code c.args.machine.state c.args.setting.now.bound) (g.P.Probes.watches c.args.probes.now)
+    (ap (λ (why : Stop). back_steps why c.args.machine.image.code c.args.machine.state c.args.setting.now.bound) c.in-Bound.is)

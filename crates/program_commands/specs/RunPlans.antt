@@ -1,0 +1,120 @@
+-- The plans of the commands that run a program: `go`, `turn` and `profile`. Of probes that watch, `before` is the list as it is
+-- handed in, and `after` as it is left.
+use Rattle.std.specs.Prelude.{◌≡◌, ◌⊎◌, ℕ, Bool, true, false, List, [], ◌++◌, None, Some, Result, Ok, Err, map}
+use Rattle.std.specs.declared.option.Option.{Option}
+use Rattle.rpp_words.specs.declared.input.FieldWord.{FieldWord}
+use Rattle.rpp_words.specs.declared.input.Limits.{Limits}
+use Rattle.rpp_words.specs.declared.input.TheConstants.{MOST_DEEP}
+use Rattle.rpp_tree.specs.declared.limits.TheConstants.{MOST_BYTES}
+use Rattle.rpp_tree.specs.Tree.{Source}
+use Rattle.rpp_ports.specs.Ports.{Texts}
+use Rattle.rpp_probes.specs.declared.probe.StepAt.{StepAt}
+use Rattle.rpp_probes.specs.Tally.{Watch, left_after, lines_after, lines_shown, line_of}
+use Rattle.program_codegen.specs.Unbuilt.{unbuilt}
+use Rattle.pisa_isa.specs.declared.cell.Cell.{Cell}
+use Rattle.pisa_isa.specs.declared.machine.Stop.{Stop}
+use Rattle.pisa_isa.specs.declared.machine.Stop.TheVariants.{Finished}
+use Rattle.pisa_isa.specs.Image.{Segments}
+use Rattle.pisa_isa.specs.Flipped.{flipped}
+use Rattle.pisa_isa.specs.Machine.{State}
+use Rattle.pisa_isa.specs.Loaded.{loaded_state}
+use Rattle.pisa_isa.specs.Runs.{End, started}
+use Rattle.pisa_machine.specs.Told.{counted_steps}
+use Rattle.pisa_loader.specs.Limiting.{limits_refusal}
+use Rattle.pisa_loader.specs.declared.error.LoadError.{LoadError}
+use Rattle.roopl_semantics.specs.StandsFor.{run_of}
+use Rattle.roopl_judge.specs.Judged.{IsJudged}
+use Rattle.rpp_plan.specs.declared.plan.Verdict.TheVariants.{InputRefused}
+use Rattle.rpp_plan.specs.Plans.{Planned, prints, WithText, WithInput}
+use Rattle.rpp_plan.specs.Texts.{load_line}
+use Rattle.program_commands.specs.Inputs.{given_input}
+use Rattle.program_commands.specs.ProgramPlans.{IsJudgedPlan, IfBuilt, RunsImage}
+
+-- the plan tells the refusal of an input
+abbrev pub RefusesInput : Result (List FieldWord) LoadError → Planned → Type 0
+RefusesInput (Err e) p = p ≡ prints InputRefused (load_line e)
+RefusesInput (Ok input) p = ⊥
+
+-- or, before it, that of the sizes of the memory
+abbrev pub RefusesSizes : Option LoadError → (given : List ℕ) → Source → Planned → Type 0
+RefusesSizes (Some e) given program p = p ≡ prints InputRefused (load_line e)
+RefusesSizes None given program p = RefusesInput (given_input program given) p
+
+-- the plan tells the first refusal of a text that is to be run: of the text, of a form that is not built yet, of the sizes, of
+-- the input
+abbrev pub RefusesRun : (text given : List ℕ) → (heap deep : ℕ) → Planned → Type 0
+RefusesRun text given heap deep p =
+    IsJudgedPlan text (λ program. IfBuilt (unbuilt program) text (RefusesSizes (limits_refusal heap deep MOST_DEEP) given program)) p
+
+-- nothing of it is refused: the text is this program, which is run with these sizes on this input
+pub record CanRun (text given : List ℕ) (heap deep : ℕ) (program : Source) (limits : Limits) (input : List FieldWord) : Type 0 where
+  pub judged : IsJudged text (Ok program)
+  pub built : unbuilt program ≡ None
+  pub sizes : limits_refusal heap deep MOST_DEEP ≡ None
+  pub limits_are : limits ≡ record { heap = heap; deep = deep }
+  pub input_is : given_input program given ≡ Ok input
+
+-- a text can be run, and P holds of its run
+pub record RunsTo (text given : List ℕ) (heap deep : ℕ) (P : Source → Limits → List FieldWord → Type 0) : Type 0 where
+  pub program : Source
+  pub limits : Limits
+  pub input : List FieldWord
+  pub can_run : CanRun text given heap deep program limits input
+  pub run : P program limits input
+
+-- the plan of `go` of a text on an input
+abbrev pub IsGoPlan : (text given : List ℕ) → (heap deep steps : ℕ) → Planned → Type 0
+IsGoPlan text given heap deep steps p =
+    RefusesRun text given heap deep p ⊎ RunsTo text given heap deep (λ program limits input. RunsImage false program limits input steps p)
+
+-- the steps that `turn` tells of: after a finish those of the run of the flipped image from there, and no others
+abbrev pub back_steps : Stop → List Cell → State → ℕ → List StepAt
+back_steps Finished code m steps = counted_steps (flipped code) steps (started (flipped code) m.regs m.cells)
+back_steps _ code m steps = []
+
+-- the plan reports both runs of an image that stands for the program, and the probes were told the steps of the second one
+pub record TurnsImage (before after : List Watch) (program : Source) (limits : Limits) (input : List FieldWord) (steps : ℕ) (p : Planned) : Type 0 where
+  pub runs : RunsImage true program limits input steps p
+  pub told : let end : End = run_of runs.image limits input steps in
+      after ≡ left_after (back_steps end.why runs.image.code end.last steps) before
+
+-- the plan of `turn` of a text on an input
+abbrev pub IsTurnPlan : (before after : List Watch) → (text given : List ℕ) → (heap deep steps : ℕ) → Planned → Type 0
+IsTurnPlan before after text given heap deep steps p =
+    (RefusesRun text given heap deep p × (after ≡ before))
+    ⊎ RunsTo text given heap deep (λ program limits input. TurnsImage before after program limits input steps p)
+
+-- the counted steps of the run of an image
+abbrev pub run_steps : Segments → Limits → List FieldWord → ℕ → List StepAt
+run_steps image limits input steps = counted_steps image.code steps (loaded_state image limits input)
+
+-- The plan says what that of `go` says, and behind it stand the lines of the probes: of those that ended, in the order of their
+-- ends, and then of the others. They were told the steps of the run of that image.
+pub record ProfilesImage (before after : List Watch) (program : Source) (limits : Limits) (input : List FieldWord) (steps : ℕ) (p : Planned) : Type 0 where
+  pub said : Planned
+  pub runs : RunsImage false program limits input steps said
+  pub told : after ≡ left_after (run_steps runs.image limits input steps) before
+  pub reported : p ≡ record said {
+    text = (said.text ++ lines_shown (lines_after (run_steps runs.image limits input steps) before)) ++ lines_shown (map line_of after);
+  }
+
+-- the plan of `profile` of a text
+abbrev pub IsProfilePlan : (before after : List Watch) → (text given : List ℕ) → (heap deep steps : ℕ) → Planned → Type 0
+IsProfilePlan before after text given heap deep steps p =
+    (RefusesRun text given heap deep p × (after ≡ before))
+    ⊎ RunsTo text given heap deep (λ program limits input. ProfilesImage before after program limits input steps p)
+
+-- the plan of `go` of this file, on an input where there is one
+abbrev pub GoesOn : (file : List ℕ) → (input : Option (List ℕ)) → (heap deep steps : ℕ) → Texts → Planned → Type 0
+GoesOn file input heap deep steps texts p =
+    WithText texts file MOST_BYTES (λ text. WithInput texts input (λ given. IsGoPlan text given heap deep steps p))
+
+-- that of `turn`
+abbrev pub TurnsFile : (before after : List Watch) → (file : List ℕ) → (input : Option (List ℕ)) → (heap deep steps : ℕ) → Texts → Planned → Type 0
+TurnsFile before after file input heap deep steps texts p =
+    WithText texts file MOST_BYTES (λ text. WithInput texts input (λ given. IsTurnPlan before after text given heap deep steps p))
+
+-- that of `profile`, which takes no input
+abbrev pub ProfilesFile : (before after : List Watch) → (file : List ℕ) → (heap deep steps : ℕ) → Texts → Planned → Type 0
+ProfilesFile before after file heap deep steps texts p =
+    WithText texts file MOST_BYTES (λ text. IsProfilePlan before after text [] heap deep steps p)

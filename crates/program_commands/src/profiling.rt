@@ -1,0 +1,98 @@
+// `profile F H D STEPS`: what `go` does, as probes watch, and then their lines.
+ghost use Rattle.std.specs.Prelude.{◌≡◌, ◌≤◌, ◌<◌, ◌^◌, ◌++◌, [], ◌∷◌, length, map, IfOk, IfErr, OnOk, string_bytes};
+ghost use Rattle.rpp_tree.specs.Views.{source_of};
+ghost use Rattle.rpp_tree.specs.declared.limits.TheConstants.{MOST_BYTES};
+ghost use Rattle.rpp_probes.specs.Tally.{lines_shown, line_of};
+ghost use Rattle.rpp_plan.specs.Plans.{planned, GivesPlan};
+ghost use Rattle.rpp_plan.specs.Files.{OnlyReads, UnreadCause, source};
+ghost use Rattle.program_commands.specs.RunPlans.{IsProfilePlan, ProfilesFile, ProfilesImage};
+
+use crate::going::{loaded_program, report_run};
+use crate::readying::ready;
+use crate::setting::{Ready, Setting};
+use pisa_machine::Steps;
+use rpp_plan::{NoPlan, Plan, Sizes, read_file};
+use rpp_ports::Shelf;
+use rpp_probes::Probes;
+use rpp_tree::MOST_BYTES;
+use rpp_words::NoMemory;
+use std::alloc::{AllocError, Global};
+use std::sync::ledger::Ledger;
+
+/// Compiles a file, runs the image, tells the probes each counted step, and reports; and shows the lines of the probes that ended,
+/// in the order of their ends, and then those of the others.
+pub fn profile<S: Shelf, P: Probes, L: Ledger>(
+    alloc: Global,
+    shelf: &mut S,
+    file: &str,
+    sizes: Sizes,
+    probes: &mut P,
+    steps: &mut Steps<L>,
+) -> Result<Plan, NoPlan>
+    requires { sizes.bound < 2 ^ 63 }
+    ensures plan { GivesPlan (S.texts shelf.old)
+        (ProfilesFile (P.watches probes.old) (P.watches probes.new) file.now sizes.heap sizes.deep sizes.bound) result }
+    ensures reads { OnlyReads (S.texts shelf.old) (S.texts shelf.new) (S.faults shelf.old) (S.faults shelf.new) (source file.now ∷ []) result }
+    ensures untold { IfErr result (UnreadCause (P.watches probes.new ≡ P.watches probes.old)) }
+{
+    let text = read_file(alloc, shelf, file, MOST_BYTES as u64)?;
+    Ok(profile_text(alloc, &text, sizes, probes, steps)?)
+}
+
+fn profile_text<P: Probes, L: Ledger>(
+    alloc: Global,
+    text: &[u8],
+    sizes: Sizes,
+    probes: &mut P,
+    steps: &mut Steps<L>,
+) -> Result<Plan, NoMemory>
+    requires text { length text.now ≤ MOST_BYTES }
+    requires bound { sizes.bound < 2 ^ 63 }
+    ensures { IfOk result (λ plan. IsProfilePlan (P.watches probes.old) (P.watches probes.new)
+        text.now [] sizes.heap sizes.deep sizes.bound (planned plan)) }
+{
+    match ready(alloc, text, &[], sizes)? {
+        Ready::Refused(plan) => Ok(plan),
+        Ready::Runs(setting) => profile_program(alloc, &setting, probes, steps),
+    }
+}
+
+// Loads the image of a program, runs it as probes watch, and reports.
+fn profile_program<P: Probes, L: Ledger>(
+    alloc: Global,
+    setting: &Setting,
+    probes: &mut P,
+    steps: &mut Steps<L>,
+) -> Result<Plan, NoMemory>
+    ensures { IfOk result (λ plan. ProfilesImage (P.watches probes.old) (P.watches probes.new) (source_of setting.now.checked)
+        setting.now.limits setting.now.input.words.items setting.now.bound (planned plan)) }
+{
+    let mut machine = loaded_program(alloc, setting)?;
+    let mut lines = Vec::new(alloc);
+    let end = machine.run_told(alloc, setting.bound, probes, &mut lines, steps)?;
+    let said = report_run(alloc, setting, &machine, end)?;
+    with_probes(said, &lines, probes)
+}
+
+// The plan with the lines of the probes behind its text, those of the probes that ended first.
+fn with_probes<P: Probes>(said: Plan, ended: &[String], probes: &P) -> Result<Plan, NoMemory>
+    ensures { IfOk result (λ plan. planned plan ≡ record (planned said) {
+      text = (string_bytes said.text ++ lines_shown (map string_bytes ended.now)) ++ lines_shown (map line_of (P.watches probes.now));
+    }) }
+{
+    let mut plan = said;
+    add_lines(ended, &mut plan.text)?;
+    probes.show(&mut plan.text)?;
+    Ok(plan)
+}
+
+// Appends lines, each with a line feed.
+fn add_lines(lines: &[String], out: &mut String) -> Result<(), AllocError>
+    ensures { OnOk result (string_bytes out.new ≡ string_bytes out.old ++ lines_shown (map string_bytes lines.now)) }
+{
+    for line in lines {
+        out.push_str(line.as_str())?;
+        out.push('\n')?;
+    }
+    Ok(())
+}

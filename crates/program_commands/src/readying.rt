@@ -1,0 +1,91 @@
+// What comes before a run: the text is judged, then the sizes are tried, and then the input is read.
+ghost use Rattle.std.specs.Prelude.{◌≡◌, ◌≤◌, ◌<◌, ◌^◌, None, Ok, length, IfOk};
+ghost use Rattle.rpp_tree.specs.Views.{source_of};
+ghost use Rattle.rpp_tree.specs.declared.limits.TheConstants.{MOST_BYTES};
+ghost use Rattle.rpp_words.specs.Limits.{IsLimits};
+ghost use Rattle.program_codegen.specs.Unbuilt.{unbuilt};
+ghost use Rattle.pisa_loader.specs.Limiting.{limits_refusal};
+ghost use Rattle.pisa_loader.specs.declared.input.TheConstants.{MOST_INPUT};
+ghost use Rattle.program_commands.specs.Inputs.{given_input};
+ghost use Rattle.program_commands.specs.Readied.{IsReadied};
+ghost use Rattle.program_commands.specs.RunPlans.{RefusesInput, RefusesSizes, RefusesRun, CanRun};
+
+use crate::compiling::refuse_unbuilt;
+use crate::settable::input_fields;
+use crate::setting::{Ready, Setting};
+use class_table::Checked;
+use pisa_loader::{LoadError, check_limits, read_input};
+use program_codegen::first_unbuilt;
+use roopl_judge::{SourceError, judge};
+use rpp_plan::{Plan, Sizes, Verdict, load_line, refuse_source};
+use rpp_words::{Limits, MOST_DEEP, NoMemory};
+use std::alloc::Global;
+
+/// What the run of a text on an input is made with, or the plan that tells the first refusal.
+pub fn ready(alloc: Global, text: &[u8], given: &[u8], sizes: Sizes) -> Result<Ready, NoMemory>
+    requires text { length text.now ≤ MOST_BYTES }
+    requires given { length given.now ≤ MOST_INPUT }
+    requires bound { sizes.bound < 2 ^ 63 }
+    ensures { IfOk result (λ ready. IsReadied (RefusesRun text.now given.now sizes.heap sizes.deep)
+        (CanRun text.now given.now sizes.heap sizes.deep) sizes.bound ready) }
+{
+    match judge(alloc, text) {
+        // A form that is not built yet is told before the sizes are tried.
+        Ok(judged) => match first_unbuilt(judged.checked.program()) {
+            Some(found) => Ok(Ready::Refused(refuse_unbuilt(alloc, &judged, found)?)),
+            None => ready_built(alloc, judged.checked, given, sizes),
+        },
+        Err(SourceError::Refused { number, at }) => {
+            Ok(Ready::Refused(refuse_source(alloc, number, at)?))
+        }
+        Err(SourceError::NoMemory) => Err(NoMemory),
+    }
+}
+
+// The sizes of heap and stack are tried before the input.
+fn ready_built(
+    alloc: Global,
+    checked: Checked,
+    given: &[u8],
+    sizes: Sizes,
+) -> Result<Ready, NoMemory>
+    requires built { unbuilt (source_of checked) ≡ None }
+    requires given { length given.now ≤ MOST_INPUT }
+    requires bound { sizes.bound < 2 ^ 63 }
+    ensures { IfOk result (λ ready. IsReadied (RefusesSizes (limits_refusal sizes.heap sizes.deep MOST_DEEP) given.now (source_of checked))
+        (λ program limits input. (program ≡ source_of checked) × (limits_refusal sizes.heap sizes.deep MOST_DEEP ≡ None)
+        × (limits ≡ record { heap = sizes.heap; deep = sizes.deep }) × (given_input (source_of checked) given.now ≡ Ok input)) sizes.bound ready) }
+{
+    match check_limits(sizes.heap, sizes.deep, MOST_DEEP) {
+        Ok(limits) => ready_within(alloc, checked, given, limits, sizes.bound),
+        Err(e) => Ok(Ready::Refused(Plan::prints(Verdict::InputRefused, load_line(alloc, e)?))),
+    }
+}
+
+// The input is read last.
+fn ready_within(
+    alloc: Global,
+    checked: Checked,
+    given: &[u8],
+    limits: Limits,
+    bound: u64,
+) -> Result<Ready, NoMemory>
+    requires built { unbuilt (source_of checked) ≡ None }
+    requires given { length given.now ≤ MOST_INPUT }
+    requires limits { IsLimits limits }
+    requires bound { bound < 2 ^ 63 }
+    ensures { IfOk result (λ ready. IsReadied (RefusesInput (given_input (source_of checked) given.now))
+        (λ program within input. (program ≡ source_of checked) × (within ≡ limits) × (given_input (source_of checked) given.now ≡ Ok input)) bound ready) }
+{
+    let fields = input_fields(alloc, &checked)?;
+    match read_input(alloc, given, &fields) {
+        Ok(input) => Ok(Ready::Runs(Setting {
+            checked,
+            limits,
+            input,
+            bound,
+        })),
+        Err(LoadError::NoMemory) => Err(NoMemory),
+        Err(e) => Ok(Ready::Refused(Plan::prints(Verdict::InputRefused, load_line(alloc, e)?))),
+    }
+}

@@ -1,0 +1,59 @@
+-- A plan of `wrap` writes nothing.
+use Rattle.std.proofs.Common.{ℕ, List, [], None, Some, Ok, Err, inl, refl}
+use Rattle.std.specs.declared.option.Option.{Option}
+use Rattle.std.specs.Prelude.{Result}
+use Rattle.rpp_words.specs.declared.input.FieldWord.{FieldWord}
+use Rattle.rpp_words.specs.declared.input.Limits.{Limits}
+use Rattle.rpp_words.specs.declared.input.TheConstants.{MOST_DEEP}
+use Rattle.rpp_tree.specs.Tree.{Source}
+use Rattle.rpp_ports.specs.Ports.{Texts}
+use Rattle.pisa_isa.specs.declared.machine.Stop.{Stop}
+use Rattle.pisa_isa.specs.declared.machine.Stop.TheVariants.{Finished, Trap, Bound, Returned, BadAddress, OffCode}
+use Rattle.pisa_isa.specs.Image.{Segments}
+use Rattle.pisa_isa.specs.Machine.{State}
+use Rattle.pisa_loader.specs.Limiting.{limits_refusal}
+use Rattle.pisa_loader.specs.declared.error.LoadError.{LoadError}
+use Rattle.pisa_loader.specs.declared.input.InputField.{InputField}
+use Rattle.program_codegen.specs.Unbuilt.{unbuilt}
+use Rattle.rpp_plan.specs.Plans.{Planned, WritesOnly, WithInput}
+use Rattle.rpp_plan.proofs.Writes.{of_text, along}
+use Rattle.program_commands.specs.Inputs.{input_fields, given_input}
+use Rattle.program_commands.proofs.ProgramTargets.{told_writes, judged_writes}
+use Rattle.wrap_commands.specs.declared.error.NamesError.{NamesError}
+use Rattle.wrap_commands.specs.declared.error.NamesError.TheVariants.{UnknownResult, NoMemory}
+use Rattle.wrap_commands.specs.WrapNames.{results_of}
+use Rattle.wrap_commands.specs.WrapPlans.{TellsStop, IsGivenPlan, IsNamedPlan, IsSizedPlan, IsBuiltWrap, IsWrapPlan, WrapsFile}
+
+stop_writes : (why : Stop) (program : Source) (image : Segments) (fields : List InputField) (limits : Limits) (input : List FieldWord) (last : State) (spent steps : ℕ) (p : Planned) → TellsStop why program image fields limits input last spent steps p → WritesOnly p None
+stop_writes Finished program image fields limits input last spent steps p h = along p _ None h.told (inl refl)
+stop_writes (Trap code) program image fields limits input last spent steps p h = along p _ None h.reported (inl refl)
+stop_writes Bound program image fields limits input last spent steps p h = along p _ None h.told (inl refl)
+stop_writes Returned program image fields limits input last spent steps p h = absurd h
+stop_writes (BadAddress a) program image fields limits input last spent steps p h = absurd h
+stop_writes (OffCode a) program image fields limits input last spent steps p h = absurd h
+
+given_writes : (input : Result (List FieldWord) LoadError) (program : Source) (fields : List InputField) (limits : Limits) (steps : ℕ) (p : Planned) → IsGivenPlan input program fields limits steps p → WritesOnly p None
+given_writes (Err e) program fields limits steps p h = along p _ None h (inl refl)
+given_writes (Ok input) program fields limits steps p h = stop_writes _ program h.image fields limits input _ _ steps p h.tells
+
+named_writes : (named : Result (List InputField) NamesError) (given : List ℕ) (program : Source) (limits : Limits) (steps : ℕ) (p : Planned) → IsNamedPlan named given program limits steps p → WritesOnly p None
+named_writes (Err (UnknownResult at)) given program limits steps p h = along p _ None h (inl refl)
+named_writes (Err NoMemory) given program limits steps p h = absurd h
+named_writes (Ok fields) given program limits steps p h = given_writes (given_input program given) program fields limits steps p h
+
+sized_writes : (refusal : Option LoadError) (names given : List ℕ) (program : Source) (limits : Limits) (steps : ℕ) (p : Planned) → IsSizedPlan refusal names given program limits steps p → WritesOnly p None
+sized_writes (Some e) names given program limits steps p h = along p _ None h (inl refl)
+sized_writes None names given program limits steps p h = named_writes (results_of (input_fields program) names) given program limits steps p h
+
+wrap_writes : (text names given : List ℕ) (heap deep steps : ℕ) (p : Planned) → IsWrapPlan text names given heap deep steps p → WritesOnly p None
+wrap_writes text names given heap deep steps p g =
+    judged_writes g.judgement (λ program. IsBuiltWrap text names given program heap deep steps) None p
+    (λ program q h. told_writes (unbuilt program) text _ None q (λ r k. sized_writes (limits_refusal heap deep MOST_DEEP) names given program (record { heap = heap; deep = deep }) steps r k) h) g.plan
+
+of_input : (texts : Texts) (input : Option (List ℕ)) (text names : List ℕ) (heap deep steps : ℕ) (p : Planned) → WithInput texts input (λ given. IsWrapPlan text names given heap deep steps p) → WritesOnly p None
+of_input texts None text names heap deep steps p g = wrap_writes text names [] heap deep steps p g
+of_input texts (Some name) text names heap deep steps p h = of_text (texts name) _ _ (WritesOnly p None) h (λ given g. wrap_writes text names given heap deep steps p g)
+
+pub wraps_file_writes : (file names : List ℕ) (input : Option (List ℕ)) (heap deep steps : ℕ) (texts : Texts) (p : Planned) → WrapsFile file names input heap deep steps texts p → WritesOnly p None
+wraps_file_writes file names input heap deep steps texts p h =
+    of_text (texts file) _ _ (WritesOnly p None) h (λ text g. of_input texts input text names heap deep steps p g)

@@ -1,0 +1,4 @@
+pub mod WrapNames
+pub mod WrapShown
+pub mod WrapPlans
+pub mod WrapRun

@@ -1,0 +1,102 @@
+-- The plan of `wrap`.
+use Rattle.std.specs.Prelude.{◌≡◌, ℕ, ◌<◌, ◌≤◌, List, ◌++◌, All, length, slice_get, None, Some, Result, Ok, Err, codes, IsTrue}
+use Rattle.std.specs.declared.option.Option.{Option}
+use Rattle.rpp_words.specs.Texts.{line_end}
+use Rattle.rpp_words.specs.declared.input.FieldWord.{FieldWord}
+use Rattle.rpp_words.specs.declared.input.Limits.{Limits}
+use Rattle.rpp_words.specs.declared.input.TheConstants.{MOST_DEEP}
+use Rattle.rpp_tree.specs.declared.limits.TheConstants.{MOST_BYTES}
+use Rattle.rpp_tree.specs.Tree.{Source}
+use Rattle.rpp_ports.specs.Ports.{Texts}
+use Rattle.pisa_isa.specs.declared.machine.Stop.{Stop}
+use Rattle.pisa_isa.specs.declared.machine.Stop.TheVariants.{Finished, Trap, Bound as AtBound}
+use Rattle.pisa_isa.specs.Image.{Segments, IsImage}
+use Rattle.pisa_isa.specs.Loaded.{loaded}
+use Rattle.pisa_isa.specs.Machine.{State as MachineState}
+use Rattle.pisa_isa.specs.Runs.{End}
+use Rattle.pisa_loader.specs.Limiting.{limits_refusal}
+use Rattle.pisa_loader.specs.declared.error.LoadError.{LoadError}
+use Rattle.pisa_loader.specs.declared.input.InputField.{InputField}
+use Rattle.roopl_semantics.specs.Store.{main_name, object_at}
+use Rattle.roopl_semantics.specs.Source.{main_fields, is_int_field}
+use Rattle.roopl_semantics.specs.StandsFor.{StandsFor, EndsAt}
+use Rattle.program_codegen.specs.Unbuilt.{unbuilt}
+use Rattle.bennett_wrap.specs.Wrapped.{Wrapped}
+use Rattle.program_wrap.specs.Programs.{EndsDone, wrapped_run, enough_wrapped}
+use Rattle.rpp_plan.specs.declared.plan.Verdict.TheVariants.{Done, Bound, InputRefused}
+use Rattle.rpp_plan.specs.Plans.{Planned, prints, WithText, WithInput}
+use Rattle.rpp_plan.specs.Texts.{load_line, steps_line}
+use Rattle.program_commands.specs.Inputs.{input_fields, given_input}
+use Rattle.program_commands.specs.ProgramPlans.{IsJudgedPlan, IfBuilt, ReportsFault}
+use Rattle.wrap_commands.specs.declared.error.NamesError.{NamesError}
+use Rattle.wrap_commands.specs.declared.error.NamesError.TheVariants.{UnknownResult, NoMemory}
+use Rattle.wrap_commands.specs.WrapNames.{result_cells, results_of}
+use Rattle.wrap_commands.specs.WrapShown.{HasAsciiName, result_lines, initial_line, unknown_result_line}
+
+-- at most 64 int fields of the main class
+pub record AreResults (program : Source) (fields : List InputField) : Type 0 where
+  pub ints : All (λ field. IsTrue (is_int_field (slice_get (main_fields program) field.field))) fields
+  pub names : All HasAsciiName fields
+  pub few : length fields ≤ 64
+
+-- The source gives a store, and the plan tells the named fields of it. The final memory is the loaded one with the results
+-- alone added.
+pub record TellsResults (program : Source) (image : Segments) (fields : List InputField) (limits : Limits) (input : List FieldWord) (last : MachineState) (spent : ℕ) (p : Planned) : Type 0 where
+  pub done : EndsDone program image (result_cells fields) limits input last
+  pub told : p ≡ prints Done ((result_lines fields (object_at done.end.store main_name).cells
+      ++ initial_line (length (loaded image.statics limits input))) ++ steps_line spent)
+
+-- the bound ended the run, and the plan says so: the source ends at no cost for which so many steps are enough
+pub record TellsBound (program : Source) (limits : Limits) (input : List FieldWord) (steps : ℕ) (p : Planned) : Type 0 where
+  pub early : (cost : ℕ) → EndsAt program limits input cost → steps < enough_wrapped cost
+  pub told : p ≡ prints Bound (codes "bound" ++ (line_end ++ steps_line steps))
+
+-- what the plan of a wrapped run says, by why it ended; it never ends otherwise
+abbrev pub TellsStop : Stop → Source → Segments → List InputField → Limits → List FieldWord → MachineState → (spent steps : ℕ) → Planned → Type 0
+TellsStop Finished program image fields limits input last spent steps p = TellsResults program image fields limits input last spent p
+TellsStop (Trap code) program image fields limits input last spent steps p = ReportsFault program limits input code spent p
+TellsStop AtBound program image fields limits input last spent steps p = TellsBound program limits input steps p
+TellsStop _ program image fields limits input last spent steps p = ⊥
+
+abbrev pub TellsEnd : End → Source → Segments → List InputField → Limits → List FieldWord → (steps : ℕ) → Planned → Type 0
+TellsEnd end program image fields limits input steps p = TellsStop end.why program image fields limits input end.last end.spent steps p
+
+-- There is an image that stands for the program, and one that is it wrapped for the cells of these fields, and the plan tells
+-- how the run of that ended, of at most so many steps from the loaded memory with zeros behind it.
+pub record WrapsImage (program : Source) (fields : List InputField) (limits : Limits) (input : List FieldWord) (steps : ℕ) (p : Planned) : Type 0 where
+  pub image : Segments
+  pub is_image : IsImage image
+  pub stands : StandsFor program image
+  pub wrapped : Segments
+  pub wrapped_is_image : IsImage wrapped
+  pub wraps : Wrapped image.code (result_cells fields) wrapped.code
+  pub tells : TellsEnd (wrapped_run image (result_cells fields) wrapped.code limits input steps) program image fields limits input steps p
+
+-- the input is judged, and then the run is made on it
+abbrev pub IsGivenPlan : Result (List FieldWord) LoadError → Source → List InputField → Limits → ℕ → Planned → Type 0
+IsGivenPlan (Err e) program fields limits steps p = p ≡ prints InputRefused (load_line e)
+IsGivenPlan (Ok input) program fields limits steps p = WrapsImage program fields limits input steps p
+
+-- the names are judged before the input
+abbrev pub IsNamedPlan : Result (List InputField) NamesError → (given : List ℕ) → Source → Limits → ℕ → Planned → Type 0
+IsNamedPlan (Err (UnknownResult at)) given program limits steps p = p ≡ prints InputRefused (unknown_result_line at)
+IsNamedPlan (Err NoMemory) given program limits steps p = ⊥
+IsNamedPlan (Ok fields) given program limits steps p = IsGivenPlan (given_input program given) program fields limits steps p
+
+-- the sizes of heap and stack are tried before the names
+abbrev pub IsSizedPlan : Option LoadError → (names given : List ℕ) → Source → Limits → ℕ → Planned → Type 0
+IsSizedPlan (Some e) names given program limits steps p = p ≡ prints InputRefused (load_line e)
+IsSizedPlan None names given program limits steps p = IsNamedPlan (results_of (input_fields program) names) given program limits steps p
+
+-- a form that is not built yet is told before that
+abbrev pub IsBuiltWrap : (text names given : List ℕ) → Source → (heap deep steps : ℕ) → Planned → Type 0
+IsBuiltWrap text names given program heap deep steps p =
+    IfBuilt (unbuilt program) text (IsSizedPlan (limits_refusal heap deep MOST_DEEP) names given program (record { heap = heap; deep = deep }) steps) p
+
+abbrev pub IsWrapPlan : (text names given : List ℕ) → (heap deep steps : ℕ) → Planned → Type 0
+IsWrapPlan text names given heap deep steps p = IsJudgedPlan text (λ program. IsBuiltWrap text names given program heap deep steps) p
+
+-- the plan of `wrap` of this file for these names, on an input where there is one
+abbrev pub WrapsFile : (file names : List ℕ) → (input : Option (List ℕ)) → (heap deep steps : ℕ) → Texts → Planned → Type 0
+WrapsFile file names input heap deep steps texts p =
+    WithText texts file MOST_BYTES (λ text. WithInput texts input (λ given. IsWrapPlan text names given heap deep steps p))

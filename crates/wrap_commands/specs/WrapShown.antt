@@ -1,0 +1,38 @@
+-- What `wrap` prints.
+use Rattle.std.specs.Prelude.{ℕ, suc, List, [], ◌∷◌, ◌++◌, codes, slice_get}
+use Rattle.std.specs.Fmt.{decimal}
+use Rattle.std.specs.Option.{unwrap_or}
+use Rattle.std.specs.Str.{IsAscii}
+use Rattle.rpp_words.specs.Texts.{line_end}
+use Rattle.pisa_loader.specs.declared.input.InputField.{InputField}
+use Rattle.roopl_semantics.specs.Store.{Value, Nil}
+use Rattle.roopl_semantics.specs.Report.{signed_decimal, value_shown}
+use Rattle.roopl_semantics.specs.Walk.{word_at}
+
+-- a name that can be printed byte by byte
+abbrev pub HasAsciiName : InputField → Type 0
+HasAsciiName field = IsAscii field.name
+
+-- NAME = V
+abbrev pub result_line : (name value : List ℕ) → List ℕ
+result_line name value = name ++ (codes " = " ++ (value ++ line_end))
+
+-- the lines of fields, by the values of an object's cells
+abbrev pub result_lines : List InputField → List Value → List ℕ
+result_lines [] cells = []
+result_lines (field ∷ fields) cells =
+    result_line field.name (value_shown [] (unwrap_or (slice_get cells field.field) Nil)) ++ result_lines fields cells
+
+-- the same, by the words of a memory from an address on
+abbrev pub word_lines : List InputField → (cells : List ℕ) → (at : ℕ) → List ℕ
+word_lines [] cells at = []
+word_lines (field ∷ fields) cells at =
+    result_line field.name (signed_decimal (word_at cells at)) ++ word_lines fields cells (suc at)
+
+-- how many cells the memory has before the results
+abbrev pub initial_line : ℕ → List ℕ
+initial_line count = codes "initial " ++ (decimal count ++ (codes " cells" ++ line_end))
+
+-- what is printed where the name with this number is refused
+abbrev pub unknown_result_line : (at : ℕ) → List ℕ
+unknown_result_line at = codes "refused 44 UnknownResult at " ++ (decimal at ++ line_end)

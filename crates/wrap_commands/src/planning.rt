@@ -1,0 +1,187 @@
+// `wrap F H D STEPS NAMES [INPUT]`: judges the words and the texts that they name.
+ghost use Rattle.std.specs.Prelude.{◌≡◌, ◌≤◌, ◌<◌, ◌^◌, ◌∷◌, None, length, option_map, IfOk, string_bytes};
+ghost use Rattle.rpp_tree.specs.Views.{source_of};
+ghost use Rattle.rpp_tree.specs.declared.limits.TheConstants.{MOST_BYTES};
+ghost use Rattle.rpp_words.specs.Limits.{IsLimits};
+ghost use Rattle.roopl_lexer.specs.Tokens.{IsCutting};
+ghost use Rattle.program_codegen.specs.Unbuilt.{unbuilt};
+ghost use Rattle.pisa_loader.specs.Limiting.{limits_refusal};
+ghost use Rattle.pisa_loader.specs.declared.input.TheConstants.{MOST_INPUT};
+ghost use Rattle.rpp_plan.specs.Files.{OnlyReads, source, input_files};
+ghost use Rattle.rpp_plan.specs.Plans.{planned, GivesPlan};
+ghost use Rattle.program_commands.specs.Inputs.{input_fields as fields_of, given_input};
+ghost use Rattle.wrap_commands.specs.WrapNames.{results_of};
+ghost use Rattle.wrap_commands.specs.WrapPlans.{AreResults, IsGivenPlan, IsNamedPlan, IsSizedPlan, IsBuiltWrap, IsWrapPlan, WrapsFile};
+
+use crate::error::NamesError;
+use crate::names::read_names;
+use crate::running::{Setting, is_accepted, run_wrapped};
+use crate::shown::refuse_name;
+use class_table::Checked;
+use pisa_loader::{InputField, LoadError, check_limits, read_input};
+use pisa_machine::Steps;
+use program_codegen::first_unbuilt;
+use program_commands::{input_fields, refuse_unbuilt};
+use roopl_judge::{Judged, SourceError, judge};
+use rpp_plan::{NoPlan, Plan, Sizes, Verdict, load_line, read_given, refuse_source};
+use rpp_ports::Shelf;
+use rpp_tree::MOST_BYTES;
+use rpp_words::{Limits, MOST_DEEP, NoMemory};
+use std::alloc::Global;
+use std::sync::ledger::Ledger;
+
+/// What stands behind the sizes: the names of the results, joined by commas, and the file of the input, if there is one.
+#[derive(Debug, Drop)]
+pub struct Wanted {
+    pub names: String,
+    pub input: Option<String>,
+}
+
+// What a program is wrapped with: the names, the text of the input, and the sizes of the run.
+#[derive(Drop)]
+struct Request {
+    names: Vec<u8>,
+    input: Vec<u8>,
+    sizes: Sizes,
+}
+
+/// Compiles a file, wraps the image, runs it on an input where there is one, and tells the results.
+pub fn wrap<S: Shelf, L: Ledger>(
+    alloc: Global,
+    shelf: &mut S,
+    file: &str,
+    wanted: &Wanted,
+    sizes: Sizes,
+    steps: &mut Steps<L>,
+) -> Result<Plan, NoPlan>
+    requires { sizes.bound < 2 ^ 63 }
+    ensures plan { GivesPlan (S.texts shelf.old)
+        (WrapsFile file.now (string_bytes wanted.now.names) (option_map string_bytes wanted.now.input) sizes.heap sizes.deep sizes.bound) result }
+    ensures reads { OnlyReads (S.texts shelf.old) (S.texts shelf.new) (S.faults shelf.old) (S.faults shelf.new)
+        (source file.now ∷ input_files (option_map string_bytes wanted.now.input)) result }
+{
+    let given = read_given(alloc, shelf, file, &wanted.input)?;
+    let request = Request {
+        names: wanted.names.as_bytes().to_vec(alloc)?,
+        input: given.input,
+        sizes,
+    };
+    Ok(wrap_text(alloc, &given.text, &request, steps)?)
+}
+
+fn wrap_text<L: Ledger>(
+    alloc: Global,
+    text: &[u8],
+    request: &Request,
+    steps: &mut Steps<L>,
+) -> Result<Plan, NoMemory>
+    requires text { length text.now ≤ MOST_BYTES }
+    requires input { length request.now.input.items ≤ MOST_INPUT }
+    requires bound { request.now.sizes.bound < 2 ^ 63 }
+    ensures { IfOk result (λ plan. IsWrapPlan text.now request.now.names.items request.now.input.items
+        request.now.sizes.heap request.now.sizes.deep request.now.sizes.bound (planned plan)) }
+{
+    match judge(alloc, text) {
+        Ok(judged) => wrap_judged(alloc, text, &judged, request, steps),
+        Err(SourceError::Refused { number, at }) => Ok(refuse_source(alloc, number, at)?),
+        Err(SourceError::NoMemory) => Err(NoMemory),
+    }
+}
+
+// A form that is not built yet is told before the run.
+fn wrap_judged<L: Ledger>(
+    alloc: Global,
+    _text: &[u8],
+    judged: &Judged,
+    request: &Request,
+    steps: &mut Steps<L>,
+) -> Result<Plan, NoMemory>
+    requires tokens { IsCutting _text.now judged.now.tokens.items }
+    requires input { length request.now.input.items ≤ MOST_INPUT }
+    requires bound { request.now.sizes.bound < 2 ^ 63 }
+    ensures { IfOk result (λ plan. IsBuiltWrap _text.now request.now.names.items request.now.input.items (source_of judged.now.checked)
+        request.now.sizes.heap request.now.sizes.deep request.now.sizes.bound (planned plan)) }
+{
+    match first_unbuilt(judged.checked.program()) {
+        Some(found) => refuse_unbuilt(alloc, judged, found),
+        None => wrap_sized(alloc, &judged.checked, request, steps),
+    }
+}
+
+// The sizes of heap and stack are tried before the names.
+fn wrap_sized<L: Ledger>(
+    alloc: Global,
+    checked: &Checked,
+    request: &Request,
+    steps: &mut Steps<L>,
+) -> Result<Plan, NoMemory>
+    requires built { unbuilt (source_of checked.now) ≡ None }
+    requires input { length request.now.input.items ≤ MOST_INPUT }
+    requires bound { request.now.sizes.bound < 2 ^ 63 }
+    ensures { IfOk result (λ plan. IsSizedPlan (limits_refusal request.now.sizes.heap request.now.sizes.deep MOST_DEEP)
+        request.now.names.items request.now.input.items (source_of checked.now)
+        (record { heap = request.now.sizes.heap; deep = request.now.sizes.deep }) request.now.sizes.bound (planned plan)) }
+{
+    let sizes = request.sizes;
+    match check_limits(sizes.heap, sizes.deep, MOST_DEEP) {
+        Ok(limits) => wrap_named(alloc, checked, limits, request, steps),
+        Err(e) => Ok(Plan::prints(Verdict::InputRefused, load_line(alloc, e)?)),
+    }
+}
+
+// The names are judged before the input.
+fn wrap_named<L: Ledger>(
+    alloc: Global,
+    checked: &Checked,
+    limits: Limits,
+    request: &Request,
+    steps: &mut Steps<L>,
+) -> Result<Plan, NoMemory>
+    requires built { unbuilt (source_of checked.now) ≡ None }
+    requires limits { IsLimits limits }
+    requires input { length request.now.input.items ≤ MOST_INPUT }
+    requires bound { request.now.sizes.bound < 2 ^ 63 }
+    ensures { IfOk result (λ plan. IsNamedPlan (results_of (fields_of (source_of checked.now)) request.now.names.items)
+        request.now.input.items (source_of checked.now) limits request.now.sizes.bound (planned plan)) }
+{
+    is_accepted(checked);
+    let fields = input_fields(alloc, checked)?;
+    match read_names(alloc, &request.names, &fields) {
+        Ok(results) => wrap_given(alloc, checked, limits, results, request, steps),
+        Err(NamesError::UnknownResult { at }) => Ok(refuse_name(alloc, at)?),
+        Err(NamesError::NoMemory) => Err(NoMemory),
+    }
+}
+
+// The input is judged, and then the run is made on it.
+fn wrap_given<L: Ledger>(
+    alloc: Global,
+    checked: &Checked,
+    limits: Limits,
+    results: Vec<InputField>,
+    request: &Request,
+    steps: &mut Steps<L>,
+) -> Result<Plan, NoMemory>
+    requires built { unbuilt (source_of checked.now) ≡ None }
+    requires limits { IsLimits limits }
+    requires results { AreResults (source_of checked.now) results.items }
+    requires input { length request.now.input.items ≤ MOST_INPUT }
+    requires bound { request.now.sizes.bound < 2 ^ 63 }
+    ensures { IfOk result (λ plan. IsGivenPlan (given_input (source_of checked.now) request.now.input.items)
+        (source_of checked.now) results.items limits request.now.sizes.bound (planned plan)) }
+{
+    let fields = input_fields(alloc, checked)?;
+    match read_input(alloc, &request.input, &fields) {
+        Ok(input) => {
+            let setting = Setting {
+                limits,
+                input,
+                results,
+                bound: request.sizes.bound,
+            };
+            run_wrapped(alloc, checked, &setting, steps)
+        }
+        Err(LoadError::NoMemory) => Err(NoMemory),
+        Err(e) => Ok(Plan::prints(Verdict::InputRefused, load_line(alloc, e)?)),
+    }
+}

@@ -1,0 +1,150 @@
+// The run of a wrapped image, and its plan.
+ghost use Rattle.std.specs.Prelude.{◌≡◌, ◌<◌, ◌^◌, ◌++◌, All, None, IfOk, codes};
+ghost use Rattle.rpp_tree.specs.Views.{source_of};
+ghost use Rattle.rpp_words.specs.Limits.{IsLimits};
+ghost use Rattle.class_table.specs.Program.{IsAccepted};
+ghost use Rattle.rpp_words.specs.Texts.{line_end};
+ghost use Rattle.roopl_semantics.specs.Source.{IsValid};
+ghost use Rattle.program_codegen.specs.Unbuilt.{unbuilt};
+ghost use Rattle.program_wrap.specs.Programs.{field_cell as cell_of_field};
+ghost use Rattle.machine_texts.specs.Stops.{fault_line as line_of_fault};
+ghost use Rattle.rpp_plan.specs.Plans.{planned, prints};
+ghost use Rattle.rpp_plan.specs.Texts.{steps_line};
+ghost use Rattle.wrap_commands.specs.WrapNames.{HasLowNumber, result_cells};
+ghost use Rattle.wrap_commands.specs.WrapPlans.{AreResults, TellsResults, TellsStop, WrapsImage};
+ghost use Rattle.wrap_commands.specs.WrapRun.{HasWrapped};
+
+use crate::shown::{add_results, with_initial};
+use bennett_wrap::wrap_image;
+use class_table::Checked;
+use pisa_isa::{Image, Stop};
+use pisa_loader::{InputField, load_more};
+use pisa_machine::{Machine, RunEnd, Steps};
+use program_commands::compiled_image;
+use roopl_semantics::FIRST_FIELD;
+use rpp_plan::{Plan, Verdict, fault_line, with_steps};
+use rpp_words::{Input, Limits, NoMemory};
+use std::alloc::{AllocError, Global};
+use std::sync::ledger::Ledger;
+
+/// What a wrapped run is made with: the sizes of heap and stack, the input, the fields whose words are its results, and the
+/// number of steps.
+#[derive(Drop)]
+pub(crate) struct Setting {
+    pub limits: Limits,
+    pub input: Input,
+    pub results: Vec<InputField>,
+    pub bound: u64,
+}
+
+/// Compiles a program, wraps its image, loads that with an input and with cells for the results, runs it and tells how it ended.
+pub(crate) fn run_wrapped<L: Ledger>(
+    alloc: Global,
+    checked: &Checked,
+    setting: &Setting,
+    steps: &mut Steps<L>,
+) -> Result<Plan, NoMemory>
+    requires built { unbuilt (source_of checked.now) ≡ None }
+    requires limits { IsLimits setting.now.limits }
+    requires valid { IsValid (source_of checked.now) setting.now.input.words.items }
+    requires results { AreResults (source_of checked.now) setting.now.results.items }
+    requires bound { setting.now.bound < 2 ^ 63 }
+    ensures { IfOk result (λ plan. WrapsImage (source_of checked.now) setting.now.results.items
+        setting.now.limits setting.now.input.words.items setting.now.bound (planned plan)) }
+{
+    is_accepted(checked);
+    let image = compiled_image(alloc, checked)?;
+    let cells = cells_of(alloc, &setting.results)?;
+    let wrapped = wrap_image(alloc, &image, &cells)?;
+    let count = cells.len() as u32;
+    let mut machine = load_more(alloc, wrapped, setting.limits, &setting.input, count)?;
+    let end = machine.run(setting.bound, steps);
+    report_run(alloc, checked, setting, &image, &machine, end)
+}
+
+/// A checked program is accepted.
+pub(crate) fn is_accepted(checked: &Checked)
+    ensures { IsAccepted (source_of checked.now) }
+{
+    checked.program();
+}
+
+// The static cells of fields.
+fn cells_of(alloc: Global, fields: &[InputField]) -> Result<Vec<u32>, AllocError>
+    requires { All HasLowNumber fields.now }
+    ensures { IfOk result (λ cells. cells.items ≡ result_cells fields.now) }
+{
+    let mut cells = Vec::new(alloc);
+    for field in fields {
+        cells.push(field_cell(field.field))?;
+    }
+    Ok(cells)
+}
+
+// The static cell of a field of the main object.
+fn field_cell(field: u32) -> u32
+    requires { field < 2 ^ 20 }
+    ensures { result ≡ cell_of_field field }
+{
+    FIRST_FIELD + field
+}
+
+// The plan of a wrapped run that ended.
+fn report_run(
+    alloc: Global,
+    _checked: &Checked,
+    setting: &Setting,
+    _image: &Image,
+    machine: &Machine,
+    end: RunEnd,
+) -> Result<Plan, NoMemory>
+    requires { HasWrapped (source_of _checked.now) setting.now.results.items setting.now.limits setting.now.input.words.items setting.now.bound
+        _image.now machine.now end.stop end.spent }
+    ensures { IfOk result (λ plan. TellsStop end.stop (source_of _checked.now) _image.now setting.now.results.items
+        setting.now.limits setting.now.input.words.items machine.now.state end.spent setting.now.bound (planned plan)) }
+{
+    match end.stop {
+        Stop::Finished => report_results(alloc, _checked, setting, _image, machine, end.spent),
+        Stop::Trap(code) => Ok(report_fault(alloc, code, end.spent)?),
+        Stop::Bound => Ok(report_bound(alloc, setting.bound)?),
+        Stop::Returned => unreachable!(),
+        Stop::BadAddress(_) => unreachable!(),
+        Stop::OffCode(_) => unreachable!(),
+    }
+}
+
+// The plan of a wrapped run that finished.
+fn report_results(
+    alloc: Global,
+    _checked: &Checked,
+    setting: &Setting,
+    _image: &Image,
+    machine: &Machine,
+    spent: u64,
+) -> Result<Plan, NoMemory>
+    requires { HasWrapped (source_of _checked.now) setting.now.results.items setting.now.limits setting.now.input.words.items setting.now.bound
+        _image.now machine.now Stop.Finished spent }
+    ensures { IfOk result (λ plan. TellsResults (source_of _checked.now) _image.now setting.now.results.items
+        setting.now.limits setting.now.input.words.items machine.now.state spent (planned plan)) }
+{
+    let initial = machine.cells() - setting.results.len() as u32;
+    let mut lines = String::new(alloc);
+    add_results(&mut lines, machine, initial, &setting.results)?;
+    let text = with_steps(with_initial(lines, initial)?, spent)?;
+    Ok(Plan::prints(Verdict::Done, text))
+}
+
+// The plan of a run that stopped with a fault.
+fn report_fault(alloc: Global, code: u32, spent: u64) -> Result<Plan, AllocError>
+    ensures { IfOk result (λ plan. planned plan ≡ prints Verdict.Trapped (line_of_fault code ++ steps_line spent)) }
+{
+    let text = with_steps(fault_line(alloc, code)?, spent)?;
+    Ok(Plan::prints(Verdict::Trapped, text))
+}
+
+// The plan of a run that the bound ended.
+fn report_bound(alloc: Global, bound: u64) -> Result<Plan, AllocError>
+    ensures { IfOk result (λ plan. planned plan ≡ prints Verdict.Bound (codes "bound" ++ (line_end ++ steps_line bound))) }
+{
+    Ok(Plan::prints(Verdict::Bound, format!(in alloc; "bound\nsteps {bound}\n")?))
+}
