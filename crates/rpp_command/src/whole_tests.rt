@@ -158,6 +158,83 @@ fn turns_back(rt: HostRuntime) -> Result<(), Fail> {
     Ok(())
 }
 
+// A body that is uncalled, and its inverse that is called, stop with the same fault or go on alike.
+#[test]
+fn bodies_stop_alike_in_both_directions(rt: HostRuntime) -> Result<(), Fail> {
+    for (call, body, words, status, text) in [
+        (
+            "uncall",
+            "local int t = x skip delocal int t = 5",
+            "go F 1 2 1000000",
+            5,
+            "fault 3 Delocal\nsteps ",
+        ),
+        (
+            "call",
+            "local int t = 5 skip delocal int t = x",
+            "go F 1 2 1000000",
+            5,
+            "fault 3 Delocal\nsteps ",
+        ),
+        (
+            "uncall",
+            "from x = 0 do x += 1 loop skip until x = 3",
+            "go F 1 2 1000000",
+            5,
+            "fault 2 Loop\nsteps ",
+        ),
+        (
+            "call",
+            "from x = 3 do x -= 1 loop skip until x = 0",
+            "go F 1 2 1000000",
+            5,
+            "fault 2 Loop\nsteps ",
+        ),
+        (
+            "uncall",
+            "uncall q()",
+            "go F 1 3 1000000",
+            5,
+            "fault 14 TooDeep\nsteps ",
+        ),
+        (
+            "call",
+            "call q()",
+            "go F 1 3 1000000",
+            5,
+            "fault 14 TooDeep\nsteps ",
+        ),
+        (
+            "uncall",
+            "from x = 1 do x += 1 loop skip until x = 0",
+            "go F 1 2 100000",
+            6,
+            "bound\nsteps 100000\n",
+        ),
+        (
+            "call",
+            "from x = 0 do x -= 1 loop skip until x = 1",
+            "go F 1 2 100000",
+            6,
+            "bound\nsteps 100000\n",
+        ),
+    ] {
+        let mut source = String::from_str(rt.alloc(), "class P int x Q a Q b method main() ")?;
+        source.push_str(call)?;
+        source.push_str(" q() method q() ")?;
+        source.push_str(body)?;
+        source.push_str(" class Q int f")?;
+        let mut shelf = shelf_of(rt.alloc(), &[("F", source.as_str().as_bytes())], &[])?;
+        let (code, said) = answer_on(rt.alloc(), &mut shelf, words, &[])?;
+        assert_eq!(rt; code, status, "{call} {body}");
+        assert!(rt;
+            said.as_slice().starts_with(text.as_bytes()),
+            "{call} {body}"
+        );
+    }
+    Ok(())
+}
+
 // The number behind the front of a text, in front of the end of its line.
 fn number_behind(said: &[u8], front: &str) -> u64 {
     let mut number: u64 = 0;
