@@ -30,10 +30,10 @@ fn answer_as_watch<P: Probes>(
 }
 
 // The probes of the program itself, but for the number of steps after which places are told no more.
-fn watching(alloc: Global, limit: u64) -> Result<Vec<Box<dyn Probe>>, Fail> {
+fn watching(alloc: Global, limit: u32) -> Result<Vec<Box<dyn Probe>>, Fail> {
     let mut probes: Vec<Box<dyn Probe>> = Vec::new(alloc);
     probes.push(Box::new(alloc, StepTally::new())?)?;
-    probes.push(Box::new(alloc, Coverage::new(alloc, limit)?)?)?;
+    probes.push(Box::new(alloc, Coverage::new(alloc, limit as u64)?)?)?;
     probes.push(Box::new(alloc, DeepestPlace::new())?)?;
     Ok(probes)
 }
