@@ -431,12 +431,29 @@ value_least e = let a = parts_least e in omega arith
 pub test_least : (e : Expression) → nodes e ≤ test_steps e
 test_least e = let a = parts_least e in omega arith
 
-place_least : (target : Lvalue) → index_nodes target ≤ place_steps target
+pub place_least : (target : Lvalue) → index_nodes target ≤ place_steps target
 place_least (Whole name) = omega arith
 place_least (Item name index) = let a = prepare_least index in omega arith
 
 pub update_least : (target : Lvalue) (e : Expression) → 1 + index_nodes target + nodes e + read_cost (own_element target) (index_elements target ++ elements e) ≤ update_steps target e
 update_least target e = let a = place_least target in let b = parts_least e in let c = apart_is target e in omega arith
+
+-- what is found around a middle
+pub found_place_least : (target : Lvalue) → index_nodes target + read_cost (own_element target) (index_elements target) ≤ found_place_steps target
+found_place_least (Whole name) = omega arith
+found_place_least (Item name index) = let a = place_least (Item name index) in let b = compare_is index in omega arith
+
+pub found_value_least : (target : Lvalue) (e : Expression) → index_nodes target + nodes e + read_cost (own_element target) (index_elements target ++ elements e) ≤ found_value_steps target e + 3
+found_value_least target e = let a = place_least target in let b = parts_least e in let c = apart_is target e in omega arith
+
+pub found_places_least : (source target : Lvalue) → index_nodes source + index_nodes target + read_cost (own_element target) (index_elements source ++ index_elements target) ≤ found_places_steps source target
+found_places_least source (Whole name) = let a = place_least source in omega arith
+found_places_least source (Item name index) =
+    let a = place_least source in
+    let b = place_least (Item name index) in
+    let c = index_compare_is source in
+    let d = compare_is index in
+    omega (arith, length-append (index_elements source) (elements index))
 
 pub swap_least : (left right : Lvalue) → 1 + index_nodes left + index_nodes right + read_cost (own_element left ++ own_element right) (index_elements left ++ index_elements right) ≤ swap_steps left right
 swap_least left right = let a = place_least left in let b = place_least right in let c = both_apart_least left right in omega arith

@@ -56,6 +56,13 @@ module _ (address slot : ℕ → ℕ) (program : Source) (st : State) (spot : Li
   update_shares_is (Whole name) e p h t = refl
   update_shares_is (Item name index) e p h t = item_is name index index e p p.3 h t ∙ sym (or_false (is_among program st name (elements index ++ elements e)))
 
+  -- a place that changes, and one that is read
+  pub places_share_is : (source target : Lvalue) → MeansPlace address slot program st spot b cells source → MeansPlace address slot program st spot b cells target → TellsShares address slot program st spot b cells target (index_of source) (index_of target)
+      → shares spot b cells target (index_of source) (index_of target) ≡ share_array program st (own_element target) (index_elements source ++ index_elements target)
+  places_share_is source (Whole name) p q t = refl
+  places_share_is (Whole other) (Item name index) p q t = item_is name index (Null 0) index q tt q.3 t ∙ sym (or_false (is_among program st name (elements index)))
+  places_share_is (Item other k) (Item name index) p q t = item_is name index k index q p.3 q.3 t ∙ sym (or_false (is_among program st name (elements k ++ elements index)))
+
   -- a swap
   pub swap_shares_is : (left right : Lvalue) → MeansPlace address slot program st spot b cells left → MeansPlace address slot program st spot b cells right
       → TellsShares address slot program st spot b cells left (index_of left) (index_of right) → TellsShares address slot program st spot b cells right (index_of left) (index_of right)
