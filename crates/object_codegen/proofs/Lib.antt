@@ -10,8 +10,10 @@ pub mod Filling
 pub mod NewLaws
 pub mod Taken
 pub mod MakeLaws
+pub mod OverLayout
 pub mod SizeOrders
 pub mod SizeRows
 pub mod SizeOrdering
 pub mod Bounds
 pub mod Clauses
+pub mod CopyRows
