@@ -1,4 +1,5 @@
--- Places and values found around any middle: what a middle finds and may change, and the laws of the whole piece.
+-- Places and values found around any middle: what a middle finds and may change, and the laws of the whole
+-- piece.
 use Rattle.std.specs.Prelude.{◌≡◌, ℕ, ◌+◌, ◌^◌, ◌<◌, ◌≤◌, Bool, true, false, List, length, slice_index, Ok, Err}
 use Rattle.rpp_tree.specs.Tree.{Expression, Null, Lvalue}
 use Rattle.paired_code.specs.declared.part.Symbol.{Symbol}
@@ -41,10 +42,12 @@ pub record Changes (low : ℕ) (cells cells' : List ℕ) : Type 0 where
   pub words : (a : ℕ) → slice_index cells' a < 2 ^ 32
   pub above : (a : ℕ) → low ≤ a → slice_index cells' a ≡ slice_index cells a
 
--- p is a middle between so many steps that find a value and two addresses, and those that take them away again. Where the
--- middle leads from any filled words to the changed cells, so does p from the cells themselves, and where the middle traps,
--- p traps. `Kept` says of the changed cells that the same value and addresses are found there.
-pub record Encloses (im : Image) (d : Bool) (m : Memory) (low n steps v a a' : ℕ) (Kept : List ℕ → Type 0) (middle p : List Symbol) : Type 0 where
+-- p is a middle between so many steps that find a value and two addresses, and those that take them away again.
+-- Where the middle leads from any filled words to the changed cells, so does p from the cells themselves, and
+-- where the middle traps, p traps. `Kept` says of the changed cells that the same value and addresses are found
+-- there.
+pub record Encloses (im : Image) (d : Bool) (m : Memory) (low n steps v a a' : ℕ) (Kept : List ℕ → Type 0)
+    (middle p : List Symbol) : Type 0 where
   pub leads : (cells' : List ℕ) (least most : ℕ) → Changes low m.cells cells' → Kept cells'
       → ((ys ys' : List ℕ) → Filled low n m.cells ys → Filled low n cells' ys' → Changes low ys ys'
       → Will im middle d (found v a a' ys m) (LeavesWithin (found v a a' ys' m) least most))
@@ -55,7 +58,8 @@ pub record Encloses (im : Image) (d : Bool) (m : Memory) (low n steps v a a' : �
 
 -- ---- the laws
 
--- the steps that find a place, a place and a value, two places of which the second changes, each with the check of arrays
+-- the steps that find a place, a place and a value, two places of which the second changes, each with the check
+-- of arrays
 abbrev pub found_place_steps : Lvalue → ℕ
 found_place_steps target = place_steps target + apart_steps target (index_of target) (Null 0)
 
@@ -63,35 +67,84 @@ abbrev pub found_value_steps : Lvalue → Expression → ℕ
 found_value_steps target value = place_steps target + fetch_steps value + apart_steps target (index_of target) value
 
 abbrev pub found_places_steps : (source target : Lvalue) → ℕ
-found_places_steps source target = place_steps source + place_steps target + apart_steps target (index_of source) (index_of target)
+found_places_steps source target = place_steps source + place_steps target + apart_steps target
+    (index_of source) (index_of target)
 
--- a middle that changes a place: the place's fault comes first, and then that of a shared array, in both directions
-pub record PlaceAroundLaw (spot : List ℕ → Spot) (free : ℕ) (target : Lvalue) (middle p : List Symbol) : Type 0 where
-  pub encloses : (im : Image) (d : Bool) (m : Memory) → CanRun spot free (place_words target) (read_of target) (Null 0) m → (a : ℕ) → place_address spot (bases_of m) m.cells target ≡ Ok a → update_shares spot (bases_of m) m.cells target (Null 0) ≡ false
-      → Encloses im d m (free_at free m) (place_words target) (found_place_steps target) 0 a 0 (Stays spot (bases_of m) (free_at free m) target (Null 0) m.cells) middle p
-  pub place_faults : (im : Image) (d : Bool) (m : Memory) → CanRun spot free (place_words target) (read_of target) (Null 0) m → (code : ℕ) → place_address spot (bases_of m) m.cells target ≡ Err code → IsTrap im p d m code (place_steps target)
-  pub sharing_faults : (im : Image) (d : Bool) (m : Memory) → CanRun spot free (place_words target) (read_of target) (Null 0) m → (a : ℕ) → place_address spot (bases_of m) m.cells target ≡ Ok a → update_shares spot (bases_of m) m.cells target (Null 0) ≡ true → IsTrap im p d m shared_array_fault (found_place_steps target)
+-- a middle that changes a place: the place's fault comes first, and then that of a shared array, in both
+-- directions
+pub record PlaceAroundLaw (spot : List ℕ → Spot) (free : ℕ) (target : Lvalue)
+    (middle p : List Symbol) : Type 0 where
+  pub encloses : (im : Image) (d : Bool) (m : Memory)
+      → CanRun spot free (place_words target) (read_of target) (Null 0) m → (a : ℕ)
+      → place_address spot (bases_of m) m.cells target ≡ Ok a
+      → update_shares spot (bases_of m) m.cells target (Null 0) ≡ false
+      → Encloses im d m (free_at free m) (place_words target) (found_place_steps target) 0 a 0
+      (Stays spot (bases_of m) (free_at free m) target (Null 0) m.cells) middle p
+  pub place_faults : (im : Image) (d : Bool) (m : Memory)
+      → CanRun spot free (place_words target) (read_of target) (Null 0) m → (code : ℕ)
+      → place_address spot (bases_of m) m.cells target ≡ Err code → IsTrap im p d m code (place_steps target)
+  pub sharing_faults : (im : Image) (d : Bool) (m : Memory)
+      → CanRun spot free (place_words target) (read_of target) (Null 0) m → (a : ℕ)
+      → place_address spot (bases_of m) m.cells target ≡ Ok a
+      → update_shares spot (bases_of m) m.cells target (Null 0) ≡ true
+      → IsTrap im p d m shared_array_fault (found_place_steps target)
 
 -- one that changes a place by a value: the value's fault comes between the two
-pub record ValueAroundLaw (spot : List ℕ → Spot) (free : ℕ) (target : Lvalue) (value : Expression) (middle p : List Symbol) : Type 0 where
-  pub encloses : (im : Image) (d : Bool) (m : Memory) → CanRun spot free (place_words target + words value) (read_of target) value m → (a v : ℕ) → place_address spot (bases_of m) m.cells target ≡ Ok a → number spot (bases_of m) m.cells value ≡ Ok v → update_shares spot (bases_of m) m.cells target value ≡ false
-      → Encloses im d m (free_at free m) (place_words target + words value) (found_value_steps target value) v a 0 (Stays spot (bases_of m) (free_at free m) target value m.cells) middle p
-  pub place_faults : (im : Image) (d : Bool) (m : Memory) → CanRun spot free (place_words target + words value) (read_of target) value m → (code : ℕ) → place_address spot (bases_of m) m.cells target ≡ Err code → IsTrap im p d m code (place_steps target)
-  pub value_faults : (im : Image) (d : Bool) (m : Memory) → CanRun spot free (place_words target + words value) (read_of target) value m → (a code : ℕ) → place_address spot (bases_of m) m.cells target ≡ Ok a → number spot (bases_of m) m.cells value ≡ Err code → IsTrap im p d m code (place_steps target + fetch_steps value)
-  pub sharing_faults : (im : Image) (d : Bool) (m : Memory) → CanRun spot free (place_words target + words value) (read_of target) value m → (a v : ℕ) → place_address spot (bases_of m) m.cells target ≡ Ok a → number spot (bases_of m) m.cells value ≡ Ok v → update_shares spot (bases_of m) m.cells target value ≡ true → IsTrap im p d m shared_array_fault (found_value_steps target value)
+pub record ValueAroundLaw (spot : List ℕ → Spot) (free : ℕ) (target : Lvalue) (value : Expression)
+    (middle p : List Symbol) : Type 0 where
+  pub encloses : (im : Image) (d : Bool) (m : Memory)
+      → CanRun spot free (place_words target + words value) (read_of target) value m → (a v : ℕ)
+      → place_address spot (bases_of m) m.cells target ≡ Ok a → number spot (bases_of m) m.cells value ≡ Ok v
+      → update_shares spot (bases_of m) m.cells target value ≡ false
+      → Encloses im d m (free_at free m) (place_words target + words value) (found_value_steps target value) v a
+      0 (Stays spot (bases_of m) (free_at free m) target value m.cells) middle p
+  pub place_faults : (im : Image) (d : Bool) (m : Memory)
+      → CanRun spot free (place_words target + words value) (read_of target) value m → (code : ℕ)
+      → place_address spot (bases_of m) m.cells target ≡ Err code → IsTrap im p d m code (place_steps target)
+  pub value_faults : (im : Image) (d : Bool) (m : Memory)
+      → CanRun spot free (place_words target + words value) (read_of target) value m → (a code : ℕ)
+      → place_address spot (bases_of m) m.cells target ≡ Ok a
+      → number spot (bases_of m) m.cells value ≡ Err code
+      → IsTrap im p d m code (place_steps target + fetch_steps value)
+  pub sharing_faults : (im : Image) (d : Bool) (m : Memory)
+      → CanRun spot free (place_words target + words value) (read_of target) value m → (a v : ℕ)
+      → place_address spot (bases_of m) m.cells target ≡ Ok a → number spot (bases_of m) m.cells value ≡ Ok v
+      → update_shares spot (bases_of m) m.cells target value ≡ true
+      → IsTrap im p d m shared_array_fault (found_value_steps target value)
 
 -- after a change both places are where they were, and the second one still shares no array
-pub record PlacesStay (spot : List ℕ → Spot) (b : Bases) (low : ℕ) (source target : Lvalue) (cells cells' : List ℕ) : Type 0 where
+pub record PlacesStay (spot : List ℕ → Spot) (b : Bases) (low : ℕ) (source target : Lvalue)
+    (cells cells' : List ℕ) : Type 0 where
   pub source_sees : Sees spot b low cells' (read_of source)
   pub target_sees : Sees spot b low cells' (read_of target)
   pub source_same : SamePlace spot b cells cells' source
   pub target_same : SamePlace spot b cells cells' target
   pub apart : shares spot b cells' target (index_of source) (index_of target) ≡ false
 
--- a middle that reads one place and changes a second: the faults of the first, of the second, and that of a shared array
-pub record PlacesAroundLaw (spot : List ℕ → Spot) (free : ℕ) (source target : Lvalue) (middle p : List Symbol) : Type 0 where
-  pub encloses : (im : Image) (d : Bool) (m : Memory) → CanRun spot free (place_words source + place_words target) (read_of source) (read_of target) m → (a a' : ℕ) → place_address spot (bases_of m) m.cells source ≡ Ok a → place_address spot (bases_of m) m.cells target ≡ Ok a' → shares spot (bases_of m) m.cells target (index_of source) (index_of target) ≡ false
-      → Encloses im d m (free_at free m) (place_words source + place_words target) (found_places_steps source target) 0 a a' (PlacesStay spot (bases_of m) (free_at free m) source target m.cells) middle p
-  pub source_faults : (im : Image) (d : Bool) (m : Memory) → CanRun spot free (place_words source + place_words target) (read_of source) (read_of target) m → (code : ℕ) → place_address spot (bases_of m) m.cells source ≡ Err code → IsTrap im p d m code (place_steps source)
-  pub target_faults : (im : Image) (d : Bool) (m : Memory) → CanRun spot free (place_words source + place_words target) (read_of source) (read_of target) m → (a code : ℕ) → place_address spot (bases_of m) m.cells source ≡ Ok a → place_address spot (bases_of m) m.cells target ≡ Err code → IsTrap im p d m code (place_steps source + place_steps target)
-  pub sharing_faults : (im : Image) (d : Bool) (m : Memory) → CanRun spot free (place_words source + place_words target) (read_of source) (read_of target) m → (a a' : ℕ) → place_address spot (bases_of m) m.cells source ≡ Ok a → place_address spot (bases_of m) m.cells target ≡ Ok a' → shares spot (bases_of m) m.cells target (index_of source) (index_of target) ≡ true → IsTrap im p d m shared_array_fault (found_places_steps source target)
+-- a middle that reads one place and changes a second: the faults of the first, of the second, and that of a
+-- shared array
+pub record PlacesAroundLaw (spot : List ℕ → Spot) (free : ℕ) (source target : Lvalue)
+    (middle p : List Symbol) : Type 0 where
+  pub encloses : (im : Image) (d : Bool) (m : Memory)
+      → CanRun spot free (place_words source + place_words target) (read_of source) (read_of target) m
+      → (a a' : ℕ) → place_address spot (bases_of m) m.cells source ≡ Ok a
+      → place_address spot (bases_of m) m.cells target ≡ Ok a'
+      → shares spot (bases_of m) m.cells target (index_of source) (index_of target) ≡ false
+      → Encloses im d m (free_at free m) (place_words source + place_words target)
+      (found_places_steps source target) 0 a a'
+      (PlacesStay spot (bases_of m) (free_at free m) source target m.cells) middle p
+  pub source_faults : (im : Image) (d : Bool) (m : Memory)
+      → CanRun spot free (place_words source + place_words target) (read_of source) (read_of target) m
+      → (code : ℕ) → place_address spot (bases_of m) m.cells source ≡ Err code
+      → IsTrap im p d m code (place_steps source)
+  pub target_faults : (im : Image) (d : Bool) (m : Memory)
+      → CanRun spot free (place_words source + place_words target) (read_of source) (read_of target) m
+      → (a code : ℕ) → place_address spot (bases_of m) m.cells source ≡ Ok a
+      → place_address spot (bases_of m) m.cells target ≡ Err code
+      → IsTrap im p d m code (place_steps source + place_steps target)
+  pub sharing_faults : (im : Image) (d : Bool) (m : Memory)
+      → CanRun spot free (place_words source + place_words target) (read_of source) (read_of target) m
+      → (a a' : ℕ) → place_address spot (bases_of m) m.cells source ≡ Ok a
+      → place_address spot (bases_of m) m.cells target ≡ Ok a'
+      → shares spot (bases_of m) m.cells target (index_of source) (index_of target) ≡ true
+      → IsTrap im p d m shared_array_fault (found_places_steps source target)

@@ -1,4 +1,5 @@
--- What the code of `new` and `delete` does, by the memory alone, over any call of the allocator that takes a block and gives it back.
+-- What the code of `new` and `delete` does, by the memory alone, over any call of the allocator that takes a
+-- block and gives it back.
 use Rattle.std.specs.Prelude.{◌≡◌, ◌≢◌, ℕ, ◌+◌, ◌*◌, ◌^◌, ◌<◌, ◌≤◌, Bool, true, false, List, [], ◌∷◌, slice_index, slice_set, Ok, Err}
 use Rattle.rpp_words.specs.Words.{is_less}
 use Rattle.rpp_tree.specs.Tree.{Expression, Null, Lvalue}
@@ -24,7 +25,8 @@ use Rattle.object_codegen.specs.Code.{mark_fault, mark_of, size_of}
 
 -- ---- the allocator's call
 
--- all registers are 0 but these: the addresses of object and frame, a word, two more, the order, the block, the place, the length, and the length and the place as they were found
+-- all registers are 0 but these: the addresses of object and frame, a word, two more, the order, the block, the
+-- place, the length, and the length and the place as they were found
 abbrev pub room : (object frame c u w order block p v a q : ℕ) → List ℕ → Memory
 room object frame c u w order block p v a q cells = record {
   regs = 0 ∷ 0 ∷ 0 ∷ object ∷ frame ∷ 0 ∷ c ∷ 0 ∷ u ∷ w ∷ 0 ∷ 0 ∷ order ∷ block ∷ p ∷ v ∷ 0 ∷ 0 ∷ 0 ∷ a ∷ q ∷ 0 ∷ 0 ∷ 0 ∷ 0 ∷ 0 ∷ 0 ∷ 0 ∷ 0 ∷ 0 ∷ 0 ∷ 0 ∷ [];
@@ -40,22 +42,29 @@ abbrev pub moved_length : ℕ → Shape → ℕ
 moved_length v (Fixed table fields) = 0
 moved_length v Lengthy = v
 
--- the memory of a call: the order and the block in their registers, the place and the length out of the allocator's way
+-- the memory of a call: the order and the block in their registers, the place and the length out of the
+-- allocator's way
 abbrev pub calling : (object frame order block p v : ℕ) → Shape → List ℕ → Memory
-calling object frame order block p v shape cells = room object frame 0 0 0 order block p (moved_length v shape) (left_length v shape) 0 cells
+calling object frame order block p v shape cells = room object frame 0 0 0 order block p (moved_length v shape)
+    (left_length v shape) 0 cells
 
--- over any filled words of the frame, the allocator called with this order takes the block x, and back it gives it: the cells
--- before, and those with the block taken
-pub record Allocates (im : Image) (object frame order x p v : ℕ) (shape : Shape) (low n least most : ℕ) (cells taken : List ℕ) : Type 0 where
+-- over any filled words of the frame, the allocator called with this order takes the block x, and back it gives
+-- it: the cells before, and those with the block taken
+pub record Allocates (im : Image) (object frame order x p v : ℕ) (shape : Shape) (low n least most : ℕ)
+    (cells taken : List ℕ) : Type 0 where
   pub takes : (ys zs : List ℕ) → Filled low n cells ys → Filled low n taken zs → Changes low ys zs
-      → Will im (Enter 0 false ∷ []) false (calling object frame order 0 p v shape ys) (LeavesWithin (calling object frame order x p v shape zs) least most)
+      → Will im (Enter 0 false ∷ []) false (calling object frame order 0 p v shape ys)
+      (LeavesWithin (calling object frame order x p v shape zs) least most)
   pub gives : (ys zs : List ℕ) → Filled low n cells ys → Filled low n taken zs → Changes low ys zs
-      → Will im (Enter 0 false ∷ []) true (calling object frame order x p v shape zs) (LeavesWithin (calling object frame order 0 p v shape ys) least most)
+      → Will im (Enter 0 false ∷ []) true (calling object frame order x p v shape zs)
+      (LeavesWithin (calling object frame order 0 p v shape ys) least most)
 
 -- or it has no block
-pub record Lacks (im : Image) (object frame order p v : ℕ) (shape : Shape) (low n most : ℕ) (cells : List ℕ) : Type 0 where
+pub record Lacks (im : Image) (object frame order p v : ℕ) (shape : Shape) (low n most : ℕ)
+    (cells : List ℕ) : Type 0 where
   pub lacks : (ys : List ℕ) → Filled low n cells ys
-      → Will im (Enter 0 false ∷ []) false (calling object frame order 0 p v shape ys) (TrapsWithin heap_full_fault most)
+      → Will im (Enter 0 false ∷ []) false (calling object frame order 0 p v shape ys)
+      (TrapsWithin heap_full_fault most)
 
 -- ---- the cells
 
@@ -101,42 +110,97 @@ order_steps Lengthy = 43
 
 -- the middle, with so many cells, where the allocator makes t steps
 abbrev pub middle_steps : Shape → (size t : ℕ) → ℕ
-middle_steps shape size t = check_steps shape + (((move_steps shape + order_steps shape) + ((t + 7) + (move_steps shape + order_steps shape))) + (51 + 15 * size))
+middle_steps shape size t = check_steps shape +
+    (((move_steps shape + order_steps shape) + ((t + 7) + (move_steps shape + order_steps shape))) + (51 + 15 * size))
+
+-- and with what finds the place, in so many steps there and back
+abbrev pub whole_steps : (steps : ℕ) → Shape → (size t : ℕ) → ℕ
+whole_steps steps shape size t = steps + (middle_steps shape size t + steps)
 
 -- ---- the laws
 
--- p finds the place at a, and the length v, in so many steps. Along, a new: fault 4 where the place is not nil, and 8 where there
--- is no block. Back, a delete: fault 5 where the place is nil; 11 or 12 where the first word is another; 6 where the count is not
--- 1; 7 where a cell is not 0. `Kept` says that the same is found in the changed cells.
-pub record Makes (im : Image) (m : Memory) (object frame low n steps a v order : ℕ) (shape : Shape) (Kept : List ℕ → Type 0) (p : List Symbol) : Type 0 where
-  pub news : (x least most : ℕ) (taken : List ℕ) → IsLength v shape → Takes low (size_of v shape) a x m.cells taken → Allocates im object frame order x a v shape low n least most m.cells taken → Kept (filled a x (mark_of v shape) taken)
-      → Will im p false m (LeavesWithin (record m { cells = filled a x (mark_of v shape) taken }) (steps + (middle_steps shape (size_of v shape) least + steps)) (steps + (middle_steps shape (size_of v shape) most + steps)))
-  pub deletes : (x least most : ℕ) (given taken : List ℕ) → IsLength v shape → m.cells ≡ filled a x (mark_of v shape) taken → Takes low (size_of v shape) a x given taken → Allocates im object frame order x a v shape low n least most given taken → Kept given → Changes low m.cells given
-      → Will im p true m (LeavesWithin (record m { cells = given }) (steps + (middle_steps shape (size_of v shape) least + steps)) (steps + (middle_steps shape (size_of v shape) most + steps)))
+-- p finds the place at a, and the length v, in so many steps. Along, a new: fault 4 where the place is not nil,
+-- and 8 where there is no block. Back, a delete: fault 5 where the place is nil; 11 or 12 where the first word
+-- is another; 6 where the count is not 1; 7 where a cell is not 0. `Kept` says that the same is found in the
+-- changed cells.
+pub record Makes (im : Image) (m : Memory) (object frame low n steps a v order : ℕ) (shape : Shape)
+    (Kept : List ℕ → Type 0) (p : List Symbol) : Type 0 where
+  pub news : (x least most : ℕ) (taken : List ℕ) → IsLength v shape
+      → Takes low (size_of v shape) a x m.cells taken
+      → Allocates im object frame order x a v shape low n least most m.cells taken
+      → Kept (filled a x (mark_of v shape) taken)
+      → Will im p false m
+      (LeavesWithin (record m { cells = filled a x (mark_of v shape) taken })
+      (whole_steps steps shape (size_of v shape) least) (whole_steps steps shape (size_of v shape) most))
+  pub deletes : (x least most : ℕ) (given taken : List ℕ) → IsLength v shape
+      → m.cells ≡ filled a x (mark_of v shape) taken → Takes low (size_of v shape) a x given taken
+      → Allocates im object frame order x a v shape low n least most given taken → Kept given
+      → Changes low m.cells given
+      → Will im p true m
+      (LeavesWithin (record m { cells = given })
+      (whole_steps steps shape (size_of v shape) least) (whole_steps steps shape (size_of v shape) most))
   pub not_nil_faults : slice_index m.cells a ≢ 0 → Will im p false m (TrapsWithin not_nil_fault (steps + 5))
-  pub full_faults : (most : ℕ) → IsLength v shape → slice_index m.cells a ≡ 0 → Lacks im object frame order a v shape low n most m.cells
-      → Will im p false m (TrapsWithin heap_full_fault (steps + (check_steps shape + ((move_steps shape + order_steps shape) + most))))
+  pub full_faults : (most : ℕ) → IsLength v shape → slice_index m.cells a ≡ 0
+      → Lacks im object frame order a v shape low n most m.cells
+      → Will im p false m
+      (TrapsWithin heap_full_fault (steps + (check_steps shape + ((move_steps shape + order_steps shape) + most))))
   pub nil_faults : slice_index m.cells a ≡ 0 → Will im p true m (TrapsWithin nil_fault (steps + 9))
-  pub other_faults : (x : ℕ) → slice_index m.cells a ≡ x → x < low → x < 2 ^ 31 → x ≢ 0 → slice_index m.cells x ≢ mark_of v shape
+  pub other_faults : (x : ℕ) → slice_index m.cells a ≡ x → x < low → x < 2 ^ 31 → x ≢ 0
+      → slice_index m.cells x ≢ mark_of v shape
       → Will im p true m (TrapsWithin (mark_fault shape) (steps + 17))
-  pub count_faults : (x : ℕ) → slice_index m.cells a ≡ x → x + 1 < low → x < 2 ^ 31 → x ≢ 0 → slice_index m.cells x ≡ mark_of v shape → slice_index m.cells (x + 1) ≢ 1
+  pub count_faults : (x : ℕ) → slice_index m.cells a ≡ x → x + 1 < low → x < 2 ^ 31 → x ≢ 0
+      → slice_index m.cells x ≡ mark_of v shape → slice_index m.cells (x + 1) ≢ 1
       → Will im p true m (TrapsWithin count_fault (steps + 26))
-  pub not_empty_faults : (x i : ℕ) → slice_index m.cells a ≡ x → x + 2 + size_of v shape ≤ low → x + 2 + size_of v shape < 2 ^ 31 → x ≢ 0 → slice_index m.cells x ≡ mark_of v shape → slice_index m.cells (x + 1) ≡ 1 → x + 2 ≤ i → i < x + 2 + size_of v shape → slice_index m.cells i ≢ 0
+  pub not_empty_faults : (x i : ℕ) → slice_index m.cells a ≡ x → x + 2 + size_of v shape ≤ low
+      → x + 2 + size_of v shape < 2 ^ 31 → x ≢ 0 → slice_index m.cells x ≡ mark_of v shape
+      → slice_index m.cells (x + 1) ≡ 1 → x + 2 ≤ i → i < x + 2 + size_of v shape → slice_index m.cells i ≢ 0
       → Will im p true m (TrapsWithin not_empty_fault (steps + (37 + 15 * size_of v shape)))
 
 -- a new and a delete of an object with a class's table and so many fields, in a block of this order
-pub record ObjectLaw (spot : List ℕ → Spot) (free table fields order : ℕ) (target : Lvalue) (p : List Symbol) : Type 0 where
-  pub makes : (im : Image) (m : Memory) (object frame a : ℕ) → m.regs ≡ registers 0 object frame 0 0 0 0 0 → CanRun spot free (place_words target) (read_of target) (Null 0) m → place_address spot (bases_of m) m.cells target ≡ Ok a → update_shares spot (bases_of m) m.cells target (Null 0) ≡ false
-      → Makes im m object frame (free_at free m) (place_words target) (found_place_steps target) a 0 order (Fixed table fields) (Stays spot (bases_of m) (free_at free m) target (Null 0) m.cells) p
-  pub place_faults : (im : Image) (d : Bool) (m : Memory) → CanRun spot free (place_words target) (read_of target) (Null 0) m → (code : ℕ) → place_address spot (bases_of m) m.cells target ≡ Err code → IsTrap im p d m code (place_steps target)
-  pub sharing_faults : (im : Image) (d : Bool) (m : Memory) → CanRun spot free (place_words target) (read_of target) (Null 0) m → (a : ℕ) → place_address spot (bases_of m) m.cells target ≡ Ok a → update_shares spot (bases_of m) m.cells target (Null 0) ≡ true → IsTrap im p d m shared_array_fault (found_place_steps target)
+pub record ObjectLaw (spot : List ℕ → Spot) (free table fields order : ℕ) (target : Lvalue)
+    (p : List Symbol) : Type 0 where
+  pub makes : (im : Image) (m : Memory) (object frame a : ℕ) → m.regs ≡ registers 0 object frame 0 0 0 0 0
+      → CanRun spot free (place_words target) (read_of target) (Null 0) m
+      → place_address spot (bases_of m) m.cells target ≡ Ok a
+      → update_shares spot (bases_of m) m.cells target (Null 0) ≡ false
+      → Makes im m object frame (free_at free m) (place_words target) (found_place_steps target) a 0 order
+      (Fixed table fields) (Stays spot (bases_of m) (free_at free m) target (Null 0) m.cells) p
+  pub place_faults : (im : Image) (d : Bool) (m : Memory)
+      → CanRun spot free (place_words target) (read_of target) (Null 0) m → (code : ℕ)
+      → place_address spot (bases_of m) m.cells target ≡ Err code → IsTrap im p d m code (place_steps target)
+  pub sharing_faults : (im : Image) (d : Bool) (m : Memory)
+      → CanRun spot free (place_words target) (read_of target) (Null 0) m → (a : ℕ)
+      → place_address spot (bases_of m) m.cells target ≡ Ok a
+      → update_shares spot (bases_of m) m.cells target (Null 0) ≡ true
+      → IsTrap im p d m shared_array_fault (found_place_steps target)
 
--- the same of an array, with a length: its fault comes after the place's, and along 13 after 4 where it is not above 0
-pub record ArrayLaw (spot : List ℕ → Spot) (free : ℕ) (target : Lvalue) (size : Expression) (p : List Symbol) : Type 0 where
-  pub makes : (im : Image) (m : Memory) (object frame a v : ℕ) → m.regs ≡ registers 0 object frame 0 0 0 0 0 → CanRun spot free (place_words target + words size) (read_of target) size m → place_address spot (bases_of m) m.cells target ≡ Ok a → number spot (bases_of m) m.cells size ≡ Ok v → update_shares spot (bases_of m) m.cells target size ≡ false
-      → Makes im m object frame (free_at free m) (place_words target + words size) (found_value_steps target size) a v (order_for (2 + v)) Lengthy (Stays spot (bases_of m) (free_at free m) target size m.cells) p
-  pub length_faults : (im : Image) (m : Memory) (object frame a v : ℕ) → m.regs ≡ registers 0 object frame 0 0 0 0 0 → CanRun spot free (place_words target + words size) (read_of target) size m → place_address spot (bases_of m) m.cells target ≡ Ok a → number spot (bases_of m) m.cells size ≡ Ok v → update_shares spot (bases_of m) m.cells target size ≡ false → slice_index m.cells a ≡ 0 → is_less 0 v ≡ false
+-- the same of an array, with a length: its fault comes after the place's, and along 13 after 4 where it is not
+-- above 0
+pub record ArrayLaw (spot : List ℕ → Spot) (free : ℕ) (target : Lvalue) (size : Expression)
+    (p : List Symbol) : Type 0 where
+  pub makes : (im : Image) (m : Memory) (object frame a v : ℕ) → m.regs ≡ registers 0 object frame 0 0 0 0 0
+      → CanRun spot free (place_words target + words size) (read_of target) size m
+      → place_address spot (bases_of m) m.cells target ≡ Ok a → number spot (bases_of m) m.cells size ≡ Ok v
+      → update_shares spot (bases_of m) m.cells target size ≡ false
+      → Makes im m object frame (free_at free m) (place_words target + words size)
+      (found_value_steps target size) a v (order_for (2 + v)) Lengthy
+      (Stays spot (bases_of m) (free_at free m) target size m.cells) p
+  pub length_faults : (im : Image) (m : Memory) (object frame a v : ℕ)
+      → m.regs ≡ registers 0 object frame 0 0 0 0 0
+      → CanRun spot free (place_words target + words size) (read_of target) size m
+      → place_address spot (bases_of m) m.cells target ≡ Ok a → number spot (bases_of m) m.cells size ≡ Ok v
+      → update_shares spot (bases_of m) m.cells target size ≡ false → slice_index m.cells a ≡ 0
+      → is_less 0 v ≡ false
       → Will im p false m (TrapsWithin length_fault (found_value_steps target size + 12))
-  pub place_faults : (im : Image) (d : Bool) (m : Memory) → CanRun spot free (place_words target + words size) (read_of target) size m → (code : ℕ) → place_address spot (bases_of m) m.cells target ≡ Err code → IsTrap im p d m code (place_steps target)
-  pub length_value_faults : (im : Image) (d : Bool) (m : Memory) → CanRun spot free (place_words target + words size) (read_of target) size m → (a code : ℕ) → place_address spot (bases_of m) m.cells target ≡ Ok a → number spot (bases_of m) m.cells size ≡ Err code → IsTrap im p d m code (place_steps target + fetch_steps size)
-  pub sharing_faults : (im : Image) (d : Bool) (m : Memory) → CanRun spot free (place_words target + words size) (read_of target) size m → (a v : ℕ) → place_address spot (bases_of m) m.cells target ≡ Ok a → number spot (bases_of m) m.cells size ≡ Ok v → update_shares spot (bases_of m) m.cells target size ≡ true → IsTrap im p d m shared_array_fault (found_value_steps target size)
+  pub place_faults : (im : Image) (d : Bool) (m : Memory)
+      → CanRun spot free (place_words target + words size) (read_of target) size m → (code : ℕ)
+      → place_address spot (bases_of m) m.cells target ≡ Err code → IsTrap im p d m code (place_steps target)
+  pub length_value_faults : (im : Image) (d : Bool) (m : Memory)
+      → CanRun spot free (place_words target + words size) (read_of target) size m → (a code : ℕ)
+      → place_address spot (bases_of m) m.cells target ≡ Ok a → number spot (bases_of m) m.cells size ≡ Err code
+      → IsTrap im p d m code (place_steps target + fetch_steps size)
+  pub sharing_faults : (im : Image) (d : Bool) (m : Memory)
+      → CanRun spot free (place_words target + words size) (read_of target) size m → (a v : ℕ)
+      → place_address spot (bases_of m) m.cells target ≡ Ok a → number spot (bases_of m) m.cells size ≡ Ok v
+      → update_shares spot (bases_of m) m.cells target size ≡ true
+      → IsTrap im p d m shared_array_fault (found_value_steps target size)

@@ -57,7 +57,8 @@ pub record Shares (low p q x c : ℕ) (cells : List ℕ) : Type 0 where
   pub q_apart : q ≢ x + 1
 
 -- both places are found, and the second one shares no array
-pub record Places (spot : List ℕ → Spot) (free : ℕ) (source target : Lvalue) (m : Memory) (a a' : ℕ) : Type 0 where
+pub record Places (spot : List ℕ → Spot) (free : ℕ) (source target : Lvalue) (m : Memory)
+    (a a' : ℕ) : Type 0 where
   pub can : CanRun spot free (place_words source + place_words target) (read_of source) (read_of target) m
   pub source_at : place_address spot (bases_of m) m.cells source ≡ Ok a
   pub target_at : place_address spot (bases_of m) m.cells target ≡ Ok a'
@@ -67,25 +68,46 @@ pub record Places (spot : List ℕ → Spot) (free : ℕ) (source target : Lvalu
 abbrev pub copy_steps : (source target : Lvalue) → ℕ
 copy_steps source target = found_places_steps source target + (66 + found_places_steps source target)
 
--- run along a copy: the second place refers to what the first one refers to, and its count grows; run back the inverse. The
--- faults of the places come first, in both directions; then nil in the first place, and what the second one has to be.
+-- run along a copy: the second place refers to what the first one refers to, and its count grows; run back the
+-- inverse. The faults of the places come first, in both directions; then nil in the first place, and what the
+-- second one has to be.
 pub record CopyLaw (spot : List ℕ → Spot) (free : ℕ) (source target : Lvalue) (p : List Symbol) : Type 0 where
   pub copies : (im : Image) (m : Memory) (a a' x c : ℕ) → Places spot free source target m a a'
       → Copies (free_at free m) a a' x c m.cells
       → PlacesStay spot (bases_of m) (free_at free m) source target m.cells (referring a' x (c + 1) m.cells)
-      → Will im p false m (LeavesWithin (record m { cells = referring a' x (c + 1) m.cells }) (copy_steps source target) (copy_steps source target))
+      → Will im p false m
+      (LeavesWithin (record m { cells = referring a' x (c + 1) m.cells })
+      (copy_steps source target) (copy_steps source target))
   pub uncopies : (im : Image) (m : Memory) (a a' x c : ℕ) → Places spot free source target m a a'
       → Shares (free_at free m) a a' x c m.cells
       → PlacesStay spot (bases_of m) (free_at free m) source target m.cells (unreferring a' x c m.cells)
-      → Will im p true m (LeavesWithin (record m { cells = unreferring a' x c m.cells }) (copy_steps source target) (copy_steps source target))
-  pub source_faults : (im : Image) (d : Bool) (m : Memory) → CanRun spot free (place_words source + place_words target) (read_of source) (read_of target) m → (code : ℕ) → place_address spot (bases_of m) m.cells source ≡ Err code → IsTrap im p d m code (place_steps source)
-  pub target_faults : (im : Image) (d : Bool) (m : Memory) → CanRun spot free (place_words source + place_words target) (read_of source) (read_of target) m → (a code : ℕ) → place_address spot (bases_of m) m.cells source ≡ Ok a → place_address spot (bases_of m) m.cells target ≡ Err code → IsTrap im p d m code (place_steps source + place_steps target)
-  pub sharing_faults : (im : Image) (d : Bool) (m : Memory) → CanRun spot free (place_words source + place_words target) (read_of source) (read_of target) m → (a a' : ℕ) → place_address spot (bases_of m) m.cells source ≡ Ok a → place_address spot (bases_of m) m.cells target ≡ Ok a' → shares spot (bases_of m) m.cells target (index_of source) (index_of target) ≡ true → IsTrap im p d m shared_array_fault (found_places_steps source target)
-  pub nil_faults : (im : Image) (d : Bool) (m : Memory) (a a' : ℕ) → Places spot free source target m a a' → slice_index m.cells a ≡ 0
+      → Will im p true m
+      (LeavesWithin (record m { cells = unreferring a' x c m.cells })
+      (copy_steps source target) (copy_steps source target))
+  pub source_faults : (im : Image) (d : Bool) (m : Memory)
+      → CanRun spot free (place_words source + place_words target) (read_of source) (read_of target) m
+      → (code : ℕ) → place_address spot (bases_of m) m.cells source ≡ Err code
+      → IsTrap im p d m code (place_steps source)
+  pub target_faults : (im : Image) (d : Bool) (m : Memory)
+      → CanRun spot free (place_words source + place_words target) (read_of source) (read_of target) m
+      → (a code : ℕ) → place_address spot (bases_of m) m.cells source ≡ Ok a
+      → place_address spot (bases_of m) m.cells target ≡ Err code
+      → IsTrap im p d m code (place_steps source + place_steps target)
+  pub sharing_faults : (im : Image) (d : Bool) (m : Memory)
+      → CanRun spot free (place_words source + place_words target) (read_of source) (read_of target) m
+      → (a a' : ℕ) → place_address spot (bases_of m) m.cells source ≡ Ok a
+      → place_address spot (bases_of m) m.cells target ≡ Ok a'
+      → shares spot (bases_of m) m.cells target (index_of source) (index_of target) ≡ true
+      → IsTrap im p d m shared_array_fault (found_places_steps source target)
+  pub nil_faults : (im : Image) (d : Bool) (m : Memory) (a a' : ℕ) → Places spot free source target m a a'
+      → slice_index m.cells a ≡ 0
       → Will im p d m (TrapsWithin nil_fault (found_places_steps source target + 7))
-  pub not_nil_faults : (im : Image) (m : Memory) (a a' x : ℕ) → Places spot free source target m a a' → slice_index m.cells a ≡ x → x < 2 ^ 31 → x ≢ 0 → slice_index m.cells a' ≢ 0
+  pub not_nil_faults : (im : Image) (m : Memory) (a a' x : ℕ) → Places spot free source target m a a'
+      → slice_index m.cells a ≡ x → x < 2 ^ 31 → x ≢ 0 → slice_index m.cells a' ≢ 0
       → Will im p false m (TrapsWithin not_nil_fault (found_places_steps source target + 15))
-  pub not_same_faults : (im : Image) (m : Memory) (a a' x y : ℕ) → Places spot free source target m a a' → slice_index m.cells a ≡ x → slice_index m.cells a' ≡ y → x < 2 ^ 31 → x ≢ 0 → x ≢ y
+  pub not_same_faults : (im : Image) (m : Memory) (a a' x y : ℕ) → Places spot free source target m a a'
+      → slice_index m.cells a ≡ x → slice_index m.cells a' ≡ y → x < 2 ^ 31 → x ≢ 0 → x ≢ y
       → Will im p true m (TrapsWithin not_same_fault (found_places_steps source target + 20))
-  pub one_place_faults : (im : Image) (m : Memory) (a x : ℕ) → Places spot free source target m a a → slice_index m.cells a ≡ x → x < 2 ^ 31 → x ≢ 0
+  pub one_place_faults : (im : Image) (m : Memory) (a x : ℕ) → Places spot free source target m a a
+      → slice_index m.cells a ≡ x → x < 2 ^ 31 → x ≢ 0
       → Will im p true m (TrapsWithin not_same_fault (found_places_steps source target + 33))
