@@ -29,8 +29,8 @@ pub fn place_around(
     requires room { words_of_place (lvalue_of place.now) ≤ 1000 }
     requires marks { middle.marks ≡ [] }
     ensures law { IfOk result (λ p.
-        PlaceAroundLaw (spot_of (known_in scope.now)) (free_of (known_in scope.now)) (lvalue_of place.now)
-        middle.cells p.cells) }
+        PlaceAroundLaw (spot_of (known_in scope.now)) (free_of (known_in scope.now))
+        (lvalue_of place.now) middle.cells p.cells) }
     ensures marks { IfOk result (λ p. p.marks ≡ []) }
     ensures steps { 2 * found_place_steps (lvalue_of place.now) ≤ 162 *
         (1 + index_nodes (lvalue_of place.now) + read_cost (own_element (lvalue_of place.now))
@@ -51,18 +51,20 @@ pub fn place_and_value_around(
     scope: &Scope,
     middle: Piece,
 ) -> Result<Piece, NoMemory>
-    requires room { words_of_place (lvalue_of place.now) + words_of (expression_of value.now) ≤ 1000 }
+    requires room { words_of_place (lvalue_of place.now) + words_of (expression_of value.now) ≤
+        1000 }
     requires marks { middle.marks ≡ [] }
     ensures law { IfOk result (λ p.
-        ValueAroundLaw (spot_of (known_in scope.now)) (free_of (known_in scope.now)) (lvalue_of place.now) (expression_of value.now)
-        middle.cells p.cells) }
+        ValueAroundLaw (spot_of (known_in scope.now)) (free_of (known_in scope.now))
+        (lvalue_of place.now) (expression_of value.now) middle.cells p.cells) }
     ensures marks { IfOk result (λ p. p.marks ≡ []) }
     ensures steps { 2 * found_value_steps (lvalue_of place.now) (expression_of value.now) ≤ 162 *
         (1 + index_nodes (lvalue_of place.now) + nodes (expression_of value.now) + read_cost
         (own_element (lvalue_of place.now))
         (index_elements (lvalue_of place.now) ++ elements (expression_of value.now))) }
     ensures size { IfOk result (λ p.
-        length p.cells ≤ length middle.cells + 80 * (place_tokens (lvalue_of place.now) + tokens (expression_of value.now))) }
+        length p.cells ≤ length middle.cells + 80 *
+        (place_tokens (lvalue_of place.now) + tokens (expression_of value.now))) }
 {
     let names = scope.names();
     around_value(alloc, place, value, &names, middle)
@@ -78,18 +80,20 @@ pub fn places_around(
     scope: &Scope,
     middle: Piece,
 ) -> Result<Piece, NoMemory>
-    requires room { words_of_place (lvalue_of source.now) + words_of_place (lvalue_of target.now) ≤ 1000 }
+    requires room { words_of_place (lvalue_of source.now) + words_of_place (lvalue_of target.now) ≤
+        1000 }
     requires marks { middle.marks ≡ [] }
     ensures law { IfOk result (λ p.
-        PlacesAroundLaw (spot_of (known_in scope.now)) (free_of (known_in scope.now)) (lvalue_of source.now) (lvalue_of target.now)
-        middle.cells p.cells) }
+        PlacesAroundLaw (spot_of (known_in scope.now)) (free_of (known_in scope.now))
+        (lvalue_of source.now) (lvalue_of target.now) middle.cells p.cells) }
     ensures marks { IfOk result (λ p. p.marks ≡ []) }
     ensures steps { 2 * found_places_steps (lvalue_of source.now) (lvalue_of target.now) ≤ 304 *
         (1 + index_nodes (lvalue_of source.now) + index_nodes (lvalue_of target.now) + read_cost
         (own_element (lvalue_of target.now))
         (index_elements (lvalue_of source.now) ++ index_elements (lvalue_of target.now))) }
     ensures size { IfOk result (λ p.
-        length p.cells ≤ length middle.cells + 80 * (place_tokens (lvalue_of source.now) + place_tokens (lvalue_of target.now))) }
+        length p.cells ≤ length middle.cells + 80 *
+        (place_tokens (lvalue_of source.now) + place_tokens (lvalue_of target.now))) }
 {
     let names = scope.names();
     around_places(alloc, source, target, &names, middle)

@@ -25,8 +25,8 @@ pub fn around_place(
     requires room { words_of_place (lvalue_of place.now) ≤ 1000 }
     requires marks { middle.marks ≡ [] }
     ensures law { IfOk result (λ p.
-        PlaceAroundLaw (spot_of_name (known_by names.now)) (free_of (known_by names.now)) (lvalue_of place.now)
-        middle.cells p.cells) }
+        PlaceAroundLaw (spot_of_name (known_by names.now)) (free_of (known_by names.now))
+        (lvalue_of place.now) middle.cells p.cells) }
     ensures code { IfOk result (λ p.
         p ≡ unmarked (around (found_place_cells (spot_of_name (known_by names.now))
         (free_of (known_by names.now)) (lvalue_of place.now)) middle.cells)) }
@@ -48,13 +48,14 @@ pub fn around_value(
     requires room { words_of_place (lvalue_of place.now) + words_of (expression_of value.now) ≤ 1000 }
     requires marks { middle.marks ≡ [] }
     ensures law { IfOk result (λ p.
-        ValueAroundLaw (spot_of_name (known_by names.now)) (free_of (known_by names.now)) (lvalue_of place.now) (expression_of value.now)
-        middle.cells p.cells) }
+        ValueAroundLaw (spot_of_name (known_by names.now)) (free_of (known_by names.now))
+        (lvalue_of place.now) (expression_of value.now) middle.cells p.cells) }
     ensures code { IfOk result (λ p.
         p ≡ unmarked (around (found_value_cells (spot_of_name (known_by names.now))
         (free_of (known_by names.now)) (lvalue_of place.now) (expression_of value.now)) middle.cells)) }
     ensures size { IfOk result (λ p.
-        length p.cells ≤ length middle.cells + 80 * (place_tokens (lvalue_of place.now) + tokens (expression_of value.now))) }
+        length p.cells ≤ length middle.cells + 80 *
+        (place_tokens (lvalue_of place.now) + tokens (expression_of value.now))) }
 {
     let outer = found_value(alloc, place, value, names)?;
     enclosed(alloc, outer, middle)
@@ -68,16 +69,18 @@ pub fn around_places(
     names: &Names,
     middle: Piece,
 ) -> Result<Piece, NoMemory>
-    requires room { words_of_place (lvalue_of source.now) + words_of_place (lvalue_of target.now) ≤ 1000 }
+    requires room { words_of_place (lvalue_of source.now) + words_of_place (lvalue_of target.now) ≤
+        1000 }
     requires marks { middle.marks ≡ [] }
     ensures law { IfOk result (λ p.
-        PlacesAroundLaw (spot_of_name (known_by names.now)) (free_of (known_by names.now)) (lvalue_of source.now) (lvalue_of target.now)
-        middle.cells p.cells) }
+        PlacesAroundLaw (spot_of_name (known_by names.now)) (free_of (known_by names.now))
+        (lvalue_of source.now) (lvalue_of target.now) middle.cells p.cells) }
     ensures code { IfOk result (λ p.
         p ≡ unmarked (around (found_places_cells (spot_of_name (known_by names.now))
         (free_of (known_by names.now)) (lvalue_of source.now) (lvalue_of target.now)) middle.cells)) }
     ensures size { IfOk result (λ p.
-        length p.cells ≤ length middle.cells + 80 * (place_tokens (lvalue_of source.now) + place_tokens (lvalue_of target.now))) }
+        length p.cells ≤ length middle.cells + 80 *
+        (place_tokens (lvalue_of source.now) + place_tokens (lvalue_of target.now))) }
 {
     let outer = found_places(alloc, source, target, names)?;
     enclosed(alloc, outer, middle)
