@@ -4,12 +4,14 @@ use Rattle.std.specs.Prelude.{slice_index, nat_eq, not, ◌||◌, Result, Ok, Er
 use Rattle.std.proofs.Math.Nat.{mul-le-mul_right}
 use Rattle.std.proofs.lemmas.Bool.Decides.{nat_tests}
 use Rattle.rpp_tree.specs.declared.tree.VarType.{VarType}
-use Rattle.rpp_tree.specs.Tree.{Lvalue, Whole, Item, Source, Copy, index_nodes}
+use Rattle.rpp_tree.specs.Tree.{Lvalue, Whole, Item, Source, Copy, Uncopy, index_nodes}
 use Rattle.paired_code.specs.declared.part.Symbol.{Symbol}
 use Rattle.paired_code.specs.Machine.{Memory, Image}
+use Rattle.paired_code.specs.Layout.{mirror_cells}
 use Rattle.paired_code.specs.Pieces.{Outcome, Will}
 use Rattle.paired_code.specs.Does.{Rates, Fine, Fault, Meets, fine, faults, Does}
 use Rattle.paired_code.proofs.Laws.{will_of, will_more}
+use Rattle.paired_code.proofs.Mirrored.{will_mirror}
 use Rattle.roopl_semantics.specs.Run.{Run, after_cost, given, give, spend, fault_if, ◌>>=◌}
 use Rattle.roopl_semantics.specs.Store.{Value, Word, Nil, Name, State, number_of, is_nil, same_value, object_at}
 use Rattle.roopl_semantics.specs.Value.{Cell, Slot, Part, read, written, cell_of, nil_fault}
@@ -303,4 +305,14 @@ module _ (setting : Setting) (address slot : State → ℕ → ℕ) (R : State �
     pub copy_does : (d : Bool) (here n : ℕ) (kind : VarType) (run : Runner) → Does im p d R R rates n0 0 (λ st. told (after_cost 1 (statement setting n run (facing d (Copy here kind source target)) st)))
     copy_does d here n kind run = record {
       does = λ st m h. subst (λ r. Will im p d m (Meets R rates n0 0 (told r))) (sym (copy_is d here n kind run st)) (pair_meets d st m h (cell_of setting.program st source) (cell_of setting.program st target) refl refl);
+    }
+
+    uncopy_is : (d : Bool) (here : ℕ) (kind : VarType) → facing d (Uncopy here kind source target) ≡ facing (not d) (Copy here kind source target)
+    uncopy_is false here kind = refl
+    uncopy_is true here kind = refl
+
+    -- and its mirror that of an uncopy
+    pub uncopy_does : (d : Bool) (here n : ℕ) (kind : VarType) (run : Runner) → Does im (mirror_cells p) d R R rates n0 0 (λ st. told (after_cost 1 (statement setting n run (facing d (Uncopy here kind source target)) st)))
+    uncopy_does d here n kind run = record {
+      does = λ st m h. will_mirror im p d m _ (subst (λ s. Will im p (not d) m (Meets R rates n0 0 (told (after_cost 1 (statement setting n run s st))))) (sym (uncopy_is d here kind)) ((copy_does (not d) here n kind run).does st m h));
     }
