@@ -57,6 +57,7 @@ module _ (setting : Setting) (rest : Statements) where
   pub joined_fails : (body : Statements) (n fuel left : ℕ) (st : State) (why : Stop) → fuel ≤ n → Failed why left (metered fuel (exec setting n body st)) → Failed why left (metered fuel (exec setting n (joined body rest) st))
   joined_fails body n fuel left st (stop.Fault code) h e = joined_runs body n fuel st h ∙ ap after_body e
   joined_fails body n fuel left st stop.More h e = joined_runs body n fuel st h ∙ ap after_body e
+  joined_fails body n fuel left st stop.Arrived h e = tt
   joined_fails body n fuel left st stop.NoMemory h e = tt
 
 -- ---- the last statement of a block
@@ -82,9 +83,11 @@ nil_goes program at fuel left st e = nil_by (left_of fuel 1) left e
 nil_not : (o : Option ℕ) (left : ℕ) (why : Stop) → Failed why left (went {A = Unit {0}} tt o) → Failed why left (went Nil o)
 nil_not None left (stop.Fault code) e = cc
 nil_not None left stop.More e = refl
+nil_not None left stop.Arrived e = tt
 nil_not None left stop.NoMemory e = tt
 nil_not (Some k) left (stop.Fault code) e = cc
 nil_not (Some k) left stop.More e = cc
+nil_not (Some k) left stop.Arrived e = tt
 nil_not (Some k) left stop.NoMemory e = tt
 
 pub nil_fails : (program : Source) (at fuel left : ℕ) (st : State) (why : Stop) → Failed why left (metered fuel (spend 1)) → Failed why left (metered fuel (evaluated program (Null at) st))

@@ -3,3 +3,8 @@ pub mod Turns
 pub mod Inside
 pub mod Called
 pub mod Dispatched
+pub mod Telling
+pub mod JoinedPoints
+pub mod TurnsTold
+pub mod BlocksTold
+pub mod CallsTold

@@ -1,13 +1,17 @@
 // Blocks, the statements that hold them, and calls.
-ghost use Rattle.std.specs.Prelude.{◌≡◌, ◌<◌, ◌≤◌, OnOk, map, Some, None};
+ghost use Rattle.std.specs.Prelude.{◌≡◌, ◌<◌, ◌≤◌, OnOk, map, length, Some, None};
 ghost use Rattle.rpp_tree.specs.Tree.{Null, Whole, If, From as FromLoop, Call as CallOf};
 ghost use Rattle.rpp_tree.specs.Views.{expression_of, lvalue_of, optional_lvalue_of, statement_of, block_of, procedure_of};
 ghost use Rattle.class_table.specs.Classes.{method_named};
-ghost use Rattle.roopl_semantics.specs.Execution.{in_direction, exec, turns, cells_named, invoked, with_local as with_local_in};
+ghost use Rattle.roopl_semantics.specs.Execution.{in_direction, exec, turns, bound as bound_to, cells_named, invoked, with_local as with_local_in};
 ghost use Rattle.roopl_semantics.specs.Store.{class_of_head, object_at};
+ghost use Rattle.source_points.specs.Points.{called_points, local_points, turn_points, call_points, inner_points, points};
+ghost use Rattle.store_table.specs.ValueView.{values_of};
 ghost use Rattle.source_steps.specs.CellView.{cell_of};
 ghost use Rattle.source_steps.specs.Metered.{Gives, metered};
 ghost use Rattle.source_steps.specs.Ends.{Ends, does, runs, turned};
+ghost use Rattle.source_steps.specs.Parameters.{params_of};
+ghost use Rattle.source_blocks.specs.Watched.{watched, seen_inside, Tells};
 ghost use Rattle.source_blocks.specs.Wrapped.{constructed_in, exchanged};
 ghost use Rattle.source_steps.specs.StateView.{IsFramed, OwnValues, entered, state_of, setting_of};
 
@@ -15,6 +19,7 @@ use crate::methods::{
     begin, called, cell_for, cost_of, held_in, invoke_nothing, is_deep, method_of, no_receiver,
     receiver_in,
 };
+use crate::watch::{Watch, begin_statement, meet};
 use rpp_tree::text::Text;
 use rpp_tree::tree::{Block, Expr, Ident, Method, Place, Stmt};
 use source_steps::{
@@ -33,13 +38,16 @@ pub fn exec_block(
     heap: &mut Heap,
     values: &mut Vec<Value>,
     fuel: &mut u64,
+    watch: &mut Watch,
     bound: u64,
     back: bool,
     body: &Block,
 ) -> Result<(), Stop>
     requires framed { IsFramed setting.now scope.now heap.old values.old.items }
     requires bounded { fuel.old ≤ bound }
+    requires waits { watch.old.arrival ≡ None }
     ensures ends { Ends setting.now scope.now result heap.new values.new.items fuel.new (runs setting.now bound fuel.old (in_direction back (block_of body.now)) (state_of setting.now scope.now heap.old values.old.items)) }
+    ensures tells { Tells result watch.new heap.new (watched watch.old.watching (points (setting_of setting.now) bound (params_of scope.now) (in_direction back (block_of body.now)) (state_of setting.now scope.now heap.old values.old.items))) }
     ensures framed { OnOk result (IsFramed setting.now scope.now heap.new values.new.items) }
     ensures less { fuel.new ≤ fuel.old }
 {
@@ -50,13 +58,17 @@ pub fn exec_block(
             let stmt = &body.list[count - 1 - k];
             spend(fuel, 1)?;
             bound -= 1;
-            exec_stmt(setting, scope, heap, values, fuel, bound, true, stmt)?;
+            begin_statement(setting, scope, heap, values, watch, stmt)?;
+            exec_stmt(setting, scope, heap, values, fuel, watch, bound, true, stmt)?;
         }
     } else {
         for stmt in &body.list {
             spend(fuel, 1)?;
             bound -= 1;
-            exec_stmt(setting, scope, heap, values, fuel, bound, false, stmt)?;
+            begin_statement(setting, scope, heap, values, watch, stmt)?;
+            exec_stmt(
+                setting, scope, heap, values, fuel, watch, bound, false, stmt,
+            )?;
         }
     }
     Ok(())
@@ -70,6 +82,7 @@ fn conditional(
     heap: &mut Heap,
     values: &mut Vec<Value>,
     fuel: &mut u64,
+    watch: &mut Watch,
     bound: u64,
     back: bool,
     at: u32,
@@ -80,17 +93,19 @@ fn conditional(
 ) -> Result<(), Stop>
     requires framed { IsFramed setting.now scope.now heap.old values.old.items }
     requires bounded { fuel.old ≤ bound }
+    requires waits { watch.old.arrival ≡ None }
     ensures ends { Ends setting.now scope.now result heap.new values.new.items fuel.new (does setting.now bound fuel.old (If at (expression_of test.now) (in_direction back (block_of yes.now)) (in_direction back (block_of no.now)) (expression_of after.now)) (state_of setting.now scope.now heap.old values.old.items)) }
+    ensures tells { Tells result watch.new heap.new (watched watch.old.watching (inner_points (setting_of setting.now) bound (exec (setting_of setting.now) bound) (points (setting_of setting.now) bound) (params_of scope.now) (If at (expression_of test.now) (in_direction back (block_of yes.now)) (in_direction back (block_of no.now)) (expression_of after.now)) (state_of setting.now scope.now heap.old values.old.items))) }
     ensures framed { OnOk result (IsFramed setting.now scope.now heap.new values.new.items) }
     ensures less { fuel.new ≤ fuel.old }
 {
     let first = evaluate(setting, scope, heap, values, fuel, test)?;
     if is_true(first) {
-        exec_block(setting, scope, heap, values, fuel, bound, back, yes)?;
+        exec_block(setting, scope, heap, values, fuel, watch, bound, back, yes)?;
         let last = evaluate(setting, scope, heap, values, fuel, after)?;
         refuse(fuel, 1, !is_true(last))
     } else {
-        exec_block(setting, scope, heap, values, fuel, bound, back, no)?;
+        exec_block(setting, scope, heap, values, fuel, watch, bound, back, no)?;
         let last = evaluate(setting, scope, heap, values, fuel, after)?;
         refuse(fuel, 1, is_true(last))
     }
@@ -104,6 +119,7 @@ fn with_local(
     heap: &mut Heap,
     values: &mut Vec<Value>,
     fuel: &mut u64,
+    watch: &mut Watch,
     bound: u64,
     back: bool,
     name: &Text,
@@ -113,14 +129,18 @@ fn with_local(
 ) -> Result<(), Stop>
     requires framed { IsFramed setting.now scope.now heap.old values.old.items }
     requires bounded { fuel.old ≤ bound }
+    requires waits { watch.old.arrival ≡ None }
     ensures ends { Ends setting.now scope.now result heap.new values.new.items fuel.new (metered fuel.old (with_local_in (setting_of setting.now) (exec (setting_of setting.now) bound) name.now (expression_of value.now) (in_direction back (block_of body.now)) (expression_of end_value.now) (state_of setting.now scope.now heap.old values.old.items))) }
+    ensures tells { Tells result watch.new heap.new (watched watch.old.watching (local_points (setting_of setting.now) (points (setting_of setting.now) bound) (params_of scope.now) name.now (expression_of value.now) (in_direction back (block_of body.now)) (state_of setting.now scope.now heap.old values.old.items))) }
     ensures framed { OnOk result (IsFramed setting.now scope.now heap.new values.new.items) }
     ensures less { fuel.new ≤ fuel.old }
 {
     let first = evaluate(setting, scope, heap, values, fuel, value)?;
     open_value(values, first)?;
     let inner = inner_scope(&*scope, &*name);
-    exec_block(setting, &inner, heap, values, fuel, bound, back, body)?;
+    exec_block(
+        setting, &inner, heap, values, fuel, watch, bound, back, body,
+    )?;
     close_local(setting, scope, &inner, name, heap, values, fuel, end_value)
 }
 
@@ -132,6 +152,7 @@ fn repeat(
     heap: &mut Heap,
     values: &mut Vec<Value>,
     fuel: &mut u64,
+    watch: &mut Watch,
     bound: u64,
     back: bool,
     entry: &Expr,
@@ -141,19 +162,25 @@ fn repeat(
 ) -> Result<(), Stop>
     requires framed { IsFramed setting.now scope.now heap.old values.old.items }
     requires bounded { fuel.old < bound }
+    requires waits { watch.old.arrival ≡ None }
     ensures ends { Ends setting.now scope.now result heap.new values.new.items fuel.new (metered fuel.old (turns (setting_of setting.now) bound (exec (setting_of setting.now) bound) (expression_of entry.now) (in_direction back (block_of first.now)) (in_direction back (block_of again.now)) (expression_of until.now) (state_of setting.now scope.now heap.old values.old.items))) }
+    ensures tells { Tells result watch.new heap.new (watched watch.old.watching (turn_points (setting_of setting.now) bound (exec (setting_of setting.now) bound) (points (setting_of setting.now) bound) (params_of scope.now) (expression_of entry.now) (in_direction back (block_of first.now)) (in_direction back (block_of again.now)) (expression_of until.now) (state_of setting.now scope.now heap.old values.old.items))) }
     ensures framed { OnOk result (IsFramed setting.now scope.now heap.new values.new.items) }
     ensures less { fuel.new ≤ fuel.old }
 {
     let mut left = bound;
     loop {
-        exec_block(setting, scope, heap, values, fuel, bound, back, first)?;
+        exec_block(
+            setting, scope, heap, values, fuel, watch, bound, back, first,
+        )?;
         let value = evaluate(setting, scope, heap, values, fuel, until)?;
         if is_true(value) {
             return Ok(());
         }
         left -= 1;
-        exec_block(setting, scope, heap, values, fuel, bound, back, again)?;
+        exec_block(
+            setting, scope, heap, values, fuel, watch, bound, back, again,
+        )?;
         let value = evaluate(setting, scope, heap, values, fuel, entry)?;
         refuse(fuel, 2, is_true(value))?;
     }
@@ -167,6 +194,7 @@ fn repeated(
     heap: &mut Heap,
     values: &mut Vec<Value>,
     fuel: &mut u64,
+    watch: &mut Watch,
     bound: u64,
     back: bool,
     at: u32,
@@ -177,14 +205,16 @@ fn repeated(
 ) -> Result<(), Stop>
     requires framed { IsFramed setting.now scope.now heap.old values.old.items }
     requires bounded { fuel.old ≤ bound }
+    requires waits { watch.old.arrival ≡ None }
     ensures ends { Ends setting.now scope.now result heap.new values.new.items fuel.new (does setting.now bound fuel.old (FromLoop at (expression_of entry.now) (in_direction back (block_of first.now)) (in_direction back (block_of again.now)) (expression_of until.now)) (state_of setting.now scope.now heap.old values.old.items)) }
+    ensures tells { Tells result watch.new heap.new (watched watch.old.watching (inner_points (setting_of setting.now) bound (exec (setting_of setting.now) bound) (points (setting_of setting.now) bound) (params_of scope.now) (FromLoop at (expression_of entry.now) (in_direction back (block_of first.now)) (in_direction back (block_of again.now)) (expression_of until.now)) (state_of setting.now scope.now heap.old values.old.items))) }
     ensures framed { OnOk result (IsFramed setting.now scope.now heap.new values.new.items) }
     ensures less { fuel.new ≤ fuel.old }
 {
     let value = evaluate(setting, scope, heap, values, fuel, entry)?;
     refuse(fuel, 2, !is_true(value))?;
     repeat(
-        setting, scope, heap, values, fuel, bound, back, entry, first, again, until,
+        setting, scope, heap, values, fuel, watch, bound, back, entry, first, again, until,
     )
 }
 
@@ -195,6 +225,7 @@ fn run_method(
     heap: &mut Heap,
     inside: &mut Vec<Value>,
     fuel: &mut u64,
+    watch: &mut Watch,
     bound: u64,
     back: bool,
     method: &Method,
@@ -203,14 +234,26 @@ fn run_method(
     requires order { heap.old.order ≡ (setting_of setting.now).limits.heap }
     requires shallow { setting.now.depth < (setting_of setting.now).limits.deep }
     requires bounded { fuel.old ≤ bound }
+    requires waits { watch.old.arrival ≡ None }
     ensures gives { Gives (λ u. entered setting.now (procedure_of method.now).params object heap.new inside.new.items) result fuel.new (runs setting.now bound fuel.old (in_direction back (procedure_of method.now).body) (entered setting.now (procedure_of method.now).params object heap.old inside.old.items)) }
+    ensures tells { Tells result watch.new heap.new (watched watch.old.watching (points (setting_of setting.now) bound (length (bound_to (procedure_of method.now).params (values_of inside.old.items))) (in_direction back (procedure_of method.now).body) (entered setting.now (procedure_of method.now).params object heap.old inside.old.items))) }
     ensures values { OnOk result (OwnValues (procedure_of method.now).params inside.new.items) }
     ensures order { OnOk result (heap.new.order ≡ (setting_of setting.now).limits.heap) }
     ensures less { fuel.new ≤ fuel.old }
 {
     let inner = begin(inside, method);
     let here = called(setting, object);
-    exec_block(&here, &inner, heap, inside, fuel, bound, back, &method.body)
+    exec_block(
+        &here,
+        &inner,
+        heap,
+        inside,
+        fuel,
+        watch,
+        bound,
+        back,
+        &method.body,
+    )
 }
 
 /// Runs a method on an object: the values of the receiver and the arguments move in and back.
@@ -221,6 +264,7 @@ fn invoke(
     heap: &mut Heap,
     values: &mut Vec<Value>,
     fuel: &mut u64,
+    watch: &mut Watch,
     bound: u64,
     back: bool,
     method: &Method,
@@ -231,7 +275,9 @@ fn invoke(
     requires framed { IsFramed setting.now scope.now heap.old values.old.items }
     requires shallow { setting.now.depth < (setting_of setting.now).limits.deep }
     requires bounded { fuel.old ≤ bound }
+    requires waits { watch.old.arrival ≡ None }
     ensures ends { Ends setting.now scope.now result heap.new values.new.items fuel.new (metered fuel.old (invoked (setting_of setting.now) (exec (setting_of setting.now) bound) back (procedure_of method.now) object (map cell_of receiver.now) (map cell_of args.now) (state_of setting.now scope.now heap.old values.old.items))) }
+    ensures tells { Tells result watch.new heap.new (watched watch.old.watching (called_points (setting_of setting.now) (points (setting_of setting.now) bound) back (procedure_of method.now) object (map cell_of receiver.now) (map cell_of args.now) (state_of setting.now scope.now heap.old values.old.items))) }
     ensures framed { OnOk result (IsFramed setting.now scope.now heap.new values.new.items) }
     ensures less { fuel.new ≤ fuel.old }
 {
@@ -244,6 +290,7 @@ fn invoke(
         heap,
         &mut inside,
         fuel,
+        watch,
         bound,
         back,
         method,
@@ -262,6 +309,7 @@ fn enter(
     heap: &mut Heap,
     values: &mut Vec<Value>,
     fuel: &mut u64,
+    watch: &mut Watch,
     bound: u64,
     back: bool,
     class: u32,
@@ -273,14 +321,16 @@ fn enter(
     requires framed { IsFramed setting.now scope.now heap.old values.old.items }
     requires shallow { setting.now.depth < (setting_of setting.now).limits.deep }
     requires bounded { fuel.old ≤ bound }
+    requires waits { watch.old.arrival ≡ None }
     ensures ends { Ends setting.now scope.now result heap.new values.new.items fuel.new (metered fuel.old (invoked (setting_of setting.now) (exec (setting_of setting.now) bound) back (method_named (setting_of setting.now).program class method.now) object (map cell_of receiver.now) (map cell_of args.now) (state_of setting.now scope.now heap.old values.old.items))) }
+    ensures tells { Tells result watch.new heap.new (watched watch.old.watching (called_points (setting_of setting.now) (points (setting_of setting.now) bound) back (method_named (setting_of setting.now).program class method.now) object (map cell_of receiver.now) (map cell_of args.now) (state_of setting.now scope.now heap.old values.old.items))) }
     ensures framed { OnOk result (IsFramed setting.now scope.now heap.new values.new.items) }
     ensures less { fuel.new ≤ fuel.old }
 {
     match method_of(setting, class, method) {
         None => invoke_nothing(setting, scope, heap, values, fuel, receiver, args),
         Some(method) => invoke(
-            setting, scope, heap, values, fuel, bound, back, method, object, receiver, args,
+            setting, scope, heap, values, fuel, watch, bound, back, method, object, receiver, args,
         ),
     }
 }
@@ -293,6 +343,7 @@ fn call_with(
     heap: &mut Heap,
     values: &mut Vec<Value>,
     fuel: &mut u64,
+    watch: &mut Watch,
     bound: u64,
     back: bool,
     method: &Text,
@@ -303,14 +354,17 @@ fn call_with(
     requires framed { IsFramed setting.now scope.now heap.old values.old.items }
     requires shallow { setting.now.depth < (setting_of setting.now).limits.deep }
     requires bounded { fuel.old ≤ bound }
+    requires waits { watch.old.arrival ≡ None }
     ensures ends { Ends setting.now scope.now result heap.new values.new.items fuel.new (metered fuel.old (invoked (setting_of setting.now) (exec (setting_of setting.now) bound) back (method_named (setting_of setting.now).program (class_of_head (object_at heap.old.store object).head) method.now) object (map cell_of receiver.now) (cells_named (setting_of setting.now) (state_of setting.now scope.now heap.old values.old.items) args.now) (state_of setting.now scope.now heap.old values.old.items))) }
+    ensures tells { Tells result watch.new heap.new (watched watch.old.watching (called_points (setting_of setting.now) (points (setting_of setting.now) bound) back (method_named (setting_of setting.now).program (class_of_head (object_at heap.old.store object).head) method.now) object (map cell_of receiver.now) (cells_named (setting_of setting.now) (state_of setting.now scope.now heap.old values.old.items) args.now) (state_of setting.now scope.now heap.old values.old.items))) }
     ensures framed { OnOk result (IsFramed setting.now scope.now heap.new values.new.items) }
     ensures less { fuel.new ≤ fuel.old }
 {
     let cells = cells_of(setting, scope, heap, values, args)?;
     let class = heap.class_of(object);
     enter(
-        setting, scope, heap, values, fuel, bound, back, class, method, object, receiver, &cells,
+        setting, scope, heap, values, fuel, watch, bound, back, class, method, object, receiver,
+        &cells,
     )
 }
 
@@ -322,6 +376,7 @@ fn call_own(
     heap: &mut Heap,
     values: &mut Vec<Value>,
     fuel: &mut u64,
+    watch: &mut Watch,
     bound: u64,
     at: u32,
     back: bool,
@@ -330,7 +385,9 @@ fn call_own(
 ) -> Result<(), Stop>
     requires framed { IsFramed setting.now scope.now heap.old values.old.items }
     requires bounded { fuel.old ≤ bound }
+    requires waits { watch.old.arrival ≡ None }
     ensures ends { Ends setting.now scope.now result heap.new values.new.items fuel.new (does setting.now bound fuel.old (CallOf at back None method.now args.now) (state_of setting.now scope.now heap.old values.old.items)) }
+    ensures tells { Tells result watch.new heap.new (watched watch.old.watching (call_points (setting_of setting.now) (points (setting_of setting.now) bound) (params_of scope.now) at back None method.now args.now (state_of setting.now scope.now heap.old values.old.items))) }
     ensures framed { OnOk result (IsFramed setting.now scope.now heap.new values.new.items) }
     ensures less { fuel.new ≤ fuel.old }
 {
@@ -345,6 +402,7 @@ fn call_own(
         heap,
         values,
         fuel,
+        watch,
         bound,
         back,
         &method.text,
@@ -362,6 +420,7 @@ fn call_on(
     heap: &mut Heap,
     values: &mut Vec<Value>,
     fuel: &mut u64,
+    watch: &mut Watch,
     bound: u64,
     at: u32,
     back: bool,
@@ -371,7 +430,9 @@ fn call_on(
 ) -> Result<(), Stop>
     requires framed { IsFramed setting.now scope.now heap.old values.old.items }
     requires bounded { fuel.old ≤ bound }
+    requires waits { watch.old.arrival ≡ None }
     ensures ends { Ends setting.now scope.now result heap.new values.new.items fuel.new (does setting.now bound fuel.old (CallOf at back (Some (Whole name.now)) method.now args.now) (state_of setting.now scope.now heap.old values.old.items)) }
+    ensures tells { Tells result watch.new heap.new (watched watch.old.watching (call_points (setting_of setting.now) (points (setting_of setting.now) bound) (params_of scope.now) at back (Some (Whole name.now)) method.now args.now (state_of setting.now scope.now heap.old values.old.items))) }
     ensures framed { OnOk result (IsFramed setting.now scope.now heap.new values.new.items) }
     ensures less { fuel.new ≤ fuel.old }
 {
@@ -391,6 +452,7 @@ fn call_on(
         heap,
         values,
         fuel,
+        watch,
         bound,
         back,
         &method.text,
@@ -408,6 +470,7 @@ fn call_element(
     heap: &mut Heap,
     values: &mut Vec<Value>,
     fuel: &mut u64,
+    watch: &mut Watch,
     bound: u64,
     at: u32,
     back: bool,
@@ -418,19 +481,24 @@ fn call_element(
 ) -> Result<(), Stop>
     requires framed { IsFramed setting.now scope.now heap.old values.old.items }
     requires bounded { fuel.old ≤ bound }
+    requires waits { watch.old.arrival ≡ None }
     ensures ends { Ends setting.now scope.now result heap.new values.new.items fuel.new (runs setting.now bound fuel.old (exchanged at back (lvalue_of held.now) held.now.name (lvalue_of element.now) method.now args.now) (state_of setting.now scope.now heap.old values.old.items)) }
+    ensures tells { Tells result watch.new heap.new (watched watch.old.watching (points (setting_of setting.now) bound (params_of scope.now) (exchanged at back (lvalue_of held.now) held.now.name (lvalue_of element.now) method.now args.now) (state_of setting.now scope.now heap.old values.old.items))) }
     ensures framed { OnOk result (IsFramed setting.now scope.now heap.new values.new.items) }
     ensures less { fuel.new ≤ fuel.old }
 {
     spend(fuel, 1)?;
+    meet(setting, scope, heap, values, watch, at)?;
     swap(setting, scope, heap, values, fuel, at, held, element)?;
     spend(fuel, 1)?;
+    meet(setting, scope, heap, values, watch, at)?;
     call_on(
         setting,
         scope,
         heap,
         values,
         fuel,
+        watch,
         bound - 1 - 1,
         at,
         back,
@@ -439,6 +507,7 @@ fn call_element(
         args,
     )?;
     spend(fuel, 1)?;
+    meet(setting, scope, heap, values, watch, at)?;
     swap(setting, scope, heap, values, fuel, at, held, element)
 }
 
@@ -450,6 +519,7 @@ fn with_element(
     heap: &mut Heap,
     values: &mut Vec<Value>,
     fuel: &mut u64,
+    watch: &mut Watch,
     bound: u64,
     at: u32,
     back: bool,
@@ -460,7 +530,9 @@ fn with_element(
 ) -> Result<(), Stop>
     requires framed { IsFramed setting.now scope.now heap.old values.old.items }
     requires bounded { fuel.old ≤ bound }
+    requires waits { watch.old.arrival ≡ None }
     ensures ends { Ends setting.now scope.now result heap.new values.new.items fuel.new (metered fuel.old (with_local_in (setting_of setting.now) (exec (setting_of setting.now) bound) held.now.name.text (Null at) (exchanged at back (lvalue_of held.now) held.now.name (lvalue_of element.now) method.now args.now) (Null at) (state_of setting.now scope.now heap.old values.old.items))) }
+    ensures tells { Tells result watch.new heap.new (watched watch.old.watching (local_points (setting_of setting.now) (points (setting_of setting.now) bound) (params_of scope.now) held.now.name.text (Null at) (exchanged at back (lvalue_of held.now) held.now.name (lvalue_of element.now) method.now args.now) (state_of setting.now scope.now heap.old values.old.items))) }
     ensures framed { OnOk result (IsFramed setting.now scope.now heap.new values.new.items) }
     ensures less { fuel.new ≤ fuel.old }
 {
@@ -468,7 +540,7 @@ fn with_element(
     open_value(values, Value::Nil)?;
     let inner = inner_scope(&*scope, &held.name.text);
     call_element(
-        setting, &inner, heap, values, fuel, bound, at, back, held, element, method, args,
+        setting, &inner, heap, values, fuel, watch, bound, at, back, held, element, method, args,
     )?;
     close_nil(
         setting,
@@ -490,6 +562,7 @@ fn call(
     heap: &mut Heap,
     values: &mut Vec<Value>,
     fuel: &mut u64,
+    watch: &mut Watch,
     bound: u64,
     at: u32,
     back: bool,
@@ -499,13 +572,15 @@ fn call(
 ) -> Result<(), Stop>
     requires framed { IsFramed setting.now scope.now heap.old values.old.items }
     requires bounded { fuel.old ≤ bound }
+    requires waits { watch.old.arrival ≡ None }
     ensures ends { Ends setting.now scope.now result heap.new values.new.items fuel.new (does setting.now bound fuel.old (CallOf at back (optional_lvalue_of receiver.now) method.now args.now) (state_of setting.now scope.now heap.old values.old.items)) }
+    ensures tells { Tells result watch.new heap.new (watched watch.old.watching (call_points (setting_of setting.now) (points (setting_of setting.now) bound) (params_of scope.now) at back (optional_lvalue_of receiver.now) method.now args.now (state_of setting.now scope.now heap.old values.old.items))) }
     ensures framed { OnOk result (IsFramed setting.now scope.now heap.new values.new.items) }
     ensures less { fuel.new ≤ fuel.old }
 {
     match receiver {
         None => call_own(
-            setting, scope, heap, values, fuel, bound, at, back, method, args,
+            setting, scope, heap, values, fuel, watch, bound, at, back, method, args,
         ),
         Some(place) => match &place.index {
             None => call_on(
@@ -514,6 +589,7 @@ fn call(
                 heap,
                 values,
                 fuel,
+                watch,
                 bound,
                 at,
                 back,
@@ -524,7 +600,8 @@ fn call(
             Some(_) => {
                 let held = element_place(setting.alloc, at)?;
                 with_element(
-                    setting, scope, heap, values, fuel, bound, at, back, &held, place, method, args,
+                    setting, scope, heap, values, fuel, watch, bound, at, back, &held, place,
+                    method, args,
                 )
             }
         },
@@ -539,6 +616,7 @@ fn construct_inside(
     heap: &mut Heap,
     values: &mut Vec<Value>,
     fuel: &mut u64,
+    watch: &mut Watch,
     bound: u64,
     back: bool,
     at: u32,
@@ -548,14 +626,28 @@ fn construct_inside(
 ) -> Result<(), Stop>
     requires framed { IsFramed setting.now scope.now heap.old values.old.items }
     requires bounded { fuel.old ≤ bound }
+    requires waits { watch.old.arrival ≡ None }
     ensures ends { Ends setting.now scope.now result heap.new values.new.items fuel.new (runs setting.now bound fuel.old (constructed_in at class.now (lvalue_of place.now) (in_direction back (block_of body.now))) (state_of setting.now scope.now heap.old values.old.items)) }
+    ensures tells { Tells result watch.new heap.new (watched watch.old.watching (points (setting_of setting.now) bound (params_of scope.now) (constructed_in at class.now (lvalue_of place.now) (in_direction back (block_of body.now))) (state_of setting.now scope.now heap.old values.old.items))) }
     ensures framed { OnOk result (IsFramed setting.now scope.now heap.new values.new.items) }
     ensures less { fuel.new ≤ fuel.old }
 {
     spend(fuel, 1)?;
+    meet(setting, scope, heap, values, watch, at)?;
     new_object(setting, scope, heap, values, fuel, at, class, place)?;
-    exec_block(setting, scope, heap, values, fuel, bound - 1, back, body)?;
+    exec_block(
+        setting,
+        scope,
+        heap,
+        values,
+        fuel,
+        watch,
+        bound - 1,
+        back,
+        body,
+    )?;
     spend(fuel, 1)?;
+    meet(setting, scope, heap, values, watch, at)?;
     delete_object(setting, scope, heap, values, fuel, at, class, place)
 }
 
@@ -567,6 +659,7 @@ fn construct(
     heap: &mut Heap,
     values: &mut Vec<Value>,
     fuel: &mut u64,
+    watch: &mut Watch,
     bound: u64,
     back: bool,
     at: u32,
@@ -576,7 +669,9 @@ fn construct(
 ) -> Result<(), Stop>
     requires framed { IsFramed setting.now scope.now heap.old values.old.items }
     requires bounded { fuel.old ≤ bound }
+    requires waits { watch.old.arrival ≡ None }
     ensures ends { Ends setting.now scope.now result heap.new values.new.items fuel.new (metered fuel.old (with_local_in (setting_of setting.now) (exec (setting_of setting.now) bound) place.now.name.text (Null at) (constructed_in at class.now (lvalue_of place.now) (in_direction back (block_of body.now))) (Null at) (state_of setting.now scope.now heap.old values.old.items))) }
+    ensures tells { Tells result watch.new heap.new (watched watch.old.watching (local_points (setting_of setting.now) (points (setting_of setting.now) bound) (params_of scope.now) place.now.name.text (Null at) (constructed_in at class.now (lvalue_of place.now) (in_direction back (block_of body.now))) (state_of setting.now scope.now heap.old values.old.items))) }
     ensures framed { OnOk result (IsFramed setting.now scope.now heap.new values.new.items) }
     ensures less { fuel.new ≤ fuel.old }
 {
@@ -584,7 +679,7 @@ fn construct(
     open_value(values, Value::Nil)?;
     let inner = inner_scope(&*scope, &place.name.text);
     construct_inside(
-        setting, &inner, heap, values, fuel, bound, back, at, class, place, body,
+        setting, &inner, heap, values, fuel, watch, bound, back, at, class, place, body,
     )?;
     close_nil(
         setting,
@@ -600,19 +695,23 @@ fn construct(
 
 /// A statement, as it stands or undone.
 #[cycle(run)]
+#[tactic(auto, unfolding(crate::specs::Watched::seen_inside))]
 pub fn exec_stmt(
     setting: &Setting,
     scope: &Scope,
     heap: &mut Heap,
     values: &mut Vec<Value>,
     fuel: &mut u64,
+    watch: &mut Watch,
     bound: u64,
     back: bool,
     s: &Stmt,
 ) -> Result<(), Stop>
     requires framed { IsFramed setting.now scope.now heap.old values.old.items }
     requires bounded { fuel.old ≤ bound }
+    requires waits { watch.old.arrival ≡ None }
     ensures ends { Ends setting.now scope.now result heap.new values.new.items fuel.new (does setting.now bound fuel.old (turned back (statement_of s.now)) (state_of setting.now scope.now heap.old values.old.items)) }
+    ensures tells { Tells result watch.new heap.new (seen_inside setting.now scope.now bound watch.old.watching (turned back (statement_of s.now)) (state_of setting.now scope.now heap.old values.old.items)) }
     ensures framed { OnOk result (IsFramed setting.now scope.now heap.new values.new.items) }
     ensures less { fuel.new ≤ fuel.old }
 {
@@ -651,11 +750,13 @@ pub fn exec_stmt(
         } => {
             if back {
                 conditional(
-                    setting, scope, heap, values, fuel, bound, true, *at, after, yes, no, test,
+                    setting, scope, heap, values, fuel, watch, bound, true, *at, after, yes, no,
+                    test,
                 )
             } else {
                 conditional(
-                    setting, scope, heap, values, fuel, bound, false, *at, test, yes, no, after,
+                    setting, scope, heap, values, fuel, watch, bound, false, *at, test, yes, no,
+                    after,
                 )
             }
         }
@@ -668,13 +769,13 @@ pub fn exec_stmt(
         } => {
             if back {
                 repeated(
-                    setting, scope, heap, values, fuel, bound, true, *at, until, first, again,
-                    entry,
+                    setting, scope, heap, values, fuel, watch, bound, true, *at, until, first,
+                    again, entry,
                 )
             } else {
                 repeated(
-                    setting, scope, heap, values, fuel, bound, false, *at, entry, first, again,
-                    until,
+                    setting, scope, heap, values, fuel, watch, bound, false, *at, entry, first,
+                    again, until,
                 )
             }
         }
@@ -693,6 +794,7 @@ pub fn exec_stmt(
                     heap,
                     values,
                     fuel,
+                    watch,
                     bound,
                     true,
                     &end_var.name.text,
@@ -707,6 +809,7 @@ pub fn exec_stmt(
                     heap,
                     values,
                     fuel,
+                    watch,
                     bound,
                     false,
                     &var.name.text,
@@ -757,7 +860,7 @@ pub fn exec_stmt(
         } => {
             let place = whole_place(setting.alloc, name)?;
             construct(
-                setting, scope, heap, values, fuel, bound, back, *at, class, &place, body,
+                setting, scope, heap, values, fuel, watch, bound, back, *at, class, &place, body,
             )
         }
         Stmt::New { at, made, place } => {
@@ -787,6 +890,7 @@ pub fn exec_stmt(
                 heap,
                 values,
                 fuel,
+                watch,
                 bound,
                 *at,
                 turned_call(back, *undone),

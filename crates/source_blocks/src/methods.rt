@@ -9,6 +9,7 @@ ghost use Rattle.store_table.specs.ValueView.{value_of};
 ghost use Rattle.source_steps.specs.CellView.{cell_of};
 ghost use Rattle.source_steps.specs.Metered.{metered};
 ghost use Rattle.source_steps.specs.Ends.{Ends, slot_or_first, invoked_nothing};
+ghost use Rattle.source_steps.specs.Parameters.{params_of};
 ghost use Rattle.source_steps.specs.StateView.{IsFramed, names_of, state_of, setting_of};
 
 use class_table::{MethodId, methods_at};
@@ -82,7 +83,8 @@ fn shorter(a: usize, b: usize) -> usize
 /// The first so many parameters.
 fn params_scope(params: &[Var], count: usize) -> Scope
     requires { count ≤ length params.now }
-    ensures { names_of result ≡ map (λ var. var.name.text) (take count params.now) }
+    ensures names { names_of result ≡ map (λ var. var.name.text) (take count params.now) }
+    ensures params { params_of result ≡ count }
 {
     Scope::Params(&params[..count])
 }
@@ -90,6 +92,7 @@ fn params_scope(params: &[Var], count: usize) -> Scope
 /// The variables of a method that begins with these values: as many as both have.
 pub fn begin<'a>(inside: &mut Vec<Value>, method: &'a Method) -> Scope<'a>
     ensures names { names_of result ≡ map (λ var. var.name.text) (take (min (length (procedure_of method.now).params) (length inside.old.items)) (procedure_of method.now).params) }
+    ensures params { params_of result ≡ min (length (procedure_of method.now).params) (length inside.old.items) }
     ensures values { inside.new.items ≡ take (min (length (procedure_of method.now).params) (length inside.old.items)) inside.old.items }
 {
     let count = shorter(method.params.len(), inside.len());

@@ -100,7 +100,7 @@ start_is (Ok heap) order program table main vars words same zeros after e f g h 
   order = ap (λ z. z.order) is;
 }
 
-start_state : (st : State) (program : Source) (input : List FieldWord) → st.frame ≡ [] → st.self ≡ 1 → st.depth ≡ 1 → st.store ≡ (1, main_object program input) ∷ [] → st.log ≡ [] → st ≡ starting program input
+pub start_state : (st : State) (program : Source) (input : List FieldWord) → st.frame ≡ [] → st.self ≡ 1 → st.depth ≡ 1 → st.store ≡ (1, main_object program input) ∷ [] → st.log ≡ [] → st ≡ starting program input
 start_state st program input f i d s l =
     let one : List Binding → State = λ frame. record { frame = frame; self = st.self; depth = st.depth; store = st.store; log = st.log } in
     let two : ℕ → State = λ k. record { frame = []; self = k; depth = st.depth; store = st.store; log = st.log } in
@@ -153,6 +153,7 @@ main_stops (Ok o) (stop.Fault code) program limits input fuel left st e f i d s 
     subst (λ o. IsOutcome o (source program limits input fuel)) (sym is) (main_fault program limits input fuel left code st e f i d s l)
 main_stops (Ok o) stop.More program limits input fuel left st e f i d s l is =
     subst (λ o. IsOutcome o (source program limits input fuel)) (sym is) (main_more program limits input fuel st e f i d s l)
+main_stops (Ok o) stop.Arrived program limits input fuel left st e f i d s l is = absurd is
 main_stops (Ok o) stop.NoMemory program limits input fuel left st e f i d s l is = absurd is
 
 -- ---- the laws of an answer

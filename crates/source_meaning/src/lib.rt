@@ -10,4 +10,4 @@ mod whole;
 
 pub use outcome::Outcome;
 pub use store::{Object, Store};
-pub use whole::{MOST_OPEN, interpret};
+pub use whole::{MOST_OPEN, interpret, run_main, start};

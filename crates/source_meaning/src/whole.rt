@@ -1,5 +1,5 @@
 // The interpreter: what the source does from its main object on.
-ghost use Rattle.std.specs.Prelude.{◌≡◌, ◌≤◌, IfOk, slice_set};
+ghost use Rattle.std.specs.Prelude.{◌≡◌, ◌≤◌, IfOk, None, slice_set};
 ghost use Rattle.rpp_words.specs.Limits.{IsLimits};
 ghost use Rattle.rpp_tree.specs.Views.{source_of};
 ghost use Rattle.roopl_semantics.specs.Store.{Word};
@@ -7,14 +7,17 @@ ghost use Rattle.roopl_semantics.specs.Source.{source, main_body, with_input, Is
 ghost use Rattle.roopl_semantics.specs.Laws.{CountsReferences};
 ghost use Rattle.store_table.specs.ValueView.{values_of};
 ghost use Rattle.source_meaning.specs.Outcomes.{IsOutcome, IsStart, IsStop, StaysSo, IsUndone};
+ghost use Rattle.source_points.specs.Points.{points};
 ghost use Rattle.source_steps.specs.Ends.{Ends, runs};
 ghost use Rattle.source_steps.specs.StateView.{IsFramed, state_of, setting_of};
+ghost use Rattle.source_steps.specs.Parameters.{params_of};
+ghost use Rattle.source_blocks.specs.Watched.{watched, Tells};
 
 use crate::outcome::Outcome;
 use crate::store::Store;
 use class_table::Checked;
 use rpp_words::{FieldWord, Input, Limits, NoMemory};
-use source_blocks::{exec_block, method_at};
+use source_blocks::{Watch, Watching, exec_block, method_at};
 use source_steps::{Scope, Setting, Stop, put_value, zeros};
 use std::alloc::Global;
 use store_table::{Head, Heap, Value};
@@ -37,8 +40,13 @@ fn set_input(cells: &mut Vec<Value>, words: &[FieldWord])
     }
 }
 
-/// The main object alone.
-fn start(alloc: Global, checked: &Checked, limits: Limits, input: &Input) -> Result<Heap, NoMemory>
+/// The heap before a run: the main object alone, with the input's words. The only error is that memory ran out.
+pub fn start(
+    alloc: Global,
+    checked: &Checked,
+    limits: Limits,
+    input: &Input,
+) -> Result<Heap, NoMemory>
     requires { IsLimits limits }
     ensures { IfOk result (λ heap. IsStart (source_of checked.now) input.now.words.items limits.heap heap) }
 {
@@ -49,16 +57,19 @@ fn start(alloc: Global, checked: &Checked, limits: Limits, input: &Input) -> Res
     Heap::new(alloc, limits.heap, Head::Class(class), cells)
 }
 
-/// Runs the body of `main`.
-fn run_main(
+/// Runs the body of `main` under a watch.
+pub fn run_main(
     setting: &Setting,
     scope: &Scope,
     heap: &mut Heap,
     values: &mut Vec<Value>,
     fuel: &mut u64,
+    watch: &mut Watch,
 ) -> Result<(), Stop>
     requires framed { IsFramed setting.now scope.now heap.old values.old.items }
+    requires waits { watch.old.arrival ≡ None }
     ensures ends { Ends setting.now scope.now result heap.new values.new.items fuel.new (runs setting.now fuel.old fuel.old (main_body (setting_of setting.now).program) (state_of setting.now scope.now heap.old values.old.items)) }
+    ensures tells { Tells result watch.new heap.new (watched watch.old.watching (points (setting_of setting.now) fuel.old (params_of scope.now) (main_body (setting_of setting.now).program) (state_of setting.now scope.now heap.old values.old.items))) }
     ensures less { fuel.new ≤ fuel.old }
 {
     let bound = *fuel;
@@ -70,6 +81,7 @@ fn run_main(
             heap,
             values,
             fuel,
+            watch,
             bound,
             false,
             &method.body,
@@ -93,7 +105,7 @@ fn stopped(stop: Stop, cost: u64) -> Result<Outcome, NoMemory>
     match stop {
         Stop::Fault(code) => Ok(Outcome::Fault { code, cost }),
         Stop::More => Ok(Outcome::More),
-        Stop::NoMemory => Err(NoMemory),
+        Stop::Arrived | Stop::NoMemory => Err(NoMemory),
     }
 }
 
@@ -126,6 +138,7 @@ fn run_whole(
         &mut heap,
         &mut values,
         &mut left,
+        &mut Watch::on(Watching::Nothing),
     );
     match result {
         Ok(()) => done(alloc, heap, fuel - left),

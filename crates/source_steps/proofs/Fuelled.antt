@@ -94,6 +94,7 @@ goes fuel left run a next e = metered_then fuel run next ∙ ap (λ m. chain m (
 pub fails : {A B : Type 0} (fuel left : ℕ) (run : Run A) (next : A → Run B) (why : Stop) → Failed why left (metered fuel run) → Failed why left (metered fuel (run >>= next))
 fails fuel left run next (stop.Fault code) e = metered_then fuel run next ∙ ap (λ m. chain m (λ b l. metered l (next b))) e
 fails fuel left run next stop.More e = metered_then fuel run next ∙ ap (λ m. chain m (λ b l. metered l (next b))) e
+fails fuel left run next stop.Arrived e = tt
 fails fuel left run next stop.NoMemory e = tt
 
 -- gives at no cost
@@ -173,6 +174,7 @@ spend_fails setting zero fuel left s rest st (stop.Fault code) e = absurd (no_fa
     no_fault (Some k) code left e = cc
 spend_fails setting (suc n) fuel left s rest st (stop.Fault code) e = fails fuel left (spend 1) (λ u. statement setting n (exec setting n) s st >>= (λ next. exec setting n rest next)) (stop.Fault code) e
 spend_fails setting n fuel left s rest st stop.More e = block_out setting n fuel s rest st e
+spend_fails setting n fuel left s rest st stop.Arrived e = tt
 spend_fails setting n fuel left s rest st stop.NoMemory e = tt
 
 -- ---- what is left

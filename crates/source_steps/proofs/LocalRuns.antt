@@ -16,7 +16,7 @@ use Rattle.source_steps.specs.StateView.{IsInner, names_of, bindings, state_of, 
 use Rattle.source_steps.specs.Ends.{runs, local_end}
 use Rattle.source_steps.proofs.Fuelled.{goes, fails}
 
-opened_state : (here : Here) (scope inner : Chain) (heap : Heap) (name : List ℕ) (v : Held) (values items : List Held) → IsInner name scope inner → items ≡ v ∷ values → state_of here inner heap items ≡ opened name (value_of v) (state_of here scope heap values)
+pub opened_state : (here : Here) (scope inner : Chain) (heap : Heap) (name : List ℕ) (v : Held) (values items : List Held) → IsInner name scope inner → items ≡ v ∷ values → state_of here inner heap items ≡ opened name (value_of v) (state_of here scope heap values)
 opened_state here scope inner heap name v values items i e =
     let build : List Binding → State = λ frame. record { frame = frame; self = here.object; depth = here.depth; store = heap.store; log = heap.log } in
     ap build (ap (λ names. bindings names (map value_of items)) i.names ∙ ap (λ vs. bindings (name ∷ names_of scope) (map value_of vs)) e)

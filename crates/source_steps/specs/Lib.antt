@@ -3,3 +3,4 @@ pub mod Metered
 pub mod StateView
 pub mod Apart
 pub mod Ends
+pub mod Parameters

@@ -35,10 +35,11 @@ chain (Went result left) next = next result left
 chain (Stopped code left) next = Stopped code left
 chain Out next = Out
 
--- a run that stopped so; want of memory says nothing
+-- a run that stopped so; a run that is broken off at a point, or for want of memory, says nothing
 abbrev pub Failed : {B : Type 0} → Stop → ℕ → Metered B → Type 0
 Failed (stop.Fault code) left run = run ≡ Stopped code left
 Failed stop.More left run = run ≡ Out
+Failed stop.Arrived left run = Unit {0}
 Failed stop.NoMemory left run = Unit {0}
 
 -- what a call that answered so gave: its value, or why it stopped

@@ -2,6 +2,7 @@
 ghost use Rattle.std.specs.Prelude.{◌≡◌, ◌<◌, ◌≤◌, map, position, length, IfSome};
 ghost use Rattle.std.specs.Str.{bytes_eq};
 ghost use Rattle.source_steps.specs.StateView.{names_of, IsInner};
+ghost use Rattle.source_steps.specs.Parameters.{params_of};
 
 use rpp_tree::text::Text;
 use rpp_tree::tree::Var;
@@ -38,6 +39,16 @@ fn param_slot(params: &[Var], name: &Text) -> Option<usize>
     }
 }
 
+/// How many parameters an open method has.
+pub fn params_in(scope: &Scope) -> usize
+    ensures { result ≡ params_of scope.now }
+{
+    match scope {
+        Scope::Params(params) => params.len(),
+        Scope::Local { name: _name, outer } => params_in(outer),
+    }
+}
+
 /// The place of the innermost variable of this name.
 pub fn slot(scope: &Scope, values: &[Value], name: &Text) -> Option<usize>
     requires { length values.now ≡ length (names_of scope.now) }
@@ -60,7 +71,8 @@ pub fn slot(scope: &Scope, values: &[Value], name: &Text) -> Option<usize>
 
 /// The scope with one more variable.
 pub fn inner_scope<'a>(scope: &'a Scope<'a>, name: &'a Text) -> Scope<'a>
-    ensures { IsInner name.now scope.now result }
+    ensures inner { IsInner name.now scope.now result }
+    ensures params { params_of result ≡ params_of scope.now }
 {
     Scope::Local { name, outer: scope }
 }

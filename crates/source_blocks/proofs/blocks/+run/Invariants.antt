@@ -3,8 +3,7 @@ use Rattle.rpp_tree.specs.Views.{expression_of, statement_of, statements_of, blo
 use Rattle.roopl_semantics.specs.Execution.{in_direction}
 use Rattle.stmt_inverter.specs.Inverse.{inverse}
 use Rattle.source_steps.specs.StateView.{state_of}
-use Rattle.source_blocks.proofs.Loops.{IsGoing}
-use Rattle.source_blocks.proofs.Turns.{IsTurning}
+use Rattle.source_blocks.proofs.BlocksTold.{IsSeen, IsSeenTurning}
 use Rattle.source_blocks.proofs.blocks.+run.Given as goal
 
 abbrev pub decreases-exec_block : goal.decreases-exec_block
@@ -18,11 +17,11 @@ decreases-conditional l = 10 * l.bound + 8
 
 abbrev pub invariant-exec_block-loop-stmt : goal.invariant-exec_block-loop-stmt
 invariant-exec_block-loop-stmt l =
-    IsGoing l.setting l.scope l.fn.bound l.fn.fuel (in_direction l.fn.back (block_of l.body)) (state_of l.setting l.scope l.fn.heap l.fn.values.items) l.bound l.fuel (statements_of (map statement_of (drop l.stmt-index l.stmt-items))) l.heap l.values.items
+    IsSeen l.setting l.scope l.fn.bound l.fn.fuel (in_direction l.fn.back (block_of l.body)) (state_of l.setting l.scope l.fn.heap l.fn.values.items) l.fn.watch.watching l.bound l.fuel (statements_of (map statement_of (drop l.stmt-index l.stmt-items))) l.heap l.values.items l.watch
 
 abbrev pub invariant-exec_block-loop-k : goal.invariant-exec_block-loop-k
 invariant-exec_block-loop-k l =
-    IsGoing l.setting l.scope l.fn.bound l.fn.fuel (in_direction l.fn.back (block_of l.body)) (state_of l.setting l.scope l.fn.heap l.fn.values.items) l.bound l.fuel (inverse (statements_of (map statement_of (take (l.count - l.k) l.body.list.items)))) l.heap l.values.items
+    IsSeen l.setting l.scope l.fn.bound l.fn.fuel (in_direction l.fn.back (block_of l.body)) (state_of l.setting l.scope l.fn.heap l.fn.values.items) l.fn.watch.watching l.bound l.fuel (inverse (statements_of (map statement_of (take (l.count - l.k) l.body.list.items)))) l.heap l.values.items l.watch
 
 abbrev pub decreases-with_local : goal.decreases-with_local
 decreases-with_local l = 10 * l.bound + 5
@@ -35,7 +34,7 @@ decreases-repeated l = 10 * l.bound + 5
 
 abbrev pub invariant-repeat-loop-heap : goal.invariant-repeat-loop-heap
 invariant-repeat-loop-heap l =
-    IsTurning l.setting l.scope l.bound l.fn.fuel (expression_of l.entry) (in_direction l.back (block_of l.first)) (in_direction l.back (block_of l.again)) (expression_of l.until) (state_of l.setting l.scope l.fn.heap l.fn.values.items) l.left l.fuel l.heap l.values.items
+    IsSeenTurning l.setting l.scope l.bound l.fn.fuel (expression_of l.entry) (in_direction l.back (block_of l.first)) (in_direction l.back (block_of l.again)) (expression_of l.until) (state_of l.setting l.scope l.fn.heap l.fn.values.items) l.fn.watch.watching l.left l.fuel l.heap l.values.items l.watch
 
 abbrev pub decreases-repeat-loop-heap : goal.decreases-repeat-loop-heap
 decreases-repeat-loop-heap l = l.left
