@@ -1,3 +1,4 @@
 pub mod Paged
 pub mod Position
 pub mod Told
+pub mod Ways

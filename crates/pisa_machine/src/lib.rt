@@ -6,6 +6,7 @@
 mod machine;
 mod page;
 mod pages;
+mod rows;
 mod run;
 mod steps;
 mod telling;

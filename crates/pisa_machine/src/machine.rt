@@ -66,6 +66,7 @@ fn start_core(image: &Image, regs: [u32; 32]) -> Core
 }
 
 /// The number of a place in the code.
+#[inline(always)]
 fn place_of(code: &[Cell], pc: i64) -> u32
     requires { IsCode code.now }
     ensures { IsSome (fetch code.now pc) → result ≡ number_of pc }
@@ -122,6 +123,7 @@ impl Machine {
     }
 
     /// The step that is next, where there is a cell at its place.
+    #[inline(always)]
     pub(crate) fn next_step(&self) -> StepAt
         ensures step { IsSome (fetch self.now.image.code self.now.state.pc) → result ≡ step_at self.now.state }
         ensures machine { IsMachine self.now }
@@ -133,6 +135,7 @@ impl Machine {
     }
 
     /// Makes one step, or answers why the machine stops, and counts what counts as a step.
+    #[inline(always)]
     pub(crate) fn make_step<L: Ledger>(&mut self, steps: &mut Steps<L>) -> Option<Stop>
         requires { self.old.made + 1 < 2 ^ 63 }
         ensures stops { result ≡ stop self.old.image.code self.old.state }

@@ -15,6 +15,8 @@ use std::alloc::Global;
 use std::sync::ledger::Ledger;
 
 // Tells probes a step at which the machine stops, where it counts as a step.
+#[cold]
+#[inline(never)]
 fn tell_stop<P: Probes>(
     alloc: Global,
     probes: &mut P,

@@ -7,6 +7,7 @@ use rpp_words::NoMemory;
 use std::alloc::Global;
 
 // Tells a probe, and answers whether it goes on.
+#[inline(always)]
 fn tell(probe: &mut Box<dyn Probe>, step: StepAt) -> bool
     ensures told { watch probe.new ≡ told step (watch probe.old) }
     ensures goes_on { result ≡ not (has_ended (watch probe.new)) }
@@ -34,6 +35,7 @@ fn line_of(alloc: Global, probe: &Box<dyn Probe>) -> Result<String, NoMemory>
 }
 
 // Tells the probe at a place of the list, and answers whether it goes on.
+#[inline(always)]
 fn tell_at(probes: &mut Vec<Box<dyn Probe>>, at: usize, step: StepAt) -> bool
     requires { at < vec_len probes.old }
     ensures told { TellsAt step at (map watch probes.old.items) (map watch probes.new.items) result }
@@ -43,6 +45,8 @@ fn tell_at(probes: &mut Vec<Box<dyn Probe>>, at: usize, step: StepAt) -> bool
 }
 
 // Keeps the line of a probe that has ended, and drops the probe.
+#[cold]
+#[inline(never)]
 fn drop_at(
     alloc: Global,
     probes: &mut Vec<Box<dyn Probe>>,
@@ -62,7 +66,8 @@ fn drop_at(
     Ok(())
 }
 
-// Tells each probe of a list a step, in the order of the list.
+// Tells each probe of a list a step, in the order of the list. It stands in the caller's loop, since it is told each step.
+#[inline(always)]
 fn tell_all(
     alloc: Global,
     probes: &mut Vec<Box<dyn Probe>>,
@@ -122,6 +127,7 @@ pub trait Probes {
 impl Probes for Vec<Box<dyn Probe>> {
     ghost watches = { λ probes. map (λ b. (Probe-box b).watch b.value) probes.items };
 
+    #[inline(always)]
     fn tell(
         &mut self,
         alloc: Global,

@@ -1,12 +1,16 @@
-use Rattle.std.proofs.Common.{◌≡◌, ◌+◌, ◌-◌}
+use Rattle.std.proofs.Common.{◌≡◌, ◌≤◌, ◌+◌, ◌-◌, Some}
 use Rattle.pisa_isa.specs.Machine.{state_of}
-use Rattle.pisa_isa.specs.Runs.{run, later}
+use Rattle.pisa_isa.specs.Runs.{steps}
 use Rattle.pisa_machine.proofs.run.run_from.Given as goal
 
--- what is left to run gives the whole run's end, after the steps made, which are counted
+-- the steps so far led here, and are counted
 abbrev pub invariant-loop-made : goal.invariant-loop-made
 invariant-loop-made g l = record {
-  rest : run l.code l.bound (state_of l.initial.core (g.C.Cells.words l.initial.cells))
-      ≡ later l.made (run l.code (l.bound - l.made) (state_of l.core (g.C.Cells.words l.cells)));
+  reaches : steps l.code l.made (state_of l.initial.core (g.C.Cells.words l.initial.cells))
+      ≡ Some (state_of l.core (g.C.Cells.words l.cells));
   counter : l.steps ≡ l.initial.steps + l.made;
+  within : l.made ≤ l.bound;
 }
+
+abbrev pub decreases-loop-made : goal.decreases-loop-made
+decreases-loop-made g l = l.bound - l.made

@@ -1,0 +1,263 @@
+// The rows of a step on the parts of a core, so that a loop can hold the place and the branch register by themselves.
+ghost use Rattle.std.specs.Prelude.{◌≡◌, ◌<◌, ◌≤◌, ◌^◌, pos, ◌+ℤ◌, ◌≤ℤ◌, IsNone, IsSome, IsTrue, if◌then◌else◌, slice_index, length};
+ghost use Rattle.rpp_words.specs.Words.{sum_of};
+ghost use Rattle.pisa_isa.specs.Table.{IsCell};
+ghost use Rattle.pisa_isa.specs.Machine.{below_zero, stride, place_moved, stop_in, effect, moved};
+ghost use Rattle.pisa_isa.specs.Directions.{row_by, has_cell_at, sum_by, turned_by, offset_by, stop_by};
+ghost use Rattle.pisa_machine.specs.Ways.{state_at, stop_of, back_behind};
+
+use pisa_isa::{Cell, Cells, Op, Stop};
+use rpp_words::{
+    less, shift_left, shift_right, shift_right_signed, turn_left, turn_right, wrap_add, wrap_sub,
+};
+
+/// What comes of a row.
+#[derive(Clone, Copy)]
+pub(crate) enum Outcome {
+    /// The run goes on in its direction.
+    Goes,
+    /// The direction has turned.
+    Turns,
+    /// The machine stops, and nothing has changed.
+    Stops(Stop),
+}
+
+/// A place, the branch register, and how far a move goes by it.
+#[derive(Drop)]
+pub(crate) struct Way {
+    pub(crate) pc: i64,
+    pub(crate) br: u32,
+    pub(crate) length: i64,
+    ghost is_length: { length ≡ stride br },
+    ghost low: { pos 0 ≤ℤ (length +ℤ pos (2 ^ 31)) },
+    ghost high: { length ≤ℤ pos (2 ^ 31) },
+}
+
+/// How far a move goes.
+fn move_length(br: u32) -> i64
+    ensures value { result ≡ stride br }
+    ensures low { pos 0 ≤ℤ (result +ℤ pos (2 ^ 31)) }
+    ensures high { result ≤ℤ pos (2 ^ 31) }
+{
+    if br == 0 {
+        1
+    } else {
+        i64::from(br.cast_signed())
+    }
+}
+
+/// A word as a signed number is below 0.
+fn is_below_zero(x: u32) -> bool
+    ensures { result ≡ below_zero x }
+{
+    x >= 1 << 31
+}
+
+/// The sum, or for direction -1 the difference.
+fn sum_by(back: bool, x: u32, y: u32) -> u32
+    ensures { result ≡ sum_by back x y }
+{
+    if back { wrap_sub(x, y) } else { wrap_add(x, y) }
+}
+
+/// The word turned left, or for direction -1 turned right.
+fn turn_by(back: bool, x: u32, n: u32) -> u32
+    ensures { result ≡ turned_by back x n }
+{
+    if back {
+        turn_right(x, n)
+    } else {
+        turn_left(x, n)
+    }
+}
+
+/// What a cell's word adds in a direction.
+fn offset_by(back: bool, i: u32) -> u32
+    ensures { result ≡ offset_by back i }
+{
+    if back { wrap_sub(0, i) } else { i }
+}
+
+impl Way {
+    /// Stands at a place with a branch register.
+    #[inline(always)]
+    pub(crate) fn at(pc: i64, br: u32) -> Way
+        ensures place { result.pc ≡ pc }
+        ensures register { result.br ≡ br }
+    {
+        Way {
+            pc,
+            br,
+            length: move_length(br),
+        }
+    }
+
+    /// Sets the branch register.
+    #[inline(always)]
+    fn set(&mut self, br: u32)
+        ensures place { self.new.pc ≡ self.old.pc }
+        ensures register { self.new.br ≡ br }
+    {
+        *self = Way::at(self.pc, br);
+    }
+
+    /// Adds an offset to the branch register where a branch is taken.
+    #[inline(always)]
+    fn branch_if(&mut self, taken: bool, offset: u32)
+        ensures place { self.new.pc ≡ self.old.pc }
+        ensures register { self.new.br ≡ (if taken then sum_of self.old.br offset else self.old.br) }
+    {
+        if taken {
+            self.set(wrap_add(self.br, offset));
+        }
+    }
+
+    /// Moves on by the direction.
+    #[inline(always)]
+    fn advance(&mut self, back: bool)
+        requires low { pos 0 ≤ℤ (self.old.pc +ℤ pos (2 ^ 32)) }
+        requires high { self.old.pc ≤ℤ pos (2 ^ 32) }
+        ensures place { self.new.pc ≡ place_moved back self.old.pc self.old.br }
+        ensures register { self.new.br ≡ self.old.br }
+    {
+        self.pc = if back {
+            self.pc - self.length
+        } else {
+            self.pc + self.length
+        };
+    }
+}
+
+/// The effect of a row in a direction, where its first two registers hold `x` and `y`, or why the machine stops there, and
+/// then nothing changes.
+#[inline(always)]
+fn act<C: Cells>(
+    regs: &mut [u32; 32],
+    way: &mut Way,
+    op: Op,
+    back: bool,
+    a: usize,
+    x: u32,
+    y: u32,
+    c: usize,
+    i: u32,
+    cells: &mut C,
+) -> Outcome
+    requires a { a < 32 }
+    requires c { c < 32 }
+    requires x { x ≡ slice_index regs.old a }
+    ensures stops { stop_of result ≡ stop_by op back y i
+        (state_at way.old.pc way.old.br back regs.old (C.words cells.old)) }
+    ensures stays { IsSome (stop_of result)
+        → state_at way.new.pc way.new.br back regs.new (C.words cells.new)
+        ≡ state_at way.old.pc way.old.br back regs.old (C.words cells.old) }
+    ensures acts { IsTrue (has_cell_at op y
+        (state_at way.old.pc way.old.br back regs.old (C.words cells.old)))
+        → state_at way.new.pc way.new.br (back_behind result back) regs.new (C.words cells.new)
+        ≡ row_by op back a x y c i (state_at way.old.pc way.old.br back regs.old (C.words cells.old)) }
+    ensures place { way.new.pc ≡ way.old.pc }
+{
+    let o = offset_by(back, i);
+    match op {
+        Op::Add => regs[a] = sum_by(back, x, y),
+        Op::Sub => regs[a] = sum_by(!back, x, y),
+        Op::Xor => regs[a] = x ^ y,
+        Op::Neg => regs[a] = wrap_sub(0, x),
+        Op::Addi => regs[a] = wrap_add(x, o),
+        Op::Xori => regs[a] = x ^ i,
+        Op::Rl => regs[a] = turn_by(back, x, i),
+        Op::Rr => regs[a] = turn_by(!back, x, i),
+        Op::Rlv => regs[a] = turn_by(back, x, y),
+        Op::Rrv => regs[a] = turn_by(!back, x, y),
+        Op::Andx => regs[a] = x ^ (y & regs[c]),
+        Op::Orx => regs[a] = x ^ (y | regs[c]),
+        Op::Norx => regs[a] = x ^ !(y | regs[c]),
+        Op::Sltx => regs[a] = x ^ u32::from(less(y, regs[c])),
+        Op::Andix => regs[a] = x ^ (y & i),
+        Op::Orix => regs[a] = x ^ (y | i),
+        Op::Sllx => regs[a] = x ^ shift_left(y, i),
+        Op::Srlx => regs[a] = x ^ shift_right(y, i),
+        Op::Srax => regs[a] = x ^ shift_right_signed(y, i),
+        Op::Sllvx => regs[a] = x ^ shift_left(y, regs[c]),
+        Op::Srlvx => regs[a] = x ^ shift_right(y, regs[c]),
+        Op::Sravx => regs[a] = x ^ shift_right_signed(y, regs[c]),
+        Op::Exch if y >= cells.len() => return Outcome::Stops(Stop::BadAddress(y)),
+        Op::Exch => cells.exchange(y, &mut regs[a]),
+        Op::Swapbr => {
+            regs[a] = way.br;
+            way.set(x);
+        }
+        Op::Bra => way.branch_if(true, o),
+        Op::Rbra => {
+            way.set(wrap_sub(0, wrap_add(way.br, o)));
+            return Outcome::Turns;
+        }
+        Op::Beq => way.branch_if(x == y, o),
+        Op::Bne => way.branch_if(x != y, o),
+        Op::Bgez => way.branch_if(!is_below_zero(x), o),
+        Op::Bgtz => way.branch_if(!(is_below_zero(x) || x == 0), o),
+        Op::Blez => way.branch_if(is_below_zero(x) || x == 0, o),
+        Op::Bltz => way.branch_if(is_below_zero(x), o),
+        Op::Start if back && way.br == 0 => return Outcome::Stops(Stop::Returned),
+        Op::Finish if !back && way.br == 0 => return Outcome::Stops(Stop::Finished),
+        Op::Start | Op::Finish => {}
+        Op::DataWord => return Outcome::Stops(Stop::Trap(i)),
+    }
+    Outcome::Goes
+}
+
+/// The effect of a cell in a direction, or why the machine stops, and then nothing changes.
+#[inline(always)]
+fn act_by<C: Cells>(
+    regs: &mut [u32; 32],
+    way: &mut Way,
+    cell: &Cell,
+    back: bool,
+    cells: &mut C,
+) -> Outcome
+    requires cell { IsCell cell.now }
+    ensures stops { stop_of result ≡ stop_in cell.now.op cell.now
+        (state_at way.old.pc way.old.br back regs.old (C.words cells.old)) }
+    ensures stays { IsSome (stop_of result)
+        → state_at way.new.pc way.new.br back regs.new (C.words cells.new)
+        ≡ state_at way.old.pc way.old.br back regs.old (C.words cells.old) }
+    ensures acts { IsNone (stop_of result)
+        → state_at way.new.pc way.new.br (back_behind result back) regs.new (C.words cells.new)
+        ≡ effect cell.now (state_at way.old.pc way.old.br back regs.old (C.words cells.old)) }
+    ensures place { way.new.pc ≡ way.old.pc }
+{
+    let (a, c) = (cell.a as usize, cell.c as usize);
+    let x = regs[a];
+    let y = regs[cell.b as usize];
+    act(regs, way, cell.op, back, a, x, y, c, cell.imm, cells)
+}
+
+/// One step at a cell in a direction, or why the machine stops, and then nothing changes.
+#[inline(always)]
+pub(crate) fn step_by<C: Cells>(
+    regs: &mut [u32; 32],
+    way: &mut Way,
+    cell: &Cell,
+    back: bool,
+    cells: &mut C,
+) -> Outcome
+    requires cell { IsCell cell.now }
+    requires low { pos 0 ≤ℤ way.old.pc }
+    requires high { way.old.pc ≤ℤ pos (2 ^ 32) }
+    ensures stops { stop_of result ≡ stop_in cell.now.op cell.now
+        (state_at way.old.pc way.old.br back regs.old (C.words cells.old)) }
+    ensures stays { IsSome (stop_of result)
+        → state_at way.new.pc way.new.br back regs.new (C.words cells.new)
+        ≡ state_at way.old.pc way.old.br back regs.old (C.words cells.old) }
+    ensures goes { IsNone (stop_of result)
+        → state_at way.new.pc way.new.br (back_behind result back) regs.new (C.words cells.new)
+        ≡ moved (effect cell.now (state_at way.old.pc way.old.br back regs.old (C.words cells.old))) }
+{
+    let outcome = act_by(regs, way, cell, back, cells);
+    match outcome {
+        Outcome::Goes => way.advance(back),
+        Outcome::Turns => way.advance(!back),
+        Outcome::Stops(_) => {}
+    }
+    outcome
+}
