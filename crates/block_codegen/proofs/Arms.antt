@@ -1,13 +1,17 @@
 -- What each arm of the walk over statements needs and answers.
-use Rattle.std.proofs.Common.{◌≡◌, ℕ, ◌+◌, ◌*◌, ◌≤◌, Bool, List, [], ◌∷◌, length, refl, sym, ap, ◌∙◌, subst, arith}
-use Rattle.std.specs.Prelude.{Option, Some, None, Result, Ok, Err, IfOk, nat_eq}
+use Rattle.std.proofs.Common.{◌≡◌, ℕ, ◌+◌, ◌*◌, ◌<◌, ◌≤◌, Bool, List, [], ◌∷◌, length, refl, sym, ap, ◌∙◌, subst, arith}
+use Rattle.std.specs.Prelude.{Option, Some, None, Result, Ok, Err, IfOk, nat_eq, Box}
+use Rattle.std.specs.declared.alloc.Global.{Global}
 use Rattle.std.specs.Option.{option_map, is_none}
 use Rattle.std.proofs.lemmas.Bool.{eqb-true}
 use Rattle.rpp_tree.specs.declared.tree.Ident.{Ident}
+use Rattle.rpp_tree.specs.declared.tree.Expr.{Expr}
+use Rattle.rpp_tree.specs.declared.tree.Place.{Place}
 use Rattle.rpp_tree.specs.declared.tree.Var.{Var}
 use Rattle.rpp_tree.specs.declared.tree.UpdateOp.{UpdateOp}
-use Rattle.rpp_tree.specs.Tree.{Expression, Lvalue, Whole, Statement, Statements, Update, Swap, If, From, Local, Call, Skip, Source, nodes, index_nodes}
-use Rattle.rpp_tree.specs.Views.{source_of}
+use Rattle.rpp_tree.specs.Tree.{Expression, Lvalue, Whole, Item, Statement, Statements, Update, Swap, If, From, Local, Call, Skip, Source, nodes, index_nodes}
+use Rattle.rpp_tree.specs.Views.{lvalue_with, expression_of, lvalue_of, source_of}
+use Rattle.rpp_tree.specs.Limits.{receiver_locals}
 use Rattle.rpp_tree.specs.Parts.{list_tokens}
 use Rattle.class_table.specs.Overrides.{parameters_of}
 use Rattle.class_table.specs.Program.{IsAccepted}
@@ -17,6 +21,7 @@ use Rattle.class_table.specs.Statements.{passed, required, each_passes, each_pas
 use Rattle.class_table.specs.Table.{slot_in, dispatch_in}
 use Rattle.class_table.proofs.PassedRules.{both_passed, handed_on, held}
 use Rattle.paired_code.specs.Code.{Code}
+use Rattle.sound_execution.specs.Plain.{ReceiverIsPlain}
 use Rattle.statement_laws.specs.Held.{Holds, HoldsBoth}
 use Rattle.statement_laws.specs.Stands.{shape_of}
 use Rattle.method_scope.specs.Visible.{Visible, spot_of, free_of, known_in, outer_of}
@@ -24,11 +29,12 @@ use Rattle.method_scope.proofs.Parameters.{parameters_few}
 use Rattle.expr_uncompute.specs.Code.{words, place_words}
 use Rattle.expr_uncompute.specs.Promises as code
 use Rattle.expr_uncompute.specs.Steps.{tokens, place_tokens}
+use Rattle.expr_uncompute.specs.Sizes.{swap_size}
 use Rattle.expr_uncompute.proofs.Bounds.{words_most, place_words_most}
 use Rattle.expression_laws.specs.Typing.{typing_in}
-use Rattle.statement_codegen.specs.Codes.{scope_of}
-use Rattle.statement_codegen.specs.Laws.{IfLaw, FromLaw, LocalLaw, SkipLaw, CallLaw}
-use Rattle.statement_codegen.proofs.Stands.{with_variable, update_stands, swap_stands}
+use Rattle.statement_codegen.specs.Codes.{scope_of, with_variable}
+use Rattle.statement_codegen.specs.Laws.{IfLaw, FromLaw, LocalLaw, SkipLaw, CallLaw, ElementLaw}
+use Rattle.statement_codegen.proofs.Stands.{update_stands, swap_stands}
 use Rattle.block_codegen.specs.Pieces.{StatementStands, InnerPiece, BlockPiece}
 use Rattle.block_codegen.proofs.Pieces.{tokens_are, place_tokens_are, plain_inner, if_inner, from_inner, local_inner}
 
@@ -93,7 +99,21 @@ some_each [] = omega arith
 some_each (first ∷ []) = omega arith
 some_each (first ∷ second ∷ rest) = let a = some_each (second ∷ rest) in omega (arith, a)
 
+-- ---- room for a call on an element
+
+pub element_free : (v : Visible) (at : ℕ) (back : Bool) (element : Lvalue) (array : Ident) (index : Expression) (method : Ident) (args : List Ident) → element ≡ Item array index → StatementStands v (Call at back (Some element) method args) → length v.variables < 48
+element_free v at back element array index method args is h =
+    let f : length v.variables + 1 ≤ 48 = subst (λ e. length v.variables + receiver_locals (Some e) ≤ 48) is h.allowed.few_locals in
+    omega (arith, f)
+
+pub element_room : (v : Visible) (at : ℕ) (back : Bool) (element : Lvalue) (method : Ident) (args : List Ident) → StatementStands v (Call at back (Some element) method args) → place_words element ≤ 1000
+element_room v at back element method args h = let n : index_nodes element ≤ 64 = h.allowed.few_nodes in let a = place_words_most element in omega (arith, n, a)
+
 -- ---- what the arms answer
+
+swap_few : (left right : Lvalue) → swap_size left right ≤ 102 * (place_tokens left + 1 + place_tokens right)
+swap_few (Whole name) right = omega arith
+swap_few (Item name index) right = omega arith
 
 pub update_arm : {E : Type 0} (v : Visible) (x : Statement) (at : ℕ) (op : UpdateOp) (target : Lvalue) (value : Expression) (r : Result Code E) → x ≡ Update at op target value → StatementStands v x
     → IfOk r (λ p. code.UpdateLaw (spot_of (known_in v)) (free_of (known_in v)) op target value p.cells) → IfOk r (λ p. p.marks ≡ []) → IfOk r (λ p. length p.cells ≤ 80 * (place_tokens target + 1 + tokens value)) → IfOk r (λ p. InnerPiece v x p)
@@ -105,13 +125,14 @@ update_arm v x at op target value (Ok p) is h law none size =
     subst (λ z. InnerPiece v z p) (sym is) (plain_inner v (Update at op target value) p none refl (update_stands v at op target value p.cells law k.allowed) (omega (arith, size, a, b)))
 
 pub swap_arm : {E : Type 0} (v : Visible) (x : Statement) (at : ℕ) (left right : Lvalue) (r : Result Code E) → x ≡ Swap at left right → StatementStands v x
-    → IfOk r (λ p. code.SwapLaw (spot_of (known_in v)) (free_of (known_in v)) left right p.cells) → IfOk r (λ p. p.marks ≡ []) → IfOk r (λ p. length p.cells ≤ 102 * (place_tokens left + 1 + place_tokens right)) → IfOk r (λ p. InnerPiece v x p)
+    → IfOk r (λ p. code.SwapLaw (spot_of (known_in v)) (free_of (known_in v)) left right p.cells) → IfOk r (λ p. p.marks ≡ []) → IfOk r (λ p. length p.cells ≤ swap_size left right) → IfOk r (λ p. InnerPiece v x p)
 swap_arm v x at left right (Err e) is h law none size = tt
 swap_arm v x at left right (Ok p) is h law none size =
     let k = subst (StatementStands v) is h in
     let a = place_tokens_are left in
     let b = place_tokens_are right in
-    subst (λ z. InnerPiece v z p) (sym is) (plain_inner v (Swap at left right) p none refl (swap_stands v at left right p.cells law k.allowed) (omega (arith, size, a, b)))
+    let c = swap_few left right in
+    subst (λ z. InnerPiece v z p) (sym is) (plain_inner v (Swap at left right) p none refl (swap_stands v at left right p.cells law k.allowed) (omega (arith, size, a, b, c)))
 
 pub skip_arm : {E : Type 0} (v : Visible) (x : Statement) (at : ℕ) (r : Result Code E) → x ≡ Skip at
     → IfOk r (λ p. SkipLaw p.cells) → IfOk r (λ p. p.marks ≡ []) → IfOk r (λ p. length p.cells ≡ 1) → IfOk r (λ p. InnerPiece v x p)
@@ -126,6 +147,26 @@ call_arm v x at back receiver name method args (Ok p) is same h law none size =
     let k = subst (StatementStands v) e h in
     let a = some_each args in
     subst (λ z. InnerPiece v z p) (sym e) (plain_inner v (Call at back (option_map Whole name) method args) p none refl (law.law at k.allowed.rules) (omega (arith, size, a)))
+
+pub element_arm : {E : Type 0} (v : Visible) (at : ℕ) (back : Bool) (element : Lvalue) (array : Ident) (index : Expression) (method : Ident) (args : List Ident) (r : Result Code E) → element ≡ Item array index → StatementStands v (Call at back (Some element) method args)
+    → IfOk r (λ p. ElementLaw v at back element method args p.cells) → IfOk r (λ p. p.marks ≡ []) → IfOk r (λ p. length p.cells ≤ 160 * (2 + place_tokens element) + 30 * length args + 297) → IfOk r (λ p. InnerPiece v (Call at back (Some element) method args) p)
+element_arm v at back element array index method args (Err e) is h law none size = tt
+element_arm v at back element array index method args (Ok p) is h law none size =
+    let a = some_each args in
+    let b = place_tokens_are element in
+    let plain : ReceiverIsPlain (Some element) args = h.plain in
+    plain_inner v (Call at back (Some element) method args) p none refl (law.law array index is plain h.allowed) (omega (arith, size, a, b))
+
+-- what a receiver shows
+pub shows_variable : (receiver : Place) → receiver.index ≡ None → lvalue_of receiver ≡ Whole receiver.name
+shows_variable receiver e = ap (lvalue_with receiver.name) e
+
+pub shows_element : (receiver : Place) (index : Box Expr Global) → receiver.index ≡ Some index → lvalue_of receiver ≡ Item receiver.name (expression_of index.value)
+shows_element receiver index e = ap (lvalue_with receiver.name) e
+
+pub whole_arm : {E : Type 0} (v : Visible) (at : ℕ) (back : Bool) (receiver : Lvalue) (name method : Ident) (args : List Ident) (r : Result Code E) → receiver ≡ Whole name → StatementStands v (Call at back (Some receiver) method args)
+    → IfOk r (λ p. CallLaw v back (Some name) method args p.cells) → IfOk r (λ p. p.marks ≡ []) → IfOk r (λ p. length p.cells ≤ 30 * length args + 161) → IfOk r (λ p. InnerPiece v (Call at back (Some receiver) method args) p)
+whole_arm v at back receiver name method args r is h law none size = call_arm v (Call at back (Some receiver) method args) at back (Some receiver) (Some name) method args r refl (ap (λ z. Some z) (sym is)) h law none size
 
 pub if_arm : {E : Type 0} (v : Visible) (x : Statement) (at : ℕ) (test after : Expression) (taken other : Statements) (one two : Code) (r : Result Code E) → x ≡ If at test taken other after → StatementStands v x
     → BlockPiece v taken one → BlockPiece v other two
@@ -165,6 +206,10 @@ from_made v w u x at entry exit first again one two r is h e f a b law holds siz
 -- without the innermost variable
 abbrev popped : Visible → Visible
 popped v = record v { variables = outer_of v.variables }
+
+-- the scope is as before
+pub popped_is : (v w u o : Visible) (var : Var) → w ≡ with_variable v var → u ≡ w → o ≡ popped u → o ≡ v
+popped_is v w u o var e f g = g ∙ ap popped (f ∙ e)
 
 pub local_made : {E : Type 0} (v w u o : Visible) (x : Statement) (at : ℕ) (var : Var) (value : Expression) (body : Statements) (end_var : Var) (last : Expression) (inside : Code) (r : Result Code E) → x ≡ Local at var value body end_var last → StatementStands v x
     → w ≡ with_variable v var → u ≡ w → o ≡ popped u → BlockPiece w body inside

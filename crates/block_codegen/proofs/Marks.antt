@@ -128,10 +128,10 @@ or_right : (a b : Bool) → b ≡ true → (a || b) ≡ true
 or_right false b e = e
 or_right true b e = refl
 
-marked_front : (ks js : List Mark) (i : ℕ) → is_marked ks i ≡ true → is_marked (ks ++ js) i ≡ true
+pub marked_front : (ks js : List Mark) (i : ℕ) → is_marked ks i ≡ true → is_marked (ks ++ js) i ≡ true
 marked_front ks js i h = list_any-append (holds_cell i) ks js ∙ or_left (is_marked ks i) (is_marked js i) h
 
-marked_behind : (ks js : List Mark) (i : ℕ) → is_marked js i ≡ true → is_marked (ks ++ js) i ≡ true
+pub marked_behind : (ks js : List Mark) (i : ℕ) → is_marked js i ≡ true → is_marked (ks ++ js) i ≡ true
 marked_behind ks js i h = list_any-append (holds_cell i) ks js ∙ or_right (is_marked ks i) (is_marked js i) h
 
 holds_by : (i : ℕ) (k : Mark) → k.first ≤ i → i < k.end → holds_cell i k ≡ true
@@ -140,7 +140,7 @@ holds_by i k a b = grind (arith, nat_tests)
 holds_moved : (n i : ℕ) (k : Mark) → holds_cell (n + i) (moved_on n k) ≡ holds_cell i k
 holds_moved n i k = grind (arith, nat_tests)
 
-marked_moved : (n i : ℕ) (ks : List Mark) → is_marked (shift n ks) (n + i) ≡ is_marked ks i
+pub marked_moved : (n i : ℕ) (ks : List Mark) → is_marked (shift n ks) (n + i) ≡ is_marked ks i
 marked_moved n i [] = refl
 marked_moved n i (k ∷ ks) = ap (λ z. z || is_marked (shift n ks) (n + i)) (holds_moved n i k) ∙ ap (λ z. holds_cell i k || z) (marked_moved n i ks)
 

@@ -1,9 +1,10 @@
 -- Pieces of statements and of blocks, from the code of their parts.
-use Rattle.std.proofs.Common.{◌≡◌, ℕ, ◌+◌, ◌*◌, ◌≤◌, List, [], ◌++◌, length, refl, sym, ap, ◌∙◌, subst, arith, length-append, append_assoc, append-nil}
+use Rattle.std.proofs.Common.{◌≡◌, ℕ, ◌+◌, ◌*◌, ◌<◌, ◌≤◌, List, [], ◌++◌, length, refl, sym, ap, ◌∙◌, subst, arith, length-append, append_assoc, append-nil}
 use Rattle.std.proofs.lemmas.List.Sorted.{length_permutation}
+use Rattle.rpp_tree.specs.declared.tree.Ident.{Ident}
 use Rattle.rpp_tree.specs.declared.tree.Var.{Var}
 use Rattle.rpp_tree.specs.declared.tree.VarType.TheVariants as type
-use Rattle.rpp_tree.specs.Tree.{Expression, Number, Null, Variable, Element, Binary, Lvalue, Whole, Item, Statement, Statements, Update, Swap, If, From, Construct, Local, New, Delete, Copy, Uncopy, Call, Skip, End, Then}
+use Rattle.rpp_tree.specs.Tree.{Expression, Number, Null, Variable, Element, Binary, Lvalue, Whole, Item, Object, Statement, Statements, Update, Swap, If, From, Construct, Local, New, Delete, Copy, Uncopy, Call, Skip, End, Then}
 use Rattle.block_codegen.specs.Places.{statement_place}
 use Rattle.rpp_tree.specs.Views.{source_of}
 use Rattle.rpp_tree.specs.Parts.{expression_tokens, lvalue_tokens, statement_tokens, block_tokens}
@@ -16,9 +17,9 @@ use Rattle.statement_laws.proofs.Holding.{shift_append, shift_zero, shift_shift}
 use Rattle.statement_laws.proofs.Stated.{nothing_is_a_block, blocks_are_rows}
 use Rattle.method_scope.specs.Visible.{Visible, known_in}
 use Rattle.expr_uncompute.specs.Steps.{tokens, place_tokens}
-use Rattle.statement_codegen.specs.Codes.{scope_of, IsStatementCode, IsBlockCode}
-use Rattle.statement_codegen.specs.Laws.{IfLaw, FromLaw, LocalLaw}
-use Rattle.statement_codegen.proofs.Stands.{with_variable, if_stands, from_stands, local_stands}
+use Rattle.statement_codegen.specs.Codes.{scope_of, with_variable, IsStatementCode, IsBlockCode, IsAllowed}
+use Rattle.statement_codegen.specs.Laws.{IfLaw, FromLaw, LocalLaw, ConstructLaw}
+use Rattle.statement_codegen.proofs.Stands.{if_stands, from_stands, local_stands}
 use Rattle.block_codegen.specs.Rows.{row_before, inner_rows, block_rows}
 use Rattle.block_codegen.specs.Ranges.{IsRange, MarksOf}
 use Rattle.block_codegen.specs.Pieces.{StatementStands, IsRowCode, HaveMarks, StandsIn, cells_a_token, InnerPiece, BlockPiece}
@@ -101,6 +102,18 @@ module _ (v : Visible) where
     law = local_stands v at var value body end_var last inside.cells p.cells made h.allowed a.law;
     marks = marks_in Law (block_rows (scope_of (with_variable v var)) body) inside p held a.marks;
     size = let s = a.size in let e = tokens_are value in let f = tokens_are last in omega (arith, size, s, e, f);
+  }
+
+  -- an object for a block, over the code of `new`, which has at most 432 cells
+  pub construct_inner : (at : ℕ) (class name : Ident) (body : Statements) (end : Ident) (making : List Symbol) (inside p : Code) → IsAllowed v (Construct at class name body end)
+      → ConstructLaw v at (record { kind = type.Class class; name = name }) making inside.cells p.cells → Holds inside p
+      → length p.cells ≤ 2 * length making + length inside.cells + 136 → length making ≤ 432
+      → IsStatementCode (with_variable v (record { kind = type.Class class; name = name })) (New at (Object class) (Whole name)) making
+      → BlockPiece (with_variable v (record { kind = type.Class class; name = name })) body inside → InnerPiece v (Construct at class name body end) p
+  construct_inner at class name body end making inside p allowed made held size small new a = record {
+    law = made.law class body end refl (let f = allowed.few_locals in let q : length v.variables < 48 = omega (arith, f) in q) new a.law;
+    marks = marks_in Law (block_rows (scope_of (with_variable v (record { kind = type.Class class; name = name }))) body) inside p held a.marks;
+    size = let s = a.size in omega (arith, size, small, s);
   }
 
   -- ---- blocks

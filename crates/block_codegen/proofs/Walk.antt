@@ -3,8 +3,9 @@ use Rattle.std.proofs.Common.{◌≡◌, ℕ, zero, suc, ◌+◌, ◌*◌, ◌<�
 use Rattle.std.proofs.Math.ListN.{get_or, drop_of_length-le}
 use Rattle.std.proofs.Math.Seq.{drop-cons}
 use Rattle.rpp_tree.specs.declared.tree.Stmt.{Stmt}
+use Rattle.rpp_tree.specs.declared.tree.Ident.{Ident}
 use Rattle.rpp_tree.specs.declared.tree.Var.{Var}
-use Rattle.rpp_tree.specs.Tree.{Expression, Statement, Statements, If, From, Local, End, Then}
+use Rattle.rpp_tree.specs.Tree.{Expression, Statement, Statements, If, From, Construct, Local, End, Then}
 use Rattle.rpp_tree.specs.Parts.{statement_tokens, block_tokens}
 use Rattle.rpp_tree.specs.Views.{statement_of, statements_of}
 use Rattle.pisa_isa.specs.declared.notes.TheConstants.{LAST_PLACE}
@@ -68,6 +69,9 @@ if_falls x at test after taken other is = let e = ap statement_tokens is in (ome
 
 pub from_falls : (x : Statement) (at : ℕ) (entry exit : Expression) (first again : Statements) → x ≡ From at entry first again exit → (2 * block_tokens first + 1 < 2 * statement_tokens x) × (2 * block_tokens again + 1 < 2 * statement_tokens x)
 from_falls x at entry exit first again is = let e = ap statement_tokens is in (omega (arith, e), omega (arith, e))
+
+pub construct_falls : (x : Statement) (at : ℕ) (class name : Ident) (body : Statements) (end : Ident) → x ≡ Construct at class name body end → 2 * block_tokens body + 1 < 2 * statement_tokens x
+construct_falls x at class name body end is = let e = ap statement_tokens is in omega (arith, e)
 
 pub local_falls : (x : Statement) (at : ℕ) (var : Var) (value : Expression) (body : Statements) (end_var : Var) (last : Expression) → x ≡ Local at var value body end_var last → 2 * block_tokens body + 1 < 2 * statement_tokens x
 local_falls x at var value body end_var last is = let e = ap statement_tokens is in omega (arith, e)

@@ -1,15 +1,15 @@
 -- The blocks of which code is made, and the pieces of their statements.
-use Rattle.std.specs.Prelude.{◌≡◌, ℕ, ◌+◌, ◌*◌, ◌<◌, ◌≤◌, List, length, All}
+use Rattle.std.specs.Prelude.{◌≡◌, ℕ, ◌+◌, ◌*◌, ◌<◌, ◌≤◌, List, length, Option, All}
 use Rattle.rpp_tree.specs.declared.tree.Ident.{Ident}
 use Rattle.rpp_tree.specs.declared.limits.TheConstants.{MOST_BYTES}
-use Rattle.rpp_tree.specs.Tree.{Statement, Statements, Source}
+use Rattle.rpp_tree.specs.Tree.{Lvalue, Statement, Statements, If, From, Construct, Local, New, Delete, Copy, Uncopy, Call, Source}
 use Rattle.rpp_tree.specs.Views.{source_of}
 use Rattle.rpp_tree.specs.Parts.{statement_places, block_places, statement_tokens, block_tokens}
 use Rattle.rpp_tree.specs.Limits.{locals, AreSmall, AreInnerSmall}
 use Rattle.class_table.specs.Statements.{passed, check_statements}
 use Rattle.paired_code.specs.declared.part.Symbol.{Symbol}
 use Rattle.paired_code.specs.Code.{Code}
-use Rattle.sound_execution.specs.Plain.{BlockHasWords}
+use Rattle.sound_execution.specs.Plain.{StatementIsPlain, BlockHasWords, IsPlain}
 use Rattle.statement_laws.specs.Form.{Scope, StmtLaw}
 use Rattle.statement_laws.specs.Stands.{shape_of}
 use Rattle.statement_laws.specs.Worlds.{Place, world_of}
@@ -17,10 +17,10 @@ use Rattle.method_scope.specs.declared.known.TheConstants.{MOST_VARIABLES}
 use Rattle.method_scope.specs.Visible.{Visible}
 use Rattle.frame_facts.specs.Laws.{IsLinked}
 use Rattle.expression_laws.specs.Typing.{typing_in}
+use Rattle.statement_codegen.specs.declared.elements.CallParts.{CallParts}
 use Rattle.statement_codegen.specs.Codes.{scope_of, IsStatementCode, IsBlockCode, IsAllowed}
 use Rattle.block_codegen.specs.Rows.{inner_rows, block_rows}
 use Rattle.block_codegen.specs.Ranges.{MarksOf, IsCovered}
-use Rattle.block_codegen.specs.Built.{IsBuiltStatement, IsBuilt}
 
 -- ---- what code is made for
 
@@ -29,23 +29,44 @@ abbrev pub IsPlace : ℕ → Type 0
 IsPlace at = at < MOST_BYTES
 
 -- A statement that stands where this is visible: it is allowed there, the statements in it keep the limits of
--- expressions, it stands at places that a source can have, and it is built.
+-- expressions, no name in a call on an element is empty, and it stands at places that a source can have.
 pub record StatementStands (v : Visible) (statement : Statement) : Type 0 where
   pub allowed : IsAllowed v statement
+  pub plain : StatementIsPlain statement
   pub inner_small : AreInnerSmall statement
   pub places : All IsPlace (statement_places statement)
-  pub built : IsBuiltStatement statement
 
--- A block that stands there: the rules of types pass it, its literals are words, it keeps the limits of expressions,
--- it stands at places that a source can have, its locals have room in the frame, and it is built.
+-- A block that stands there: the rules of types pass it, its literals are words, no name in a call on an element is
+-- empty, it keeps the limits of expressions, it stands at places that a source can have, and its locals have room in
+-- the frame.
 pub record StandsIn (v : Visible) (body : Statements) : Type 0 where
   pub rules : check_statements (typing_in (source_of v.program) (scope_of v)) (shape_of (source_of v.program) (scope_of v)) body
       ≡ passed
   pub has_words : BlockHasWords body
+  pub plain : IsPlain body
   pub small : AreSmall body
   pub places : All IsPlace (block_places body)
   pub room : length v.variables + locals body ≤ MOST_VARIABLES
-  pub built : IsBuilt body
+
+-- a statement that holds no block
+abbrev pub HoldsNoBlock : Statement → Type 0
+HoldsNoBlock (If at test taken other after) = ⊥
+HoldsNoBlock (From at entry first again exit) = ⊥
+HoldsNoBlock (Construct at class name body end) = ⊥
+HoldsNoBlock (Local at var value body end_var end_value) = ⊥
+HoldsNoBlock _ = Unit {0}
+
+-- one that makes, deletes or copies an object or an array
+abbrev pub IsOfObjects : Statement → Type 0
+IsOfObjects (New at made target) = Unit {0}
+IsOfObjects (Delete at made target) = Unit {0}
+IsOfObjects (Copy at kind source target) = Unit {0}
+IsOfObjects (Uncopy at kind source target) = Unit {0}
+IsOfObjects _ = ⊥
+
+-- a call or uncall on a receiver
+abbrev pub call_on : Option Lvalue → CallParts → Statement
+call_on receiver call = Call call.at call.back receiver call.method.now call.args.now
 
 -- ---- what is made
 

@@ -9,12 +9,13 @@ ghost use Rattle.statement_codegen.specs.Codes.{IsBlockCode};
 ghost use Rattle.block_codegen.specs.Ranges.{IsCovered};
 ghost use Rattle.block_codegen.specs.Pieces.{StatementStands, StandsIn, HaveMarks, cells_a_token, InnerPiece, BlockPiece};
 
+use crate::objects::{making_piece, object_var};
 use crate::plain::{place_of, plain_piece};
 use method_scope::Scope;
 use paired_code::{Piece, empty, marked, seq};
 use rpp_tree::tree::{Block, Stmt};
 use rpp_words::NoMemory;
-use statement_codegen::{from_code, if_code, local_code};
+use statement_codegen::{construct_code, from_code, if_code, local_code};
 use std::alloc::Global;
 
 /// The code of a block in this scope: the code of its statements, one after the other, with a mark over the
@@ -96,6 +97,20 @@ fn inner_piece(alloc: Global, s: &Stmt, scope: &mut Scope) -> Result<Piece, NoMe
             let body = block_piece(alloc, body, scope)?;
             scope.pop();
             local_code(alloc, var, value, body, end_value, scope)
+        }
+        Stmt::Construct {
+            at,
+            class,
+            name,
+            body,
+            ..
+        } => {
+            let var = object_var(alloc, class, name)?;
+            scope.push(alloc, &var)?;
+            let making = making_piece(alloc, class, name, scope)?;
+            let body = block_piece(alloc, body, scope)?;
+            scope.pop();
+            construct_code(alloc, *at, &var, making, body, scope)
         }
         _ => plain_piece(alloc, s, scope),
     }

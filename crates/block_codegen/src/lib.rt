@@ -1,9 +1,9 @@
 //! The code of whole blocks, with a mark for each statement over its cells. The layer above may use `block_code`
-//! and the definitions of specs/: what a block must keep (`StandsIn`), which statements are built (`IsBuilt`),
-//! and which marks a piece has (`HaveMarks`).
+//! and the definitions of specs/: what a block must keep (`StandsIn`), and which marks a piece has (`HaveMarks`).
 #![tactic(auto)]
 
 mod blocks;
+mod objects;
 mod plain;
 
 pub use blocks::block_code;

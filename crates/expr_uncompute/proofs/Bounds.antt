@@ -11,6 +11,7 @@ use Rattle.statement_laws.specs.declared.spot.Spot.{Spot}
 use Rattle.roopl_semantics.specs.Elements.{elements, index_elements, own_element, read_cost}
 use Rattle.expr_uncompute.specs.Number.{index_of}
 use Rattle.expr_uncompute.specs.Code
+use Rattle.expr_uncompute.specs.Sizes.{swap_size}
 use Rattle.expr_uncompute.specs.Steps.{operator_steps, operand_steps, open_steps, prepare_steps, parts_steps, value_steps, test_steps, fetch_steps, place_steps, compare_steps, apart_steps, both_apart_steps, update_steps, swap_steps, tokens, place_tokens}
 use Rattle.expr_uncompute.specs.Found.{found_place_steps, found_value_steps, found_places_steps}
 
@@ -394,8 +395,18 @@ module _ (spot : List ℕ → Spot) (free : ℕ) where
       let t = index_tokens target in
       omega (arith, length_around ((p ++ v) ++ k) mid, length-append (p ++ v) k, length-append p v)
 
-  pub swap_cells : (left right : Lvalue) → length (Code.swap_cells spot free left right) ≤ 102 * (place_tokens left + 1 + place_tokens right)
-  swap_cells left right =
+  pub swap_cells : (left right : Lvalue) → length (Code.swap_cells spot free left right) ≤ swap_size left right
+  swap_cells (Whole name) right =
+      let p = Code.place_cells spot free (Whole name) 0 Code.place in
+      let v = Code.place_cells spot free right (Code.place_words (Whole name)) Code.other_place in
+      let mid = Code.exch Code.first_word Code.place ∷ Code.exch Code.second_word Code.other_place ∷ Code.exch Code.second_word Code.place ∷ Code.exch Code.first_word Code.other_place ∷ [] in
+      let c = place_cells right (Code.place_words (Whole name)) Code.other_place in
+      let l = Code.apart_cells spot right (index_of (Whole name)) (index_of right) in
+      let e = apart_cells right (index_of (Whole name)) (index_of right) in
+      let u = index_tokens right in
+      omega (arith, length_around ((p ++ v) ++ ([] ++ l)) mid, length-append (p ++ v) ([] ++ l), length-append p v)
+  swap_cells (Item name index) right =
+      let left : Lvalue = Item name index in
       let p = Code.place_cells spot free left 0 Code.place in
       let v = Code.place_cells spot free right (Code.place_words left) Code.other_place in
       let mid = Code.exch Code.first_word Code.place ∷ Code.exch Code.second_word Code.other_place ∷ Code.exch Code.second_word Code.place ∷ Code.exch Code.first_word Code.other_place ∷ [] in

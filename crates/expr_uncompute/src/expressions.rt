@@ -5,6 +5,7 @@ ghost use Rattle.rpp_tree.specs.Views.{expression_of, lvalue_of};
 ghost use Rattle.roopl_semantics.specs.Elements.{elements, index_elements, own_element, read_cost};
 ghost use Rattle.expr_uncompute.specs.Code.{Target, words as words_of, place_words as words_of_place};
 ghost use Rattle.expr_uncompute.specs.Promises.{ValueLaw, TestLaw, UpdateLaw, SwapLaw};
+ghost use Rattle.expr_uncompute.specs.Sizes.{swap_size};
 ghost use Rattle.expr_uncompute.specs.Steps.{value_steps, test_steps, update_steps, swap_steps, tokens, place_tokens};
 ghost use Rattle.method_scope.specs.Visible.{spot_of, free_of, known_in};
 
@@ -99,8 +100,7 @@ pub fn swap_code(
         (own_element (lvalue_of left.now) ++ own_element (lvalue_of right.now))
         (index_elements (lvalue_of left.now) ++ index_elements (lvalue_of right.now))) }
     ensures size { IfOk result (λ p.
-        length p.cells ≤ 102 * (place_tokens (lvalue_of left.now) + 1 + place_tokens
-        (lvalue_of right.now))) }
+        length p.cells ≤ swap_size (lvalue_of left.now) (lvalue_of right.now)) }
 {
     let names = scope.names();
     swap_piece(alloc, left, right, &names)

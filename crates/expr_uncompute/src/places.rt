@@ -4,6 +4,7 @@ ghost use Rattle.rpp_tree.specs.Views.{expression_of, lvalue_of};
 ghost use Rattle.paired_code.specs.Code.{unmarked};
 ghost use Rattle.expr_uncompute.specs.Code.{exch as exch_cell, words as words_of, place_words as words_of_place, update_cell as cell_of_update, update_cells, swap_cells};
 ghost use Rattle.expr_uncompute.specs.Promises.{UpdateLaw, SwapLaw};
+ghost use Rattle.expr_uncompute.specs.Sizes.{swap_size};
 ghost use Rattle.expr_uncompute.specs.Steps.{tokens, place_tokens};
 ghost use Rattle.method_scope.specs.Visible.{spot_of as spot_of_name, free_of, known_by};
 
@@ -86,8 +87,7 @@ pub fn swap_piece(
         p ≡ unmarked (swap_cells (spot_of_name (known_by names.now)) (free_of (known_by names.now))
         (lvalue_of left.now) (lvalue_of right.now))) }
     ensures size { IfOk result (λ p.
-        length p.cells ≤ 102 * (place_tokens (lvalue_of left.now) + 1 + place_tokens
-        (lvalue_of right.now))) }
+        length p.cells ≤ swap_size (lvalue_of left.now) (lvalue_of right.now)) }
 {
     let places = both_places(alloc, left, right, names)?;
     let check = both_apart(alloc, names, left, right)?;

@@ -86,6 +86,7 @@ module _ (setting : Setting) (statics : List ℕ) where
       class_inside = inside;
       variables = subst (AllFit setting.program st.store (map local_type (shape_of setting.program s'))) (sym bound_are) fit;
       objects = k.objects;
+      arrays = k.arrays;
       lives = live;
       self_is = above;
       own_is = k.own_is;
@@ -96,6 +97,7 @@ module _ (setting : Setting) (statics : List ℕ) where
       placed = k.placed;
       grounded = k.grounded;
       callers_fit = (k.variables, k.self_is, k.own_is, k.callers_fit);
+      callers_held = ((let a = k.self_held in omega (arith, a)), k.callers_held);
       moved_fit = tt;
     }
 
@@ -123,6 +125,7 @@ module _ (setting : Setting) (statics : List ℕ) where
       class_inside = before.class_inside;
       variables = k.callers_fit.0;
       objects = k.objects;
+      arrays = k.arrays;
       lives = live';
       self_is = k.callers_fit.1;
       own_is = k.callers_fit.2;
@@ -133,5 +136,6 @@ module _ (setting : Setting) (statics : List ℕ) where
       placed = k.placed;
       grounded = k.grounded;
       callers_fit = k.callers_fit.3;
+      callers_held = k.callers_held.1;
       moved_fit = types_moved end.store s u args (map local_type (shape_of setting.program s')) (map value_of end.frame) kinds k.variables;
     }

@@ -51,6 +51,7 @@ module _ (setting : Setting) (statics : List ℕ) (few : length statics ≤ 2621
     class_inside = k.class_inside;
     variables = k.variables;
     objects = k.objects;
+    arrays = k.arrays;
     lives = k.lives;
     self_is = k.self_is;
     own_is = k.own_is;
@@ -61,6 +62,7 @@ module _ (setting : Setting) (statics : List ℕ) (few : length statics ≤ 2621
     placed = k.placed;
     grounded = k.grounded;
     callers_fit = k.callers_fit;
+    callers_held = k.callers_held;
     moved_fit = tt;
   }
 
@@ -69,6 +71,7 @@ module _ (setting : Setting) (statics : List ℕ) (few : length statics ≤ 2621
     class_inside = k.class_inside;
     variables = k.variables;
     objects = k.objects;
+    arrays = k.arrays;
     lives = k.lives;
     self_is = k.self_is;
     own_is = k.own_is;
@@ -79,6 +82,7 @@ module _ (setting : Setting) (statics : List ℕ) (few : length statics ≤ 2621
     placed = k.placed;
     grounded = k.grounded;
     callers_fit = k.callers_fit;
+    callers_held = k.callers_held;
     moved_fit = tt;
   }
 

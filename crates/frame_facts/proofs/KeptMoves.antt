@@ -89,6 +89,7 @@ module _ (setting : Setting) (statics : List ℕ) where
           class_inside = k.class_inside;
           variables = w.variables;
           objects = w.objects;
+          arrays = λ m hd q. k.arrays m hd (sym (heads v m) ∙ q);
           lives = λ m p. ap is_some (heads v m) ∙ lives m p;
           self_is = ap (named_fits setting.program (kind.Class s.class)) (heads v u.self) ∙ k.self_is;
           own_is = heads v u.self ∙ k.own_is;
@@ -99,6 +100,7 @@ module _ (setting : Setting) (statics : List ℕ) where
           placed = w.placed;
           grounded = grounded_stays st.store (written st cell v).store (heads v) k.grounded;
           callers_fit = callers_stay st.store (written st cell v).store (heads v) u.callers k.callers_fit;
+          callers_held = k.callers_held;
           moved_fit = moved_stays s u st.store (written st cell v).store (heads v) moved' all;
         }
 

@@ -235,6 +235,7 @@ module _ (place : Place) (accepted : IsAccepted place.setting.program) (few : le
           class_inside = k.class_inside;
           variables = (new.fit, k.variables);
           objects = k.objects;
+          arrays = k.arrays;
           lives = k.lives;
           self_is = k.self_is;
           own_is = k.own_is;
@@ -245,6 +246,7 @@ module _ (place : Place) (accepted : IsAccepted place.setting.program) (few : le
           placed = k.placed;
           grounded = k.grounded;
           callers_fit = k.callers_fit;
+          callers_held = k.callers_held;
           moved_fit = tt;
         };
         counts = λ m c q. (let a = h.counts m c q in let o = new.none m in omega (arith, a, o));
@@ -307,6 +309,7 @@ module _ (place : Place) (accepted : IsAccepted place.setting.program) (few : le
             class_inside = k.class_inside;
             variables = k.variables.1;
             objects = k.objects;
+            arrays = k.arrays;
             lives = k.lives;
             self_is = k.self_is;
             own_is = k.own_is;
@@ -317,6 +320,7 @@ module _ (place : Place) (accepted : IsAccepted place.setting.program) (few : le
             placed = k.placed;
             grounded = k.grounded;
             callers_fit = k.callers_fit;
+            callers_held = k.callers_held;
             moved_fit = tt;
           };
           words = set_words cells (word_place u s) 0 h.words (omega arith);

@@ -1,6 +1,7 @@
 -- What main needs of its open frame.
-use Rattle.std.proofs.Common.{◌≡◌, ℕ, zero, suc, ◌+◌, ◌-◌, ◌*◌, ◌^◌, ◌<◌, ◌≤◌, List, [], ◌∷◌, ◌++◌, length, map, refl, sym, ap, ◌∙◌, subst, arith}
-use Rattle.std.specs.Prelude.{replicate, slice_index, slice_set}
+use Rattle.std.proofs.Common.{◌≡◌, ℕ, zero, suc, ◌+◌, ◌-◌, ◌*◌, ◌^◌, ◌<◌, ◌≤◌, Bool, true, false, Some, None, List, [], ◌∷◌, ◌++◌, length, map, refl, sym, ap, ◌∙◌, subst, arith}
+use Rattle.std.specs.Prelude.{replicate, slice_index, slice_set, nat_eq, if◌then◌else◌}
+use Rattle.std.specs.Option.{option_map}
 use Rattle.std.specs.List.{All}
 use Rattle.rpp_words.specs.Words.{IsWord}
 use Rattle.open_frame.proofs.Tells.{cells_small}
@@ -12,9 +13,9 @@ use Rattle.rpp_tree.specs.Tree.{Source}
 use Rattle.buddy_book.specs.Book.{start}
 use Rattle.pisa_isa.specs.Image.{Segments}
 use Rattle.pisa_isa.specs.Loaded.{loaded, statics_at, heap_base, fixed_cells, empty_heads, with_words}
-use Rattle.roopl_semantics.specs.Store.{Binding, main_name}
+use Rattle.roopl_semantics.specs.Store.{Head, OfClass, Binding, main_name}
 use Rattle.rpp_words.specs.Limits.{IsLimits}
-use Rattle.roopl_semantics.specs.Source.{IsValid, main_body, starting}
+use Rattle.roopl_semantics.specs.Source.{IsValid, main_body, main_object, starting}
 use Rattle.class_table.specs.Classes.{main_of}
 use Rattle.roopl_semantics.specs.Layout.{HasStatics}
 use Rattle.roopl_semantics.specs.Execution.{Setting}
@@ -32,10 +33,10 @@ use Rattle.class_table.specs.Program.{IsAccepted}
 use Rattle.roopl_semantics.proofs.MainPlace.{class_inside}
 use Rattle.buddy_book.specs.Place.{Placing}
 use Rattle.class_table.specs.Inheritance.{is_or_inherits}
-use Rattle.sound_execution.specs.Sound.{AllFit, local_type}
+use Rattle.sound_execution.specs.Sound.{AllFit, local_type, head_of, head_named}
 use Rattle.open_frame.proofs.Memory.{base_above}
 use Rattle.statement_laws.specs.Frames.{base}
-use Rattle.statement_laws.specs.Stands.{local_of, setup}
+use Rattle.statement_laws.specs.Stands.{local_of, setup, HasElements}
 use Rattle.statement_laws.specs.Worlds.{Place, world_of}
 use Rattle.frame_facts.specs.Laws.{most_statics, OpensMain}
 use Rattle.frame_facts.proofs.Bridge.{reads_of}
@@ -95,6 +96,14 @@ pub no_frame : (frame : List Binding) → map (λ (b : Binding). b.name) frame �
 no_frame [] e = refl
 no_frame (b ∷ frame) e = absurd (cc)
 
+-- before a run there is no array
+main_only : (program : Source) (input : List FieldWord) (name : ℕ) (head : Head) → head_named (starting program input).store name ≡ Some head → HasElements head
+main_only program input name head named = by (nat_eq main_name name) named
+  where
+    by : (b : Bool) → option_map head_of (if b then Some (main_object program input) else None) ≡ Some head → HasElements head
+    by true e = subst HasElements (let q : OfClass (main_of program).class ≡ head = cc in q) tt
+    by false e = absurd (cc)
+
 -- the main frame
 abbrev pub first_frame : Source → Under
 first_frame program = record { callers = []; self = main_name; class = (main_of program).class; object = statics_at; put_by = replicate 16 0 }
@@ -136,6 +145,7 @@ module _ (program : Source) (limits : Limits) (image : Segments) (has : HasStati
             class_inside = subst (λ c. c < length program.classes) (sym class_is) class_in;
             variables = subst (λ vs. AllFit program (starting program input).store (map local_type (map (local_of program) vs)) []) (sym no_vars) tt;
             objects = sound.objects;
+            arrays = main_only program input;
             lives = λ m p. sound.lives m (omega (arith, p));
             self_is = ap (is_or_inherits program (main_of program).class) class_is ∙ sound.self_is;
             own_is = refl;
@@ -146,6 +156,7 @@ module _ (program : Source) (limits : Limits) (image : Segments) (has : HasStati
             placed = sound.placed;
             grounded = starting_grounded program image limits input has inside valid;
             callers_fit = tt;
+            callers_held = tt;
             moved_fit = tt;
           };
           counts = λ m c q. (let a = sound.counts m c q in omega (arith, a));

@@ -37,6 +37,7 @@ module _ (place : Place) where
     class_inside = k.class_inside;
     variables = k.variables;
     objects = k.objects;
+    arrays = k.arrays;
     lives = λ n p. k.lives n (omega (arith, p));
     self_is = k.self_is;
     own_is = k.own_is;
@@ -47,6 +48,7 @@ module _ (place : Place) where
     placed = k.placed;
     grounded = k.grounded;
     callers_fit = k.callers_fit;
+    callers_held = k.callers_held;
     moved_fit = k.moved_fit.1;
   }
 
@@ -89,6 +91,7 @@ module _ (place : Place) where
       class_inside = inside;
       variables = subst (AllFit setting.program st.store (map local_type (shape_of setting.program s'))) (sym bound_are) fit;
       objects = k.objects;
+      arrays = k.arrays;
       lives = live;
       self_is = above;
       own_is = own_is;
@@ -99,6 +102,7 @@ module _ (place : Place) where
       placed = k.placed;
       grounded = k.grounded;
       callers_fit = (k.variables, k.self_is, k.own_is, k.callers_fit);
+      callers_held = ((let a = k.self_held in omega (arith, a)), k.callers_held);
       moved_fit = tt;
     }
 
@@ -130,6 +134,7 @@ module _ (place : Place) where
       class_inside = before.class_inside;
       variables = k.callers_fit.0;
       objects = k.objects;
+      arrays = k.arrays;
       lives = live';
       self_is = k.callers_fit.1;
       own_is = k.callers_fit.2;
@@ -140,6 +145,7 @@ module _ (place : Place) where
       placed = k.placed;
       grounded = k.grounded;
       callers_fit = k.callers_fit.3;
+      callers_held = k.callers_held.1;
       moved_fit = (record { kind = type; of_cell = x_has; fit = x_fit }, types_moved setting statics end.store s u args (map local_type (shape_of setting.program s')) (map value_of end.frame) kinds k.variables);
     }
 

@@ -9,7 +9,10 @@ use Rattle.class_table.specs.Classes.{method_named, main_of}
 use Rattle.class_table.specs.Table.{table_of, slot_in}
 use Rattle.class_table.specs.Inheritance.{is_or_inherits}
 use Rattle.class_table.specs.Program.{IsAccepted}
+use Rattle.paired_code.specs.declared.part.Symbol.{Symbol}
+use Rattle.paired_code.specs.Machine.{Image}
 use Rattle.paired_code.specs.Layout.{Routine, Tidy}
+use Rattle.buddy_pisa.specs.Promise.{AllocatorLaw}
 use Rattle.pisa_isa.specs.Image.{Segments}
 use Rattle.roopl_semantics.specs.Layout.{HasStatics}
 use Rattle.roopl_semantics.specs.Source.{IsValid, main_body}
@@ -32,6 +35,13 @@ pub record Route (program : Source) (places : List (List ℕ)) (routines : Routi
   pub class_above : is_or_inherits program own (routines.scope (routine own name)).class ≡ true
   pub place_is : slice_index (unwrap_or (slice_get places own) []) slot ≡ routines.top (routine own name) + 1
 
+-- The allocator of the heap is routine 0 of an image.
+pub record HasAllocator (im : Image) : Type 0 where
+  pub top : ℕ
+  pub body : List Symbol
+  pub law : AllocatorLaw body
+  pub routine : Routine im 0 top body
+
 -- The static cells of a place are those of an image of its accepted program, its routines stand in its code, and its class
 -- tables lead to them: for each class, and each slot that the class or one that it inherits from has for a name.
 pub record IsLinked (place : Place) (routine : ℕ → Ident → ℕ) : Type 0 where
@@ -47,6 +57,7 @@ pub record IsLinked (place : Place) (routine : ℕ → Ident → ℕ) : Type 0 w
   pub placed : (r : ℕ) → r < place.routines.count
       → Routine place.im (place.routines.number r) (place.routines.top r) (place.routines.body r)
   pub tidy : Tidy place.im
+  pub allocator : HasAllocator place.im
 
 -- an open frame has what calls take as premises
 abbrev pub FramesAreOpen : Type 0

@@ -46,14 +46,14 @@ no_objects d (kind.Class c) e = cc
 no_objects d kind.IntArray e = cc
 no_objects d (kind.ClassArray c) e = cc
 
-no_elements_ints : (k : Kind) → is_int_array k ≡ true → (x : Kind) → elements_of x ≡ Some k → ⊥
+pub no_elements_ints : (k : Kind) → is_int_array k ≡ true → (x : Kind) → elements_of x ≡ Some k → ⊥
 no_elements_ints kind.Int e x h = cc
 no_elements_ints kind.Nil e x h = cc
 no_elements_ints (kind.Class c) e x h = cc
 no_elements_ints (kind.ClassArray c) e x h = cc
 no_elements_ints kind.IntArray e x h = no_ints x h
 
-no_elements_objects : (o : Option ℕ) (k : Kind) → takes_objects_of o k ≡ true → (x : Kind) → elements_of x ≡ Some k → ⊥
+pub no_elements_objects : (o : Option ℕ) (k : Kind) → takes_objects_of o k ≡ true → (x : Kind) → elements_of x ≡ Some k → ⊥
 no_elements_objects None k e x h = cc
 no_elements_objects (Some c) kind.Int e x h = cc
 no_elements_objects (Some c) kind.Nil e x h = cc

@@ -155,7 +155,7 @@ module _ (setting : Setting) (classes : KnowsClasses setting.program) (C : Conte
       abbrev R : List ℕ → Type 0
       R = Avoids program st target
 
-      made_stays : VariablesStay typing C.locals n n R st last
+      pub made_stays : VariablesStay typing C.locals n n R st last
       made_stays =
           let cells_apart = place_apart setting classes C st target k cell n n R (typed_in setting classes C st g) typed is (λ other p q. p) (λ other r. r) in
           stays_then setting typing refl C.locals n n R st more last (added_stays n n R)
@@ -247,7 +247,7 @@ module _ (setting : Setting) (classes : KnowsClasses setting.program) (C : Conte
     abbrev R' : List ℕ → Type 0
     R' = Avoids program st target
 
-    gone_stays : VariablesStay typing C.locals n' n' R' st end
+    pub gone_stays : VariablesStay typing C.locals n' n' R' st end
     gone_stays =
         let cells_apart = place_apart setting classes C st target k cell n' n' R' (typed_in setting classes C st g) typed is (λ other p q. p) (λ other r. r) in
         stays_then setting typing refl C.locals n' n' R' st w end (written_stays setting typing refl C.locals n' n' R' st cell Nil cells_apart)

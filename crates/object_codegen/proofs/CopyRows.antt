@@ -34,10 +34,10 @@ use Rattle.expr_uncompute.proofs.Transport.{place_means_by}
 use Rattle.expr_uncompute.proofs.Updates.{place_low}
 use Rattle.object_codegen.specs.Promises.{referring, unreferring, Places, CopyLaw, copy_steps}
 
-rated : (x b k c : ℕ) → x ≤ b → k ≤ x * c → k ≤ b * c
+pub rated : (x b k c : ℕ) → x ≤ b → k ≤ x * c → k ≤ b * c
 rated x b k c h l = let e : x * c ≤ b * c = mul-le-mul_right c h in omega arith
 
-less : (b k c : ℕ) → 1 ≤ b → c ≤ k → c ≤ b * k
+pub less : (b k c : ℕ) → 1 ≤ b → c ≤ k → c ≤ b * k
 less b k c h l = let e : 1 * k ≤ b * k = mul-le-mul_right k h in omega arith
 
 -- a value of a class or an array type: nil, or a name that stands somewhere

@@ -17,3 +17,8 @@ pub mod SizeOrdering
 pub mod Bounds
 pub mod Clauses
 pub mod CopyRows
+pub mod MakeFacts
+pub mod MakeKept
+pub mod ObjectRows
+pub mod ArrayRows
+pub mod Classes

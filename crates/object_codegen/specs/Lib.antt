@@ -1,3 +1,4 @@
 pub mod Code
 pub mod Promises
 pub mod News
+pub mod Creations

@@ -1,21 +1,25 @@
 // The code of objects and arrays, by what it does.
 ghost use Rattle.std.specs.Prelude.{◌≡◌, ◌≤◌, ◌+◌, ◌*◌, [], ◌++◌, length, IfOk};
+ghost use Rattle.buddy_book.specs.Book.{order_for};
+ghost use Rattle.roopl_semantics.specs.Layout.{table_at};
 ghost use Rattle.rpp_tree.specs.Tree.{index_nodes};
-ghost use Rattle.rpp_tree.specs.Views.{expression_of, lvalue_of};
+ghost use Rattle.rpp_tree.specs.Views.{expression_of, lvalue_of, creation_of, source_of};
 ghost use Rattle.roopl_semantics.specs.Elements.{index_elements, own_element, read_cost};
 ghost use Rattle.expr_uncompute.specs.Code.{words as words_of, place_words as words_of_place};
 ghost use Rattle.expr_uncompute.specs.Steps.{tokens, place_tokens};
 ghost use Rattle.method_scope.specs.Visible.{spot_of, free_of, known_in};
 ghost use Rattle.object_codegen.specs.News.{ObjectLaw, ArrayLaw};
+ghost use Rattle.object_codegen.specs.Creations.{NewLaw, creation_words, creation_size, class_of, fields_of};
 ghost use Rattle.object_codegen.specs.Promises.{CopyLaw, copy_steps};
 
 use crate::copies::copy_middle;
 use crate::news::new_middle;
 use crate::orders::{fixed_order, order_code};
 use crate::shape::Shape;
+use crate::tables::{class_number, field_count, order_of, table_of};
 use expr_uncompute::{Scope, place_and_value_around, place_around, places_around};
 use paired_code::Piece;
-use rpp_tree::tree::{Expr, Place};
+use rpp_tree::tree::{Expr, Ident, Made, Place};
 use rpp_words::NoMemory;
 use std::alloc::Global;
 
@@ -97,4 +101,49 @@ pub fn array_code(
     let orders = order_code(alloc)?;
     let middle = new_middle(alloc, Shape::Lengthy, orders)?;
     place_and_value_around(alloc, place, size, scope, middle)
+}
+
+/// A new object of the class of this name: `object_code` with the address of the class's table, its
+/// number of fields, and the order of a block for them.
+pub fn class_code(
+    alloc: Global,
+    class: &Ident,
+    place: &Place,
+    scope: &Scope,
+) -> Result<Piece, NoMemory>
+    requires room { words_of_place (lvalue_of place.now) ≤ 1000 }
+    ensures law { IfOk result (λ p.
+        ObjectLaw (spot_of (known_in scope.now)) (free_of (known_in scope.now))
+        (table_at (source_of scope.now.program) (class_of (source_of scope.now.program) class.now))
+        (fields_of (source_of scope.now.program) class.now)
+        (order_for (2 + fields_of (source_of scope.now.program) class.now))
+        (lvalue_of place.now) p.cells) }
+    ensures marks { IfOk result (λ p. p.marks ≡ []) }
+    ensures size { IfOk result (λ p. length p.cells ≤ 87 + 80 * (1 + place_tokens
+        (lvalue_of place.now))) }
+{
+    let checked = scope.checked();
+    let number = class_number(checked, &class.text);
+    let fields = field_count(checked, number);
+    let table = table_of(checked, number);
+    object_code(alloc, table, fields, order_of(fields), place, scope)
+}
+
+/// The piece of a `new`, whatever it makes: an object of a class, with the address of the class's
+/// table and so many cells as it has fields, or an array. Its mirror is the piece of the `delete`.
+/// The only error is that memory ran out.
+pub fn new_code(alloc: Global, made: &Made, place: &Place, scope: &Scope) -> Result<Piece, NoMemory>
+    requires room { creation_words (creation_of made.now) (lvalue_of place.now) ≤ 1000 }
+    ensures law { IfOk result (λ p.
+        NewLaw (source_of scope.now.program) (spot_of (known_in scope.now)) (free_of
+        (known_in scope.now)) (creation_of made.now) (lvalue_of place.now) p.cells) }
+    ensures marks { IfOk result (λ p. p.marks ≡ []) }
+    ensures size { IfOk result (λ p.
+        length p.cells ≤ creation_size (creation_of made.now) (lvalue_of place.now)) }
+{
+    match made {
+        Made::Object(class) => class_code(alloc, class, place, scope),
+        Made::Ints(size) => array_code(alloc, size, place, scope),
+        Made::Objects(_, size) => array_code(alloc, size, place, scope),
+    }
 }

@@ -1,5 +1,5 @@
--- The body of each method of an accepted program of which every form is compiled stands in the scope of the method.
-use Rattle.std.proofs.Common.{◌≡◌, ◌∙◌, sym, ap, subst, refl, ℕ, zero, suc, ◌<◌, List, [], ◌∷◌, ◌++◌, length, map, Some, None, arith, slice_get}
+-- The body of each method of an accepted program stands in the scope of the method.
+use Rattle.std.proofs.Common.{◌≡◌, ◌∙◌, sym, ap, subst, refl, ℕ, zero, suc, ◌<◌, List, [], ◌∷◌, ◌++◌, length, map, Some, arith, slice_get}
 use Rattle.std.specs.Prelude.{All}
 use Rattle.std.specs.List.{flat_map}
 use Rattle.std.specs.Option.{unwrap_or}
@@ -21,13 +21,12 @@ use Rattle.class_table.specs.Program.{IsAccepted, parameter_new, with_parameters
 use Rattle.class_table.proofs.PassedRules.{both_passed}
 use Rattle.class_table.proofs.InheritedSlots.{class_there}
 use Rattle.class_table.proofs.FoundMethods.{all_at, method_checked, method_small}
-use Rattle.sound_execution.specs.Plain.{BlockHasWords}
+use Rattle.sound_execution.specs.Plain.{IsPlain, BlockHasWords}
 use Rattle.sound_execution.proofs.Invocations.{params_mean}
 use Rattle.sound_execution.proofs.Numbered.{program_words}
+use Rattle.sound_execution.proofs.Plainness.{program_plain}
 use Rattle.method_scope.specs.Visible.{Visible}
 use Rattle.block_codegen.specs.Pieces.{StandsIn}
-use Rattle.program_codegen.specs.Unbuilt.{unbuilt}
-use Rattle.program_codegen.proofs.BuiltBlocks.{built_body}
 use Rattle.program_codegen.proofs.SameRules.{block_same}
 
 -- ---- parts of what holds of all
@@ -81,14 +80,19 @@ module _ (program : Program) (accepted : IsAccepted (source_of program)) (id : M
       all_at (λ (m : Procedure). BlockHasWords m.body) (class_at text id.class).methods id.method method
       (all_at (λ (c : ClassText). All (λ (m : Procedure). BlockHasWords m.body) c.methods) text.classes id.class (class_at text id.class) (program_words text accepted.limits.numbers) class_is) there
 
-  pub stands_in : unbuilt text ≡ None → StandsIn begun method.body
-  stands_in none =
+  is_plain : IsPlain method.body
+  is_plain =
+      all_at (λ (m : Procedure). IsPlain m.body) (class_at text id.class).methods id.method method
+      (all_at (λ (c : ClassText). All (λ (m : Procedure). IsPlain m.body) c.methods) text.classes id.class (class_at text id.class) (program_plain text accepted) class_is) there
+
+  pub stands_in : StandsIn begun method.body
+  stands_in =
       let small = method_small text accepted id.class id.method method inside there in
       subst (λ (vars : List Var). StandsIn (record { program = program; method = id; variables = vars }) method.body) (sym params_are) (record {
         rules = rules;
         has_words = has_words;
+        plain = is_plain;
         small = small.statements;
         places = body_places text id.class id.method (class_at text id.class) method class_is there accepted.limits.places;
         room = (let a = small.parameters in let b = small.locals_nested in omega arith);
-        built = built_body text none id.class id.method (class_at text id.class) method class_is there;
       })

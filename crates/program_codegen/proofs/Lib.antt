@@ -1,5 +1,4 @@
 pub mod SameRules
-pub mod BuiltBlocks
 pub mod Bodies
 pub mod Entries
 pub mod Counts
@@ -8,5 +7,6 @@ pub mod FieldSums
 pub mod NotesFit
 pub mod SlotMethods
 pub mod Tables
+pub mod Unmarked
 pub mod RoutineMade
 pub mod ImageMade

@@ -14,11 +14,13 @@ use Rattle.statement_laws.specs.Held.{Holds}
 use Rattle.method_scope.specs.Visible.{Visible}
 use Rattle.statement_codegen.specs.Codes.{IsBlockCode, IsMethodCode}
 use Rattle.statement_codegen.specs.Laws.{RoutineLaw}
+use Rattle.block_codegen.specs.Ranges.{IsCovered}
 use Rattle.block_codegen.specs.Pieces.{HaveMarks, IsRowCode}
 use Rattle.block_codegen.proofs.Marks.{marks_in}
 use Rattle.program_codegen.specs.Notes.{method_rows}
 use Rattle.program_codegen.specs.Routines.{IsRoutine}
 use Rattle.program_codegen.proofs.Bodies.{begun, params_are}
+use Rattle.program_codegen.proofs.Unmarked.{bare_covered, bare_held}
 
 as_many : (n : ℕ) (marks : List Mark) → length (shift n marks) ≡ length marks
 as_many n [] = refl
@@ -32,10 +34,10 @@ module _ (program : Program) (accepted : IsAccepted (source_of program)) (id : M
   begun_is v is = is ∙ ap (λ (vars : List Var). record { program = program; method = id; variables = vars }) (params_are program accepted id method inside there)
 
   pub routine_made : (v w : Visible) (body p : Code) → v ≡ begun program accepted id method inside there → w ≡ v
-      → IsBlockCode v method.body body.cells → HaveMarks v method.body body → length body.cells ≤ 200 * block_tokens method.body → length body.marks ≤ block_tokens method.body
+      → IsBlockCode v method.body body.cells → HaveMarks v method.body body → length body.cells ≤ 200 * block_tokens method.body → length body.marks ≤ block_tokens method.body → IsCovered body
       → RoutineLaw w body.cells p.cells → Holds body p → length p.cells ≡ length body.cells + 8
       → IsRoutine (source_of program) (record { class = id.class; method = method }) p
-  routine_made v w body p v_is w_is code marks size few law held long =
+  routine_made v w body p v_is w_is code marks size few covered law held long =
       let here = begun_is v v_is in
       let made : IsMethodCode plain method p.cells =
       (subst (λ z. RoutineLaw z body.cells p.cells) (w_is ∙ here) law).law method (subst (λ z. IsBlockCode z method.body body.cells) here code)
@@ -46,4 +48,5 @@ module _ (program : Program) (accepted : IsAccepted (source_of program)) (id : M
         marks = marks_in (IsRowCode (source_of program)) (method_rows (record { class = id.class; method = method })) body p held rows;
         size = omega (arith, long, size);
         few = (let e = ap length held.marks in omega (arith, e, as_many (length held.before) body.marks, few));
+        unmarked = (let none = bare_covered body covered in let all = bare_held body p held in omega (arith, none, all, long));
       }

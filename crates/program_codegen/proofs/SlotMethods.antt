@@ -83,7 +83,7 @@ slot_read program table class slot count id table_is inside count_is below id_is
 pub record NumberRead (program : Source) (firsts : List ℕ) (id : MethodId) : Type 0 where
   pub inside : id.class < length firsts
   pub is : slice_index firsts id.class + id.method ≡ routine_of program id
-  pub small : slice_index firsts id.class + id.method < 2 ^ 32
+  pub small : 1 + (slice_index firsts id.class + id.method) < 2 ^ 32
 
 pub number_read : (program : Source) (firsts : List ℕ) (id : MethodId) → firsts ≡ each_below (methods_before program.classes) (length program.classes)
     → source_tokens program ≤ 20000 → IsMethod program id → NumberRead program firsts id

@@ -1,4 +1,4 @@
--- The words of class tables, one by one, and the addresses of tables.
+-- The words of class tables, one by one.
 use Rattle.std.proofs.Common.{◌≡◌, ◌∙◌, sym, ap, subst, refl, ℕ, zero, suc, ◌+◌, ◌<◌, List, [], ◌∷◌, ◌++◌, length, map, take, replicate, arith, append_assoc, slice_get, get_or, Some, add-one}
 use Rattle.std.specs.Prelude.{slice_index}
 use Rattle.std.proofs.lemmas.List.{append-nil, length-map, map-append}
@@ -17,7 +17,7 @@ use Rattle.class_table.specs.Table.{table_of, slots_in}
 use Rattle.class_table.proofs.InheritedSlots.{class_there}
 use Rattle.class_table.proofs.Numbers.{length-each_below, each_below-get, class-known}
 use Rattle.class_table.proofs.Tables.{table_reads}
-use Rattle.roopl_semantics.specs.Layout.{table_at, tables}
+use Rattle.roopl_semantics.specs.Layout.{tables}
 use Rattle.paired_code.specs.declared.part.StaticWord.{StaticWord}
 use Rattle.paired_code.specs.declared.part.StaticWord.TheVariants.{Word, Routine as RoutinePlace}
 use Rattle.paired_code.specs.Link.{static_word}
@@ -45,11 +45,6 @@ slots_read program class inside = (table_reads program class inside).slots
 
 pub many_classes : (program : Source) → length (table_of program).names ≡ length program.classes
 many_classes program = length-map program.classes name_of
-
--- the address of the next table
-pub table_next : (program : Source) (before : ℕ) → before < length program.classes → table_at program (before + 1) ≡ table_at program before + (1 + length (slots_in (table_of program) before))
-table_next program before inside =
-    ap (table_at program) (add-one before) ∙ ap (λ (s : Slots). table_at program before + (1 + length s)) (sym (slots_read program before inside))
 
 -- the word of one slot more
 slot_more : (f : MethodId → ℕ) (slots : Slots) (k : ℕ) → k < length slots → map (λ x. f x.1) (take (suc k) slots) ≡ map (λ x. f x.1) (take k slots) ++ f (run_at slots k) ∷ []
@@ -114,13 +109,13 @@ module _ (places : List ℕ) (program : Source) where
 
   -- the routine of a slot
   pub slot_pushed : (class slot : ℕ) (before words after : List StaticWord) (number : ℕ) → slot < length (class_slots program class)
-      → number ≡ routine_of program (run_at (class_slots program class) slot) → after ≡ words ++ RoutinePlace number ∷ []
-      → read words ≡ read before ++ map (λ x. slice_index places (0 + routine_of program x.1)) (take slot (class_slots program class))
-      → read after ≡ read before ++ map (λ x. slice_index places (0 + routine_of program x.1)) (take (slot + 1) (class_slots program class))
+      → number ≡ 1 + routine_of program (run_at (class_slots program class) slot) → after ≡ words ++ RoutinePlace number ∷ []
+      → read words ≡ read before ++ map (λ x. slice_index places (1 + routine_of program x.1)) (take slot (class_slots program class))
+      → read after ≡ read before ++ map (λ x. slice_index places (1 + routine_of program x.1)) (take (slot + 1) (class_slots program class))
   slot_pushed class slot before words after number low is pushed so_far =
-      let f : MethodId → ℕ = λ id. slice_index places (0 + routine_of program id) in
+      let f : MethodId → ℕ = λ id. slice_index places (1 + routine_of program id) in
       let slots = class_slots program class in
-      let e : number ≡ 0 + routine_of program (run_at slots slot) = omega (arith, is) in
+      let e : number ≡ 1 + routine_of program (run_at slots slot) = is in
       ap read pushed
       ∙ map-append (static_word places) words (RoutinePlace number ∷ [])
       ∙ ap (λ ws. ws ++ slice_index places number ∷ []) so_far

@@ -1,3 +1,2 @@
-pub mod Unbuilt
 pub mod Notes
 pub mod Routines

@@ -1,5 +1,5 @@
 -- What is noted of a program's image: the cells of each statement, and the cells of the main class's int fields.
-use Rattle.std.specs.Prelude.{◌≡◌, ℕ, ◌+◌, List, [], ◌∷◌, ◌++◌, length, if◌then◌else◌}
+use Rattle.std.specs.Prelude.{◌≡◌, ℕ, zero, suc, ◌+◌, ◌*◌, ◌≤◌, List, [], ◌∷◌, ◌++◌, length, if◌then◌else◌}
 use Rattle.std.specs.List.{AllZip}
 use Rattle.std.specs.List.Sorted.{IsPermutation, IsNonDecreasingBy}
 use Rattle.rpp_tree.specs.declared.tree.Var.{Var}
@@ -15,7 +15,7 @@ use Rattle.roopl_semantics.specs.Source.{main_fields, is_int_type}
 use Rattle.roopl_semantics.specs.declared.main_object.TheConstants.{FIRST_FIELD}
 use Rattle.block_codegen.specs.Places.{statement_place}
 use Rattle.block_codegen.specs.Rows.{Row, block_rows}
-use Rattle.block_codegen.specs.Ranges.{AreNested}
+use Rattle.block_codegen.specs.Ranges.{AreNested, is_marked}
 use Rattle.block_codegen.specs.Pieces.{IsRowCode}
 use Rattle.program_laws.specs.Methods.{Entry, entries, scope_at}
 
@@ -42,8 +42,14 @@ pub record IsStatementMark (program : Source) (im : Image) (row : Row) (k : Mark
   pub there : Stands im code_line k.first cells
   pub law : IsRowCode program row.scope row.statement cells
 
+-- of so many cells from this one on, how many lie in no mark's range
+abbrev pub unmarked_from : List Mark → ℕ → ℕ → ℕ
+unmarked_from marks cell zero = 0
+unmarked_from marks cell (suc count) =
+    (if is_marked marks cell then 0 else 1) + unmarked_from marks (cell + 1) count
+
 -- one for each statement of the program, nested as the statements are or else apart, in the order of their places;
--- the routines of the image have these places
+-- the routines of the image have these places. At most 256 cells a method, and 8192, lie in no mark's range.
 pub record HasMarks (program : Source) (image : Segments) (marks : List Mark) : Type 0 where
   pub places : List ℕ
   pub ranges : List Mark
@@ -51,6 +57,7 @@ pub record HasMarks (program : Source) (image : Segments) (marks : List Mark) : 
   pub each : AllZip (IsStatementMark program (record { code = image.code; routines = places })) (program_rows program) ranges
   pub nested : AreNested (program_rows program) ranges
   pub ascending : IsNonDecreasingBy (λ k. k.at) marks
+  pub few : unmarked_from marks 0 (length image.code) ≤ 256 * length (entries program) + 8192
 
 -- ---- names of fields
 

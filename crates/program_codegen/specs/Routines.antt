@@ -1,14 +1,16 @@
 -- The piece of a method's routine, and the numbers of routines.
-use Rattle.std.specs.Prelude.{ℕ, ◌+◌, ◌*◌, ◌≤◌, List, length}
+use Rattle.std.specs.Prelude.{◌≡◌, ℕ, ◌+◌, ◌*◌, ◌≤◌, List, [], ◌∷◌, length}
+use Rattle.std.specs.List.{AllZip}
 use Rattle.rpp_tree.specs.Parts.{block_tokens}
 use Rattle.rpp_tree.specs.Tree.{Source}
 use Rattle.class_table.specs.First.{each_below}
 use Rattle.paired_code.specs.Code.{Code}
+use Rattle.buddy_pisa.specs.Promise.{AllocatorLaw}
 use Rattle.block_codegen.specs.Ranges.{MarksOf}
 use Rattle.block_codegen.specs.Pieces.{IsRowCode, cells_a_token}
-use Rattle.program_laws.specs.Methods.{Entry, methods_before}
+use Rattle.program_laws.specs.Methods.{Entry, entries, methods_before}
 use Rattle.program_laws.specs.Laws.{IsRoutineCode}
-use Rattle.program_codegen.specs.Notes.{method_rows}
+use Rattle.program_codegen.specs.Notes.{method_rows, unmarked_from}
 
 -- it has the law of the method, a mark for each of its statements, and so many cells
 pub record IsRoutine (program : Source) (entry : Entry) (p : Code) : Type 0 where
@@ -16,7 +18,23 @@ pub record IsRoutine (program : Source) (entry : Entry) (p : Code) : Type 0 wher
   pub marks : MarksOf (IsRowCode program) (method_rows entry) p
   pub size : length p.cells ≤ cells_a_token * block_tokens entry.method.body + 8
   pub few : length p.marks ≤ block_tokens entry.method.body
+  -- but for a few cells round it, it is that of the method's block
+  pub unmarked : unmarked_from p.marks 0 (length p.cells) ≤ 8
 
--- the number of the first routine of each class
+-- the allocator of the heap: it has its law, no mark, and so many cells
+pub record IsAllocator (p : Code) : Type 0 where
+  pub law : AllocatorLaw p.cells
+  pub marks : p.marks ≡ []
+  pub size : length p.cells ≡ 104
+
+-- the allocator, and a routine for each method
+pub record AreRoutines (program : Source) (pieces : List Code) : Type 0 where
+  pub allocator : Code
+  pub methods : List Code
+  pub all : pieces ≡ allocator ∷ methods
+  pub allocates : IsAllocator allocator
+  pub codes : AllZip (IsRoutine program) (entries program) methods
+
+-- how many methods stand before each class
 abbrev pub first_numbers : Source → List ℕ
 first_numbers program = each_below (methods_before program.classes) (length program.classes)

@@ -1,11 +1,10 @@
 // The image of a program.
-ghost use Rattle.std.specs.Prelude.{◌≡◌, ◌≤◌, ◌+◌, ◌*◌, None, length, IfOk};
+ghost use Rattle.std.specs.Prelude.{◌≤◌, ◌+◌, ◌*◌, length, IfOk};
 ghost use Rattle.rpp_tree.specs.Parts.{source_tokens};
 ghost use Rattle.rpp_tree.specs.Views.{source_of};
 ghost use Rattle.pisa_isa.specs.Image.{IsImage};
 ghost use Rattle.roopl_semantics.specs.StandsFor.{StandsFor};
 ghost use Rattle.program_codegen.specs.Notes.{HasMarks, AreNotes};
-ghost use Rattle.program_codegen.specs.Unbuilt.{unbuilt};
 
 use crate::notes::field_names;
 use crate::numbers::{first_routines, routine_number};
@@ -18,11 +17,9 @@ use pisa_isa::{Noted, Notes};
 use rpp_words::NoMemory;
 use std::alloc::Global;
 
-/// The image of a program of which every form is compiled, with the cells of each statement and of each int field noted.
+/// The image of a program, with the cells of each statement and of each int field noted.
 /// The only error is that memory ran out.
 pub fn compile(alloc: Global, checked: &Checked) -> Result<Noted, NoMemory>
-    requires { unbuilt (source_of checked.now) ≡ None }
-
     // On every input, heap and depth the image does what the program does.
     ensures stands { IfOk result (λ noted. StandsFor (source_of checked.now) noted.image) }
 
@@ -44,7 +41,6 @@ pub fn compile(alloc: Global, checked: &Checked) -> Result<Noted, NoMemory>
 
 // The image of a program, with its marks alone.
 fn linked(alloc: Global, checked: &Checked) -> Result<Noted, NoMemory>
-    requires { unbuilt (source_of checked.now) ≡ None }
     ensures stands { IfOk result (λ noted. StandsFor (source_of checked.now) noted.image) }
     ensures image { IfOk result (λ noted. IsImage noted.image) }
     ensures size { IfOk result (λ noted. length noted.image.code ≤ 200 * source_tokens (source_of checked.now) + 8192) }

@@ -4,13 +4,14 @@ ghost use Rattle.rpp_tree.specs.declared.limits.TheConstants.{MOST_TOKENS};
 ghost use Rattle.rpp_tree.specs.Parts.{source_tokens};
 ghost use Rattle.rpp_tree.specs.Views.{source_of};
 ghost use Rattle.program_codegen.specs.Routines.{first_numbers};
+ghost use Rattle.program_codegen.specs.declared.numbers.TheConstants.{FIRST_METHOD};
 
 use class_table::MethodId;
 use rpp_tree::tree::Program;
 use rpp_words::NoMemory;
 use std::alloc::Global;
 
-/// The number of the first routine of each class.
+/// How many methods stand before those of each class.
 pub fn first_routines(alloc: Global, program: &Program) -> Result<Vec<u32>, NoMemory>
     requires { source_tokens (source_of program.now) ≤ MOST_TOKENS }
     ensures { IfOk result (λ firsts. firsts.items ≡ first_numbers (source_of program.now)) }
@@ -24,11 +25,14 @@ pub fn first_routines(alloc: Global, program: &Program) -> Result<Vec<u32>, NoMe
     Ok(firsts)
 }
 
-/// The number of a method's routine, behind those of the classes before its own.
+/// The number of the first method's routine: the allocator of the heap is routine 0.
+pub const FIRST_METHOD: u32 = 1;
+
+/// The number of a method's routine, behind the allocator and those of the classes before its own.
 pub fn routine_number(firsts: &[u32], id: MethodId) -> u32
     requires inside { id.class < length firsts.now }
-    requires small { slice_index firsts.now id.class + id.method < 2 ^ 32 }
-    ensures { result ≡ slice_index firsts.now id.class + id.method }
+    requires small { FIRST_METHOD + (slice_index firsts.now id.class + id.method) < 2 ^ 32 }
+    ensures { result ≡ FIRST_METHOD + (slice_index firsts.now id.class + id.method) }
 {
-    firsts[id.class as usize] + id.method
+    FIRST_METHOD + (firsts[id.class as usize] + id.method)
 }

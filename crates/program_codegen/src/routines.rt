@@ -1,13 +1,13 @@
-// The code of the methods, each the body of a routine.
-ghost use Rattle.std.specs.Prelude.{◌≡◌, ◌<◌, ◌≤◌, None, Some, map, length, slice_get, IfOk};
+// The bodies of the routines: the allocator of the heap, and the code of each method.
+ghost use Rattle.std.specs.Prelude.{◌≡◌, ◌<◌, ◌≤◌, Some, map, length, slice_get, IfOk};
 ghost use Rattle.std.specs.List.{AllZip};
 ghost use Rattle.rpp_tree.specs.Views.{procedure_of, source_of};
 ghost use Rattle.class_table.specs.Members.{class_at};
 ghost use Rattle.program_laws.specs.Methods.{entries_of, entries};
-ghost use Rattle.program_codegen.specs.Routines.{IsRoutine};
-ghost use Rattle.program_codegen.specs.Unbuilt.{unbuilt};
+ghost use Rattle.program_codegen.specs.Routines.{IsRoutine, AreRoutines};
 
 use block_codegen::block_code;
+use buddy_pisa::allocator;
 use class_table::{Checked, MethodId, methods_at};
 use method_scope::Scope;
 use paired_code::Piece;
@@ -16,9 +16,19 @@ use rpp_words::NoMemory;
 use statement_codegen::method_code;
 use std::alloc::Global;
 
-/// The bodies of the routines of all methods, in the order of the text.
+/// The bodies of all routines: the allocator, and the methods in the order of the text.
 pub fn routines(alloc: Global, checked: &Checked) -> Result<Vec<Piece>, NoMemory>
-    requires { unbuilt (source_of checked.now) ≡ None }
+    ensures { IfOk result (λ pieces. AreRoutines (source_of checked.now) pieces.items) }
+{
+    let mut pieces = Vec::new(alloc);
+    pieces.push(allocator(alloc)?)?;
+    let mut methods = method_routines(alloc, checked)?;
+    pieces.append(&mut methods)?;
+    Ok(pieces)
+}
+
+// Those of the methods.
+fn method_routines(alloc: Global, checked: &Checked) -> Result<Vec<Piece>, NoMemory>
     ensures { IfOk result (λ pieces.
         AllZip (IsRoutine (source_of checked.now)) (entries (source_of checked.now)) pieces.items) }
 {
@@ -38,7 +48,6 @@ fn class_routines(
     class: u32,
     methods: &[Method],
 ) -> Result<Vec<Piece>, NoMemory>
-    requires built { unbuilt (source_of checked.now) ≡ None }
     requires inside { class < length (source_of checked.now).classes }
     requires there { map procedure_of methods.now ≡ (class_at (source_of checked.now) class).methods }
     requires few { length methods.now ≤ 20000 }
@@ -63,7 +72,6 @@ fn routine(
     id: MethodId,
     method: &Method,
 ) -> Result<Piece, NoMemory>
-    requires built { unbuilt (source_of checked.now) ≡ None }
     requires inside { id.class < length (source_of checked.now).classes }
     requires there { slice_get (class_at (source_of checked.now) id.class).methods id.method ≡ Some (procedure_of method.now) }
     ensures { IfOk result (λ piece.

@@ -1,22 +1,23 @@
 // The static cells of a program.
 ghost use Rattle.std.specs.Prelude.{◌≡◌, ◌≤◌, ◌<◌, ◌++◌, ℕ, List, map, length, replicate, IfOk, OnOk};
 ghost use Rattle.rpp_tree.specs.Views.{source_of};
-ghost use Rattle.roopl_semantics.specs.Layout.{table_at as address_of, tables};
+ghost use Rattle.roopl_semantics.specs.Layout.{tables};
 ghost use Rattle.roopl_semantics.specs.Source.{main_fields};
 ghost use Rattle.paired_code.specs.declared.part.StaticWord.TheVariants.{Word};
 ghost use Rattle.paired_code.specs.Link.{static_word};
 ghost use Rattle.program_laws.specs.Methods.{slot_places, table_places, statics_of};
 ghost use Rattle.program_codegen.specs.Routines.{first_numbers};
+ghost use Rattle.program_codegen.specs.declared.numbers.TheConstants.{FIRST_METHOD};
 
 use crate::numbers::routine_number;
 use class_table::Checked;
+use object_codegen::table_at;
 use paired_code::StaticWord;
-use roopl_semantics::FIRST_FIELD;
 use rpp_words::NoMemory;
 use std::alloc::{AllocError, Global};
 
-/// The static cells of a program, wherever its routines stand: the main object, and the table of each class. The first
-/// routine of each class has this number.
+/// The static cells of a program, wherever its routines stand: the main object, and the table of each class. Before the
+/// methods of each class stand so many.
 pub fn statics(
     alloc: Global,
     checked: &Checked,
@@ -24,7 +25,7 @@ pub fn statics(
 ) -> Result<Vec<StaticWord>, NoMemory>
     requires firsts { firsts.now ≡ first_numbers (source_of checked.now) }
     ensures { IfOk result (λ words. (places : List ℕ) →
-        map (static_word places) words.items ≡ statics_of (source_of checked.now) 0 places) }
+        map (static_word places) words.items ≡ statics_of (source_of checked.now) FIRST_METHOD places) }
 {
     let class = checked.table().main().class;
     let fields = checked.table().fields(class).len() as u32;
@@ -34,22 +35,6 @@ pub fn statics(
     add_zeros(&mut words, fields)?;
     add_tables(&mut words, checked, firsts)?;
     Ok(words)
-}
-
-// The address of a class's table, behind so many fields of the main object.
-fn table_at(checked: &Checked, fields: u32, class: u32) -> u32
-    requires fields { fields ≡ length (main_fields (source_of checked.now)) }
-    requires few { fields ≤ 64 }
-    requires inside { class ≤ length (source_of checked.now).classes }
-    requires small { class ≤ 256 }
-    ensures { result ≡ address_of (source_of checked.now) class }
-{
-    let table = checked.table();
-    let mut at = FIRST_FIELD + fields;
-    for before in 0..class {
-        at += 1 + table.slot_count(before);
-    }
-    at
 }
 
 // So many zeros.
@@ -70,7 +55,7 @@ fn add_tables(
 ) -> Result<(), AllocError>
     requires firsts { firsts.now ≡ first_numbers (source_of checked.now) }
     ensures { OnOk result ((places : List ℕ) → map (static_word places) words.new.items
-        ≡ map (static_word places) words.old.items ++ tables 1 (table_places (source_of checked.now) 0 places)) }
+        ≡ map (static_word places) words.old.items ++ tables 1 (table_places (source_of checked.now) FIRST_METHOD places)) }
 {
     for class in 0..checked.table().class_count() {
         words.push(StaticWord::Word(class + 1))?;
@@ -89,7 +74,7 @@ fn add_slots(
     requires firsts { firsts.now ≡ first_numbers (source_of checked.now) }
     requires inside { class < length (source_of checked.now).classes }
     ensures { OnOk result ((places : List ℕ) → map (static_word places) words.new.items
-        ≡ map (static_word places) words.old.items ++ slot_places (source_of checked.now) 0 places class) }
+        ≡ map (static_word places) words.old.items ++ slot_places (source_of checked.now) FIRST_METHOD places class) }
 {
     let table = checked.table();
     for slot in 0..table.slot_count(class) {

@@ -11,11 +11,9 @@ use Rattle.rpp_words.specs.declared.input.FieldWord.{FieldWord}
 use Rattle.pisa_loader.specs.declared.error.LoadError.{LoadError}
 use Rattle.program_commands.specs.Inputs.{given_input}
 use Rattle.class_table.specs.Refusal.{Refusal}
-use Rattle.program_codegen.specs.declared.unbuilt.Unbuilt.{Unbuilt}
-use Rattle.program_codegen.specs.Unbuilt.{unbuilt}
 use Rattle.rpp_plan.specs.Plans.{Planned, WithInput, WritesOnly}
 use Rattle.rpp_probes.specs.Tally.{Watch}
-use Rattle.program_commands.specs.ProgramPlans.{IfBuilt, OfProgram, IsBuiltImage, WritesImage, IsCheckPlan, IsCompilePlan, ChecksFile, CompilesFile, ReportsStop, RunsImage}
+use Rattle.program_commands.specs.ProgramPlans.{OfProgram, WritesImage, IsCheckPlan, IsCompilePlan, ChecksFile, CompilesFile, ReportsStop, RunsImage}
 use Rattle.program_commands.specs.RunPlans.{RefusesInput, RefusesSizes, RefusesRun, IsGoPlan, IsTurnPlan, IsProfilePlan, GoesOn, TurnsFile, ProfilesFile}
 use Rattle.roopl_semantics.specs.Run.{Run, Done as OverWith, Fault, More}
 use Rattle.roopl_semantics.specs.Store.{State}
@@ -35,10 +33,6 @@ stop_writes turns (BadAddress a) program limits input cells first spent steps p 
 stop_writes turns (OffCode a) program limits input cells first spent steps p h = absurd h
 
 -- what holds of the plans that P tells holds of all plans of a text: a refusal writes nothing
-pub told_writes : (found : Option Unbuilt) (text : List ℕ) (P : Planned → Type 0) (name : Option (List ℕ)) (p : Planned) → ((q : Planned) → P q → WritesOnly q name) → IfBuilt found text P p → WritesOnly p name
-told_writes (Some found) text P name p f h = along p _ name h.told (inl refl)
-told_writes None text P name p f h = f p h
-
 pub judged_writes : (judgement : Result Source Refusal) (P : Source → Planned → Type 0) (name : Option (List ℕ)) (p : Planned) → ((program : Source) (q : Planned) → P program q → WritesOnly q name) → OfProgram P judgement p → WritesOnly p name
 judged_writes (Err refusal) P name p f h = along p _ name h (inl refl)
 judged_writes (Ok program) P name p f h = f program p h
@@ -53,7 +47,7 @@ sizes_refused_writes None given program p h = input_refused_writes (given_input 
 
 refused_writes : (text given : List ℕ) (heap deep : ℕ) (p : Planned) → RefusesRun text given heap deep p → WritesOnly p None
 refused_writes text given heap deep p g =
-    judged_writes g.judgement _ None p (λ program q h. told_writes (unbuilt program) text _ None q (λ r k. sizes_refused_writes _ given program r k) h) g.plan
+    judged_writes g.judgement _ None p (λ program q h. sizes_refused_writes _ given program q h) g.plan
 
 image_writes : (turns : Bool) (program : Source) (limits : Limits) (input : List FieldWord) (steps : ℕ) (p : Planned) → RunsImage turns program limits input steps p → WritesOnly p None
 image_writes turns program limits input steps p runs = stop_writes turns _ program limits input _ _ _ steps p runs.reports
@@ -80,8 +74,7 @@ check_writes text p g = judged_writes g.judgement _ None p (λ program q h. alon
 
 compile_writes : (text name : List ℕ) (p : Planned) → IsCompilePlan text name p → WritesOnly p (Some name)
 compile_writes text name p g =
-    judged_writes g.judgement (IsBuiltImage text name) (Some name) p
-    (λ program q h. told_writes (unbuilt program) text (WritesImage program name) (Some name) q (λ r k. along r _ (Some name) k.written (inr refl)) h) g.plan
+    judged_writes g.judgement (λ program. WritesImage program name) (Some name) p (λ program q h. along q _ (Some name) h.written (inr refl)) g.plan
 
 of_input : (texts : Texts) (input : Option (List ℕ)) (P : List ℕ → Type 0) (Q : Type 0) → WithInput texts input P → ((given : List ℕ) → P given → Q) → Q
 of_input texts None P Q h f = f [] h

@@ -1,17 +1,12 @@
 -- The plans of `check` and `compile`, and what a run of a program reports.
-use Rattle.std.specs.Prelude.{◌≡◌, ℕ, ◌≤◌, ◌<◌, Bool, true, false, List, ◌++◌, length, None, Some, Result, Ok, Err, codes}
-use Rattle.std.specs.declared.option.Option.{Option}
+use Rattle.std.specs.Prelude.{◌≡◌, ℕ, ◌≤◌, ◌<◌, Bool, true, false, List, ◌++◌, length, Result, Ok, Err, codes}
 use Rattle.std.specs.Fmt.{decimal}
 use Rattle.rpp_words.specs.declared.input.FieldWord.{FieldWord}
 use Rattle.rpp_words.specs.declared.input.Limits.{Limits}
 use Rattle.rpp_tree.specs.declared.limits.TheConstants.{MOST_BYTES}
 use Rattle.rpp_tree.specs.Tree.{Source}
 use Rattle.rpp_ports.specs.Ports.{Texts}
-use Rattle.roopl_lexer.specs.declared.token.Token.{Token}
-use Rattle.roopl_lexer.specs.Tokens.{IsCutting}
 use Rattle.class_table.specs.Refusal.{Refusal}
-use Rattle.program_codegen.specs.declared.unbuilt.Unbuilt.{Unbuilt}
-use Rattle.program_codegen.specs.Unbuilt.{unbuilt}
 use Rattle.program_codegen.specs.Notes.{AreNotes}
 use Rattle.pisa_isa.specs.declared.machine.Stop.{Stop}
 use Rattle.pisa_isa.specs.declared.machine.Stop.TheVariants.{Finished, Trap, Bound as AtBound}
@@ -27,7 +22,6 @@ use Rattle.roopl_semantics.specs.Source.{GivesDone, GivesFault, starting}
 use Rattle.roopl_semantics.specs.Walk.{run_report}
 use Rattle.roopl_semantics.specs.StandsFor.{StandsFor, EndsAt, run_of, enough_steps}
 use Rattle.roopl_judge.specs.Judged.{IsJudged}
-use Rattle.roopl_judge.specs.NotBuilt.{not_built}
 use Rattle.rpp_plan.specs.Refusals.{refused_line}
 use Rattle.rpp_words.specs.Texts.{line_end}
 use Rattle.rpp_plan.specs.declared.plan.Verdict.TheVariants.{Done, SourceRefused, Trapped, Bound}
@@ -87,17 +81,6 @@ pub record RunsImage (turns : Bool) (program : Source) (limits : Limits) (input 
   pub restores : (run_of image limits input steps).why ≡ Finished → Restores image.code (run_of image limits input steps) steps zero_registers (loaded image.statics limits input)
   pub reports : ReportsEnd turns (run_of image limits input steps) program limits input (loaded image.statics limits input) steps p
 
--- the first form that is not built yet is told
-pub record TellsUnbuilt (text : List ℕ) (found : Unbuilt) (p : Planned) : Type 0 where
-  pub tokens : List Token
-  pub cutting : IsCutting text tokens
-  pub told : p ≡ prints SourceRefused (refused_line (not_built tokens found))
-
--- a form that is not built yet is told, or P holds of the plan
-abbrev pub IfBuilt : Option Unbuilt → (text : List ℕ) → (P : Planned → Type 0) → Planned → Type 0
-IfBuilt (Some found) text P p = TellsUnbuilt text found p
-IfBuilt None text P p = P p
-
 -- the first refusal of a text is told, or P holds of the program that it is
 abbrev pub OfProgram : (P : Source → Planned → Type 0) → Result Source Refusal → Planned → Type 0
 OfProgram P (Err refusal) p = p ≡ prints SourceRefused (refused_line refusal)
@@ -121,11 +104,8 @@ pub record WritesImage (program : Source) (name : List ℕ) (p : Planned) : Type
   pub are_notes : AreNotes program image notes
   pub written : p ≡ writes name (image_bytes (noted notes image)) (cells_line (codes "compiled") image.code)
 
-abbrev pub IsBuiltImage : (text name : List ℕ) → Source → Planned → Type 0
-IsBuiltImage text name program p = IfBuilt (unbuilt program) text (WritesImage program name) p
-
 abbrev pub IsCompilePlan : (text name : List ℕ) → Planned → Type 0
-IsCompilePlan text name p = IsJudgedPlan text (IsBuiltImage text name) p
+IsCompilePlan text name p = IsJudgedPlan text (λ program. WritesImage program name) p
 
 -- the plan of `check` of this file
 abbrev pub ChecksFile : (file : List ℕ) → Texts → Planned → Type 0

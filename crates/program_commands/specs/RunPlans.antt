@@ -10,7 +10,6 @@ use Rattle.rpp_tree.specs.Tree.{Source}
 use Rattle.rpp_ports.specs.Ports.{Texts}
 use Rattle.rpp_probes.specs.declared.probe.StepAt.{StepAt}
 use Rattle.rpp_probes.specs.Tally.{Watch, left_after, lines_after, lines_shown, line_of}
-use Rattle.program_codegen.specs.Unbuilt.{unbuilt}
 use Rattle.pisa_isa.specs.declared.cell.Cell.{Cell}
 use Rattle.pisa_isa.specs.declared.machine.Stop.{Stop}
 use Rattle.pisa_isa.specs.declared.machine.Stop.TheVariants.{Finished}
@@ -28,7 +27,7 @@ use Rattle.rpp_plan.specs.declared.plan.Verdict.TheVariants.{InputRefused}
 use Rattle.rpp_plan.specs.Plans.{Planned, prints, WithText, WithInput}
 use Rattle.rpp_plan.specs.Texts.{load_line}
 use Rattle.program_commands.specs.Inputs.{given_input}
-use Rattle.program_commands.specs.ProgramPlans.{IsJudgedPlan, IfBuilt, RunsImage}
+use Rattle.program_commands.specs.ProgramPlans.{IsJudgedPlan, RunsImage}
 
 -- the plan tells the refusal of an input
 abbrev pub RefusesInput : Result (List FieldWord) LoadError → Planned → Type 0
@@ -40,16 +39,13 @@ abbrev pub RefusesSizes : Option LoadError → (given : List ℕ) → Source →
 RefusesSizes (Some e) given program p = p ≡ prints InputRefused (load_line e)
 RefusesSizes None given program p = RefusesInput (given_input program given) p
 
--- the plan tells the first refusal of a text that is to be run: of the text, of a form that is not built yet, of the sizes, of
--- the input
+-- the plan tells the first refusal of a text that is to be run: of the text, of the sizes, of the input
 abbrev pub RefusesRun : (text given : List ℕ) → (heap deep : ℕ) → Planned → Type 0
-RefusesRun text given heap deep p =
-    IsJudgedPlan text (λ program. IfBuilt (unbuilt program) text (RefusesSizes (limits_refusal heap deep MOST_DEEP) given program)) p
+RefusesRun text given heap deep p = IsJudgedPlan text (RefusesSizes (limits_refusal heap deep MOST_DEEP) given) p
 
 -- nothing of it is refused: the text is this program, which is run with these sizes on this input
 pub record CanRun (text given : List ℕ) (heap deep : ℕ) (program : Source) (limits : Limits) (input : List FieldWord) : Type 0 where
   pub judged : IsJudged text (Ok program)
-  pub built : unbuilt program ≡ None
   pub sizes : limits_refusal heap deep MOST_DEEP ≡ None
   pub limits_are : limits ≡ record { heap = heap; deep = deep }
   pub input_is : given_input program given ≡ Ok input

@@ -26,7 +26,7 @@ fn check_text(alloc: Global, text: &[u8]) -> Result<Plan, NoMemory>
     ensures { IfOk result (λ plan. IsCheckPlan text.now (planned plan)) }
 {
     match judge(alloc, text) {
-        Ok(_judged) => Ok(Plan::prints(Verdict::Done, String::from_str(alloc, "accepted\n")?)),
+        Ok(_checked) => Ok(Plan::prints(Verdict::Done, String::from_str(alloc, "accepted\n")?)),
         Err(SourceError::Refused { number, at }) => Ok(refuse_source(alloc, number, at)?),
         Err(SourceError::NoMemory) => Err(NoMemory),
     }

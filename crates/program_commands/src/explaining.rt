@@ -48,7 +48,7 @@ fn explain_text(alloc: Global, text: &[u8], given: &[u8], sizes: Sizes) -> Resul
     ensures { IfOk result (λ plan. IsExplainPlan text.now given.now sizes.heap sizes.deep sizes.bound (planned plan)) }
 {
     match judge(alloc, text) {
-        Ok(judged) => explain_within(alloc, &judged.checked, given, sizes),
+        Ok(checked) => explain_within(alloc, &checked, given, sizes),
         Err(SourceError::Refused { number, at }) => Ok(refuse_source(alloc, number, at)?),
         Err(SourceError::NoMemory) => Err(NoMemory),
     }

@@ -1,11 +1,10 @@
 // `go F H D STEPS [INPUT]`: compiles a program, runs its image and reports.
-ghost use Rattle.std.specs.Prelude.{◌≡◌, false, ◌≤◌, ◌<◌, ◌^◌, ◌++◌, ◌∷◌, None, length, option_map, IfOk, IfSome, string_bytes, codes};
+ghost use Rattle.std.specs.Prelude.{◌≡◌, false, ◌≤◌, ◌<◌, ◌^◌, ◌++◌, ◌∷◌, length, option_map, IfOk, IfSome, string_bytes, codes};
 ghost use Rattle.rpp_tree.specs.Views.{source_of};
 ghost use Rattle.rpp_tree.specs.declared.limits.TheConstants.{MOST_BYTES};
 ghost use Rattle.pisa_isa.specs.Image.{IsImage};
 ghost use Rattle.pisa_isa.specs.Loaded.{loaded};
 ghost use Rattle.roopl_semantics.specs.StandsFor.{StandsFor};
-ghost use Rattle.program_codegen.specs.Unbuilt.{unbuilt};
 ghost use Rattle.pisa_loader.specs.declared.input.TheConstants.{MOST_INPUT};
 ghost use Rattle.rpp_plan.specs.Plans.{planned, prints, GivesPlan};
 ghost use Rattle.program_commands.specs.ProgramPlans.{RunsImage, ReportsStop, ReportsStore};
@@ -70,10 +69,9 @@ fn go_over<L: Ledger>(
 /// The most code cells of a compiled image: 200 for each token that a program may have, and 8,192.
 pub const MOST_COMPILED: usize = 4_008_192;
 
-/// The image of a program of which every form is compiled, without what is noted of it.
+/// The image of a program, without what is noted of it.
 #[tactic(auto, using(crate::proofs::Sizes::few_cells))]
 pub fn compiled_image(alloc: Global, checked: &Checked) -> Result<Image, NoMemory>
-    requires { unbuilt (source_of checked.now) ≡ None }
     ensures stands { IfOk result (λ image. StandsFor (source_of checked.now) image) }
     ensures image { IfOk result (λ image. IsImage image) }
     ensures size { IfOk result (λ image. length image.code ≤ MOST_COMPILED) }

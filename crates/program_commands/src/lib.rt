@@ -13,7 +13,7 @@ mod setting;
 mod turning;
 
 pub use checking::check;
-pub use compiling::{compile_file, refuse_unbuilt};
+pub use compiling::compile_file;
 pub use explaining::explain;
 pub use going::{compiled_image, go};
 pub use profiling::profile;

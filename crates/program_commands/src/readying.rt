@@ -3,19 +3,16 @@ ghost use Rattle.std.specs.Prelude.{◌≡◌, ◌≤◌, ◌<◌, ◌^◌, None
 ghost use Rattle.rpp_tree.specs.Views.{source_of};
 ghost use Rattle.rpp_tree.specs.declared.limits.TheConstants.{MOST_BYTES};
 ghost use Rattle.rpp_words.specs.Limits.{IsLimits};
-ghost use Rattle.program_codegen.specs.Unbuilt.{unbuilt};
 ghost use Rattle.pisa_loader.specs.Limiting.{limits_refusal};
 ghost use Rattle.pisa_loader.specs.declared.input.TheConstants.{MOST_INPUT};
 ghost use Rattle.program_commands.specs.Inputs.{given_input};
 ghost use Rattle.program_commands.specs.Readied.{IsReadied};
 ghost use Rattle.program_commands.specs.RunPlans.{RefusesInput, RefusesSizes, RefusesRun, CanRun};
 
-use crate::compiling::refuse_unbuilt;
 use crate::settable::input_fields;
 use crate::setting::{Ready, Setting};
 use class_table::Checked;
 use pisa_loader::{LoadError, check_limits, read_input};
-use program_codegen::first_unbuilt;
 use roopl_judge::{SourceError, judge};
 use rpp_plan::{Plan, Sizes, Verdict, load_line, refuse_source};
 use rpp_words::{Limits, MOST_DEEP, NoMemory};
@@ -30,11 +27,7 @@ pub fn ready(alloc: Global, text: &[u8], given: &[u8], sizes: Sizes) -> Result<R
         (CanRun text.now given.now sizes.heap sizes.deep) sizes.bound ready) }
 {
     match judge(alloc, text) {
-        // A form that is not built yet is told before the sizes are tried.
-        Ok(judged) => match first_unbuilt(judged.checked.program()) {
-            Some(found) => Ok(Ready::Refused(refuse_unbuilt(alloc, &judged, found)?)),
-            None => ready_built(alloc, judged.checked, given, sizes),
-        },
+        Ok(checked) => ready_sized(alloc, checked, given, sizes),
         Err(SourceError::Refused { number, at }) => {
             Ok(Ready::Refused(refuse_source(alloc, number, at)?))
         }
@@ -43,13 +36,12 @@ pub fn ready(alloc: Global, text: &[u8], given: &[u8], sizes: Sizes) -> Result<R
 }
 
 // The sizes of heap and stack are tried before the input.
-fn ready_built(
+fn ready_sized(
     alloc: Global,
     checked: Checked,
     given: &[u8],
     sizes: Sizes,
 ) -> Result<Ready, NoMemory>
-    requires built { unbuilt (source_of checked) ≡ None }
     requires given { length given.now ≤ MOST_INPUT }
     requires bound { sizes.bound < 2 ^ 63 }
     ensures { IfOk result (λ ready. IsReadied (RefusesSizes (limits_refusal sizes.heap sizes.deep MOST_DEEP) given.now (source_of checked))
@@ -70,7 +62,6 @@ fn ready_within(
     limits: Limits,
     bound: u64,
 ) -> Result<Ready, NoMemory>
-    requires built { unbuilt (source_of checked) ≡ None }
     requires given { length given.now ≤ MOST_INPUT }
     requires limits { IsLimits limits }
     requires bound { bound < 2 ^ 63 }

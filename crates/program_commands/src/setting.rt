@@ -1,23 +1,20 @@
 // What a run of a program is made with.
-ghost use Rattle.std.specs.Prelude.{◌≡◌, ◌<◌, ◌^◌, None};
+ghost use Rattle.std.specs.Prelude.{◌<◌, ◌^◌};
 ghost use Rattle.rpp_tree.specs.Views.{source_of};
 ghost use Rattle.rpp_words.specs.Limits.{IsLimits};
 ghost use Rattle.roopl_semantics.specs.Source.{IsValid};
-ghost use Rattle.program_codegen.specs.Unbuilt.{unbuilt};
 
 use class_table::Checked;
 use rpp_plan::Plan;
 use rpp_words::{Input, Limits};
 
-/// What a run is made with: the program, of which every form is compiled, the sizes of heap and stack, the input, and the number
-/// of steps.
+/// What a run is made with: the program, the sizes of heap and stack, the input, and the number of steps.
 #[derive(Drop)]
 pub struct Setting {
     pub checked: Checked,
     pub limits: Limits,
     pub input: Input,
     pub bound: u64,
-    ghost built: { unbuilt (source_of checked) ≡ None },
     ghost in_range: { IsLimits limits },
     ghost valid: { IsValid (source_of checked) input.words.items },
     ghost short: { bound < 2 ^ 63 },

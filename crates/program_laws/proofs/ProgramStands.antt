@@ -1,5 +1,5 @@
 -- The place of a linked image is that of its program, its routines owe nothing, and so it follows the program.
-use Rattle.std.proofs.Common.{◌≡◌, ℕ, ◌+◌, ◌<◌, ◌≤◌, ◌^◌, true, List, [], ◌∷◌, ◌++◌, length, Some, refl, sym, ap, ◌∙◌, subst, arith, length-append}
+use Rattle.std.proofs.Common.{◌≡◌, ℕ, ◌+◌, ◌<◌, ◌≤◌, ◌^◌, true, List, [], ◌∷◌, length, Some, refl, sym, ap, ◌∙◌, subst, arith}
 use Rattle.std.specs.Prelude.{slice_get, slice_index}
 use Rattle.std.specs.Option.{unwrap_or}
 use Rattle.rpp_words.specs.Limits.{IsLimits}
@@ -33,12 +33,13 @@ use Rattle.program_laws.proofs.FewStatics.{statics_are_few}
 use Rattle.program_laws.proofs.Tables.{top_of, stands_at, body_behind, place_in, has_statics, slot_word}
 use Rattle.program_laws.proofs.RunsFollow.{follows}
 
-module _ (program : Source) (main : List Symbol) (others bodies : List (List Symbol)) (image : Segments) (is : IsProgramImage program main others bodies image) where
+module _ (program : Source) (main allocator : List Symbol) (bodies : List (List Symbol)) (image : Segments) (is : IsProgramImage program main allocator bodies image) where
   abbrev all : List (List Symbol)
-  all = others ++ bodies
+  all = allocator ∷ bodies
 
+  -- the allocator stands before the methods
   abbrev before : ℕ
-  before = length others
+  before = 1
 
   abbrev at : List ℕ
   at = places (first_top main) all
@@ -57,12 +58,12 @@ module _ (program : Source) (main : List Symbol) (others bodies : List (List Sym
   }
 
   many : length all ≡ before + length (entries program)
-  many = length-append others bodies ∙ ap (λ n. before + n) (as_many program (entries program) bodies is.codes)
+  many = let m = as_many program (entries program) bodies is.codes in omega (arith, m)
 
   -- each routine stands in the image
   placed : (r : ℕ) → r < length (entries program) → RoutineAt im (before + r) (top_of (first_top main) all (before + r)) (unwrap_or (slice_get bodies r) [])
   placed r h =
-      subst (λ body. RoutineAt im (before + r) (top_of (first_top main) all (before + r)) body) (body_behind others bodies r)
+      subst (λ body. RoutineAt im (before + r) (top_of (first_top main) all (before + r)) body) (body_behind (allocator ∷ []) bodies r)
       (stands_at im main all is.linked (before + r) (omega (arith, h, many)))
 
   -- ---- the routine of `main`
@@ -122,6 +123,7 @@ module _ (program : Source) (main : List Symbol) (others bodies : List (List Sym
       routes = route;
       placed = placed;
       tidy = is.linked.tidy;
+      allocator = record { top = top_of (first_top main) all 0; body = allocator; law = is.allocates; routine = stands_at im main all is.linked 0 some };
     }
 
     -- every routine has the law of its method

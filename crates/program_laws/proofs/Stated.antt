@@ -5,4 +5,4 @@ pub use Rattle.program_laws.proofs.Entries.{methods_have_routines, calls_find_ro
 pub use Rattle.program_laws.proofs.FewStatics.{statics_are_few}
 
 pub linked_programs_stand : LinkedProgramsStand
-linked_programs_stand program main others bodies image is = stands program main others bodies image is
+linked_programs_stand program main allocator bodies image is = stands program main allocator bodies image is

@@ -12,6 +12,7 @@ use Rattle.pisa_isa.specs.Image.{Segments}
 use Rattle.paired_code.specs.declared.part.Symbol.{Symbol}
 use Rattle.paired_code.specs.Link.{places, first_top, Linked}
 use Rattle.roopl_semantics.specs.StandsFor.{StandsFor}
+use Rattle.buddy_pisa.specs.Promise.{AllocatorLaw}
 use Rattle.statement_laws.specs.Form.{MethodLaw}
 use Rattle.statement_laws.specs.Worlds.{Place, world_of}
 use Rattle.method_calls.specs.Laws.{MainCode}
@@ -82,22 +83,22 @@ CodesAreMadeInOrder = (program : Source) → CodesAreMade program
 
 -- ---- the image
 
--- an image of an accepted program, linked of the code of `main`, of other routines, and of one for each method
+-- an image of an accepted program, linked of the code of `main`, of the heap's allocator, and of a routine for each method
 pub record IsProgramImage
-    (program : Source) (main : List Symbol) (others bodies : List (List Symbol)) (image : Segments) : Type 0 where
+    (program : Source) (main allocator : List Symbol) (bodies : List (List Symbol)) (image : Segments) : Type 0 where
   pub accepted : IsAccepted program
-  pub main_code : MainCode (length others + main_routine program) main
+  pub main_code : MainCode (1 + main_routine program) main
+  pub allocates : AllocatorLaw allocator
   pub codes : AreRoutineCodes program (entries program) bodies
-  pub linked : Linked main (others ++ bodies)
-      (record { code = image.code; routines = places (first_top main) (others ++ bodies) })
-  pub statics : image.statics
-      ≡ statics_of program (length others) (places (first_top main) (others ++ bodies))
+  pub linked : Linked main (allocator ∷ bodies)
+      (record { code = image.code; routines = places (first_top main) (allocator ∷ bodies) })
+  pub statics : image.statics ≡ statics_of program 1 (places (first_top main) (allocator ∷ bodies))
 
 -- it stands for the program
 abbrev pub LinkedProgramsStand : Type 0
 LinkedProgramsStand =
-    (program : Source) (main : List Symbol) (others bodies : List (List Symbol)) (image : Segments)
-    → IsProgramImage program main others bodies image → StandsFor program image
+    (program : Source) (main allocator : List Symbol) (bodies : List (List Symbol)) (image : Segments)
+    → IsProgramImage program main allocator bodies image → StandsFor program image
 
 -- the main object of 66 cells, and 256 tables of 257
 abbrev pub most_cells : ℕ

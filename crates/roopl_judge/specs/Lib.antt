@@ -1,4 +1,3 @@
 pub mod Errors
 pub mod Judged
 pub mod Laws
-pub mod NotBuilt

@@ -16,25 +16,16 @@ use roopl_parser::parse;
 use rpp_tree::tree::Program;
 use std::alloc::Global;
 
-/// A text that every rule accepts, with its tokens.
-#[derive(Drop)]
-pub struct Judged {
-    pub tokens: Vec<Token>,
-    pub checked: Checked,
-}
-
 /// The program of a text, or its first refusal.
-pub fn judge(alloc: Global, text: &[u8]) -> Result<Judged, SourceError>
+pub fn judge(alloc: Global, text: &[u8]) -> Result<Checked, SourceError>
     requires { length text.now ≤ MOST_BYTES }
-    ensures accepted { IfOk result (λ judged. IsJudged text.now (Ok (source_of judged.checked))) }
-    ensures tokens { IfOk result (λ judged. IsCutting text.now judged.tokens.items) }
+    ensures accepted { IfOk result (λ checked. IsJudged text.now (Ok (source_of checked))) }
     ensures refused { IfErr result (IfRefused (λ refusal. IsJudged text.now (Err refusal))) }
 {
     let tokens = cut(alloc, text)?;
     let program = tree(alloc, text, &tokens)?;
     let table = table(alloc, text, &program)?;
-    let checked = types(text, program, table)?;
-    Ok(Judged { tokens, checked })
+    types(text, program, table)
 }
 
 // The tokens of a text.

@@ -3,13 +3,14 @@ use Rattle.std.proofs.Common.{ℕ, List, None, Some, inl, inr, option_map, IfSom
 use Rattle.std.specs.declared.option.Option.{Option}
 use Rattle.rpp_ports.specs.Ports.{Texts}
 use Rattle.rpp_probes.specs.Tally.{Watch}
-use Rattle.rpp_command.specs.Lines.{Asked, Check, Compile, Asm, ListImage, Flip, ShowInverse, Generate, Cluster, RunImage, Debug, Go, Turn, Profile, Wrap, Explain}
+use Rattle.rpp_command.specs.Lines.{Asked, Check, Compile, Asm, ListImage, Flip, ShowInverse, Generate, Cluster, RunImage, Debug, Trace, Go, Turn, Profile, Wrap, Explain}
 use Rattle.rpp_plan.specs.Plans.{Planned, Written, WritesOnly}
 use Rattle.rpp_command.specs.Plans.{IsPlan}
 use Rattle.rpp_command.specs.Causes.{target_of, KeepsButTarget}
 use Rattle.program_commands.proofs.ProgramTargets.{checks_file_writes, compiles_file_writes, goes_on_writes, turns_file_writes, profiles_file_writes, explains_writes}
 use Rattle.cluster_commands.proofs.ClusterTargets.{clusters_files_writes}
 use Rattle.wrap_commands.proofs.WrapTargets.{wraps_file_writes}
+use Rattle.trace_commands.proofs.TraceTargets.{traces_writes}
 use Rattle.text_commands.proofs.TextTargets.{shows_inverse_writes, generates_writes}
 use Rattle.image_commands.proofs.ImageTargets.{assembles_file_writes, lists_file_writes, flips_file_writes, runs_file_writes, debugs_file_writes}
 
@@ -25,6 +26,7 @@ plan_writes (Generate seed size out) before after texts p h = generates_writes s
 plan_writes (Cluster script cells images) before after texts p h = clusters_files_writes script cells images texts p h
 plan_writes (RunImage image heap deep steps state save) before after texts p h = runs_file_writes image heap deep steps state save texts p h
 plan_writes (Debug image heap deep script) before after texts p h = debugs_file_writes image heap deep script texts p h
+plan_writes (Trace file heap deep script input) before after texts p h = traces_writes file script input heap deep texts p h
 plan_writes (Go file heap deep steps input) before after texts p h = goes_on_writes file input heap deep steps texts p h
 plan_writes (Turn file heap deep steps input) before after texts p h = turns_file_writes before after file input heap deep steps texts p h
 plan_writes (Profile file heap deep steps) before after texts p h = profiles_file_writes before after file heap deep steps texts p h

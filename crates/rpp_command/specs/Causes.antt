@@ -2,7 +2,7 @@
 use Rattle.std.specs.Prelude.{◌≡◌, ℕ, Bool, true, false, List, [], ◌∷◌, ⊤, None, Some}
 use Rattle.std.specs.declared.option.Option.{Option}
 use Rattle.rpp_ports.specs.Ports.{Texts, KeepsOthers}
-use Rattle.rpp_command.specs.Lines.{Asked, Check, Compile, Asm, ListImage, Flip, ShowInverse, Generate, Cluster, RunImage, Debug, Go, Turn, Profile, Wrap, Explain}
+use Rattle.rpp_command.specs.Lines.{Asked, Check, Compile, Asm, ListImage, Flip, ShowInverse, Generate, Cluster, RunImage, Debug, Trace, Go, Turn, Profile, Wrap, Explain}
 use Rattle.rpp_plan.specs.Files.{Needed, source, assembly, image_file, input_files, state_files}
 use Rattle.image_commands.specs.DebugPlans.{script_file}
 use Rattle.cluster_commands.specs.ClusterPlans.{cluster_files}
@@ -19,6 +19,7 @@ files_of (Generate seed size out) = []
 files_of (Cluster script cells images) = cluster_files script images
 files_of (RunImage image heap deep steps state save) = image_file image ∷ state_files state
 files_of (Debug image heap deep script) = image_file image ∷ script_file script ∷ []
+files_of (Trace file heap deep script given) = source file ∷ script_file script ∷ input_files given
 files_of (Go file heap deep steps given) = source file ∷ input_files given
 files_of (Turn file heap deep steps given) = source file ∷ input_files given
 files_of (Profile file heap deep steps) = source file ∷ []
@@ -42,6 +43,7 @@ target_of (Generate seed size out) = Some out
 target_of (Cluster script cells images) = None
 target_of (RunImage image heap deep steps state save) = save
 target_of (Debug image heap deep script) = None
+target_of (Trace file heap deep script given) = None
 target_of (Go file heap deep steps given) = None
 target_of (Turn file heap deep steps given) = None
 target_of (Profile file heap deep steps) = None

@@ -19,6 +19,7 @@ pub data Asked : Type 0 where
   Cluster : (script : List ℕ) (cells : ℕ) (images : List (List ℕ)) → Asked
   RunImage : (image : List ℕ) (heap deep steps : ℕ) (state save : Option (List ℕ)) → Asked
   Debug : (image : List ℕ) (heap deep : ℕ) (script : List ℕ) → Asked
+  Trace : (file : List ℕ) (heap deep : ℕ) (script : List ℕ) (input : Option (List ℕ)) → Asked
   Go : (file : List ℕ) (heap deep steps : ℕ) (input : Option (List ℕ)) → Asked
   Turn : (file : List ℕ) (heap deep steps : ℕ) (input : Option (List ℕ)) → Asked
   Profile : (file : List ℕ) (heap deep steps : ℕ) → Asked
@@ -36,6 +37,7 @@ asked (line.Generate seed size out) = Generate seed size (string_bytes out)
 asked (line.Cluster script cells images) = Cluster (string_bytes script) cells (map string_bytes images.items)
 asked (line.Run image heap deep steps names) = RunImage (string_bytes image) heap deep steps (state_of_names names) (save_of_names names)
 asked (line.Debug image heap deep script) = Debug (string_bytes image) heap deep (string_bytes script)
+asked (line.Trace file heap deep script input) = Trace (string_bytes file) heap deep (string_bytes script) (option_map string_bytes input)
 asked (line.Go file heap deep steps input) = Go (string_bytes file) heap deep steps (option_map string_bytes input)
 asked (line.Turn file heap deep steps input) = Turn (string_bytes file) heap deep steps (option_map string_bytes input)
 asked (line.Profile file heap deep steps) = Profile (string_bytes file) heap deep steps
@@ -144,6 +146,16 @@ abbrev pub debug_line_of : List (List ℕ) → Option Asked
 debug_line_of (image ∷ heap ∷ deep ∷ script ∷ []) = debug_with image (number_of heap) (number_of deep) script
 debug_line_of _ = None
 
+-- a program, an order of the heap, a depth, the file of a script, and that of an input, if there is one
+abbrev pub trace_with : List ℕ → Option ℕ → Option ℕ → (script : List ℕ) → Option (List ℕ) → Option Asked
+trace_with file (Some heap) (Some deep) script input = Some (Trace file heap deep script input)
+trace_with file _ _ script input = None
+
+abbrev pub trace_line_of : List (List ℕ) → Option Asked
+trace_line_of (file ∷ heap ∷ deep ∷ script ∷ []) = trace_with file (number_of heap) (number_of deep) script None
+trace_line_of (file ∷ heap ∷ deep ∷ script ∷ input ∷ []) = trace_with file (number_of heap) (number_of deep) script (Some input)
+trace_line_of _ = None
+
 abbrev pub check_line_of : List (List ℕ) → Option Asked
 check_line_of (file ∷ []) = Some (Check file)
 check_line_of _ = None
@@ -165,6 +177,7 @@ source_line_of name args =
     else if bytes_eq name (codes "profile") then profile_line_of args
     else if bytes_eq name (codes "wrap") then wrap_line_of args
     else if bytes_eq name (codes "explain") then explain_line_of args
+    else if bytes_eq name (codes "trace") then trace_line_of args
     else None
 
 -- the line that the words are, if they are one
@@ -191,6 +204,7 @@ HasShortNumbers (Generate seed size out) = Unit {0}
 HasShortNumbers (Cluster script cells images) = (1 ≤ length images) × (length images ≤ 8) × (1 ≤ cells) × (cells ≤ 65536)
 HasShortNumbers (RunImage image heap deep steps state save) = (heap < 10 ^ 18) × (deep < 10 ^ 18) × (steps < 10 ^ 18)
 HasShortNumbers (Debug image heap deep script) = (heap < 10 ^ 18) × (deep < 10 ^ 18)
+HasShortNumbers (Trace file heap deep script input) = (heap < 10 ^ 18) × (deep < 10 ^ 18)
 HasShortNumbers (Go file heap deep steps input) = (heap < 10 ^ 18) × (deep < 10 ^ 18) × (steps < 10 ^ 18)
 HasShortNumbers (Turn file heap deep steps input) = (heap < 10 ^ 18) × (deep < 10 ^ 18) × (steps < 10 ^ 18)
 HasShortNumbers (Profile file heap deep steps) = (heap < 10 ^ 18) × (deep < 10 ^ 18) × (steps < 10 ^ 18)

@@ -10,8 +10,9 @@ use Rattle.program_commands.specs.RunPlans.{GoesOn, TurnsFile, ProfilesFile}
 use Rattle.program_commands.specs.Explained.{Explains}
 use Rattle.cluster_commands.specs.ClusterPlans.{ClustersFiles}
 use Rattle.wrap_commands.specs.WrapPlans.{WrapsFile}
+use Rattle.trace_commands.specs.TracePlans.{Traces}
 use Rattle.text_commands.specs.TextPlans.{ShowsInverse, Generates}
-use Rattle.rpp_command.specs.Lines.{Asked, Check, Compile, Asm, ListImage, Flip, ShowInverse, Generate, Cluster, RunImage, Debug, Go, Turn, Profile, Wrap, Explain}
+use Rattle.rpp_command.specs.Lines.{Asked, Check, Compile, Asm, ListImage, Flip, ShowInverse, Generate, Cluster, RunImage, Debug, Trace, Go, Turn, Profile, Wrap, Explain}
 
 -- a plan of the line, where the shelf has these texts, and the list of probes is `before` as it is handed in and `after` as it is left
 unfoldable pub IsPlan : Asked → (before after : List Watch) → Texts → Planned → Type 0
@@ -25,6 +26,7 @@ IsPlan (Generate seed size out) before after = Generates seed size out
 IsPlan (Cluster script cells images) before after = ClustersFiles script cells images
 IsPlan (RunImage image heap deep steps state save) before after = RunsFile image heap deep steps state save
 IsPlan (Debug image heap deep script) before after = DebugsFile image heap deep script
+IsPlan (Trace file heap deep script input) before after = Traces file script input heap deep
 IsPlan (Go file heap deep steps input) before after = GoesOn file input heap deep steps
 IsPlan (Turn file heap deep steps input) before after = TurnsFile before after file input heap deep steps
 IsPlan (Profile file heap deep steps) before after = ProfilesFile before after file heap deep steps

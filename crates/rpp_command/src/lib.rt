@@ -15,8 +15,6 @@ mod cluster_tests;
 #[cfg(test)]
 mod debug_tests;
 #[cfg(test)]
-mod explain_tests;
-#[cfg(test)]
 mod image_tests;
 #[cfg(test)]
 mod profile_tests;
@@ -27,8 +25,8 @@ mod tests;
 #[cfg(test)]
 mod text_tests;
 #[cfg(test)]
-mod turn_tests;
+mod trace_tests;
 #[cfg(test)]
-mod whole_tests;
+mod turn_tests;
 #[cfg(test)]
 mod wrap_tests;

@@ -1,6 +1,6 @@
 // What the words ask for.
 ghost use Rattle.std.specs.Prelude.{◌≡◌, ◌<◌, ◌≤◌, ◌^◌, map, option_map, IfOk, IfSome, string_bytes};
-ghost use Rattle.rpp_command.specs.Lines.{asked, line_of, source_line_of, check_line_of, files_line_of, Compile, Asm, ListImage, Flip, ShowInverse, generate_line_of, generate_with as generate_asked, items_of, cluster_line_of, cluster_with as cluster_asked, common_of, run_line_of, run_with as run_asked, debug_line_of, debug_with as debug_asked, go_line_of, go_with as go_asked, profile_line_of, profile_with as profile_asked, wrap_line_of, wrap_with as wrap_asked, explain_line_of, explain_with as explain_asked, number_of, HasShortNumbers};
+ghost use Rattle.rpp_command.specs.Lines.{asked, line_of, source_line_of, check_line_of, files_line_of, Compile, Asm, ListImage, Flip, ShowInverse, generate_line_of, generate_with as generate_asked, items_of, cluster_line_of, cluster_with as cluster_asked, common_of, run_line_of, run_with as run_asked, debug_line_of, debug_with as debug_asked, trace_line_of, trace_with as trace_asked, go_line_of, go_with as go_asked, profile_line_of, profile_with as profile_asked, wrap_line_of, wrap_with as wrap_asked, explain_line_of, explain_with as explain_asked, number_of, HasShortNumbers};
 ghost use Rattle.rpp_plan.specs.Files.{state_of_names, save_of_names};
 
 use rpp_plan::StateNames;
@@ -67,6 +67,15 @@ pub enum Line {
         heap: u64,
         deep: u64,
         script: String,
+    },
+    /// Follows a script along the run of a program: its file, the order of the heap, the depth, the file of the script, and the
+    /// file of its input, if there is one.
+    Trace {
+        file: String,
+        heap: u64,
+        deep: u64,
+        script: String,
+        input: Option<String>,
     },
     /// Compiles and runs a program: its file, the order of the heap, the depth, the number of steps,
     /// and the file of its input, if there is one.
@@ -148,6 +157,7 @@ fn source_line(name: &str, args: &[String]) -> Result<Option<Line>, NoMemory>
         "profile" => profile_line(args),
         "wrap" => wrap_line(args),
         "explain" => explain_line(args),
+        "trace" => trace_line(args),
         _ => Ok(None),
     }
 }
@@ -559,6 +569,44 @@ fn explain_with(
         heap,
         deep,
         fuel,
+        input,
+    }))
+}
+
+fn trace_line(args: &[String]) -> Result<Option<Line>, NoMemory>
+    ensures line { IfOk result (λ line. option_map asked line ≡ trace_line_of (map string_bytes args.now)) }
+    ensures numbers { IfOk result (λ line. IfSome line (λ line. HasShortNumbers (asked line))) }
+{
+    match args {
+        [file, heap, deep, script] => trace_with(file, heap, deep, script, None),
+        [file, heap, deep, script, input] => {
+            trace_with(file, heap, deep, script, Some(input.clone()?))
+        }
+        _ => Ok(None),
+    }
+}
+
+fn trace_with(
+    file: &String,
+    heap: &String,
+    deep: &String,
+    script: &String,
+    input: Option<String>,
+) -> Result<Option<Line>, NoMemory>
+    ensures line { IfOk result (λ line. option_map asked line ≡ trace_asked (string_bytes file.now) (number_of (string_bytes heap.now)) (number_of (string_bytes deep.now)) (string_bytes script.now) (option_map string_bytes input)) }
+    ensures numbers { IfOk result (λ line. IfSome line (λ line. HasShortNumbers (asked line))) }
+{
+    let Some(heap) = read_number(heap.as_str()) else {
+        return Ok(None);
+    };
+    let Some(deep) = read_number(deep.as_str()) else {
+        return Ok(None);
+    };
+    Ok(Some(Line::Trace {
+        file: file.clone()?,
+        heap,
+        deep,
+        script: script.clone()?,
         input,
     }))
 }

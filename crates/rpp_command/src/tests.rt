@@ -145,54 +145,11 @@ fn refused_runs(rt: HostRuntime) -> Result<(), Fail> {
             3,
             "refused 21 RefusedOperator at 41\n",
         ),
-        // Then the first form that is not built yet.
         (
             "class P int x method q(int a) x += nil + 1 method main() skip",
             "go F 1 1 5",
             3,
             "refused 15 TypeDiffers at 39\n",
-        ),
-        (
-            "class P Q q method main() skip method m() new Q q class Q",
-            "go F 0 0 5",
-            3,
-            "refused 42 NotBuilt at 42\n",
-        ),
-        (
-            "class P Q q method main() if 0 = 0 then delete Q q else skip fi 0 = 0 class Q",
-            "go F 1 1 5",
-            3,
-            "refused 42 NotBuilt at 40\n",
-        ),
-        (
-            "class P Q q Q r method main() copy Q q r class Q",
-            "go F 1 1 5",
-            3,
-            "refused 42 NotBuilt at 30\n",
-        ),
-        (
-            "class P method main() construct Q q skip destruct q class Q",
-            "go F 1 1 5",
-            3,
-            "refused 42 NotBuilt at 22\n",
-        ),
-        (
-            "class P int[] a int x method main() x += 1 + a[0]",
-            "go F 1 1 5",
-            3,
-            "refused 42 NotBuilt at 45\n",
-        ),
-        (
-            "class P int[] a method main() a[0] += 1",
-            "go F 1 1 5",
-            3,
-            "refused 42 NotBuilt at 30\n",
-        ),
-        (
-            "class P Q[] a method main() call a[0]::m() class Q method m() skip",
-            "go F 1 1 5",
-            3,
-            "refused 42 NotBuilt at 33\n",
         ),
         // Then the sizes of heap and stack.
         (FIRST, "go F 21 0 5", 8, "refused 35 HeapOrder\n"),

@@ -21,6 +21,7 @@ use std::alloc::Global;
 use std::marker::Brand;
 use std::sync::ledger::{Blank, Ledger};
 use text_commands::{generate, show_inverse};
+use trace_commands::trace;
 use wrap_commands::wrap;
 
 /// Does what the words say, and answers the status of the program.
@@ -192,6 +193,23 @@ fn plan_line<S: Shelf, P: Probes, L: Ledger>(
                 deep: *deep,
             },
             counter,
+        ),
+        Line::Trace {
+            file,
+            heap,
+            deep,
+            script,
+            input,
+        } => trace(
+            alloc,
+            shelf,
+            file.as_str(),
+            script.as_str(),
+            input,
+            Room {
+                heap: *heap,
+                deep: *deep,
+            },
         ),
         Line::Go {
             file,

@@ -35,6 +35,13 @@ fn wraps(rt: HostRuntime) -> Result<(), Fail> {
             "y = 3\ninitial 562 cells\nsteps ",
         ),
         (
+            "class P int a int b int n method main() n += 4 construct Fib f call f::fib(n) call f::get(a, b) uncall f::fib(n) destruct f class Fib int x1 int x2 method fib(int n) if n = 0 then x1 += 1 x2 += 1 else n -= 1 call fib(n) x1 += x2 x1 <=> x2 fi x1 = x2 method get(int u, int v) u += x1 v += x2",
+            "",
+            "2 6 1000000 a,b",
+            0,
+            "a = 5\nb = 8\ninitial 3128 cells\nsteps ",
+        ),
+        (
             "class P int x method main() if x = 0 then x += 1 else skip fi x = 0",
             "",
             "1 1 1000000 x",

@@ -33,7 +33,6 @@ refusal_name number =
     else if number == 21 then codes "RefusedOperator"
     else if number == 22 then codes "LocalInOwnExpression"
     else if number == 23 then codes "NotClassType"
-    else if number == 42 then codes "NotBuilt"
     else codes ""
 
 -- refused N NAME at P

@@ -54,7 +54,6 @@ fn refusal_name(number: u32) -> &'static str
         21 => "RefusedOperator",
         22 => "LocalInOwnExpression",
         23 => "NotClassType",
-        42 => "NotBuilt",
         _ => "",
     }
 }

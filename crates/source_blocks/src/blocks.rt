@@ -17,7 +17,7 @@ ghost use Rattle.source_steps.specs.StateView.{IsFramed, OwnValues, entered, sta
 
 use crate::methods::{
     begin, called, cell_for, cost_of, held_in, invoke_nothing, is_deep, method_of, no_receiver,
-    receiver_in,
+    receiver_in, stack_room,
 };
 use crate::watch::{Watch, begin_statement, meet};
 use rpp_tree::text::Text;
@@ -360,6 +360,7 @@ fn call_with(
     ensures framed { OnOk result (IsFramed setting.now scope.now heap.new values.new.items) }
     ensures less { fuel.new ≤ fuel.old }
 {
+    stack_room(setting)?;
     let cells = cells_of(setting, scope, heap, values, args)?;
     let class = heap.class_of(object);
     enter(

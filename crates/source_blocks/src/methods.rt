@@ -1,5 +1,5 @@
 // Methods and their calls.
-ghost use Rattle.std.specs.Prelude.{◌≡◌, ◌∷◌, [], ◌+◌, ◌<◌, ◌≤◌, OnOk, map, min, length, take, slice_get, not, nat_lt};
+ghost use Rattle.std.specs.Prelude.{◌≡◌, ◌∷◌, [], ◌+◌, ◌<◌, ◌≤◌, OnOk, IfErr, map, min, length, take, slice_get, not, nat_lt};
 ghost use Rattle.std.specs.Option.{unwrap_or, option_map};
 ghost use Rattle.rpp_tree.specs.Views.{source_of, procedure_of};
 ghost use Rattle.class_table.specs.Members.{class_at, no_procedure};
@@ -169,6 +169,20 @@ pub fn no_receiver() -> &'static [Cell]
     ensures { map cell_of result.now ≡ [] }
 {
     &[]
+}
+
+/// How many calls may be open, so that the machine's own stack is deep enough: one more counts as want of memory.
+pub const MOST_CALLS: u32 = 32;
+
+/// Answers where the machine's own stack has room for one more open call.
+pub fn stack_room(setting: &Setting) -> Result<(), Stop>
+    ensures { IfErr result (λ why. why ≡ Stop.NoMemory) }
+{
+    if setting.depth < MOST_CALLS {
+        Ok(())
+    } else {
+        Err(Stop::NoMemory)
+    }
 }
 
 /// Whether as many calls are open as may be.

@@ -4,3 +4,6 @@ pub mod PassedCalls
 pub mod CallLaws
 pub mod Skips
 pub mod Stands
+pub mod Constructs
+pub mod ElementRules
+pub mod ElementCalls

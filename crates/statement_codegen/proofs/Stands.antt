@@ -1,6 +1,6 @@
 -- The codes of updates, swaps, conditionals, loops and locals are those of their statements, where the rules of types pass
 -- these and the limits let them through: the laws of the code ask for no more.
-use Rattle.std.proofs.Common.{◌≡◌, ℕ, ◌+◌, ◌<◌, ◌≤◌, inl, inr, Bool, true, false, List, ◌∷◌, length, refl, sym, ap, ◌∙◌, subst, arith}
+use Rattle.std.proofs.Common.{◌≡◌, ℕ, ◌+◌, ◌<◌, ◌≤◌, inl, inr, Bool, true, false, List, length, refl, sym, ap, ◌∙◌, subst, arith}
 use Rattle.std.specs.Prelude.{Ok, Option, Some, None, not, ◌&&◌, ◌||◌, if◌then◌else◌}
 use Rattle.std.specs.Option.{is_none}
 use Rattle.std.specs.Str.{bytes_eq}
@@ -34,18 +34,18 @@ use Rattle.frame_facts.specs.Laws.{IsLinked}
 use Rattle.expression_laws.specs.Typing.{known_of, HasRoom, typing_in, IsTyped, IsPassed}
 use Rattle.expression_laws.specs.Laws.{IsLaidOut}
 use Rattle.expression_laws.proofs.Stated.{updates_are_told, swaps_are_told}
-use Rattle.statement_codegen.specs.Codes.{scope_of, IsStatementCode, IsBlockCode, IsAllowed}
+use Rattle.statement_codegen.specs.Codes.{scope_of, with_variable, IsStatementCode, IsBlockCode, IsAllowed}
 use Rattle.statement_codegen.specs.Laws.{IfLaw, FromLaw, LocalLaw}
 
-laid_out : (place : Place) (routine : ℕ → Rattle.rpp_tree.specs.declared.tree.Ident.Ident → ℕ) → IsLinked place routine → IsLaidOut place
+pub laid_out : (place : Place) (routine : ℕ → Rattle.rpp_tree.specs.declared.tree.Ident.Ident → ℕ) → IsLinked place routine → IsLaidOut place
 laid_out place routine linked = record { accepted = linked.accepted; few = linked.few }
 
-names_same : (v : Visible) (place : Place) → place.setting.program ≡ source_of v.program → known_of place.setting.program (scope_of v) ≡ known_in v
+pub names_same : (v : Visible) (place : Place) → place.setting.program ≡ source_of v.program → known_of place.setting.program (scope_of v) ≡ known_in v
 names_same v place same = ap (λ program. known_of program (scope_of v)) same
 
 -- ---- room in the frame
 
-room_for : (v : Visible) (n : ℕ) → length v.variables ≤ 48 → n ≤ 64 → HasRoom (source_of v.program) (scope_of v) n
+pub room_for : (v : Visible) (n : ℕ) → length v.variables ≤ 48 → n ≤ 64 → HasRoom (source_of v.program) (scope_of v) n
 room_for v n few small = let q : 16 + length v.variables + n ≤ 512 = omega (arith, few, small) in q
 
 few_words : (e : Expression) → nodes e ≤ 64 → words e ≤ 64
@@ -142,7 +142,7 @@ null_is (Variable name) h = absurd (cc)
 null_is (Element name index) h = absurd (cc)
 null_is (Binary at op left right) h = absurd (cc)
 
-class_no_int : (o : Option ℕ) → is_int (class_kind o) ≡ false
+pub class_no_int : (o : Option ℕ) → is_int (class_kind o) ≡ false
 class_no_int None = refl
 class_no_int (Some c) = refl
 
@@ -166,10 +166,6 @@ init_is program s var e k few typed has apart fits = by var.kind refl fits
 each_fits : (b x y z w : Bool) → (if b then x && y else z && w) ≡ true → ((if b then x else z) ≡ true) × ((if b then y else w) ≡ true)
 each_fits true x y z w h = both_true x y h
 each_fits false x y z w h = both_true z w h
-
--- with one more variable, the innermost
-abbrev pub with_variable : Visible → Var → Visible
-with_variable v var = record v { variables = var ∷ v.variables }
 
 -- the two values of a local
 record LocalValues (v : Visible) (var : Var) (value : Expression) (end_var : Var) (end_value : Expression) : Type 0 where

@@ -1,6 +1,7 @@
 -- What the code of statements, blocks and methods does wherever an image of its program is linked.
-use Rattle.std.specs.Prelude.{◌≡◌, ℕ, ◌+◌, ◌≤◌, List, length}
+use Rattle.std.specs.Prelude.{◌≡◌, ℕ, ◌+◌, ◌≤◌, List, ◌∷◌, length}
 use Rattle.rpp_tree.specs.declared.tree.Ident.{Ident}
+use Rattle.rpp_tree.specs.declared.tree.Var.{Var}
 use Rattle.rpp_tree.specs.declared.limits.TheConstants.{MOST_NODES}
 use Rattle.rpp_tree.specs.Limits.{statement_locals}
 use Rattle.rpp_tree.specs.Tree.{Statement, Statements, Procedure, statement_nodes}
@@ -19,6 +20,10 @@ use Rattle.expression_laws.specs.Typing.{typing_in}
 -- the scope of the laws, of what is visible
 abbrev pub scope_of : Visible → Scope
 scope_of v = record { class = v.method.class; vars = v.variables }
+
+-- with one more variable, the innermost
+abbrev pub with_variable : Visible → Var → Visible
+with_variable v var = record v { variables = var ∷ v.variables }
 
 -- the code of a statement where this is visible
 pub record IsStatementCode (v : Visible) (statement : Statement) (cells : List Symbol) : Type 0 where

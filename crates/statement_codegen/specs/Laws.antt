@@ -1,22 +1,27 @@
 -- What the code of conditionals, of loops and of blocks with a local variable does, in every scope of the
 -- names that it was made for, wherever the codes of its parts do what theirs are to do; and what that of
--- `skip`, of calls and of methods does wherever an image of its program is linked.
-use Rattle.std.specs.Prelude.{◌≡◌, ℕ, Bool, List, Option, Some}
+-- `skip`, of `construct`, of calls and of methods does wherever an image of its program is linked.
+use Rattle.std.specs.Prelude.{◌≡◌, ℕ, ◌<◌, Bool, List, ◌++◌, length, Option, Some}
 use Rattle.std.specs.Option.{option_map}
 use Rattle.rpp_tree.specs.declared.tree.Ident.{Ident}
 use Rattle.rpp_tree.specs.declared.tree.Var.{Var}
-use Rattle.rpp_tree.specs.Tree.{Expression, Null, Whole, Item, Statements, If, From, Local, Construct, Call, Skip, Procedure}
+use Rattle.rpp_tree.specs.declared.tree.VarType.{VarType}
+use Rattle.rpp_tree.specs.declared.tree.VarType.TheVariants as type
+use Rattle.rpp_tree.specs.Tree.{Expression, Null, Lvalue, Whole, Item, Object, Statements, If, From, Local, Construct, New, Call, Skip, Procedure}
 use Rattle.class_table.specs.declared.kind.Kind.TheVariants as kind
 use Rattle.paired_code.specs.declared.part.Symbol.{Symbol}
 use Rattle.roopl_semantics.specs.Execution.{constructed, element_call, element_name}
-use Rattle.method_scope.specs.Visible.{Known, Visible}
+use Rattle.sound_execution.specs.Plain.{ReceiverIsPlain}
+use Rattle.method_scope.specs.declared.known.TheConstants.{MOST_VARIABLES}
+use Rattle.method_scope.specs.Visible.{Known, Visible, spot_of, free_of, kind_named, known_in}
 use Rattle.expr_uncompute.specs.Code.{words}
+use Rattle.expr_uncompute.specs.Promises.{SwapLaw}
 use Rattle.statement_laws.specs.Form.{Scope, with_var, BlockLaw, StmtLaw}
 use Rattle.statement_laws.specs.Worlds.{Place, world_of}
 use Rattle.method_calls.specs.Names.{IsInit}
 use Rattle.expression_laws.specs.Typing.{known_of, HasRoom, IsTyped}
 use Rattle.expression_laws.specs.Laws.{IsLaidOut}
-use Rattle.statement_codegen.specs.Codes.{IsStatementCode, IsBlockCode, IsMethodCode, Passes}
+use Rattle.statement_codegen.specs.Codes.{with_variable, IsStatementCode, IsBlockCode, IsMethodCode, Passes, IsAllowed}
 
 -- a conditional
 pub record IfLaw (known : Known) (test after : Expression) (p q all : List Symbol) : Type 0 where
@@ -67,3 +72,38 @@ pub record CallLaw (v : Visible) (back : Bool) (receiver : Option Ident) (method
 -- a method, where p is the code of its block
 pub record RoutineLaw (v : Visible) (p all : List Symbol) : Type 0 where
   pub law : (method : Procedure) → IsBlockCode v method.body p → IsMethodCode v method all
+
+-- `construct`, where the first piece is the code of `new`, and p that of its block: where the block ends, the first
+-- piece stands mirrored, and so it is that of `delete`
+pub record ConstructLaw (v : Visible) (at : ℕ) (var : Var) (making p all : List Symbol) : Type 0 where
+  pub law : (class : Ident) (body : Statements) (end : Ident) → var.kind ≡ type.Class class → length v.variables < MOST_VARIABLES
+      → IsStatementCode (with_variable v var) (New at (Object class) (Whole var.name)) making
+      → IsBlockCode (with_variable v var) body p
+      → IsStatementCode v (Construct at class var.name body end) all
+
+-- ---- calls on elements
+
+-- the type of the elements of an array of references
+abbrev pub element_type : Option VarType → VarType
+element_type (Some (type.ClassArray class)) = type.Class class
+element_type _ = type.Int
+
+-- the variable that holds an element of this array while a method is called on it
+abbrev pub element_var : Visible → ℕ → Ident → Var
+element_var v at array = record { kind = element_type (kind_named (known_in v) array.text); name = element_name at }
+
+-- what stands inside of it: the element moves into the variable, the method is called, and the element moves back
+pub record ExchangedCall (v : Visible) (at : ℕ) (back : Bool) (element : Lvalue) (method : Ident) (args : List Ident) (all : List Symbol) : Type 0 where
+  pub first : List Symbol
+  pub call : List Symbol
+  pub last : List Symbol
+  pub cells : all ≡ first ++ (call ++ last)
+  pub swaps_in : SwapLaw (spot_of (known_in v)) (free_of (known_in v)) (Whole (element_name at)) element first
+  pub calls : CallLaw v back (Some (element_name at)) method args call
+  pub swaps_out : SwapLaw (spot_of (known_in v)) (free_of (known_in v)) (Whole (element_name at)) element last
+
+-- a call or uncall on an element, whose names are not empty, that the rules of types pass
+pub record ElementLaw (v : Visible) (at : ℕ) (back : Bool) (element : Lvalue) (method : Ident) (args : List Ident) (all : List Symbol) : Type 0 where
+  pub law : (array : Ident) (index : Expression) → element ≡ Item array index
+      → ReceiverIsPlain (Some element) args → IsAllowed v (Call at back (Some element) method args)
+      → IsStatementCode v (Call at back (Some element) method args) all

@@ -1,17 +1,18 @@
-// Blocks with a local variable.
-ghost use Rattle.std.specs.Prelude.{◌≤◌, ◌+◌, ◌*◌, length, IfOk};
+// Blocks with a local variable, and those of `construct`.
+ghost use Rattle.std.specs.Prelude.{◌≡◌, ◌≤◌, ◌+◌, ◌*◌, [], ◌++◌, length, IfOk};
+ghost use Rattle.paired_code.specs.Layout.{mirror_cells};
 ghost use Rattle.rpp_tree.specs.Views.{expression_of};
 ghost use Rattle.method_scope.specs.Visible.{known_in};
 ghost use Rattle.expr_uncompute.specs.Code.{words as words_of};
 ghost use Rattle.expr_uncompute.specs.Steps.{tokens};
 ghost use Rattle.statement_laws.specs.Held.{Holds};
-ghost use Rattle.statement_codegen.specs.Laws.{LocalLaw};
+ghost use Rattle.statement_codegen.specs.Laws.{LocalLaw, ConstructLaw};
 
 use expr_uncompute::value_code;
 use expression_laws::VALUE;
 use method_calls::local_block;
 use method_scope::Scope;
-use paired_code::Piece;
+use paired_code::{Piece, mirror, seq};
 use rpp_tree::tree::{Expr, Var};
 use rpp_words::NoMemory;
 use std::alloc::Global;
@@ -41,4 +42,37 @@ pub fn local_code(
     let begins = value_code(alloc, value, scope, VALUE)?;
     let ends = value_code(alloc, last, scope, VALUE)?;
     local_block(alloc, word, begins, body, ends)
+}
+
+// A body after a piece, and before the mirror of that piece.
+#[tactic(auto, using(statement_laws::proofs::Holding::around_clause))]
+fn between_piece(alloc: Global, making: Piece, body: Piece) -> Result<Piece, NoMemory>
+    requires none { making.marks ≡ [] }
+    ensures cells { IfOk result (λ p. p.cells ≡ making.cells ++ (body.cells ++ mirror_cells making.cells)) }
+    ensures held { IfOk result (λ p. Holds body p) }
+{
+    let ending = mirror(alloc, &making)?;
+    seq(making, seq(body, ending)?)
+}
+
+/// The code of `construct class name body destruct name`, over the code of `new`, which is made in the scope with the
+/// variable, as the piece of the block is: the object is made, and where the block ends, it is deleted. The variable has the
+/// first free word of the frame; where it does not end with nil, it stops with fault 3. The only error is that memory ran
+/// out.
+pub fn construct_code(
+    alloc: Global,
+    at: u32,
+    _var: &Var,
+    making: Piece,
+    body: Piece,
+    scope: &Scope,
+) -> Result<Piece, NoMemory>
+    requires none { making.marks ≡ [] }
+    ensures law { IfOk result (λ p. ConstructLaw scope.now at _var.now making.cells body.cells p.cells) }
+    ensures held { IfOk result (λ p. Holds body p) }
+    ensures size { IfOk result (λ p. length p.cells ≤ 2 * length making.cells + length body.cells + 136) }
+{
+    let nothing = Expr::Nil { at };
+    let inside = between_piece(alloc, making, body)?;
+    local_code(alloc, _var, &nothing, inside, &nothing, scope)
 }

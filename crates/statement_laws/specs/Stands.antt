@@ -12,7 +12,7 @@ use Rattle.class_table.specs.Members.{field_of}
 use Rattle.class_table.specs.Inheritance.{kind_of_var}
 use Rattle.class_table.specs.Scope.{Local, Locals}
 use Rattle.buddy_book.specs.Place.{count_taken}
-use Rattle.roopl_semantics.specs.Store.{Value, Name, OfClass, Object, Store, State, main_name, object_named}
+use Rattle.roopl_semantics.specs.Store.{Value, Name, Head, OfClass, OfInts, OfObjects, Object, Store, State, main_name, object_named}
 use Rattle.roopl_semantics.specs.Execution.{Setting}
 use Rattle.roopl_semantics.specs.Laws.{one_if_name, holders_among}
 use Rattle.sound_execution.specs.Sound.{named_fits, head_named, count_named, is_live, fits, AllFit, local_type, cell_kinds, value_of, held, Descending, IsPlaced, cell_kind}
@@ -44,6 +44,12 @@ main_held name = if nat_eq name main_name then 1 else 0
 abbrev pub extra : Under → List Moved → ℕ → ℕ
 extra u moved name = main_held name + (receiver_held name u.self u.put_by + (below_held name u.callers + holders_among name (map moved_value moved)))
 
+-- the object of each frame below is held by the frames that it is called from, or is the main object
+abbrev pub CallersHeld : List Caller → Type 0
+CallersHeld [] = Unit {0}
+CallersHeld (c ∷ callers) =
+    (0 < main_held c.self + (receiver_held c.self c.self c.put_by + below_held c.self callers)) × CallersHeld callers
+
 -- ---- scopes
 
 abbrev pub local_of : Source → Var → Local
@@ -59,6 +65,12 @@ spot_at program s name None = Field (unwrap_or (field_of (class_fields program s
 
 abbrev pub spot_in : Source → Scope → Ident → Spot
 spot_in program s name = spot_at program s name (position (bytes_eq name.text) (map (λ var. var.name.text) s.vars))
+
+-- an array has an element
+abbrev pub HasElements : Head → Type 0
+HasElements (OfClass class) = Unit {0}
+HasElements (OfInts length) = 0 < length
+HasElements (OfObjects class length) = 0 < length
 
 -- ---- the relation
 
@@ -91,6 +103,7 @@ module _ (setting : Setting) (statics : List ℕ) where
     pub variables : AllFit setting.program st.store (map local_type (shape_of setting.program s)) (map value_of st.frame)
     pub objects : (name : ℕ) (object : Object) → object_named st.store name ≡ Some object
         → AllFit setting.program st.store (cell_kinds setting.program object.head) object.cells
+    pub arrays : (name : ℕ) (head : Head) → head_named st.store name ≡ Some head → HasElements head
     pub lives : (name : ℕ) → 0 < extra u moved name → is_live st.store name ≡ true
     pub self_is : named_fits setting.program (kind.Class s.class) (head_named st.store u.self) ≡ true
     pub own_is : head_named st.store u.self ≡ Some (OfClass u.class)
@@ -101,6 +114,7 @@ module _ (setting : Setting) (statics : List ℕ) where
     pub placed : IsPlaced setting st.store st.log
     pub grounded : IsGrounded setup st.store
     pub callers_fit : CallersFit st.store u.callers
+    pub callers_held : CallersHeld u.callers
     pub moved_fit : AllMoved st.store s u moved
 
   abbrev pub moved_values : List Moved → List Value

@@ -38,7 +38,7 @@ fn invert_text(alloc: Global, text: &[u8], name: &str) -> Result<Plan, NoMemory>
     ensures { IfOk result (λ plan. IsInversePlan text.now name.now (planned plan)) }
 {
     match judge(alloc, text) {
-        Ok(judged) => write_inverse(alloc, &judged.checked, name),
+        Ok(checked) => write_inverse(alloc, &checked, name),
         Err(SourceError::Refused { number, at }) => Ok(refuse_source(alloc, number, at)?),
         Err(SourceError::NoMemory) => Err(NoMemory),
     }

@@ -14,15 +14,14 @@ use Rattle.pisa_isa.specs.Machine.{State}
 use Rattle.pisa_loader.specs.Limiting.{limits_refusal}
 use Rattle.pisa_loader.specs.declared.error.LoadError.{LoadError}
 use Rattle.pisa_loader.specs.declared.input.InputField.{InputField}
-use Rattle.program_codegen.specs.Unbuilt.{unbuilt}
 use Rattle.rpp_plan.specs.Plans.{Planned, WritesOnly, WithInput}
 use Rattle.rpp_plan.proofs.Writes.{of_text, along}
 use Rattle.program_commands.specs.Inputs.{input_fields, given_input}
-use Rattle.program_commands.proofs.ProgramTargets.{told_writes, judged_writes}
+use Rattle.program_commands.proofs.ProgramTargets.{judged_writes}
 use Rattle.wrap_commands.specs.declared.error.NamesError.{NamesError}
 use Rattle.wrap_commands.specs.declared.error.NamesError.TheVariants.{UnknownResult, NoMemory}
 use Rattle.wrap_commands.specs.WrapNames.{results_of}
-use Rattle.wrap_commands.specs.WrapPlans.{TellsStop, IsGivenPlan, IsNamedPlan, IsSizedPlan, IsBuiltWrap, IsWrapPlan, WrapsFile}
+use Rattle.wrap_commands.specs.WrapPlans.{TellsStop, IsGivenPlan, IsNamedPlan, IsSizedPlan, IsWrapPlan, WrapsFile}
 
 stop_writes : (why : Stop) (program : Source) (image : Segments) (fields : List InputField) (limits : Limits) (input : List FieldWord) (last : State) (spent steps : ℕ) (p : Planned) → TellsStop why program image fields limits input last spent steps p → WritesOnly p None
 stop_writes Finished program image fields limits input last spent steps p h = along p _ None h.told (inl refl)
@@ -47,8 +46,8 @@ sized_writes None names given program limits steps p h = named_writes (results_o
 
 wrap_writes : (text names given : List ℕ) (heap deep steps : ℕ) (p : Planned) → IsWrapPlan text names given heap deep steps p → WritesOnly p None
 wrap_writes text names given heap deep steps p g =
-    judged_writes g.judgement (λ program. IsBuiltWrap text names given program heap deep steps) None p
-    (λ program q h. told_writes (unbuilt program) text _ None q (λ r k. sized_writes (limits_refusal heap deep MOST_DEEP) names given program (record { heap = heap; deep = deep }) steps r k) h) g.plan
+    judged_writes g.judgement _ None p
+    (λ program q h. sized_writes (limits_refusal heap deep MOST_DEEP) names given program (record { heap = heap; deep = deep }) steps q h) g.plan
 
 of_input : (texts : Texts) (input : Option (List ℕ)) (text names : List ℕ) (heap deep steps : ℕ) (p : Planned) → WithInput texts input (λ given. IsWrapPlan text names given heap deep steps p) → WritesOnly p None
 of_input texts None text names heap deep steps p g = wrap_writes text names [] heap deep steps p g

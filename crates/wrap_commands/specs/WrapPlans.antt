@@ -20,14 +20,13 @@ use Rattle.pisa_loader.specs.declared.input.InputField.{InputField}
 use Rattle.roopl_semantics.specs.Store.{main_name, object_at}
 use Rattle.roopl_semantics.specs.Source.{main_fields, is_int_field}
 use Rattle.roopl_semantics.specs.StandsFor.{StandsFor, EndsAt}
-use Rattle.program_codegen.specs.Unbuilt.{unbuilt}
 use Rattle.bennett_wrap.specs.Wrapped.{Wrapped}
 use Rattle.program_wrap.specs.Programs.{EndsDone, wrapped_run, enough_wrapped}
 use Rattle.rpp_plan.specs.declared.plan.Verdict.TheVariants.{Done, Bound, InputRefused}
 use Rattle.rpp_plan.specs.Plans.{Planned, prints, WithText, WithInput}
 use Rattle.rpp_plan.specs.Texts.{load_line, steps_line}
 use Rattle.program_commands.specs.Inputs.{input_fields, given_input}
-use Rattle.program_commands.specs.ProgramPlans.{IsJudgedPlan, IfBuilt, ReportsFault}
+use Rattle.program_commands.specs.ProgramPlans.{IsJudgedPlan, ReportsFault}
 use Rattle.wrap_commands.specs.declared.error.NamesError.{NamesError}
 use Rattle.wrap_commands.specs.declared.error.NamesError.TheVariants.{UnknownResult, NoMemory}
 use Rattle.wrap_commands.specs.WrapNames.{result_cells, results_of}
@@ -88,13 +87,9 @@ abbrev pub IsSizedPlan : Option LoadError → (names given : List ℕ) → Sourc
 IsSizedPlan (Some e) names given program limits steps p = p ≡ prints InputRefused (load_line e)
 IsSizedPlan None names given program limits steps p = IsNamedPlan (results_of (input_fields program) names) given program limits steps p
 
--- a form that is not built yet is told before that
-abbrev pub IsBuiltWrap : (text names given : List ℕ) → Source → (heap deep steps : ℕ) → Planned → Type 0
-IsBuiltWrap text names given program heap deep steps p =
-    IfBuilt (unbuilt program) text (IsSizedPlan (limits_refusal heap deep MOST_DEEP) names given program (record { heap = heap; deep = deep }) steps) p
-
 abbrev pub IsWrapPlan : (text names given : List ℕ) → (heap deep steps : ℕ) → Planned → Type 0
-IsWrapPlan text names given heap deep steps p = IsJudgedPlan text (λ program. IsBuiltWrap text names given program heap deep steps) p
+IsWrapPlan text names given heap deep steps p =
+    IsJudgedPlan text (λ program. IsSizedPlan (limits_refusal heap deep MOST_DEEP) names given program (record { heap = heap; deep = deep }) steps) p
 
 -- the plan of `wrap` of this file for these names, on an input where there is one
 abbrev pub WrapsFile : (file names : List ℕ) → (input : Option (List ℕ)) → (heap deep steps : ℕ) → Texts → Planned → Type 0

@@ -1,17 +1,15 @@
 // `wrap F H D STEPS NAMES [INPUT]`: judges the words and the texts that they name.
-ghost use Rattle.std.specs.Prelude.{◌≡◌, ◌≤◌, ◌<◌, ◌^◌, ◌∷◌, None, length, option_map, IfOk, string_bytes};
+ghost use Rattle.std.specs.Prelude.{◌≤◌, ◌<◌, ◌^◌, ◌∷◌, length, option_map, IfOk, string_bytes};
 ghost use Rattle.rpp_tree.specs.Views.{source_of};
 ghost use Rattle.rpp_tree.specs.declared.limits.TheConstants.{MOST_BYTES};
 ghost use Rattle.rpp_words.specs.Limits.{IsLimits};
-ghost use Rattle.roopl_lexer.specs.Tokens.{IsCutting};
-ghost use Rattle.program_codegen.specs.Unbuilt.{unbuilt};
 ghost use Rattle.pisa_loader.specs.Limiting.{limits_refusal};
 ghost use Rattle.pisa_loader.specs.declared.input.TheConstants.{MOST_INPUT};
 ghost use Rattle.rpp_plan.specs.Files.{OnlyReads, source, input_files};
 ghost use Rattle.rpp_plan.specs.Plans.{planned, GivesPlan};
 ghost use Rattle.program_commands.specs.Inputs.{input_fields as fields_of, given_input};
 ghost use Rattle.wrap_commands.specs.WrapNames.{results_of};
-ghost use Rattle.wrap_commands.specs.WrapPlans.{AreResults, IsGivenPlan, IsNamedPlan, IsSizedPlan, IsBuiltWrap, IsWrapPlan, WrapsFile};
+ghost use Rattle.wrap_commands.specs.WrapPlans.{AreResults, IsGivenPlan, IsNamedPlan, IsSizedPlan, IsWrapPlan, WrapsFile};
 
 use crate::error::NamesError;
 use crate::names::read_names;
@@ -20,9 +18,8 @@ use crate::shown::refuse_name;
 use class_table::Checked;
 use pisa_loader::{InputField, LoadError, check_limits, read_input};
 use pisa_machine::Steps;
-use program_codegen::first_unbuilt;
-use program_commands::{input_fields, refuse_unbuilt};
-use roopl_judge::{Judged, SourceError, judge};
+use program_commands::input_fields;
+use roopl_judge::{SourceError, judge};
 use rpp_plan::{NoPlan, Plan, Sizes, Verdict, load_line, read_given, refuse_source};
 use rpp_ports::Shelf;
 use rpp_tree::MOST_BYTES;
@@ -82,29 +79,9 @@ fn wrap_text<L: Ledger>(
         request.now.sizes.heap request.now.sizes.deep request.now.sizes.bound (planned plan)) }
 {
     match judge(alloc, text) {
-        Ok(judged) => wrap_judged(alloc, text, &judged, request, steps),
+        Ok(checked) => wrap_sized(alloc, &checked, request, steps),
         Err(SourceError::Refused { number, at }) => Ok(refuse_source(alloc, number, at)?),
         Err(SourceError::NoMemory) => Err(NoMemory),
-    }
-}
-
-// A form that is not built yet is told before the run.
-fn wrap_judged<L: Ledger>(
-    alloc: Global,
-    _text: &[u8],
-    judged: &Judged,
-    request: &Request,
-    steps: &mut Steps<L>,
-) -> Result<Plan, NoMemory>
-    requires tokens { IsCutting _text.now judged.now.tokens.items }
-    requires input { length request.now.input.items ≤ MOST_INPUT }
-    requires bound { request.now.sizes.bound < 2 ^ 63 }
-    ensures { IfOk result (λ plan. IsBuiltWrap _text.now request.now.names.items request.now.input.items (source_of judged.now.checked)
-        request.now.sizes.heap request.now.sizes.deep request.now.sizes.bound (planned plan)) }
-{
-    match first_unbuilt(judged.checked.program()) {
-        Some(found) => refuse_unbuilt(alloc, judged, found),
-        None => wrap_sized(alloc, &judged.checked, request, steps),
     }
 }
 
@@ -115,7 +92,6 @@ fn wrap_sized<L: Ledger>(
     request: &Request,
     steps: &mut Steps<L>,
 ) -> Result<Plan, NoMemory>
-    requires built { unbuilt (source_of checked.now) ≡ None }
     requires input { length request.now.input.items ≤ MOST_INPUT }
     requires bound { request.now.sizes.bound < 2 ^ 63 }
     ensures { IfOk result (λ plan. IsSizedPlan (limits_refusal request.now.sizes.heap request.now.sizes.deep MOST_DEEP)
@@ -137,7 +113,6 @@ fn wrap_named<L: Ledger>(
     request: &Request,
     steps: &mut Steps<L>,
 ) -> Result<Plan, NoMemory>
-    requires built { unbuilt (source_of checked.now) ≡ None }
     requires limits { IsLimits limits }
     requires input { length request.now.input.items ≤ MOST_INPUT }
     requires bound { request.now.sizes.bound < 2 ^ 63 }
@@ -162,7 +137,6 @@ fn wrap_given<L: Ledger>(
     request: &Request,
     steps: &mut Steps<L>,
 ) -> Result<Plan, NoMemory>
-    requires built { unbuilt (source_of checked.now) ≡ None }
     requires limits { IsLimits limits }
     requires results { AreResults (source_of checked.now) results.items }
     requires input { length request.now.input.items ≤ MOST_INPUT }

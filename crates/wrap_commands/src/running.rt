@@ -1,11 +1,10 @@
 // The run of a wrapped image, and its plan.
-ghost use Rattle.std.specs.Prelude.{◌≡◌, ◌<◌, ◌^◌, ◌++◌, All, None, IfOk, codes};
+ghost use Rattle.std.specs.Prelude.{◌≡◌, ◌<◌, ◌^◌, ◌++◌, All, IfOk, codes};
 ghost use Rattle.rpp_tree.specs.Views.{source_of};
 ghost use Rattle.rpp_words.specs.Limits.{IsLimits};
 ghost use Rattle.class_table.specs.Program.{IsAccepted};
 ghost use Rattle.rpp_words.specs.Texts.{line_end};
 ghost use Rattle.roopl_semantics.specs.Source.{IsValid};
-ghost use Rattle.program_codegen.specs.Unbuilt.{unbuilt};
 ghost use Rattle.program_wrap.specs.Programs.{field_cell as cell_of_field};
 ghost use Rattle.machine_texts.specs.Stops.{fault_line as line_of_fault};
 ghost use Rattle.rpp_plan.specs.Plans.{planned, prints};
@@ -44,7 +43,6 @@ pub(crate) fn run_wrapped<L: Ledger>(
     setting: &Setting,
     steps: &mut Steps<L>,
 ) -> Result<Plan, NoMemory>
-    requires built { unbuilt (source_of checked.now) ≡ None }
     requires limits { IsLimits setting.now.limits }
     requires valid { IsValid (source_of checked.now) setting.now.input.words.items }
     requires results { AreResults (source_of checked.now) setting.now.results.items }

@@ -2,10 +2,12 @@ use Rattle.std.proofs.Common.{arith, map, sym, ap, ◌∙◌, subst}
 use Rattle.rpp_tree.proofs.Blocks.{block_of-list}
 use Rattle.rpp_tree.specs.Views.{expression_of, statement_of, statements_of, block_of}
 use Rattle.block_codegen.specs.Pieces.{StatementStands, StandsIn}
-use Rattle.block_codegen.proofs.Views.{statement_if, statement_from, statement_local}
-use Rattle.block_codegen.proofs.Standing.{taken_stands, other_stands, entered_stands, repeated_stands, inside_stands}
-use Rattle.block_codegen.proofs.Walk.{place_fits, item_stands, making_first, making_next, making_last, item_falls, if_falls, from_falls, local_falls}
-use Rattle.block_codegen.proofs.Arms.{if_room, from_room, local_room, if_made, from_made, local_made}
+use Rattle.statement_codegen.specs.Codes.{with_variable}
+use Rattle.block_codegen.proofs.Views.{statement_if, statement_from, statement_construct, statement_local}
+use Rattle.block_codegen.proofs.Standing.{taken_stands, other_stands, entered_stands, repeated_stands, inside_stands, constructed_stands}
+use Rattle.block_codegen.proofs.Walk.{place_fits, item_stands, making_first, making_next, making_last, item_falls, if_falls, from_falls, construct_falls, local_falls}
+use Rattle.block_codegen.proofs.Arms.{if_room, from_room, local_room, if_made, from_made, local_made, popped_is}
+use Rattle.block_codegen.proofs.ObjectArms.{construct_made}
 use Rattle.block_codegen.proofs.blocks.+blocks.Goals as goal
 
 pub block_piece-loop-stmt-init : goal.block_piece-loop-stmt-init
@@ -83,6 +85,20 @@ inner_piece-local_code-requires-clause-value_room t c = (local_room c.args.scope
 
 pub inner_piece-local_code-requires-clause-last_room : goal.inner_piece-local_code-requires-clause-last_room
 inner_piece-local_code-requires-clause-last_room t c = (local_room c.args.scope.now (statement_of c.args.s.now) c.in-Local.at c.in-Local.var (expression_of c.in-Local.value) (block_of c.in-Local.body) c.in-Local.end_var (expression_of c.in-Local.end_value) (ap statement_of c.in-Local.is ∙ statement_local _ _ _ _ _ _) c.requires.stands).1
+
+pub inner_piece-block_piece-requires-in-Construct : goal.inner_piece-block_piece-requires-in-Construct
+inner_piece-block_piece-requires-in-Construct t c = (
+  (let smaller = construct_falls (statement_of c.args.s.now) c.in-Construct.at c.in-Construct.class c.in-Construct.name (block_of c.in-Construct.body) c.in-Construct.end (ap statement_of c.in-Construct.is ∙ statement_construct _ _ _ _ _) in omega (arith, smaller)),
+  subst (λ z. StandsIn z (block_of c.in-Construct.body)) (sym (c.in_ok-push-in-Construct.ensures.pushed ∙ ap (with_variable c.args.scope.now) c.in_ok-var-in-Construct.ensures))
+      (constructed_stands c.args.scope.now c.in-Construct.at c.in-Construct.class c.in-Construct.name (block_of c.in-Construct.body) c.in-Construct.end (subst (StatementStands c.args.scope.now) (ap statement_of c.in-Construct.is ∙ statement_construct _ _ _ _ _) c.requires.stands)),
+)
+
+pub inner_piece-returns-in_ok-body-in-Construct-clause-piece : goal.inner_piece-returns-in_ok-body-in-Construct-clause-piece
+inner_piece-returns-in_ok-body-in-Construct-clause-piece t c =
+    construct_made c.args.scope.now c.push-in-Construct.new.self c.block_piece-in-Construct.new.scope (statement_of c.args.s.now) c.in-Construct.at c.in-Construct.class c.in-Construct.name (block_of c.in-Construct.body) c.in-Construct.end c.in_ok-var-in-Construct.var c.in_ok-making-in-Construct.making c.in_ok-body-in-Construct.body c.pop-in-Construct.new.self c.construct_code.result
+    (ap statement_of c.in-Construct.is ∙ statement_construct _ _ _ _ _) c.requires.stands c.in_ok-var-in-Construct.ensures c.in_ok-push-in-Construct.ensures.pushed c.in_ok-body-in-Construct.ensures.scope
+    (popped_is c.args.scope.now c.push-in-Construct.new.self c.block_piece-in-Construct.new.scope c.pop-in-Construct.new.self c.in_ok-var-in-Construct.var c.in_ok-push-in-Construct.ensures.pushed c.in_ok-body-in-Construct.ensures.scope c.pop-in-Construct.ensures)
+    c.in_ok-making-in-Construct.ensures.law c.in_ok-making-in-Construct.ensures.size c.in_ok-body-in-Construct.ensures.piece c.construct_code.ensures.law c.construct_code.ensures.held c.construct_code.ensures.size
 
 pub inner_piece-returns-in_ok-no-in-If-clause-piece : goal.inner_piece-returns-in_ok-no-in-If-clause-piece
 inner_piece-returns-in_ok-no-in-If-clause-piece t c =

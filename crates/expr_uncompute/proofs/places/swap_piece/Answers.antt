@@ -5,8 +5,8 @@ use Rattle.paired_code.proofs.Contract.{if_ok_law}
 use Rattle.method_scope.specs.Visible.{spot_of, free_of, known_by}
 use Rattle.expr_uncompute.specs.Code.{swap_cells}
 use Rattle.expr_uncompute.specs.Promises.{SwapLaw}
-use Rattle.std.specs.Prelude.{◌≤◌, ◌*◌, ◌+◌, length}
-use Rattle.expr_uncompute.specs.Steps.{place_tokens}
+use Rattle.std.specs.Prelude.{◌≤◌, length}
+use Rattle.expr_uncompute.specs.Sizes.{swap_size}
 use Rattle.expr_uncompute.proofs.Bounds
 use Rattle.expr_uncompute.proofs.ForContracts.{swap_law}
 use Rattle.expr_uncompute.proofs.places.swap_piece.Goals as goal
@@ -18,4 +18,4 @@ pub returns-clause-law : goal.returns-clause-law
 returns-clause-law c = if_ok_law (λ p. SwapLaw (spot_of (known_by c.args.names.now)) (free_of (known_by c.args.names.now)) (lvalue_of c.args.left.now) (lvalue_of c.args.right.now) p.cells) _ (unmarked (swap_cells (spot_of (known_by c.args.names.now)) (free_of (known_by c.args.names.now)) (lvalue_of c.args.left.now) (lvalue_of c.args.right.now))) (returns-clause-code c) (swap_law (spot_of (known_by c.args.names.now)) (free_of (known_by c.args.names.now)) (lvalue_of c.args.left.now) (lvalue_of c.args.right.now))
 
 pub returns-clause-size : goal.returns-clause-size
-returns-clause-size c = if_ok_law (λ p. length p.cells ≤ 102 * (place_tokens (lvalue_of c.args.left.now) + 1 + place_tokens (lvalue_of c.args.right.now))) _ (unmarked (swap_cells (spot_of (known_by c.args.names.now)) (free_of (known_by c.args.names.now)) (lvalue_of c.args.left.now) (lvalue_of c.args.right.now))) (returns-clause-code c) (Bounds.swap_cells (spot_of (known_by c.args.names.now)) (free_of (known_by c.args.names.now)) (lvalue_of c.args.left.now) (lvalue_of c.args.right.now))
+returns-clause-size c = if_ok_law (λ p. length p.cells ≤ swap_size (lvalue_of c.args.left.now) (lvalue_of c.args.right.now)) _ (unmarked (swap_cells (spot_of (known_by c.args.names.now)) (free_of (known_by c.args.names.now)) (lvalue_of c.args.left.now) (lvalue_of c.args.right.now))) (returns-clause-code c) (Bounds.swap_cells (spot_of (known_by c.args.names.now)) (free_of (known_by c.args.names.now)) (lvalue_of c.args.left.now) (lvalue_of c.args.right.now))

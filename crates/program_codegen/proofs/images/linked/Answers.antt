@@ -1,4 +1,4 @@
-use Rattle.std.proofs.Common.{◌≡◌, ◌∙◌, sym, ap, subst, length, arith}
+use Rattle.std.proofs.Common.{◌≡◌, ◌∙◌, sym, ap, subst, ◌+◌, length, arith}
 use Rattle.rpp_tree.specs.Views.{source_of}
 use Rattle.class_table.specs.Classes.{main_of}
 use Rattle.class_table.specs.First.{each_below}
@@ -47,7 +47,7 @@ returns-clause-stands c =
     let firsts = c.deref.ensures.value ∙ c.in_ok-firsts.ensures ∙ ap (λ p. each_below (methods_before (source_of p).classes) (length (source_of p).classes)) c.program.ensures.program in
     let number = number_read program c.deref.result.now c.main.result firsts c.table.ensures.accepted.limits.tokens_few (subst (IsMethod program) (sym main) (main_method program c.table.ensures.accepted)) in
     stands program c.in_ok-routines.routines.items c.in_ok-routines.ensures c.in_ok-main.main c.in_ok-link.field-0.image c.in_ok-link.ensures.law c.table.ensures.accepted
-    c.routine_number.result c.in_ok-main.ensures.law (c.routine_number.ensures ∙ number.is ∙ ap (routine_of program) main)
+    c.routine_number.result c.in_ok-main.ensures.law (c.routine_number.ensures ∙ ap (λ n. 1 + n) (number.is ∙ ap (routine_of program) main))
     (c.in_ok-link.ensures.statics ∙ c.in_ok-statics.ensures (places (first_top c.in_ok-main.main.cells) (bodies c.in_ok-routines.routines.items)))
 
 pub returns-clause-size : goal.returns-clause-size
@@ -60,4 +60,4 @@ pub returns-clause-marks : goal.returns-clause-marks
 returns-clause-marks c =
     let program = source_of c.args.checked.now in
     has_marks program c.in_ok-routines.routines.items c.in_ok-routines.ensures c.in_ok-main.main c.in_ok-link.field-0.image c.in_ok-link.ensures.law c.in_ok-link.field-0.notes.marks
-    c.in_ok-main.ensures.none c.in_ok-link.ensures.marks c.in_ok-link.ensures.ascending
+    c.in_ok-main.ensures.size c.in_ok-main.ensures.none c.in_ok-link.ensures.code c.in_ok-link.ensures.marks c.in_ok-link.ensures.ascending

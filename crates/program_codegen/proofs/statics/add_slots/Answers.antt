@@ -31,7 +31,7 @@ loop-slot-preserved c =
     c.table-table.ensures.table c.requires.inside c.slot_count-slot-end.ensures.count c.loop-slot-test.true c.dispatch.ensures in
     let number = number_read program c.args.firsts.now c.dispatch.result c.requires.firsts c.table-table.ensures.accepted.limits.tokens_few slot.method in
     λ places. slot_pushed places program c.args.class c.loop-slot.slot c.args.words.now.items c.loop-slot.words.items c.push.new.self.items c.routine_number-number.result
-    slot.low (c.routine_number-number.ensures ∙ number.is ∙ ap (routine_of program) slot.runs) c.in_ok-push.ensures.items (c.loop-slot.invariant places)
+    slot.low (c.routine_number-number.ensures ∙ ap (λ n. 1 + n) (number.is ∙ ap (routine_of program) slot.runs)) c.in_ok-push.ensures.items (c.loop-slot.invariant places)
 
 pub returns : goal.returns
 returns c =
@@ -41,4 +41,4 @@ returns c =
     (let a = c.loop-slot-test.false in omega (arith, a, c.slot_count-slot-end.ensures.count, ap (λ (t : Table). length (slots_in t c.args.class)) c.table-table.ensures.table, ap (λ (s : Slots). length s) (slots_read program c.args.class c.requires.inside)))
     in
     λ places. c.loop-slot.invariant places
-    ∙ ap (λ (s : Slots). map (static_word places) c.args.words.now.items ++ map (λ x. slice_index places (0 + routine_of program x.1)) s) (take_all c.loop-slot.slot slots many)
+    ∙ ap (λ (s : Slots). map (static_word places) c.args.words.now.items ++ map (λ x. slice_index places (1 + routine_of program x.1)) s) (take_all c.loop-slot.slot slots many)

@@ -11,4 +11,4 @@ abbrev pub invariant-loop-slot : goal.invariant-loop-slot
 invariant-loop-slot l =
     (places : List ℕ) → map (static_word places) l.words.items
     ≡ map (static_word places) l.initial.words.items
-    ++ map (λ x. slice_index places (0 + routine_of (source_of l.checked) x.1)) (take l.slot (class_slots (source_of l.checked) l.class))
+    ++ map (λ x. slice_index places (1 + routine_of (source_of l.checked) x.1)) (take l.slot (class_slots (source_of l.checked) l.class))

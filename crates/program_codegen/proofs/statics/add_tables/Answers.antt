@@ -11,7 +11,7 @@ use Rattle.program_codegen.proofs.statics.add_tables.Goals as goal
 pub loop-class-preserved : goal.loop-class-preserved
 loop-class-preserved c =
     let program = source_of c.args.checked.now in
-    λ places. table_pushed places program (slot_places program 0 places) c.loop-class.class c.args.words.now.items c.loop-class.words.items c.push.new.self.items c.add_slots.new.words.items
+    λ places. table_pushed places program (slot_places program 1 places) c.loop-class.class c.args.words.now.items c.loop-class.words.items c.push.new.self.items c.add_slots.new.words.items
     c.in_ok-push.ensures.items (c.loop-class.invariant places) (c.in_ok-add_slots.ensures places)
 
 pub returns : goal.returns
@@ -21,4 +21,4 @@ returns c =
     (let a = c.loop-class-test.false in let b = c.loop-class.auto.class-end in omega (arith, a, b, c.class_count-class-end.ensures.count, ap (λ (t : Table). length t.names) c.table.ensures.table, many_classes program))
     in
     λ places. c.loop-class.invariant places
-    ∙ ap (λ n. map (static_word places) c.args.words.now.items ++ tables 1 (each_below (slot_places program 0 places) n)) all
+    ∙ ap (λ n. map (static_word places) c.args.words.now.items ++ tables 1 (each_below (slot_places program 1 places) n)) all

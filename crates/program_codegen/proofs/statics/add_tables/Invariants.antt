@@ -10,4 +10,4 @@ use Rattle.program_codegen.proofs.statics.add_tables.Given as goal
 abbrev pub invariant-loop-class : goal.invariant-loop-class
 invariant-loop-class l =
     (places : List ℕ) → map (static_word places) l.words.items
-    ≡ map (static_word places) l.initial.words.items ++ tables 1 (each_below (slot_places (source_of l.checked) 0 places) l.class)
+    ≡ map (static_word places) l.initial.words.items ++ tables 1 (each_below (slot_places (source_of l.checked) 1 places) l.class)

@@ -37,7 +37,7 @@ returns c =
     let fields : c.fields.result.now ≡ main_fields program = fields_read program c.table-2.result.now c.main-class.result c.fields.result.now c.table.ensures.accepted c.table-2.ensures.table again c.fields.ensures.fields in
     let at : c.table_at.result ≡ table_at program (main_of program).class = c.table_at.ensures ∙ ap (λ (id : MethodId). table_at program id.class) main in
     λ places.
-    let ts = tables 1 (table_places program 0 places) in
+    let ts = tables 1 (table_places program 1 places) in
     statics_read places program c.table_at.result (length c.fields.result.now) c.new-words.result.items c.push.new.self.items c.push-2.new.self.items c.add_zeros.new.words.items c.add_tables.new.words.items ts
     c.new-words.ensures.items c.in_ok-push.ensures.items c.in_ok-push-2.ensures.items c.in_ok-add_zeros.ensures (c.in_ok-add_tables.ensures places)
     ∙ ap (λ a. a ∷ 1 ∷ (replicate (length c.fields.result.now) 0 ++ ts)) at

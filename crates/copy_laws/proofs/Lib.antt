@@ -1,0 +1,6 @@
+pub mod CellsFew
+pub mod CountPlaces
+pub mod CountsWritten
+pub mod PlacesCopied
+pub mod CopiesFit
+pub mod Stated

@@ -1,0 +1,7 @@
+use Rattle.std.proofs.Common.{◌<◌, length, arith}
+use Rattle.rpp_tree.specs.Views.{source_of}
+use Rattle.roopl_semantics.proofs.MainPlace.{class_inside}
+use Rattle.object_codegen.proofs.tables.class_number.Goals as goal
+
+pub returns-in-None-clause-inside : goal.returns-in-None-clause-inside
+returns-in-None-clause-inside c = omega (arith, class_inside (source_of c.args.checked.now) c.table.ensures.accepted)

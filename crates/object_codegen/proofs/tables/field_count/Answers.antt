@@ -1,0 +1,10 @@
+use Rattle.std.proofs.Common.{◌≡◌, ◌∙◌, ap, List, length}
+use Rattle.rpp_tree.specs.declared.tree.Var.{Var}
+use Rattle.rpp_tree.specs.Views.{source_of}
+use Rattle.class_table.specs.Table.{Table, fields_in}
+use Rattle.class_table.proofs.Tables.{table_reads}
+use Rattle.object_codegen.proofs.tables.field_count.Goals as goal
+
+pub returns-clause-count : goal.returns-clause-count
+returns-clause-count c =
+    ap (λ (vars : List Var). length vars) (c.fields.ensures.fields ∙ ap (λ (t : Table). fields_in t c.args.class) c.table.ensures.table ∙ (table_reads (source_of c.args.checked.now) c.args.class c.requires.inside).fields)

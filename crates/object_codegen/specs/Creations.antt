@@ -1,0 +1,40 @@
+-- What the code of a `new` does, by what it makes.
+use Rattle.std.specs.Prelude.{ℕ, ◌+◌, ◌*◌, List, length}
+use Rattle.std.specs.Option.{unwrap_or}
+use Rattle.rpp_tree.specs.declared.tree.Ident.{Ident}
+use Rattle.rpp_tree.specs.Tree.{Lvalue, Creation, Object, Ints, Objects, Source}
+use Rattle.class_table.specs.Classes.{class_number, class_fields}
+use Rattle.buddy_book.specs.Book.{order_for}
+use Rattle.paired_code.specs.declared.part.Symbol.{Symbol}
+use Rattle.roopl_semantics.specs.Layout.{table_at}
+use Rattle.statement_laws.specs.declared.spot.Spot.{Spot}
+use Rattle.expr_uncompute.specs.Code.{words, place_words}
+use Rattle.expr_uncompute.specs.Steps.{tokens, place_tokens}
+use Rattle.object_codegen.specs.News.{ObjectLaw, ArrayLaw}
+
+-- the number of the class of a name, and the number of its fields
+abbrev pub class_of : Source → Ident → ℕ
+class_of program class = unwrap_or (class_number program class.text) 0
+
+abbrev pub fields_of : Source → Ident → ℕ
+fields_of program class = length (class_fields program (class_of program class))
+
+-- how many words of the frame it needs
+abbrev pub creation_words : Creation → Lvalue → ℕ
+creation_words (Object class) target = place_words target
+creation_words (Ints size) target = place_words target + words size
+creation_words (Objects class size) target = place_words target + words size
+
+-- the most cells that it has
+abbrev pub creation_size : Creation → Lvalue → ℕ
+creation_size (Object class) target = 87 + 80 * (1 + place_tokens target)
+creation_size (Ints size) target = 184 + 80 * (place_tokens target + tokens size)
+creation_size (Objects class size) target = 184 + 80 * (place_tokens target + tokens size)
+
+-- an object has the address of its class's table, and so many cells as the class has fields
+abbrev pub NewLaw : Source → (List ℕ → Spot) → ℕ → Creation → Lvalue → List Symbol → Type 0
+NewLaw program spot free (Object class) target p =
+    ObjectLaw spot free (table_at program (class_of program class)) (fields_of program class)
+    (order_for (2 + fields_of program class)) target p
+NewLaw program spot free (Ints size) target p = ArrayLaw spot free target size p
+NewLaw program spot free (Objects class size) target p = ArrayLaw spot free target size p

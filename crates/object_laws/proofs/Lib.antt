@@ -1,0 +1,11 @@
+pub mod BookWords
+pub mod Elsewhere
+pub mod Overlaid
+pub mod MadeMemory
+pub mod Bases
+pub mod Allocating
+pub mod Counting
+pub mod Placings
+pub mod MadeFrames
+pub mod FreedFrames
+pub mod Stated

@@ -1,0 +1,83 @@
+-- How a run under a watch ended.
+use Rattle.std.specs.Prelude.{◌≡◌, ℕ, ◌-◌, max, nat_eq, nat_lt, if◌then◌else◌, [], Option, Some, None}
+use Rattle.roopl_semantics.specs.Run.{Done, Fault}
+use Rattle.roopl_semantics.specs.Store.{State, main_name}
+use Rattle.store_table.specs.HeapView.{Kept}
+use Rattle.source_points.specs.Trail.{Trail}
+use Rattle.source_steps.specs.declared.stop.Stop.{Stop}
+use Rattle.source_steps.specs.declared.stop.Stop.TheVariants as stop
+use Rattle.source_blocks.specs.declared.watch.Arrival.{Arrival}
+use Rattle.source_blocks.specs.declared.watch.Watching.{Watching}
+use Rattle.source_blocks.specs.declared.watch.Watching.TheVariants as watch
+use Rattle.source_blocks.specs.Watched.{Passed, Met, watched, point_of}
+use Rattle.source_debugger.specs.declared.moves.Walk.{Walk}
+use Rattle.source_debugger.specs.declared.moves.Ending.TheVariants.{Made, Start, Faulted}
+use Rattle.source_debugger.specs.declared.running.Ended.{Ended}
+use Rattle.source_debugger.specs.declared.running.Ended.TheVariants as ended
+
+-- the state at the end of a run with this heap: no variable is left, and no call is open
+abbrev pub last_state : Kept → State
+last_state heap = record { frame = []; self = main_name; depth = 1; store = heap.store; log = heap.log }
+
+-- all points are passed, and the run is done
+pub record IsOver (heap : Kept) (first last : Watching) (trail : Trail) : Type 0 where
+  pub seen : watched first trail.points ≡ Passed last
+  pub cost : ℕ
+  pub done : trail.end ≡ Done (last_state heap) cost
+
+-- all points are passed, and the run stops with a fault
+pub record IsFaulted (code : ℕ) (first last : Watching) (trail : Trail) : Type 0 where
+  pub seen : watched first trail.points ≡ Passed last
+  pub cost : ℕ
+  pub fault : trail.end ≡ Fault code cost
+
+abbrev pub IsEnded : Ended → Watching → Trail → Type 0
+IsEnded (ended.At arrival heap last) first trail = watched first trail.points ≡ Met last (point_of arrival heap)
+IsEnded (ended.Over heap last) first trail = IsOver heap first last trail
+IsEnded (ended.Fault code last) first trail = IsFaulted code first last trail
+
+-- the end of a run at the point that was met
+abbrev pub IsMet : Option Arrival → Kept → Watching → Ended → Type 0
+IsMet None heap last e = ⊥
+IsMet (Some arrival) heap last e = e ≡ ended.At arrival heap last
+
+-- the end of a run that stopped so
+abbrev pub IsBroken : Stop → Kept → Watching → Option Arrival → Ended → Type 0
+IsBroken (stop.Fault code) heap last arrival e = e ≡ ended.Fault code last
+IsBroken stop.More heap last arrival e = ⊥
+IsBroken stop.Arrived heap last arrival e = IsMet arrival heap last e
+IsBroken stop.NoMemory heap last arrival e = ⊥
+
+-- the watch as the run left it
+abbrev pub watching_of : Ended → Watching
+watching_of (ended.At arrival heap last) = last
+watching_of (ended.Over heap last) = last
+watching_of (ended.Fault code last) = last
+
+-- how many points it had left to pass, and how many at the last one at its place
+abbrev pub left_of : Watching → ℕ
+left_of watch.Nothing = 0
+left_of (watch.First place skip left) = left
+left_of (watch.Latest place skip left latest) = left
+
+abbrev pub latest_of : Watching → Option ℕ
+latest_of watch.Nothing = None
+latest_of (watch.First place skip left) = None
+latest_of (watch.Latest place skip left latest) = latest
+
+-- where moves from a position towards a goal lead, by how the run to it ended
+abbrev pub reached_by : Ended → (from goal : ℕ) → Walk
+reached_by (ended.At arrival heap last) from goal = record { position = goal - left_of last; ending = Made }
+reached_by (ended.Over heap last) from goal = record { position = max from (goal - left_of last); ending = Made }
+reached_by (ended.Fault code last) from goal =
+    if nat_eq goal from then record { position = from; ending = Made }
+    else record { position = max from (goal - left_of last - 1); ending = Faulted code }
+
+-- where at most so many moves back lead
+abbrev pub back_by : (most from : ℕ) → Walk
+back_by most from = record { position = from - most; ending = if nat_lt from most then Start else Made }
+
+-- the same up to a position that is so far back
+abbrev pub back_to : Option ℕ → (most from : ℕ) → Walk
+back_to None most from = back_by most from
+back_to (Some left) most from = record { position = from - left; ending = Made }

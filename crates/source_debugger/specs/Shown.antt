@@ -1,0 +1,82 @@
+-- What commands print along a run, and where they lead.
+use Rattle.std.specs.Prelude.{ℕ, List, [], ◌∷◌, ◌++◌, codes, Option, Some, None}
+use Rattle.std.specs.Fmt.{decimal}
+use Rattle.rpp_words.specs.Texts.{line_end}
+use Rattle.machine_texts.specs.Stops.{fault_line}
+use Rattle.rpp_tree.specs.Tree.{Source}
+use Rattle.class_table.specs.Classes.{class_fields}
+use Rattle.roopl_semantics.specs.Store.{State, object_at}
+use Rattle.roopl_semantics.specs.Value.{own_class}
+use Rattle.roopl_semantics.specs.Report.{Text}
+use Rattle.source_points.specs.Trail.{Trail}
+use Rattle.two_way_debugger.specs.declared.command.Command.{Command}
+use Rattle.two_way_debugger.specs.declared.command.Command.TheVariants.{Step, Back, To, BackTo, Regs, Cells}
+use Rattle.source_debugger.specs.declared.moves.Walk.{Walk}
+use Rattle.source_debugger.specs.declared.moves.Ending.{Ending}
+use Rattle.source_debugger.specs.declared.moves.Ending.TheVariants.{Made, Start, Faulted}
+use Rattle.source_debugger.specs.Walks.{Stand, AtPoint, AtEnd, Unknown, stand_at, forward, backward}
+use Rattle.source_debugger.specs.Named.{fields_named, frame_named, objects_from}
+
+-- what the line on moves says of how they ended, with the line's end
+abbrev pub ending_shown : Ending → Text
+ending_shown Made = line_end
+ending_shown Start = codes " start" ++ line_end
+ending_shown (Faulted code) = codes " " ++ fault_line code
+
+-- the position, where it is, and how moves ended there
+abbrev pub line_at : ℕ → Stand → Ending → Option Text
+line_at j (AtPoint point) ending =
+    Some (codes "at " ++ decimal j ++ codes " place " ++ decimal point.place ++ codes " depth " ++ decimal point.state.depth ++ ending_shown ending)
+line_at j (AtEnd end) ending = Some (codes "at " ++ decimal j ++ codes " end" ++ ending_shown ending)
+line_at j Unknown ending = None
+
+-- the fields of the object on which the point's method runs, and the method's variables; at the end the main object's fields
+abbrev pub state_named : Source → ℕ → State → Text
+state_named program params st = fields_named [] (class_fields program (own_class st)) (object_at st.store st.self).cells ++ frame_named params st.frame
+
+abbrev pub regs_at : Source → Stand → Option Text
+regs_at program (AtPoint point) = Some (state_named program point.params point.state)
+regs_at program (AtEnd end) = Some (state_named program 0 end)
+regs_at program Unknown = None
+
+-- the objects and arrays of so many names from one on
+abbrev pub cells_at : Source → (from count : ℕ) → Stand → Option Text
+cells_at program from count (AtPoint point) = Some (objects_from program point.state.store from count)
+cells_at program from count (AtEnd end) = Some (objects_from program end.store from count)
+cells_at program from count Unknown = None
+
+-- where a command leads, and what it prints; none where the run is not known so far
+pub record Told : Type 0 where
+  pub position : ℕ
+  pub text : Text
+
+abbrev pub tells : ℕ → Option Text → Option Told
+tells j None = None
+tells j (Some text) = Some (record { position = j; text = text })
+
+abbrev pub walked : Trail → Option Walk → Option Told
+walked trail None = None
+walked trail (Some walk) = tells walk.position (line_at walk.position (stand_at trail walk.position) walk.ending)
+
+-- a command that is given at a position
+abbrev pub told_by : Source → Trail → Command → ℕ → Option Told
+told_by program trail (Step n) j = walked trail (forward trail None n j)
+told_by program trail (Back n) j = walked trail (Some (backward trail None n j))
+told_by program trail (To place n) j = walked trail (forward trail (Some place) n j)
+told_by program trail (BackTo place n) j = walked trail (Some (backward trail (Some place) n j))
+told_by program trail Regs j = tells j (regs_at program (stand_at trail j))
+told_by program trail (Cells from count) j = tells j (cells_at program from count (stand_at trail j))
+
+-- a text in front of what is told
+abbrev pub behind_text : Text → Option Told → Option Told
+behind_text text None = None
+behind_text text (Some told) = Some (record { position = told.position; text = text ++ told.text })
+
+-- commands one after the other
+abbrev pub and_told : Option Told → (ℕ → Option Told) → Option Told
+and_told None next = None
+and_told (Some told) next = behind_text told.text (next told.position)
+
+abbrev pub told : Source → Trail → List Command → ℕ → Option Told
+told program trail [] j = Some (record { position = j; text = [] })
+told program trail (command ∷ commands) j = and_told (told_by program trail command j) (told program trail commands)

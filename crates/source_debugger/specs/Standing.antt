@@ -1,0 +1,35 @@
+-- A debugger as contracts see it.
+use Rattle.std.specs.Prelude.{◌≡◌, ℕ, List, Some}
+use Rattle.rpp_words.specs.declared.input.FieldWord.{FieldWord}
+use Rattle.rpp_words.specs.declared.input.Limits.{Limits}
+use Rattle.rpp_tree.specs.declared.tree.Program.{Program}
+use Rattle.rpp_tree.specs.Tree.{Source}
+use Rattle.rpp_tree.specs.Views.{source_of}
+use Rattle.rpp_words.specs.Limits.{IsLimits}
+use Rattle.roopl_semantics.specs.Source.{IsValid}
+use Rattle.roopl_semantics.specs.Report.{Text}
+use Rattle.source_points.specs.Trail.{Trail, trail}
+use Rattle.two_way_debugger.specs.declared.command.Command.{Command}
+use Rattle.source_debugger.specs.declared.running.TheConstants.{MOST_COST}
+use Rattle.source_debugger.specs.Shown.{told}
+
+-- the run of a program on an input, and the position
+pub record Standing : Type 0 where
+  pub program : Program
+  pub limits : Limits
+  pub input : List FieldWord
+  pub position : ℕ
+
+-- the run, as far as the debugger looks
+abbrev pub run_of : Standing → Trail
+run_of d = trail (source_of d.program) d.limits d.input MOST_COST
+
+-- commands lead from one standing to another, and print this
+pub record Leads (before : Standing) (commands : List Command) (after : Standing) (text : Text) : Type 0 where
+  pub told : told (source_of before.program) (run_of before) commands before.position ≡ Some (record { position = after.position; text = text })
+  pub same : after ≡ record before { position = after.position }
+
+-- a program with a valid input and limits in range
+pub record IsValidRun (program : Source) (limits : Limits) (input : List FieldWord) : Type 0 where
+  pub valid : IsValid program input
+  pub in_range : IsLimits limits

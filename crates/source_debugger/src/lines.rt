@@ -1,0 +1,263 @@
+// The lines of variables, objects and arrays.
+ghost use Rattle.std.specs.Prelude.{◌≡◌, ◌++◌, ◌∷◌, [], OnOk, string_bytes, codes, map};
+ghost use Rattle.std.specs.Fmt.{decimal};
+ghost use Rattle.rpp_words.specs.Texts.{line_end};
+ghost use Rattle.rpp_tree.specs.Views.{source_of};
+ghost use Rattle.class_table.specs.Members.{class_at};
+ghost use Rattle.class_table.specs.Classes.{class_fields};
+ghost use Rattle.roopl_semantics.specs.Store.{object_named};
+ghost use Rattle.roopl_semantics.specs.Report.{signed_decimal, head_shown};
+ghost use Rattle.store_table.specs.ValueView.{value_of, values_of, head_of, object_of};
+ghost use Rattle.source_blocks.specs.Watched.{binding_of};
+ghost use Rattle.source_debugger.specs.Named.{value_named, name_line, fields_named, elements_named, cells_named, object_lines, objects_from, variable_line, params_named, frame_named};
+
+use class_table::Checked;
+use rpp_tree::tree::{Program, Var};
+use rpp_words::NoMemory;
+use source_blocks::Variable;
+use std::alloc::AllocError;
+use store_table::{Head, Heap, Object, Value};
+
+// A word in signed decimal.
+fn add_word(out: &mut String, word: u32) -> Result<(), AllocError>
+    ensures { OnOk result (string_bytes out.new ≡ string_bytes out.old ++ signed_decimal word) }
+{
+    if word < 1 << 31 {
+        write!(out, "{word}")
+    } else {
+        let below = 0u32.wrapping_sub(word);
+        write!(out, "-{below}")
+    }
+}
+
+// A word, nil or the name of a reference.
+fn add_value(out: &mut String, value: Value) -> Result<(), AllocError>
+    ensures { OnOk result (string_bytes out.new ≡ string_bytes out.old ++ value_named (value_of value)) }
+{
+    match value {
+        Value::Word(word) => add_word(out, word),
+        Value::Nil => out.push_str("nil"),
+        Value::Name(name) => write!(out, "#{name}"),
+    }
+}
+
+// The bytes of a name. All names of a program are ASCII; another one would count as want of memory.
+fn add_bytes(out: &mut String, bytes: &[u8]) -> Result<(), NoMemory>
+    ensures { OnOk result (string_bytes out.new ≡ string_bytes out.old ++ bytes.now) }
+{
+    match str::from_utf8(bytes) {
+        Err(_) => Err(NoMemory),
+        Ok(text) => Ok(out.push_str(text)?),
+    }
+}
+
+// The line of a name with a value.
+fn add_name_line(out: &mut String, name: &[u8], value: Value) -> Result<(), NoMemory>
+    ensures { OnOk result (string_bytes out.new ≡ string_bytes out.old ++ name_line name.now (value_of value)) }
+{
+    add_bytes(out, name)?;
+    out.push_str(" = ")?;
+    add_value(out, value)?;
+    out.push('\n')?;
+    Ok(())
+}
+
+// The lines of fields.
+fn add_fields(
+    out: &mut String,
+    indent: &str,
+    fields: &[Var],
+    values: &[Value],
+) -> Result<(), NoMemory>
+    ensures { OnOk result (string_bytes out.new ≡ string_bytes out.old ++ fields_named indent.now fields.now (values_of values.now)) }
+{
+    match fields {
+        [] => Ok(()),
+        [field, fields @ ..] => match values {
+            [] => Ok(()),
+            [value, values @ ..] => {
+                out.push_str(indent)?;
+                add_name_line(out, field.name.text.bytes(), *value)?;
+                add_fields(out, indent, fields, values)
+            }
+        },
+    }
+}
+
+/// The lines of the fields of an object of a class.
+pub(crate) fn add_class_fields(
+    out: &mut String,
+    indent: &str,
+    checked: &Checked,
+    class: u32,
+    values: &[Value],
+) -> Result<(), NoMemory>
+    ensures { OnOk result (string_bytes out.new ≡ string_bytes out.old ++ fields_named indent.now (class_fields (source_of checked.now) class) (values_of values.now)) }
+{
+    let table = checked.table();
+    let fields = table.fields(class);
+    add_fields(out, indent, fields, values)
+}
+
+// The line of an element.
+fn add_element(out: &mut String, index: usize, value: Value) -> Result<(), AllocError>
+    ensures { OnOk result (string_bytes out.new ≡ string_bytes out.old ++ elements_named index (value_of value ∷ [])) }
+{
+    write!(out, "  [{index}] = ")?;
+    add_value(out, value)?;
+    out.push('\n')
+}
+
+// The lines of elements.
+fn add_elements(out: &mut String, values: &[Value]) -> Result<(), AllocError>
+    ensures { OnOk result (string_bytes out.new ≡ string_bytes out.old ++ elements_named 0 (values_of values.now)) }
+{
+    for (index, value) in values.iter().enumerate() {
+        add_element(out, index, *value)?;
+    }
+    Ok(())
+}
+
+// The lines of the cells of an object or array.
+fn add_cells(
+    out: &mut String,
+    checked: &Checked,
+    head: Head,
+    values: &[Value],
+) -> Result<(), NoMemory>
+    ensures { OnOk result (string_bytes out.new ≡ string_bytes out.old ++ cells_named (source_of checked.now) (head_of head) (values_of values.now)) }
+{
+    match head {
+        Head::Class(class) => add_class_fields(out, "  ", checked, class, values),
+        Head::Ints(_) => Ok(add_elements(out, values)?),
+        Head::Objects { .. } => Ok(add_elements(out, values)?),
+    }
+}
+
+// The name of a class.
+fn class_name(program: &Program, class: u32) -> &[u8]
+    ensures { result.now ≡ (class_at (source_of program.now) class).name.text }
+{
+    match program.classes.get(class as usize) {
+        None => &[],
+        Some(class) => class.name.text.bytes(),
+    }
+}
+
+fn add_head(out: &mut String, program: &Program, head: Head) -> Result<(), NoMemory>
+    ensures { OnOk result (string_bytes out.new ≡ string_bytes out.old ++ head_shown (source_of program.now) (head_of head)) }
+{
+    match head {
+        Head::Class(class) => add_bytes(out, class_name(program, class)),
+        Head::Ints(length) => Ok(write!(out, "int[{length}]")?),
+        Head::Objects { class, length } => {
+            add_bytes(out, class_name(program, class))?;
+            Ok(write!(out, "[{length}]")?)
+        }
+    }
+}
+
+// The line of an object or array.
+fn add_first(
+    out: &mut String,
+    checked: &Checked,
+    name: u32,
+    head: Head,
+    count: u64,
+) -> Result<(), NoMemory>
+    ensures { OnOk result (string_bytes out.new ≡ string_bytes out.old ++ (codes "#" ++ decimal name ++ codes " " ++ head_shown (source_of checked.now) (head_of head) ++ codes " count " ++ decimal count ++ line_end)) }
+{
+    let program = checked.program();
+    write!(out, "#{name} ")?;
+    add_head(out, program, head)?;
+    Ok(write!(out, " count {count}\n")?)
+}
+
+fn add_object(
+    out: &mut String,
+    checked: &Checked,
+    name: u32,
+    object: &Object,
+) -> Result<(), NoMemory>
+    ensures { OnOk result (string_bytes out.new ≡ string_bytes out.old ++ object_lines (source_of checked.now) name (Some (object_of object.now))) }
+{
+    add_first(out, checked, name, object.head, object.count)?;
+    add_cells(out, checked, object.head, &object.cells)
+}
+
+// The lines of what lives at a name, if it does.
+fn add_named(out: &mut String, checked: &Checked, heap: &Heap, name: u64) -> Result<(), NoMemory>
+    ensures { OnOk result (string_bytes out.new ≡ string_bytes out.old ++ object_lines (source_of checked.now) name (object_named heap.now.store name)) }
+{
+    if name >= heap.names() as u64 {
+        return Ok(());
+    }
+    match u32::try_from(name) {
+        Err(_) => Err(NoMemory),
+        Ok(name) => match heap.object(name) {
+            None => Ok(()),
+            Some(object) => add_object(out, checked, name, object),
+        },
+    }
+}
+
+/// The lines of what lives at so many names from one on.
+pub(crate) fn add_objects(
+    out: &mut String,
+    checked: &Checked,
+    heap: &Heap,
+    from: u32,
+    count: u32,
+) -> Result<(), NoMemory>
+    ensures { OnOk result (string_bytes out.new ≡ string_bytes out.old ++ objects_from (source_of checked.now) heap.now.store from count) }
+{
+    for at in 0..count {
+        add_named(out, checked, heap, u64::from(from) + u64::from(at))?;
+    }
+    Ok(())
+}
+
+// The line of a variable; one with no name has none.
+fn add_variable(out: &mut String, variable: &Variable) -> Result<(), NoMemory>
+    ensures { OnOk result (string_bytes out.new ≡ string_bytes out.old ++ variable_line (binding_of variable.now)) }
+{
+    let name = variable.name.bytes();
+    if name.is_empty() {
+        return Ok(());
+    }
+    add_name_line(out, name, variable.value)
+}
+
+// The lines of parameters.
+fn add_params(out: &mut String, variables: &[Variable]) -> Result<(), NoMemory>
+    ensures { OnOk result (string_bytes out.new ≡ string_bytes out.old ++ params_named (map binding_of variables.now)) }
+{
+    match variables {
+        [] => Ok(()),
+        [variable, rest @ ..] => {
+            add_variable(out, variable)?;
+            add_params(out, rest)
+        }
+    }
+}
+
+/// The lines of the variables of a method with so many parameters.
+pub(crate) fn add_frame(
+    out: &mut String,
+    params: usize,
+    variables: &[Variable],
+) -> Result<(), NoMemory>
+    ensures { OnOk result (string_bytes out.new ≡ string_bytes out.old ++ frame_named params (map binding_of variables.now)) }
+{
+    match variables {
+        [] => Ok(()),
+        [variable, rest @ ..] => {
+            if params < variables.len() {
+                add_frame(out, params, rest)?;
+                add_variable(out, variable)
+            } else {
+                add_params(out, variables)
+            }
+        }
+    }
+}

@@ -1,0 +1,177 @@
+// Moves along the positions of a run.
+ghost use Rattle.std.specs.Prelude.{◌≡◌, ◌≤◌, ◌+◌, min, Some, IfOk};
+ghost use Rattle.rpp_tree.specs.Views.{source_of};
+ghost use Rattle.source_points.specs.Trail.{trail};
+ghost use Rattle.source_debugger.specs.declared.running.TheConstants.{MOST_COST};
+ghost use Rattle.source_debugger.specs.Walks.{forward as forward_in, backward as backward_in};
+ghost use Rattle.source_debugger.specs.Standing.{IsValidRun};
+ghost use Rattle.source_debugger.specs.Ended.{watching_of, left_of, latest_of, reached_by, back_by as back_at, back_to as back_to_latest};
+
+use crate::running::{Ended, Run, run_to};
+use rpp_words::NoMemory;
+use source_blocks::Watching;
+
+/// The last position that a debugger moves to.
+pub const LAST_POSITION: u64 = (1 << 63) - 1;
+
+/// How the moves of a command ended.
+#[derive(Clone, Copy, PartialEq, Eq, Debug)]
+pub(crate) enum Ending {
+    /// With the last that was wanted, at the end or at the last position.
+    Made,
+    /// At position 0, where one more move back was wanted.
+    Start,
+    /// At the last point before a fault, where one more move was wanted.
+    Faulted(u32),
+}
+
+/// Where moves lead, and how they ended.
+#[derive(Clone, Copy, PartialEq, Eq, Debug)]
+pub(crate) struct Walk {
+    pub position: u64,
+    pub ending: Ending,
+}
+
+// The position that is wanted.
+fn goal_of(from: u64, most: u64) -> u64
+    ensures { result ≡ min (from + most) LAST_POSITION }
+{
+    from.saturating_add(most).min(LAST_POSITION)
+}
+
+/// How many points a watch had left to pass.
+pub(crate) fn left_in(watching: Watching) -> u64
+    ensures { result ≡ left_of watching }
+{
+    match watching {
+        Watching::Nothing => 0,
+        Watching::First { left, .. } => left,
+        Watching::Latest { left, .. } => left,
+    }
+}
+
+// How many it had left at the last one at its place.
+fn latest_in(watching: Watching) -> Option<u64>
+    ensures { result ≡ latest_of watching }
+{
+    match watching {
+        Watching::Nothing => None,
+        Watching::First { .. } => None,
+        Watching::Latest { latest, .. } => latest,
+    }
+}
+
+// The watch as the run left it.
+fn watching_in(ended: Ended) -> Watching
+    ensures { result ≡ watching_of ended }
+{
+    match ended {
+        Ended::At { watching, .. } => watching,
+        Ended::Over { watching, .. } => watching,
+        Ended::Fault { watching, .. } => watching,
+    }
+}
+
+// Where moves forward to a goal lead, by how the run ended.
+fn reached(ended: &Ended, from: u64, goal: u64) -> Walk
+    ensures { result ≡ reached_by ended.now from goal }
+{
+    match ended {
+        Ended::At { watching, .. } => Walk {
+            position: goal.saturating_sub(left_in(*watching)),
+            ending: Ending::Made,
+        },
+        Ended::Over { watching, .. } => Walk {
+            position: from.max(goal.saturating_sub(left_in(*watching))),
+            ending: Ending::Made,
+        },
+        Ended::Fault { code, watching } => {
+            if goal == from {
+                Walk {
+                    position: from,
+                    ending: Ending::Made,
+                }
+            } else {
+                Walk {
+                    position: from.max(goal.saturating_sub(left_in(*watching)).saturating_sub(1)),
+                    ending: Ending::Faulted(*code),
+                }
+            }
+        }
+    }
+}
+
+/// Where at most so many moves forward lead, up to the place.
+pub(crate) fn forward(run: &Run, place: Option<i64>, most: u64, from: u64) -> Result<Walk, NoMemory>
+    requires run { IsValidRun (source_of run.now.checked.now) run.now.limits run.now.input.now.words.items }
+    requires within { from ≤ LAST_POSITION }
+    ensures walk { IfOk result (λ walk. forward_in (trail (source_of run.now.checked.now) run.now.limits run.now.input.now.words.items MOST_COST) place most from ≡ Some walk) }
+    ensures within { IfOk result (λ walk. walk.position ≤ LAST_POSITION) }
+{
+    let goal = goal_of(from, most);
+    let ended = run_to(
+        run,
+        Watching::First {
+            place,
+            skip: from + 1,
+            left: goal,
+        },
+    )?;
+    Ok(reached(&ended, from, goal))
+}
+
+// Where at most so many moves back lead.
+fn back_by(most: u64, from: u64) -> Walk
+    ensures { result ≡ back_at most from }
+{
+    Walk {
+        position: from.saturating_sub(most),
+        ending: if from < most {
+            Ending::Start
+        } else {
+            Ending::Made
+        },
+    }
+}
+
+// The same where the last point at a place had so many before it, counted from where they begin.
+fn back_to(latest: Option<u64>, most: u64, from: u64) -> Walk
+    ensures { result ≡ back_to_latest latest most from }
+{
+    match latest {
+        None => back_by(most, from),
+        Some(left) => Walk {
+            position: from.saturating_sub(left),
+            ending: Ending::Made,
+        },
+    }
+}
+
+/// Where at most so many moves back lead, up to the place.
+pub(crate) fn backward(
+    run: &Run,
+    place: Option<i64>,
+    most: u64,
+    from: u64,
+) -> Result<Walk, NoMemory>
+    requires run { IsValidRun (source_of run.now.checked.now) run.now.limits run.now.input.now.words.items }
+    requires within { from ≤ LAST_POSITION }
+    ensures walk { IfOk result (λ walk. backward_in (trail (source_of run.now.checked.now) run.now.limits run.now.input.now.words.items MOST_COST) place most from ≡ walk) }
+    ensures within { IfOk result (λ walk. walk.position ≤ LAST_POSITION) }
+{
+    match place {
+        None => Ok(back_by(most, from)),
+        Some(place) => {
+            let ended = run_to(
+                run,
+                Watching::Latest {
+                    place,
+                    skip: from.saturating_sub(most),
+                    left: from,
+                    latest: None,
+                },
+            )?;
+            Ok(back_to(latest_in(watching_in(ended)), most, from))
+        }
+    }
+}

@@ -1,0 +1,187 @@
+// What commands print at a position.
+ghost use Rattle.std.specs.Prelude.{◌≡◌, ◌++◌, [], Some, map, IfOk, OnOk, string_bytes};
+ghost use Rattle.rpp_tree.specs.Views.{source_of};
+ghost use Rattle.source_points.specs.Trail.{trail};
+ghost use Rattle.source_debugger.specs.declared.running.TheConstants.{MOST_COST};
+ghost use Rattle.source_debugger.specs.Walks.{stand_at};
+ghost use Rattle.source_debugger.specs.Shown.{ending_shown, line_at, regs_at, cells_at};
+ghost use Rattle.source_debugger.specs.Named.{fields_named, frame_named};
+ghost use Rattle.class_table.specs.Classes.{class_fields};
+ghost use Rattle.roopl_semantics.specs.Store.{class_of_head, object_at};
+ghost use Rattle.store_table.specs.ValueView.{values_of};
+ghost use Rattle.source_blocks.specs.Watched.{binding_of};
+ghost use Rattle.source_debugger.specs.Standing.{IsValidRun};
+ghost use Rattle.source_debugger.specs.Placed.{stand_of};
+
+use crate::lines::{add_class_fields, add_frame, add_objects};
+use crate::moves::{Ending, Walk, left_in};
+use crate::running::{Ended, Run, run_to};
+use class_table::Checked;
+use machine_texts::add_stop;
+use pisa_isa::Stop;
+use rpp_words::NoMemory;
+use source_blocks::{Arrival, Variable, Watching};
+use std::alloc::{AllocError, Global};
+use store_table::{Heap, Value};
+
+/// Where a run stands: at a point, or at its end.
+#[derive(Drop)]
+pub(crate) enum Place {
+    Point { arrival: Arrival, heap: Heap },
+    End { heap: Heap },
+}
+
+/// Where a position is. A position that the run does not have counts as want of memory.
+pub(crate) fn place_at(run: &Run, position: u64) -> Result<Place, NoMemory>
+    requires { IsValidRun (source_of run.now.checked.now) run.now.limits run.now.input.now.words.items }
+    ensures { IfOk result (λ place. stand_of place ≡ stand_at (trail (source_of run.now.checked.now) run.now.limits run.now.input.now.words.items MOST_COST) position) }
+{
+    let wanted = Watching::First {
+        place: None,
+        skip: 0,
+        left: position,
+    };
+    match run_to(run, wanted)? {
+        Ended::At { arrival, heap, .. } => Ok(Place::Point { arrival, heap }),
+        Ended::Over { heap, watching } => {
+            if left_in(watching) == 0 {
+                Ok(Place::End { heap })
+            } else {
+                Err(NoMemory)
+            }
+        }
+        Ended::Fault { .. } => Err(NoMemory),
+    }
+}
+
+// How moves ended, with the line's end.
+fn add_ending(text: &mut String, ending: Ending) -> Result<(), AllocError>
+    ensures { OnOk result (string_bytes text.new ≡ string_bytes text.old ++ ending_shown ending) }
+{
+    match ending {
+        Ending::Made => text.push_str("\n"),
+        Ending::Start => text.push_str(" start\n"),
+        Ending::Faulted(code) => {
+            text.push_str(" ")?;
+            add_stop(text, Stop::Trap(code))
+        }
+    }
+}
+
+// The line on where moves led.
+fn line_text(alloc: Global, walk: Walk, place: &Place) -> Result<String, AllocError>
+    ensures { IfOk result (λ text. line_at walk.position (stand_of place.now) walk.ending ≡ Some (string_bytes text)) }
+{
+    let mut text = String::new(alloc);
+    let position = walk.position;
+    match place {
+        Place::Point { arrival, .. } => {
+            let at = arrival.place;
+            let depth = arrival.depth;
+            write!(text, "at {position} place {at} depth {depth}")?;
+        }
+        Place::End { .. } => write!(text, "at {position} end")?,
+    }
+    add_ending(&mut text, walk.ending)?;
+    Ok(text)
+}
+
+/// The line on where moves led.
+pub(crate) fn walk_text(run: &Run, walk: Walk) -> Result<String, NoMemory>
+    requires { IsValidRun (source_of run.now.checked.now) run.now.limits run.now.input.now.words.items }
+    ensures { IfOk result (λ text. line_at walk.position (stand_at (trail (source_of run.now.checked.now) run.now.limits run.now.input.now.words.items MOST_COST) walk.position) walk.ending ≡ Some (string_bytes text)) }
+{
+    let place = place_at(run, walk.position)?;
+    Ok(line_text(run.alloc, walk, &place)?)
+}
+
+// The lines of the fields of an object, and of the variables of a method.
+fn add_state(
+    text: &mut String,
+    checked: &Checked,
+    heap: &Heap,
+    object: u32,
+    params: usize,
+    variables: &[Variable],
+) -> Result<(), NoMemory>
+    ensures { OnOk result (string_bytes text.new ≡ string_bytes text.old ++ (fields_named [] (class_fields (source_of checked.now) (class_of_head (object_at heap.now.store object).head)) (object_at heap.now.store object).cells ++ frame_named params (map binding_of variables.now))) }
+{
+    add_class_fields(
+        text,
+        "",
+        checked,
+        heap.class_of(object),
+        cells_of(heap, object),
+    )?;
+    add_frame(text, params, variables)
+}
+
+// The fields or elements of an object or array.
+fn cells_of(heap: &Heap, name: u32) -> &[Value]
+    ensures { values_of result.now ≡ (object_at heap.now.store name).cells }
+{
+    match heap.object(name) {
+        None => &[],
+        Some(object) => &object.cells,
+    }
+}
+
+// The lines of fields and variables at a place.
+fn place_regs(alloc: Global, checked: &Checked, place: &Place) -> Result<String, NoMemory>
+    ensures { IfOk result (λ text. regs_at (source_of checked.now) (stand_of place.now) ≡ Some (string_bytes text)) }
+{
+    let mut text = String::new(alloc);
+    match place {
+        Place::Point { arrival, heap } => add_state(
+            &mut text,
+            checked,
+            heap,
+            arrival.object,
+            arrival.params,
+            &arrival.variables,
+        )?,
+        Place::End { heap } => add_state(&mut text, checked, heap, 1, 0, &[])?,
+    }
+    Ok(text)
+}
+
+/// The lines of fields and variables at a position.
+pub(crate) fn regs_text(run: &Run, position: u64) -> Result<String, NoMemory>
+    requires { IsValidRun (source_of run.now.checked.now) run.now.limits run.now.input.now.words.items }
+    ensures { IfOk result (λ text. regs_at (source_of run.now.checked.now) (stand_at (trail (source_of run.now.checked.now) run.now.limits run.now.input.now.words.items MOST_COST) position) ≡ Some (string_bytes text)) }
+{
+    let place = place_at(run, position)?;
+    place_regs(run.alloc, run.checked, &place)
+}
+
+// The lines of objects and arrays at a place.
+fn place_cells(
+    alloc: Global,
+    checked: &Checked,
+    place: &Place,
+    from: u32,
+    count: u32,
+) -> Result<String, NoMemory>
+    ensures { IfOk result (λ text. cells_at (source_of checked.now) from count (stand_of place.now) ≡ Some (string_bytes text)) }
+{
+    let mut text = String::new(alloc);
+    match place {
+        Place::Point { heap, .. } => add_objects(&mut text, checked, heap, from, count)?,
+        Place::End { heap } => add_objects(&mut text, checked, heap, from, count)?,
+    }
+    Ok(text)
+}
+
+/// The lines of the objects and arrays of so many names from one on, at a position.
+pub(crate) fn cells_text(
+    run: &Run,
+    position: u64,
+    from: u32,
+    count: u32,
+) -> Result<String, NoMemory>
+    requires { IsValidRun (source_of run.now.checked.now) run.now.limits run.now.input.now.words.items }
+    ensures { IfOk result (λ text. cells_at (source_of run.now.checked.now) from count (stand_at (trail (source_of run.now.checked.now) run.now.limits run.now.input.now.words.items MOST_COST) position) ≡ Some (string_bytes text)) }
+{
+    let place = place_at(run, position)?;
+    place_cells(run.alloc, run.checked, &place, from, count)
+}

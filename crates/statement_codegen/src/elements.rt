@@ -1,0 +1,144 @@
+// Calls on elements of arrays.
+ghost use Rattle.std.specs.Prelude.{◌≡◌, ◌<◌, ◌≤◌, ◌+◌, ◌*◌, [], Some, length, IfOk, OnOk};
+ghost use Rattle.std.specs.Option.{option_map};
+ghost use Rattle.rpp_tree.specs.Places.{place_name};
+ghost use Rattle.rpp_tree.specs.Tree.{Whole};
+ghost use Rattle.rpp_tree.specs.Views.{lvalue_of};
+ghost use Rattle.method_scope.specs.declared.known.TheConstants.{MOST_VARIABLES};
+ghost use Rattle.method_scope.specs.Visible.{spot_of as spot_of_name, free_of, kind_named, known_in};
+ghost use Rattle.expr_uncompute.specs.Code.{place_words as words_of_place};
+ghost use Rattle.expr_uncompute.specs.Promises.{SwapLaw};
+ghost use Rattle.expr_uncompute.specs.Steps.{place_tokens};
+ghost use Rattle.roopl_semantics.specs.Execution.{element_name};
+ghost use Rattle.statement_codegen.specs.Laws.{element_type as type_of_element, element_var as var_of_element, ExchangedCall, ElementLaw};
+
+use crate::calls::call_code;
+use crate::locals::local_code;
+use expr_uncompute::swap_code;
+use method_scope::Scope;
+use paired_code::{Piece, seq};
+use rpp_tree::text::Text;
+use rpp_tree::tree::{Expr, Ident, Place, Var, VarType};
+use rpp_words::NoMemory;
+use std::alloc::Global;
+
+/// A call or uncall of a method, without its receiver.
+#[derive(Drop)]
+pub struct CallParts<'a> {
+    /// The place of the statement.
+    pub at: u32,
+    /// Whether it is an uncall.
+    pub back: bool,
+    /// The method.
+    pub method: &'a Ident,
+    /// The arguments.
+    pub args: &'a [Ident],
+}
+
+// The type of the elements of an array of references; int for any other type.
+fn element_type(alloc: Global, kind: &VarType) -> Result<VarType, NoMemory>
+    ensures { IfOk result (λ element. element ≡ type_of_element (Some kind.now)) }
+{
+    match kind {
+        VarType::Int => Ok(VarType::Int),
+        VarType::Class(_name) => Ok(VarType::Int),
+        VarType::IntArray => Ok(VarType::Int),
+        VarType::ClassArray(name) => Ok(VarType::Class(name.copy(alloc)?)),
+    }
+}
+
+// The type of the elements of the variable of a name.
+fn type_in(alloc: Global, array: &Ident, scope: &Scope) -> Result<VarType, NoMemory>
+    ensures { IfOk result (λ element. element ≡ type_of_element (kind_named (known_in scope.now) array.now.text)) }
+{
+    match scope.kind(&array.text) {
+        None => Ok(VarType::Int),
+        Some(kind) => element_type(alloc, kind),
+    }
+}
+
+// The variable that holds an element of this array.
+fn element_var(alloc: Global, at: u32, array: &Ident, scope: &Scope) -> Result<Var, NoMemory>
+    ensures { IfOk result (λ var. var ≡ var_of_element scope.now at array.now) }
+{
+    let kind = type_in(alloc, array, scope)?;
+    let text = Text::of(alloc, &[])?;
+    Ok(Var {
+        kind,
+        name: Ident { at, text },
+    })
+}
+
+// The variable and an element exchanged.
+fn exchange_code(
+    alloc: Global,
+    name: &Ident,
+    element: &Place,
+    scope: &Scope,
+) -> Result<Piece, NoMemory>
+    requires room { words_of_place (lvalue_of element.now) ≤ 1000 }
+    ensures law { IfOk result (λ p.
+        SwapLaw (spot_of_name (known_in scope.now)) (free_of (known_in scope.now)) (Whole name.now)
+        (lvalue_of element.now) p.cells) }
+    ensures none { IfOk result (λ p. p.marks ≡ []) }
+    ensures size { IfOk result (λ p. length p.cells ≤ 80 * (2 + place_tokens (lvalue_of element.now))) }
+{
+    let place = Place {
+        name: name.copy(alloc)?,
+        index: None,
+    };
+    swap_code(alloc, &place, element, scope)
+}
+
+// What stands inside of the variable, where it is visible.
+fn exchanged_call(
+    alloc: Global,
+    name: &Ident,
+    element: &Place,
+    call: &CallParts,
+    scope: &Scope,
+) -> Result<Piece, NoMemory>
+    requires named { name.now ≡ element_name call.now.at }
+    requires few { length call.now.args.now ≤ 32 }
+    requires room { words_of_place (lvalue_of element.now) ≤ 1000 }
+    ensures law { IfOk result (λ p.
+        ExchangedCall scope.now call.now.at call.now.back (lvalue_of element.now) call.now.method.now call.now.args.now
+        p.cells) }
+    ensures none { IfOk result (λ p. p.marks ≡ []) }
+    ensures size { IfOk result (λ p.
+        length p.cells ≤ 160 * (2 + place_tokens (lvalue_of element.now)) + 30 * length call.now.args.now + 161) }
+{
+    let first = exchange_code(alloc, name, element, scope)?;
+    let called = call_code(alloc, call.back, Some(name), call.method, call.args, scope)?;
+    let last = exchange_code(alloc, name, element, scope)?;
+    seq(first, seq(called, last)?)
+}
+
+/// The code of a call or uncall on an element: it moves into a variable without a name, on whose object the call is, and moves
+/// back. The variable has the first free word of the frame. It stops with the faults of the element, with those of a call on
+/// a variable, and with fault 3 where the variable does not end with nil. Where it is made, the scope is as before; after an
+/// error nothing is known of it. The only error is that memory ran out.
+pub fn element_call_code(
+    alloc: Global,
+    element: &Place,
+    call: &CallParts,
+    scope: &mut Scope,
+) -> Result<Piece, NoMemory>
+    requires few { length call.now.args.now ≤ 32 }
+    requires free { length scope.old.variables < MOST_VARIABLES }
+    requires room { words_of_place (lvalue_of element.now) ≤ 1000 }
+    ensures law { IfOk result (λ p.
+        ElementLaw scope.old call.now.at call.now.back (lvalue_of element.now) call.now.method.now call.now.args.now
+        p.cells) }
+    ensures none { IfOk result (λ p. p.marks ≡ []) }
+    ensures size { IfOk result (λ p.
+        length p.cells ≤ 160 * (2 + place_tokens (lvalue_of element.now)) + 30 * length call.now.args.now + 297) }
+    ensures scope { OnOk result (scope.new ≡ scope.old) }
+{
+    let var = element_var(alloc, call.at, &element.name, scope)?;
+    scope.push(alloc, &var)?;
+    let inside = exchanged_call(alloc, &var.name, element, call, scope)?;
+    scope.pop();
+    let nothing = Expr::Nil { at: call.at };
+    local_code(alloc, &var, &nothing, inside, &nothing, scope)
+}

@@ -1,0 +1,192 @@
+// `trace F H D SCRIPT [INPUT]`: follows a script along the run of a program, both ways.
+ghost use Rattle.std.specs.Prelude.{◌≡◌, ◌≤◌, ◌∷◌, length, option_map, List, ℕ, IfOk, IfSome, string_bytes};
+ghost use Rattle.rpp_words.specs.Limits.{IsLimits};
+ghost use Rattle.rpp_tree.specs.Views.{source_of};
+ghost use Rattle.rpp_tree.specs.declared.limits.TheConstants.{MOST_BYTES};
+ghost use Rattle.roopl_semantics.specs.Source.{IsValid};
+ghost use Rattle.rpp_words.specs.declared.input.TheConstants.{MOST_DEEP};
+ghost use Rattle.two_way_debugger.specs.declared.script.TheConstants.{MOST_SCRIPT};
+ghost use Rattle.two_way_debugger.specs.Scripts.{script_of};
+ghost use Rattle.source_debugger.specs.Standing.{IsValidRun};
+ghost use Rattle.pisa_loader.specs.Limiting.{limits_refusal};
+ghost use Rattle.pisa_loader.specs.declared.input.TheConstants.{MOST_INPUT};
+ghost use Rattle.rpp_plan.specs.Plans.{planned, prints, GivesPlan, WithText, WithInput};
+ghost use Rattle.rpp_plan.specs.Files.{OnlyReads, source, input_files};
+ghost use Rattle.image_commands.specs.DebugPlans.{script_file};
+ghost use Rattle.program_commands.specs.Inputs.{given_input};
+ghost use Rattle.trace_commands.specs.TracePlans.{Follows, IsScriptPlan, IsInputPlan, IsSizedPlan, IsTracePlan, Traces};
+
+use class_table::Checked;
+use image_commands::Room;
+use pisa_loader::{LoadError, MOST_INPUT, check_limits, read_input};
+use program_commands::input_fields;
+use roopl_judge::{SourceError, judge};
+use rpp_plan::{NoPlan, Plan, Verdict, bad_command_line, load_line, read_file, refuse_source};
+use rpp_ports::Shelf;
+use rpp_tree::MOST_BYTES;
+use rpp_words::{Input, Limits, MOST_DEEP, NoMemory};
+use source_debugger::SourceDebugger;
+use std::alloc::Global;
+use two_way_debugger::{Command, MOST_SCRIPT, ScriptError, read_script};
+
+// The texts that a command reads.
+#[derive(Drop)]
+struct Read {
+    text: Vec<u8>,
+    script: Vec<u8>,
+    given: Vec<u8>,
+}
+
+/// Follows the script in a file along the run of the program in a file, on an input where there is one, and tells what its
+/// commands print.
+pub fn trace<S: Shelf>(
+    alloc: Global,
+    shelf: &mut S,
+    file: &str,
+    script: &str,
+    input: &Option<String>,
+    room: Room,
+) -> Result<Plan, NoPlan>
+    ensures plan { GivesPlan (S.texts shelf.old)
+        (Traces file.now script.now (option_map string_bytes input.now) room.heap room.deep) result }
+    ensures reads { OnlyReads (S.texts shelf.old) (S.texts shelf.new) (S.faults shelf.old) (S.faults shelf.new)
+        (source file.now ∷ script_file script.now ∷ input_files (option_map string_bytes input.now)) result }
+{
+    let read = read_all(alloc, shelf, file, script, input)?;
+    Ok(trace_text(alloc, &read, room)?)
+}
+
+// The texts of a source, a script, and an input where there is one.
+fn read_all<S: Shelf>(
+    alloc: Global,
+    shelf: &mut S,
+    file: &str,
+    script: &str,
+    input: &Option<String>,
+) -> Result<Read, NoPlan>
+    ensures text { IfOk result (λ read. IfSome (S.texts shelf.old) (λ texts. WithText texts file.now MOST_BYTES (λ text. WithText texts script.now MOST_SCRIPT (λ commands. WithInput texts (option_map string_bytes input.now) (λ given. (read.text.items ≡ text) × (read.script.items ≡ commands) × (read.given.items ≡ given)))))) }
+    ensures within { IfOk result (λ read. length read.text.items ≤ MOST_BYTES) }
+    ensures within_script { IfOk result (λ read. length read.script.items ≤ MOST_SCRIPT) }
+    ensures within_input { IfOk result (λ read. length read.given.items ≤ MOST_INPUT) }
+    ensures reads { OnlyReads (S.texts shelf.old) (S.texts shelf.new) (S.faults shelf.old) (S.faults shelf.new)
+        (source file.now ∷ script_file script.now ∷ input_files (option_map string_bytes input.now)) result }
+{
+    let text = read_file(alloc, shelf, file, MOST_BYTES as u64)?;
+    let script = read_file(alloc, shelf, script, MOST_SCRIPT as u64)?;
+    let given = read_given_input(alloc, shelf, input)?;
+    Ok(Read {
+        text,
+        script,
+        given,
+    })
+}
+
+// The text of an input, where there is one.
+fn read_given_input<S: Shelf>(
+    alloc: Global,
+    shelf: &mut S,
+    input: &Option<String>,
+) -> Result<Vec<u8>, NoPlan>
+    ensures text { IfOk result (λ bytes. IfSome (S.texts shelf.old) (λ texts. WithInput texts (option_map string_bytes input.now) (λ text. bytes.items ≡ text))) }
+    ensures within { IfOk result (λ bytes. length bytes.items ≤ MOST_INPUT) }
+    ensures reads { OnlyReads (S.texts shelf.old) (S.texts shelf.new) (S.faults shelf.old) (S.faults shelf.new) (input_files (option_map string_bytes input.now)) result }
+{
+    match input {
+        None => Ok(Vec::new(alloc)),
+        Some(name) => read_file(alloc, shelf, name.as_str(), MOST_INPUT as u64),
+    }
+}
+
+fn trace_text(alloc: Global, read: &Read, room: Room) -> Result<Plan, NoMemory>
+    requires text { length read.now.text.items ≤ MOST_BYTES }
+    requires script { length read.now.script.items ≤ MOST_SCRIPT }
+    requires given { length read.now.given.items ≤ MOST_INPUT }
+    ensures { IfOk result (λ plan. IsTracePlan read.now.text.items read.now.script.items read.now.given.items room.heap room.deep (planned plan)) }
+{
+    match judge(alloc, &read.text) {
+        Ok(checked) => trace_sized(alloc, checked, &read.script, &read.given, room),
+        Err(SourceError::Refused { number, at }) => Ok(refuse_source(alloc, number, at)?),
+        Err(SourceError::NoMemory) => Err(NoMemory),
+    }
+}
+
+// The sizes of heap and stack are tried before the input.
+fn trace_sized(
+    alloc: Global,
+    checked: Checked,
+    script: &[u8],
+    given: &[u8],
+    room: Room,
+) -> Result<Plan, NoMemory>
+    requires script { length script.now ≤ MOST_SCRIPT }
+    requires given { length given.now ≤ MOST_INPUT }
+    ensures { IfOk result (λ plan. IsSizedPlan (limits_refusal room.heap room.deep MOST_DEEP) script.now given.now
+        (source_of checked) (record { heap = room.heap; deep = room.deep }) (planned plan)) }
+{
+    match check_limits(room.heap, room.deep, MOST_DEEP) {
+        Ok(limits) => trace_given(alloc, checked, script, given, limits),
+        Err(e) => Ok(Plan::prints(Verdict::InputRefused, load_line(alloc, e)?)),
+    }
+}
+
+// The input is tried before the script.
+fn trace_given(
+    alloc: Global,
+    checked: Checked,
+    script: &[u8],
+    given: &[u8],
+    limits: Limits,
+) -> Result<Plan, NoMemory>
+    requires script { length script.now ≤ MOST_SCRIPT }
+    requires given { length given.now ≤ MOST_INPUT }
+    requires limits { IsLimits limits }
+    ensures { IfOk result (λ plan. IsInputPlan (given_input (source_of checked) given.now) script.now (source_of checked) limits (planned plan)) }
+{
+    let fields = input_fields(alloc, &checked)?;
+    match read_input(alloc, given, &fields) {
+        Ok(input) => trace_script(alloc, checked, &input, script, limits),
+        Err(LoadError::NoMemory) => Err(NoMemory),
+        Err(e) => Ok(Plan::prints(Verdict::InputRefused, load_line(alloc, e)?)),
+    }
+}
+
+// The script is judged, and then it is followed.
+fn trace_script(
+    alloc: Global,
+    checked: Checked,
+    input: &Input,
+    script: &[u8],
+    limits: Limits,
+) -> Result<Plan, NoMemory>
+    requires script { length script.now ≤ MOST_SCRIPT }
+    requires run { IsValidRun (source_of checked) limits input.now.words.items }
+    ensures { IfOk result (λ plan. IsScriptPlan (script_of script.now) (source_of checked) limits input.now.words.items (planned plan)) }
+{
+    match read_script(alloc, script) {
+        Ok(commands) => {
+            let text = follow(alloc, checked, input, &commands, limits)?;
+            Ok(Plan::prints(Verdict::Done, text))
+        }
+        Err(ScriptError::NoMemory) => Err(NoMemory),
+        Err(ScriptError::BadCommand { line }) => {
+            Ok(Plan::prints(Verdict::InputRefused, bad_command_line(alloc, line)?))
+        }
+    }
+}
+
+// What commands print from the start of a run on.
+fn follow(
+    alloc: Global,
+    checked: Checked,
+    input: &Input,
+    commands: &[Command],
+    limits: Limits,
+) -> Result<String, NoMemory>
+    requires { IsValidRun (source_of checked) limits input.now.words.items }
+    ensures { IfOk result (λ text. Follows commands.now (source_of checked) limits input.now.words.items (string_bytes text)) }
+{
+    let mut debugger = SourceDebugger::new(alloc, checked, input, limits)?;
+    let mut text = String::new(alloc);
+    debugger.follow(alloc, commands, &mut text)?;
+    Ok(text)
+}
