@@ -114,12 +114,14 @@ pub record Wrapped (code : List Cell) (cells : List ℕ) (wrapped : List Cell) :
   -- where the run finishes, the wrapped run finishes with the first memory, and with the results behind it
   pub finishes : (a : List ℕ) (bound enough : ℕ) → HasRoom a cells → Computes code bound a
       → steps_wrapped (run_on code bound a).spent cells ≤ enough
-      → FinishesWith (run_on wrapped enough (with_zeros a cells)) (steps_wrapped (run_on code bound a).spent cells)
+      → FinishesWith (run_on wrapped enough (with_zeros a cells))
+      (steps_wrapped (run_on code bound a).spent cells)
       (a ++ values_at (run_on code bound a).last.cells cells)
   -- where it traps, the wrapped run does so in as many steps, and nothing is copied
   pub traps : (a : List ℕ) (bound enough w : ℕ) → HasRoom a cells → IsNarrow code bound a
       → (run_on code bound a).why ≡ Trap w → (run_on code bound a).spent ≤ enough
-      → TrapsWith (run_on wrapped enough (with_zeros a cells)) w (run_on code bound a).spent (length a) (length cells)
+      → TrapsWith (run_on wrapped enough (with_zeros a cells)) w (run_on code bound a).spent
+      (length a) (length cells)
   -- where it is not over after so many steps, the wrapped run is not over after so many; so where it never ends, neither
   -- does that
   pub goes_on : (a : List ℕ) (bound : ℕ) → HasRoom a cells → IsNarrow code bound a

@@ -25,7 +25,8 @@ pub fn wrap_image(alloc: Global, image: &Image, cells: &[u32]) -> Result<Image, 
     requires few { length cells.now ≤ MOST_COPIED }
     ensures code { IfOk result (λ wrapped. wrapped.code ≡ wrapped_code image.now.code cells.now) }
     ensures statics { IfOk result (λ wrapped. wrapped.statics ≡ image.now.statics) }
-    ensures size { IfOk result (λ wrapped. length wrapped.code ≡ 2 * length image.now.code + 13 + 8 * length cells.now) }
+    ensures size { IfOk result (λ wrapped. length wrapped.code
+        ≡ 2 * length image.now.code + 13 + 8 * length cells.now) }
     ensures runs { IfOk result (λ wrapped. Wrapped image.now.code cells.now wrapped.code) }
 {
     let all = joined_code(alloc, image, cells)?;

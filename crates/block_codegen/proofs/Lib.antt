@@ -1,4 +1,3 @@
-pub mod Views
 pub mod Nesting
 pub mod Marks
 pub mod Standing

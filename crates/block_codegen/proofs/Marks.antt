@@ -10,7 +10,7 @@ use Rattle.std.proofs.lemmas.List.{drop-append-le, take-append-le, take_all, len
 use Rattle.std.proofs.lemmas.List.Folds.{list_any-append}
 use Rattle.std.proofs.lemmas.List.Sorted.{IsPermutation-refl, IsPermutation-trans, IsPermutation-append, IsPermutation-append_comm, IsPermutation-append_right, IsPermutation-to_front}
 use Rattle.rpp_tree.specs.Tree.{Statement}
-use Rattle.block_codegen.specs.Places.{statement_place}
+use Rattle.rpp_tree.specs.Places.{statement_place}
 use Rattle.pisa_isa.specs.declared.notes.Mark.{Mark}
 use Rattle.paired_code.specs.declared.part.Symbol.{Symbol}
 use Rattle.paired_code.specs.Code.{Code, moved_on, shift, seq_code, marked_code}

@@ -5,7 +5,7 @@ use Rattle.rpp_tree.specs.declared.tree.Ident.{Ident}
 use Rattle.rpp_tree.specs.declared.tree.Var.{Var}
 use Rattle.rpp_tree.specs.declared.tree.VarType.TheVariants as type
 use Rattle.rpp_tree.specs.Tree.{Expression, Number, Null, Variable, Element, Binary, Lvalue, Whole, Item, Object, Statement, Statements, Update, Swap, If, From, Construct, Local, New, Delete, Copy, Uncopy, Call, Skip, End, Then}
-use Rattle.block_codegen.specs.Places.{statement_place}
+use Rattle.rpp_tree.specs.Places.{statement_place}
 use Rattle.rpp_tree.specs.Views.{source_of}
 use Rattle.rpp_tree.specs.Parts.{expression_tokens, lvalue_tokens, statement_tokens, block_tokens}
 use Rattle.pisa_isa.specs.declared.notes.Mark.{Mark}

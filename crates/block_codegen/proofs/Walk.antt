@@ -11,7 +11,7 @@ use Rattle.rpp_tree.specs.Views.{statement_of, statements_of}
 use Rattle.pisa_isa.specs.declared.notes.TheConstants.{LAST_PLACE}
 use Rattle.paired_code.specs.Code.{Code, unmarked, seq_code, marked_code}
 use Rattle.method_scope.specs.Visible.{Visible}
-use Rattle.block_codegen.specs.Places.{statement_place}
+use Rattle.rpp_tree.specs.Places.{statement_place}
 use Rattle.block_codegen.specs.Pieces.{StatementStands, StandsIn, InnerPiece, BlockPiece}
 use Rattle.block_codegen.proofs.Standing.{own_place, first_stands, rest_stands}
 use Rattle.block_codegen.proofs.Pieces.{LeadsOn, leads_first, leads_next, leads_last, IsMaking}

@@ -40,7 +40,8 @@ pub record StatementStands (v : Visible) (statement : Statement) : Type 0 where
 -- empty, it keeps the limits of expressions, it stands at places that a source can have, and its locals have room in
 -- the frame.
 pub record StandsIn (v : Visible) (body : Statements) : Type 0 where
-  pub rules : check_statements (typing_in (source_of v.program) (scope_of v)) (shape_of (source_of v.program) (scope_of v)) body
+  pub rules : check_statements (typing_in (source_of v.program) (scope_of v))
+      (shape_of (source_of v.program) (scope_of v)) body
       ≡ passed
   pub has_words : BlockHasWords body
   pub plain : IsPlain body
@@ -72,7 +73,8 @@ call_on receiver call = Call call.at call.back receiver call.method.now call.arg
 
 -- the code of a statement in a scope, wherever an image of the program is linked
 pub record IsRowCode (program : Source) (s : Scope) (statement : Statement) (cells : List Symbol) : Type 0 where
-  pub law : (place : Place) (routine : ℕ → Ident → ℕ) → IsLinked place routine → place.setting.program ≡ program
+  pub law : (place : Place) (routine : ℕ → Ident → ℕ) → IsLinked place routine
+      → place.setting.program ≡ program
       → StmtLaw (world_of place) s statement cells
 
 -- the marks of the piece are those of the statements of a block: each has its code under its mark

@@ -21,7 +21,8 @@ abbrev mutual
   inner_rows s (Swap at left right) = []
   inner_rows s (If at test taken other after) = block_rows s taken ++ block_rows s other
   inner_rows s (From at entry first again exit) = block_rows s first ++ block_rows s again
-  inner_rows s (Construct at class name body end) = block_rows (with_var s (record { kind = type.Class class; name = name })) body
+  inner_rows s (Construct at class name body end) =
+      block_rows (with_var s (record { kind = type.Class class; name = name })) body
   inner_rows s (Local at var value body end_var end_value) = block_rows (with_var s var) body
   inner_rows s (New at made target) = []
   inner_rows s (Delete at made target) = []

@@ -1,7 +1,7 @@
 // The code of blocks, and of the statements that hold them.
 ghost use Rattle.std.specs.Prelude.{◌≡◌, ◌*◌, ◌≤◌, length, IfOk, OnOk};
 ghost use Rattle.rpp_tree.specs.Parts.{block_tokens};
-ghost use Rattle.block_codegen.specs.Places.{statement_place};
+ghost use Rattle.rpp_tree.specs.Places.{statement_place};
 ghost use Rattle.rpp_tree.specs.Views.{statement_of, block_of};
 ghost use Rattle.pisa_isa.specs.declared.notes.TheConstants.{LAST_PLACE};
 ghost use Rattle.paired_code.specs.Code.{seq_code, marked_code};

@@ -1,6 +1,6 @@
 // The code of statements that hold no others.
 ghost use Rattle.std.specs.Prelude.{◌≡◌, ◌≤◌, Some, length, IfOk, OnOk};
-ghost use Rattle.block_codegen.specs.Places.{statement_place};
+ghost use Rattle.rpp_tree.specs.Places.{statement_place};
 ghost use Rattle.rpp_tree.specs.Views.{lvalue_of, optional_lvalue_of, statement_of};
 ghost use Rattle.block_codegen.specs.Pieces.{call_on, StatementStands, HoldsNoBlock, InnerPiece};
 
@@ -42,7 +42,8 @@ fn call_piece_on(
 ) -> Result<Piece, NoMemory>
     requires stands { StatementStands scope.old (call_on (Some (lvalue_of receiver.now)) call.now) }
     requires few { length call.now.args.now ≤ 32 }
-    ensures piece { IfOk result (λ p. InnerPiece scope.old (call_on (Some (lvalue_of receiver.now)) call.now) p) }
+    ensures piece { IfOk result (λ p. InnerPiece scope.old
+        (call_on (Some (lvalue_of receiver.now)) call.now) p) }
     ensures scope { OnOk result (scope.new ≡ scope.old) }
 {
     match &receiver.index {
@@ -67,7 +68,8 @@ fn call_piece(
 ) -> Result<Piece, NoMemory>
     requires stands { StatementStands scope.old (call_on (optional_lvalue_of receiver.now) call.now) }
     requires few { length call.now.args.now ≤ 32 }
-    ensures piece { IfOk result (λ p. InnerPiece scope.old (call_on (optional_lvalue_of receiver.now) call.now) p) }
+    ensures piece { IfOk result (λ p. InnerPiece scope.old
+        (call_on (optional_lvalue_of receiver.now) call.now) p) }
     ensures scope { OnOk result (scope.new ≡ scope.old) }
 {
     match receiver {

@@ -31,4 +31,5 @@ turn_code entry first exit = entry ++ (check ++ (first ++ (check ++ exit)))
 
 -- A loop: each test stands once.
 abbrev pub from_code : (entry first again exit : List Symbol) → List Symbol
-from_code entry first again exit = within (flips ∷ []) (loop_cells FLAG (turn_code entry first exit) again)
+from_code entry first again exit =
+    within (flips ∷ []) (loop_cells FLAG (turn_code entry first exit) again)

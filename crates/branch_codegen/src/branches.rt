@@ -27,7 +27,8 @@ pub fn conditional(
     requires after_none { after.marks ≡ [] }
     ensures law { IfOk result (λ p. IfCode test.cells yes.cells no.cells after.cells p.cells) }
     ensures held { IfOk result (λ p. HoldsBoth no yes p) }
-    ensures size { IfOk result (λ p. length p.cells ≡ length test.cells + length yes.cells + length no.cells + length after.cells + 22) }
+    ensures size { IfOk result (λ p. length p.cells
+        ≡ length test.cells + length yes.cells + length no.cells + length after.cells + 22) }
 {
     if_piece(alloc, test, yes, no, after)
 }
@@ -45,7 +46,8 @@ pub fn repetition(
     requires exit_none { exit.marks ≡ [] }
     ensures law { IfOk result (λ p. FromCode entry.cells first.cells again.cells exit.cells p.cells) }
     ensures held { IfOk result (λ p. HoldsBoth again first p) }
-    ensures size { IfOk result (λ p. length p.cells ≡ length entry.cells + length first.cells + length again.cells + length exit.cells + 22) }
+    ensures size { IfOk result (λ p. length p.cells
+        ≡ length entry.cells + length first.cells + length again.cells + length exit.cells + 22) }
 {
     from_piece(alloc, entry, first, again, exit)
 }
@@ -88,7 +90,8 @@ fn last_piece(alloc: Global, after: Piece) -> Result<Piece, NoMemory>
 #[tactic(auto, using(statement_laws::proofs::Holding::both_before))]
 fn ended_piece(alloc: Global, yes: Piece, no: Piece, last: Piece) -> Result<Piece, NoMemory>
     requires none { last.marks ≡ [] }
-    ensures cells { IfOk result (λ p. p.cells ≡ branch_cells FLAG (part_code yes.cells) no.cells ++ last.cells) }
+    ensures cells { IfOk result (λ p. p.cells ≡ branch_cells FLAG (part_code yes.cells) no.cells
+        ++ last.cells) }
     ensures held { IfOk result (λ p. HoldsBoth no yes p) }
 {
     seq(chosen_piece(alloc, yes, no)?, last)
@@ -104,7 +107,8 @@ fn tested_piece(
 ) -> Result<Piece, NoMemory>
     requires test_none { test.marks ≡ [] }
     requires last_none { last.marks ≡ [] }
-    ensures cells { IfOk result (λ p. p.cells ≡ test.cells ++ (branch_cells FLAG (part_code yes.cells) no.cells ++ last.cells)) }
+    ensures cells { IfOk result (λ p. p.cells
+        ≡ test.cells ++ (branch_cells FLAG (part_code yes.cells) no.cells ++ last.cells)) }
     ensures held { IfOk result (λ p. HoldsBoth no yes p) }
 {
     seq(test, ended_piece(alloc, yes, no, last)?)
@@ -171,7 +175,8 @@ fn turns_piece(
 ) -> Result<Piece, NoMemory>
     requires entry_none { entry.marks ≡ [] }
     requires exit_none { exit.marks ≡ [] }
-    ensures cells { IfOk result (λ p. p.cells ≡ loop_cells FLAG (turn_code entry.cells first.cells exit.cells) again.cells) }
+    ensures cells { IfOk result (λ p. p.cells
+        ≡ loop_cells FLAG (turn_code entry.cells first.cells exit.cells) again.cells) }
     ensures held { IfOk result (λ p. HoldsBoth again first p) }
 {
     turn_while(alloc, FLAG, turn_piece(alloc, entry, first, exit)?, again)
@@ -187,7 +192,8 @@ fn from_piece(
 ) -> Result<Piece, NoMemory>
     requires entry_none { entry.marks ≡ [] }
     requires exit_none { exit.marks ≡ [] }
-    ensures cells { IfOk result (λ p. p.cells ≡ from_code entry.cells first.cells again.cells exit.cells) }
+    ensures cells { IfOk result (λ p. p.cells
+        ≡ from_code entry.cells first.cells again.cells exit.cells) }
     ensures held { IfOk result (λ p. HoldsBoth again first p) }
 {
     let turns = turns_piece(alloc, entry, first, again, exit)?;

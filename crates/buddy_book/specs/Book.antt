@@ -63,7 +63,8 @@ merged block free higher give_next None = (block ∷ free) ∷ higher
 -- gives a block to the first list's order, whose blocks have this size
 abbrev pub give_first : ℕ → ℕ → Book → Book
 give_first size block [] = []
-give_first size block (free ∷ higher) = merged block free higher (λ low. give_first (2 * size) low higher) (lower_half size block free)
+give_first size block (free ∷ higher) =
+    merged block free higher (λ low. give_first (2 * size) low higher) (lower_half size block free)
 
 -- the lists of so many lower orders stay
 abbrev pub give_past : ℕ → ℕ → ℕ → Book → Book

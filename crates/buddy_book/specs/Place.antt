@@ -29,18 +29,23 @@ block_of ((n, block) ∷ blocks) name = if nat_eq n name then block else block_o
 
 abbrev pub without_name : List (ℕ × ℕ) → ℕ → List (ℕ × ℕ)
 without_name [] name = []
-without_name ((n, block) ∷ blocks) name = if nat_eq n name then blocks else (n, block) ∷ without_name blocks name
+without_name ((n, block) ∷ blocks) name =
+    if nat_eq n name then blocks else (n, block) ∷ without_name blocks name
 
 -- the name gets the block that was taken, if there was one
 abbrev pub with_block : ℕ → List (ℕ × ℕ) → Option (ℕ × Book) → Option Placing
 with_block name blocks None = None
-with_block name blocks (Some (block, book)) = Some (record { book = book; blocks = (name, block) ∷ blocks })
+with_block name blocks (Some (block, book)) =
+    Some (record { book = book; blocks = (name, block) ∷ blocks })
 
 abbrev pub after_request : Request → Option Placing → Option Placing
 after_request request None = None
 after_request (Taken name order) (Some placing) = with_block name placing.blocks (take placing.book order)
 after_request (Given name order) (Some placing) =
-    Some (record { book = give placing.book order (block_of placing.blocks name); blocks = without_name placing.blocks name })
+    Some (record {
+      book = give placing.book order (block_of placing.blocks name);
+      blocks = without_name placing.blocks name;
+    })
 
 -- where the blocks stand after these requests on an empty heap of order h; none where one of them found no block
 abbrev pub place : ℕ → Log → Option Placing

@@ -46,12 +46,14 @@ head_address book k = option_map (λ block. book.base + block) (first_block (lis
 -- one more taken block, at its place in the order
 abbrev pub with_taken : ℕ → ℕ → TakenBlocks → TakenBlocks
 with_taken block order [] = (block, order) ∷ []
-with_taken block order ((b, o) ∷ taken) = if nat_lt block b then (block, order) ∷ (b, o) ∷ taken else (b, o) ∷ with_taken block order taken
+with_taken block order ((b, o) ∷ taken) = if nat_lt block b then (block, order) ∷ (b, o) ∷ taken
+    else (b, o) ∷ with_taken block order taken
 
 -- one taken block less
 abbrev pub without_taken : ℕ → TakenBlocks → TakenBlocks
 without_taken block [] = []
-without_taken block ((b, order) ∷ taken) = if nat_eq b block then taken else (b, order) ∷ without_taken block taken
+without_taken block ((b, order) ∷ taken) =
+    if nat_eq b block then taken else (b, order) ∷ without_taken block taken
 
 -- the taken blocks of a table that tells the order of the block which begins at each second word, or 0
 abbrev pub taken_from : ℕ → List ℕ → TakenBlocks
@@ -63,7 +65,8 @@ taken_from block (suc order ∷ orders) = (block, suc order) ∷ taken_from (2 +
 abbrev pub is_sound_list : ℕ → ℕ → List ℕ → Bool
 is_sound_list top size [] = true
 is_sound_list top size (block ∷ free) =
-    nat_eq (block % size) 0 && (nat_le (block + size) top && (is_none (lower_half size block free) && is_sound_list top size free))
+    nat_eq (block % size) 0 && (nat_le (block + size) top
+    && (is_none (lower_half size block free) && is_sound_list top size free))
 
 -- the same of each list, where the blocks of the first have this size
 abbrev pub is_sound : ℕ → ℕ → Book → Bool
@@ -109,4 +112,5 @@ pub record IsKept (book : Shown) : Type 0 where
   pub lists : length book.free ≡ book.h
   pub sound : IsTrue (is_sound (2 ^ book.h) 2 book.free)
   pub aligned : IsTrue (is_aligned book.taken)
-  pub balanced : (f : ℕ → ℕ → ℕ) → IsAdditive f → weight f 2 book.free + taken_weight f book.taken ≡ f 0 (2 ^ book.h)
+  pub balanced : (f : ℕ → ℕ → ℕ) → IsAdditive f → weight f 2 book.free + taken_weight f book.taken
+      ≡ f 0 (2 ^ book.h)

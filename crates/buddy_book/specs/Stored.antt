@@ -14,11 +14,13 @@ free_of lists = map list_of lists
 
 -- each list has room for every block of its order
 pub record HasRoom (lists : List (Vec ℕ Global)) : Type 0 where
-  pub each : (at : ℕ) (list : Vec ℕ Global) → slice_get lists at ≡ Some list → 2 ^ (length lists - 1 - at) ≤ vec_capacity list
+  pub each : (at : ℕ) (list : Vec ℕ Global) → slice_get lists at ≡ Some list
+      → 2 ^ (length lists - 1 - at) ≤ vec_capacity list
 
 -- what is shown of a stored book
 abbrev pub shown : (h base : ℕ) → List (Vec ℕ Global) → List ℕ → Shown
-shown h base lists orders = record { h = h; base = base; free = free_of lists; taken = taken_from 0 orders }
+shown h base lists orders =
+    record { h = h; base = base; free = free_of lists; taken = taken_from 0 orders }
 
 -- what every stored book keeps; its table has an entry for each second word of the heap
 pub record IsStored (h base : ℕ) (lists : List (Vec ℕ Global)) (orders : List ℕ) : Type 0 where

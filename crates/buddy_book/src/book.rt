@@ -58,8 +58,10 @@ impl Book {
         ensures none { IfNone result (take self.old.free k ≡ None) }
         ensures stays { IfNone result (self.new ≡ self.old) }
         ensures from_base { IfSome result (λ at. self.old.base ≤ at) }
-        ensures takes { IfSome result (λ at. take self.old.free k ≡ Some (at - self.old.base, self.new.free)) }
-        ensures taken { IfSome result (λ at. self.new.taken ≡ with_taken (at - self.old.base) k self.old.taken) }
+        ensures takes { IfSome result (λ at. take self.old.free k
+            ≡ Some (at - self.old.base, self.new.free)) }
+        ensures taken { IfSome result (λ at. self.new.taken
+            ≡ with_taken (at - self.old.base) k self.old.taken) }
         ensures is_taken { IfSome result (λ at. IsTaken self.new at k) }
         ensures heap { self.new ≡ record self.old { free = self.new.free; taken = self.new.taken } }
         ensures undone { IfSome result (λ at. give self.new.free k (at - self.old.base) ≡ self.old.free) }

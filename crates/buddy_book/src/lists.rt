@@ -47,7 +47,8 @@ pub(crate) fn take_block(lists: &mut Vec<Vec<u32>>, k: u32) -> Option<u32>
     requires in_limit { length lists.old.items ≤ 20 }
     requires sound { IsTrue (is_sound (2 ^ length lists.old.items) 2 (free_of lists.old.items)) }
     requires room { HasRoom lists.old.items }
-    ensures some { IfSome result (λ block. take (free_of lists.old.items) k ≡ Some (block, free_of lists.new.items)) }
+    ensures some { IfSome result (λ block. take (free_of lists.old.items) k
+        ≡ Some (block, free_of lists.new.items)) }
     ensures none { IfNone result (take (free_of lists.old.items) k ≡ None) }
     ensures stays { IfNone result (lists.new.items ≡ lists.old.items) }
     ensures count { length lists.new.items ≡ length lists.old.items }
@@ -76,7 +77,8 @@ pub(crate) fn give_block(lists: &mut Vec<Vec<u32>>, k: u32, block: u32)
     requires in_limit { length lists.old.items ≤ 20 }
     requires fits { block + 2 ^ k ≤ 2 ^ length lists.old.items }
     requires room { HasRoom lists.old.items }
-    requires free_words { weight size_of 2 (free_of lists.old.items) + 2 ^ k ≤ 2 ^ length lists.old.items }
+    requires free_words { weight size_of 2 (free_of lists.old.items) + 2 ^ k
+        ≤ 2 ^ length lists.old.items }
     ensures gives { free_of lists.new.items ≡ give (free_of lists.old.items) k block }
     ensures count { length lists.new.items ≡ length lists.old.items }
     ensures has_room { HasRoom lists.new.items }

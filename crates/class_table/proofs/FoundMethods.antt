@@ -74,12 +74,12 @@ slot_inside program class slot name h = by (nat_lt class (length program.classes
         absurd (cc)
 
 -- the line of a class of the program, where it has one
-record HasLine (program : Source) (own : ℕ) : Type 0 where
+pub record HasLine (program : Source) (own : ℕ) : Type 0 where
   pub shorter : List ℕ
   pub is : line_of program own ≡ shorter ++ own ∷ []
   pub chain_is : chain_of program own ≡ Some (shorter ++ own ∷ [])
 
-has_line : (program : Source) (own p : ℕ) (x : List ℕ × MethodId) → slice_get (slots_of program own) p ≡ Some x → HasLine program own
+pub has_line : (program : Source) (own p : ℕ) (x : List ℕ × MethodId) → slice_get (slots_of program own) p ≡ Some x → HasLine program own
 has_line program own p x h = by (chain_of program own) refl
   where
     by : (r : Option (List ℕ)) → chain_of program own ≡ r → HasLine program own

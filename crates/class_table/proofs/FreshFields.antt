@@ -12,12 +12,12 @@ use Rattle.class_table.specs.Chains.{parents, chain, chain_of, line_of}
 use Rattle.class_table.specs.Members.{no_class, class_at, field_name, field_taken, taken_field, fields_along, fields_of, inherited, duplicate_field_at, duplicate_field}
 use Rattle.class_table.proofs.ChainEnds.{parent, pushed_from, nothing_on, parents_in, chain_ends}
 
-neither : {E : Type 0} (first last : Option E) → first_of first last ≡ None → (first ≡ None) × (last ≡ None)
+pub neither : {E : Type 0} (first last : Option E) → first_of first last ≡ None → (first ≡ None) × (last ≡ None)
 neither None last h = (refl, h)
 neither (Some error) last h = absurd (cc)
 
 -- a rule that refuses nothing passes each class
-passed_at : {E : Type 0} (rule : ℕ → ClassText → Option E) (n k : ℕ) (classes : List ClassText) → first_at rule n classes ≡ None → k < length classes → rule (n + k) (unwrap_or (slice_get classes k) no_class) ≡ None
+pub passed_at : {E : Type 0} (rule : ℕ → ClassText → Option E) (n k : ℕ) (classes : List ClassText) → first_at rule n classes ≡ None → k < length classes → rule (n + k) (unwrap_or (slice_get classes k) no_class) ≡ None
 passed_at rule n k [] h inside = absurd (omega arith)
 passed_at rule n zero (class ∷ classes) h inside = rw add-zero ((neither (rule n class) (first_at rule (n + 1) classes) h).0)
 passed_at rule n (suc k) (class ∷ classes) h inside =

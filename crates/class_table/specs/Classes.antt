@@ -30,7 +30,8 @@ class_slots program class = slots_of program class
 
 -- the slot of this name
 abbrev pub method_slot : Source → ℕ → List ℕ → Option ℕ
-method_slot program class name = position (bytes_eq name) (map (λ slot. slot.0) (class_slots program class))
+method_slot program class name =
+    position (bytes_eq name) (map (λ slot. slot.0) (class_slots program class))
 
 -- the method in a slot
 abbrev pub dispatch : Source → ℕ → ℕ → MethodId
@@ -42,7 +43,8 @@ procedure_at program id = unwrap_or (slice_get (class_at program id.class).metho
 
 -- the method of this name for an object of the class
 abbrev pub method_named : Source → ℕ → List ℕ → Procedure
-method_named program class name = procedure_at program (dispatch program class (unwrap_or (method_slot program class name) 0))
+method_named program class name =
+    procedure_at program (dispatch program class (unwrap_or (method_slot program class name) 0))
 
 -- the one method `main` without parameters
 abbrev pub main_of : Source → MethodId
@@ -51,4 +53,5 @@ main_of program = first_main (mains program)
 -- whether a class has another above itself
 abbrev pub inherits : Source → ℕ → ℕ → Bool
 inherits program class from =
-    list_any (λ above. nat_eq above from) (take (length (line_of program class) - 1) (line_of program class))
+    list_any (λ above. nat_eq above from)
+    (take (length (line_of program class) - 1) (line_of program class))

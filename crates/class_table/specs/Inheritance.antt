@@ -33,7 +33,8 @@ FieldsComeFirst =
 -- what a class is or inherits from goes through the classes between
 abbrev pub InheritanceGoesThrough : Type 0
 InheritanceGoesThrough =
-    (program : Source) (low middle high : ℕ) → is_or_inherits program low middle ≡ true → is_or_inherits program middle high ≡ true
+    (program : Source) (low middle high : ℕ) → is_or_inherits program low middle ≡ true
+    → is_or_inherits program middle high ≡ true
     → is_or_inherits program low high ≡ true
 
 -- the method that a call finds for an object of a class: it is checked in a class that this one is or inherits from, and
@@ -51,4 +52,5 @@ abbrev pub CallsFindMethods : Type 0
 CallsFindMethods =
     (program : Source) → IsAccepted program → (own class slot : ℕ) (name : List ℕ)
     → is_or_inherits program own class ≡ true → slot_in (table_of program) class name ≡ Some slot
-    → IsDispatched program own (method_named program own name) (parameters_of program (dispatch_in (table_of program) class slot))
+    → IsDispatched program own (method_named program own name)
+    (parameters_of program (dispatch_in (table_of program) class slot))

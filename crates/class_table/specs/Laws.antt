@@ -17,11 +17,14 @@ pub record IsRefusedFirst {A E : Type 0} (rule : A → Option E) (xs : List A) (
 
 -- what `first_in` names is refused first
 abbrev pub FirstIsFirst : Type 0
-FirstIsFirst = (rule : ClassText → Option ClassError) (classes : List ClassText) (error : ClassError) → first_in rule classes ≡ Some error → IsRefusedFirst rule classes error
+FirstIsFirst = (rule : ClassText → Option ClassError) (classes : List ClassText)
+    (error : ClassError) → first_in rule classes ≡ Some error → IsRefusedFirst rule classes error
 
 -- a chain of parents that ends at all ends within as many steps as there are classes
 abbrev pub ChainEndsWithin : Type 0
-ChainEndsWithin = (program : Source) (class steps : ℕ) (line : List ℕ) → class < length program.classes → chain steps (parents program) (Some class) ≡ Some line → chain_of program class ≡ Some line
+ChainEndsWithin = (program : Source) (class steps : ℕ) (line : List ℕ)
+    → class < length program.classes → chain steps (parents program) (Some class) ≡ Some line
+    → chain_of program class ≡ Some line
 
 -- the table's readers answer what the list of classes alone says
 pub record ReadsClasses (program : Source) (class : ℕ) : Type 0 where
@@ -30,4 +33,5 @@ pub record ReadsClasses (program : Source) (class : ℕ) : Type 0 where
   pub inherits : (from : ℕ) → inherits_in (table_of program) class from ≡ inherits program class from
 
 abbrev pub TableReadsClasses : Type 0
-TableReadsClasses = (program : Source) (class : ℕ) → class < length program.classes → ReadsClasses program class
+TableReadsClasses = (program : Source) (class : ℕ) → class < length program.classes
+    → ReadsClasses program class

@@ -29,7 +29,8 @@ fields_along program (class ∷ below) = (class_at program class).fields ++ fiel
 
 -- the fields of the ancestors, the farthest first
 abbrev pub inherited : Source → ℕ → List Var
-inherited program class = fields_along program (take (length (line_of program class) - 1) (line_of program class))
+inherited program class =
+    fields_along program (take (length (line_of program class) - 1) (line_of program class))
 
 -- the parent's fields first, then the class's own
 abbrev pub fields_of : Source → ℕ → List Var
@@ -52,7 +53,8 @@ has_field vars name = has_name (map field_name vars) name
 -- the names of the fields of these classes, each once, after those that stand already
 abbrev pub names_along : Source → List (List ℕ) → List ℕ → List (List ℕ)
 names_along program names [] = names
-names_along program names (class ∷ below) = names_along program (with_names names (map field_name (class_at program class).fields)) below
+names_along program names (class ∷ below) =
+    names_along program (with_names names (map field_name (class_at program class).fields)) below
 
 -- 8: an earlier field of the class or an inherited field has the name
 abbrev pub field_taken : List (List ℕ) → Var → Option ClassError
@@ -61,17 +63,21 @@ field_taken names var = refused_if (has_name names var.name.text) (DuplicateFiel
 -- the first field whose name is among these or those of earlier fields
 abbrev pub taken_field : List (List ℕ) → List Var → Option ClassError
 taken_field names [] = None
-taken_field names (var ∷ vars) = first_of (field_taken names var) (taken_field (names ++ var.name.text ∷ []) vars)
+taken_field names (var ∷ vars) =
+    first_of (field_taken names var) (taken_field (names ++ var.name.text ∷ []) vars)
 
 abbrev pub duplicate_field_at : Source → ℕ → ClassText → Option ClassError
-duplicate_field_at program number class = taken_field (map field_name (inherited program number)) class.fields
+duplicate_field_at program number class =
+    taken_field (map field_name (inherited program number)) class.fields
 
 abbrev pub duplicate_field : Source → Option ClassError
 duplicate_field program = first_at (duplicate_field_at program) 0 program.classes
 
 -- 4: the class has more fields than the limit
 abbrev pub too_many_fields_at : Source → ℕ → ClassText → Option ClassError
-too_many_fields_at program number class = refused_if (nat_lt MOST_FIELDS (length (fields_of program number))) (Limit kind.Fields class.name.at)
+too_many_fields_at program number class =
+    refused_if (nat_lt MOST_FIELDS (length (fields_of program number)))
+    (Limit kind.Fields class.name.at)
 
 abbrev pub too_many_fields : Source → Option ClassError
 too_many_fields program = first_at (too_many_fields_at program) 0 program.classes
@@ -84,11 +90,13 @@ Slots = List (List ℕ × MethodId)
 abbrev pub with_methods : ℕ → ℕ → List Procedure → Slots → Slots
 with_methods class number [] slots = slots
 with_methods class number (method ∷ methods) slots =
-    with_methods class (number + 1) methods (insert_entry bytes_eq slots method.name.text (record { class = class; method = number }))
+    with_methods class (number + 1) methods
+    (insert_entry bytes_eq slots method.name.text (record { class = class; method = number }))
 
 abbrev pub slots_along : Source → Slots → List ℕ → Slots
 slots_along program slots [] = slots
-slots_along program slots (class ∷ below) = slots_along program (with_methods class 0 (class_at program class).methods slots) below
+slots_along program slots (class ∷ below) =
+    slots_along program (with_methods class 0 (class_at program class).methods slots) below
 
 -- the parent's slots first
 abbrev pub slots_of : Source → ℕ → Slots
@@ -99,7 +107,9 @@ slots program = each_below (slots_of program) (length program.classes)
 
 -- 4: the class has more method slots than the limit
 abbrev pub too_many_slots_at : Source → ℕ → ClassText → Option ClassError
-too_many_slots_at program number class = refused_if (nat_lt MOST_METHODS (length (slots_of program number))) (Limit kind.Methods class.name.at)
+too_many_slots_at program number class =
+    refused_if (nat_lt MOST_METHODS (length (slots_of program number)))
+    (Limit kind.Methods class.name.at)
 
 abbrev pub too_many_slots : Source → Option ClassError
 too_many_slots program = first_at (too_many_slots_at program) 0 program.classes

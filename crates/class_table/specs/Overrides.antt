@@ -19,7 +19,8 @@ abbrev pub method_name : Procedure → List ℕ
 method_name method = method.name.text
 
 abbrev pub method_taken : List Procedure → Procedure → Option ClassError
-method_taken before method = refused_if (has_name (map method_name before) method.name.text) (DuplicateMethod method.name.at)
+method_taken before method = refused_if (has_name (map method_name before) method.name.text)
+    (DuplicateMethod method.name.at)
 
 abbrev pub duplicate_method_in : ClassText → Option ClassError
 duplicate_method_in class = first_after method_taken [] class.methods
@@ -72,18 +73,22 @@ run_at slots slot = unwrap_or (option_map (λ entry. entry.1) (slice_get slots s
 abbrev pub override_in_slot : Source → Slots → Procedure → Option ℕ → Option ClassError
 override_in_slot program slots method None = None
 override_in_slot program slots method (Some slot) =
-    refused_if (not (same_types (parameters_of program (run_at slots slot)) method.params)) (OverrideDiffers method.name.at)
+    refused_if (not (same_types (parameters_of program (run_at slots slot)) method.params))
+    (OverrideDiffers method.name.at)
 
 abbrev pub override_differs : Source → Slots → Procedure → Option ClassError
 override_differs program slots method =
-    override_in_slot program slots method (position (bytes_eq method.name.text) (map (λ slot. slot.0) slots))
+    override_in_slot program slots method
+    (position (bytes_eq method.name.text) (map (λ slot. slot.0) slots))
 
 -- the slots that a class inherits
 abbrev pub inherited_slots : Source → ℕ → Slots
-inherited_slots program class = slots_along program [] (take (length (line_of program class) - 1) (line_of program class))
+inherited_slots program class =
+    slots_along program [] (take (length (line_of program class) - 1) (line_of program class))
 
 abbrev pub override_differs_at : Source → ℕ → ClassText → Option ClassError
-override_differs_at program number class = first_in (override_differs program (inherited_slots program number)) class.methods
+override_differs_at program number class =
+    first_in (override_differs program (inherited_slots program number)) class.methods
 
 abbrev pub differing_override : Source → Option ClassError
 differing_override program = first_at (override_differs_at program) 0 program.classes

@@ -19,17 +19,21 @@ with_parameters setting locals (var ∷ vars) = with_parameters setting (with_lo
 
 abbrev pub check_method : Setting → Procedure → Verdict
 check_method setting method =
-    in_turn (each_passes_after parameter_new [] method.params) (check_statements setting (with_parameters setting [] method.params) method.body)
+    in_turn (each_passes_after parameter_new [] method.params)
+    (check_statements setting (with_parameters setting [] method.params) method.body)
 
 abbrev pub setting_in : Source → Table → ℕ → Setting
 setting_in program table class = record { program = program; table = table; class = class }
 
 abbrev pub check_class : Source → Table → ℕ → ClassText → Verdict
-check_class program table number class = each_passes (check_method (setting_in program table number)) class.methods
+check_class program table number class =
+    each_passes (check_method (setting_in program table number)) class.methods
 
 abbrev pub check_classes : Source → Table → ℕ → List ClassText → Verdict
 check_classes program table number [] = passed
-check_classes program table number (class ∷ classes) = in_turn (check_class program table number class) (check_classes program table (number + 1) classes)
+check_classes program table number (class ∷ classes) =
+    in_turn (check_class program table number class)
+    (check_classes program table (number + 1) classes)
 
 -- the first refusal of a program's types
 abbrev pub check_program : Source → Verdict

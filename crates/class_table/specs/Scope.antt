@@ -42,14 +42,16 @@ Locals = List Local
 
 abbrev pub local_kind : Locals → List ℕ → Option Kind
 local_kind [] name = None
-local_kind (local ∷ outer) name = if bytes_eq local.name name then Some local.kind else local_kind outer name
+local_kind (local ∷ outer) name = if bytes_eq local.name name then Some local.kind
+    else local_kind outer name
 
 abbrev pub no_var : Var
 no_var = record { kind = type.Int; name = record { at = 0; text = [] } }
 
 -- the type of a field by its number
 abbrev pub kind_at : Table → ℕ → ℕ → Kind
-kind_at table class number = kind_of table (unwrap_or (slice_get (fields_in table class) number) no_var).kind
+kind_at table class number =
+    kind_of table (unwrap_or (slice_get (fields_in table class) number) no_var).kind
 
 -- the type of the field of the name
 abbrev pub field_kind : Table → ℕ → List ℕ → Option Kind
@@ -57,4 +59,5 @@ field_kind table class name = option_map (kind_at table class) (field_in table c
 
 -- the innermost parameter or local of the name, else the field
 abbrev pub kind_in : Setting → Locals → List ℕ → Option Kind
-kind_in setting locals name = option_or (local_kind locals name) (field_kind setting.table setting.class name)
+kind_in setting locals name =
+    option_or (local_kind locals name) (field_kind setting.table setting.class name)

@@ -40,7 +40,8 @@ each_passes rule (x ∷ xs) = in_turn (rule x) (each_passes rule xs)
 -- the same, where the rule sees the elements before each
 abbrev pub each_passes_after : {A : Type 0} → (List A → A → Verdict) → List A → List A → Verdict
 each_passes_after rule before [] = passed
-each_passes_after rule before (x ∷ xs) = in_turn (rule before x) (each_passes_after rule (before ++ x ∷ []) xs)
+each_passes_after rule before (x ∷ xs) =
+    in_turn (rule before x) (each_passes_after rule (before ++ x ∷ []) xs)
 
 abbrev pub is_int_array : Kind → Bool
 is_int_array kind.IntArray = true
@@ -74,7 +75,8 @@ abbrev pub update_rules : Setting → Locals → ℕ → Lvalue → Expression �
 update_rules setting locals at place value =
     and_then (place_type setting locals place) (λ p. and_then (type_of setting locals value) (λ v.
     in_turn (required (is_int p && is_int v) (type_differs at))
-    (required (not (occurs_in_own_index place || occurs (place_name place).text value)) (self_update at))))
+    (required (not (occurs_in_own_index place || occurs (place_name place).text value))
+    (self_update at))))
 
 -- swap: the parts; equal types; neither variable in an index
 abbrev pub in_either_index : List ℕ → Lvalue → Lvalue → Bool
@@ -84,13 +86,15 @@ abbrev pub swap_rules : Setting → Locals → ℕ → Lvalue → Lvalue → Ver
 swap_rules setting locals at left right =
     and_then (place_type setting locals left) (λ l. and_then (place_type setting locals right) (λ r.
     in_turn (required (same_kind l r) (type_differs at))
-    (required (not (in_either_index (place_name left).text left right || in_either_index (place_name right).text left right)) (self_update at))))
+    (required (not (in_either_index (place_name left).text left right
+    || in_either_index (place_name right).text left right)) (self_update at))))
 
 -- conditionals and loops: both expressions; each is int
 abbrev pub test_rules : Setting → Locals → Expression → Expression → Verdict
 test_rules setting locals first last =
     and_then (type_of setting locals first) (λ f. and_then (type_of setting locals last) (λ l.
-    in_turn (required (is_int f) (type_differs (first_token first))) (required (is_int l) (type_differs (first_token last)))))
+    in_turn (required (is_int f) (type_differs (first_token first)))
+    (required (is_int l) (type_differs (first_token last)))))
 
 abbrev pub class_known : Table → Ident → Verdict
 class_known table name = required (is_some (class_of table name.text)) (unknown_name name.at)
@@ -110,10 +114,13 @@ abbrev pub local_rules : Setting → Locals → ℕ → Var → Expression → V
 local_rules setting locals at var value end_var end_value =
     in_turn (type_known setting.table var.kind)
     (in_turn (required (is_none (local_kind locals var.name.text)) (redeclared var.name.at))
-    (in_turn (required (same_type var.kind end_var.kind && bytes_eq var.name.text end_var.name.text) (type_differs end_var.name.at))
-    (in_turn (required (not (occurs var.name.text value || occurs var.name.text end_value)) (local_in_own_expression at))
+    (in_turn (required (same_type var.kind end_var.kind && bytes_eq var.name.text end_var.name.text)
+    (type_differs end_var.name.at))
+    (in_turn (required (not (occurs var.name.text value || occurs var.name.text end_value))
+    (local_in_own_expression at))
     (and_then (type_of setting locals value) (λ v. and_then (type_of setting locals end_value) (λ e.
-    required (if is_type_int var.kind then is_int v && is_int e else is_nil_word value && is_nil_word end_value) (type_differs at)))))))
+    required (if is_type_int var.kind then is_int v && is_int e else is_nil_word value
+    && is_nil_word end_value) (type_differs at)))))))
 
 abbrev pub made_known : Table → Creation → Verdict
 made_known table (Object class) = class_known table class
@@ -123,7 +130,8 @@ made_known table (Objects class length) = class_known table class
 abbrev pub length_is_int : Setting → Locals → Creation → Result Bool Refusal
 length_is_int setting locals (Object class) = Ok true
 length_is_int setting locals (Ints length) = and_then (type_of setting locals length) (λ l. Ok (is_int l))
-length_is_int setting locals (Objects class length) = and_then (type_of setting locals length) (λ l. Ok (is_int l))
+length_is_int setting locals (Objects class length) =
+    and_then (type_of setting locals length) (λ l. Ok (is_int l))
 
 abbrev pub occurs_in_length : List ℕ → Creation → Bool
 occurs_in_length name (Object class) = false
@@ -154,7 +162,8 @@ make_rules setting locals at made place =
     in_turn (made_known setting.table made)
     (and_then (place_type setting locals place) (λ p. and_then (length_is_int setting locals made) (λ int.
     in_turn (required (int && takes setting.table made p) (type_differs at))
-    (required (not (occurs_in_own_index place || occurs_in_length (place_name place).text made)) (self_update at)))))
+    (required (not (occurs_in_own_index place || occurs_in_length (place_name place).text made))
+    (self_update at)))))
 
 -- construct: the class; a new name; the closing name
 abbrev pub construct_rules : Setting → Locals → Ident → Ident → Ident → Verdict
@@ -165,15 +174,18 @@ construct_rules setting locals class name end =
 
 -- the type that copy and uncopy write: a class or an array type
 abbrev pub written_kind : Table → ℕ → VarType → Result Kind Refusal
-written_kind table at written = if is_type_int written then Err (not_class_type at) else Ok (kind_of table written)
+written_kind table at written = if is_type_int written then Err (not_class_type at)
+    else Ok (kind_of table written)
 
 -- of a class the first place is of it, and the second of it or of an ancestor; of arrays both are
 abbrev pub takes_copy : Table → Kind → Kind → Kind → Bool
 takes_copy table kind.Int source target = false
 takes_copy table kind.Nil source target = false
-takes_copy table (kind.Class class) source target = is_class class source && takes_object table class target
+takes_copy table (kind.Class class) source target =
+    is_class class source && takes_object table class target
 takes_copy table kind.IntArray source target = is_int_array source && is_int_array target
-takes_copy table (kind.ClassArray class) source target = is_class_array class source && is_class_array class target
+takes_copy table (kind.ClassArray class) source target =
+    is_class_array class source && is_class_array class target
 
 abbrev pub same_plain : Lvalue → Lvalue → Bool
 same_plain (Whole name) (Whole other) = bytes_eq name.text other.text
@@ -184,7 +196,9 @@ same_plain (Item name index) other = false
 abbrev pub copy_rules : Setting → Locals → ℕ → VarType → Lvalue → Lvalue → Verdict
 copy_rules setting locals at written source target =
     in_turn (type_known setting.table written)
-    (and_then (place_type setting locals source) (λ s. and_then (place_type setting locals target) (λ t. and_then (written_kind setting.table at written) (λ kind.
+    (and_then (place_type setting locals source)
+    (λ s. and_then (place_type setting locals target)
+    (λ t. and_then (written_kind setting.table at written) (λ kind.
     in_turn (required (takes_copy setting.table kind s t) (type_differs at))
     (in_turn (required (not (same_plain source target)) (same_argument at))
     (required (not (in_either_index (place_name target).text source target)) (self_update at)))))))
@@ -196,17 +210,21 @@ argument_known setting locals own at argument =
     (required (not own || is_some (local_kind locals argument.text)) (field_argument at))
 
 abbrev pub argument_new : List Ident → Ident → Verdict
-argument_new before argument = required (not (list_any (λ other. bytes_eq other.text argument.text) before)) (same_argument argument.at)
+argument_new before argument =
+    required (not (list_any (λ other. bytes_eq other.text argument.text) before))
+    (same_argument argument.at)
 
 abbrev pub argument_fits : Setting → Locals → Var → Ident → Verdict
 argument_fits setting locals parameter argument =
-    required (same_kind (kind_of setting.table parameter.kind) (unwrap_or (kind_in setting locals argument.text) kind.Nil)) (type_differs argument.at)
+    required (same_kind (kind_of setting.table parameter.kind)
+    (unwrap_or (kind_in setting locals argument.text) kind.Nil)) (type_differs argument.at)
 
 abbrev pub arguments_fit : Setting → Locals → List Var → List Ident → Verdict
 arguments_fit setting locals [] arguments = passed
 arguments_fit setting locals (parameter ∷ parameters) [] = passed
 arguments_fit setting locals (parameter ∷ parameters) (argument ∷ arguments) =
-    in_turn (argument_fits setting locals parameter argument) (arguments_fit setting locals parameters arguments)
+    in_turn (argument_fits setting locals parameter argument)
+    (arguments_fit setting locals parameters arguments)
 
 abbrev pub receiver_kind : ℕ → Kind → Result ℕ Refusal
 receiver_kind at kind.Int = Err (not_class_type at)
@@ -222,7 +240,9 @@ place_class at place class = if occurs_in_own_index place then Err (self_update 
 abbrev pub receiver_class : Setting → Locals → Option Lvalue → Result ℕ Refusal
 receiver_class setting locals None = Ok setting.class
 receiver_class setting locals (Some place) =
-    and_then (place_type setting locals place) (λ k. and_then (receiver_kind (place_name place).at k) (place_class (place_name place).at place))
+    and_then (place_type setting locals place)
+    (λ k. and_then (receiver_kind (place_name place).at k)
+    (place_class (place_name place).at place))
 
 -- a plain receiver counts among the arguments
 abbrev pub plain_receiver : Option Lvalue → List Ident
@@ -244,13 +264,16 @@ slot_rules setting locals at receiver method arguments class (Some slot) =
 abbrev pub call_rules : Setting → Locals → ℕ → Option Lvalue → Ident → List Ident → Verdict
 call_rules setting locals at receiver method arguments =
     and_then (receiver_class setting locals receiver) (λ class.
-    slot_rules setting locals at receiver method arguments class (slot_in setting.table class method.text))
+    slot_rules setting locals at receiver method arguments class
+    (slot_in setting.table class method.text))
 
 abbrev pub with_local : Setting → Locals → Var → Locals
-with_local setting locals var = record { name = var.name.text; kind = kind_of setting.table var.kind } ∷ locals
+with_local setting locals var =
+    record { name = var.name.text; kind = kind_of setting.table var.kind } ∷ locals
 
 abbrev pub with_object : Setting → Locals → Ident → Ident → Locals
-with_object setting locals class name = record { name = name.text; kind = class_kind (class_of setting.table class.text) } ∷ locals
+with_object setting locals class name =
+    record { name = name.text; kind = class_kind (class_of setting.table class.text) } ∷ locals
 
 -- a statement's own rules, and then those of the statements inside it
 abbrev mutual
@@ -258,20 +281,28 @@ abbrev mutual
   check_statement setting locals (Update at op place value) = update_rules setting locals at place value
   check_statement setting locals (Swap at left right) = swap_rules setting locals at left right
   check_statement setting locals (If at test taken other after) =
-      in_turn (test_rules setting locals test after) (in_turn (check_statements setting locals taken) (check_statements setting locals other))
+      in_turn (test_rules setting locals test after)
+      (in_turn (check_statements setting locals taken) (check_statements setting locals other))
   check_statement setting locals (From at entry first again exit) =
-      in_turn (test_rules setting locals entry exit) (in_turn (check_statements setting locals first) (check_statements setting locals again))
+      in_turn (test_rules setting locals entry exit)
+      (in_turn (check_statements setting locals first) (check_statements setting locals again))
   check_statement setting locals (Local at var value body end_var end_value) =
-      in_turn (local_rules setting locals at var value end_var end_value) (check_statements setting (with_local setting locals var) body)
+      in_turn (local_rules setting locals at var value end_var end_value)
+      (check_statements setting (with_local setting locals var) body)
   check_statement setting locals (New at made place) = make_rules setting locals at made place
   check_statement setting locals (Delete at made place) = make_rules setting locals at made place
-  check_statement setting locals (Call at back receiver method args) = call_rules setting locals at receiver method args
+  check_statement setting locals (Call at back receiver method args) =
+      call_rules setting locals at receiver method args
   check_statement setting locals (Construct at class name body end) =
-      in_turn (construct_rules setting locals class name end) (check_statements setting (with_object setting locals class name) body)
-  check_statement setting locals (Copy at written source target) = copy_rules setting locals at written source target
-  check_statement setting locals (Uncopy at written source target) = copy_rules setting locals at written source target
+      in_turn (construct_rules setting locals class name end)
+      (check_statements setting (with_object setting locals class name) body)
+  check_statement setting locals (Copy at written source target) =
+      copy_rules setting locals at written source target
+  check_statement setting locals (Uncopy at written source target) =
+      copy_rules setting locals at written source target
   check_statement setting locals (Skip at) = passed
 
   pub check_statements : Setting → Locals → Statements → Verdict
   check_statements setting locals End = passed
-  check_statements setting locals (Then first rest) = in_turn (check_statement setting locals first) (check_statements setting locals rest)
+  check_statements setting locals (Then first rest) =
+      in_turn (check_statement setting locals first) (check_statements setting locals rest)

@@ -22,7 +22,13 @@ pub record Table : Type 0 where
   pub main : MethodId
 
 abbrev pub table_of : Source → Table
-table_of program = record { names = class_names program; lines = lines program; fields = fields program; slots = slots program; main = first_main (mains program) }
+table_of program = record {
+  names = class_names program;
+  lines = lines program;
+  fields = fields program;
+  slots = slots program;
+  main = first_main (mains program);
+}
 
 -- the phases in their order, for a text of so many bytes
 abbrev pub first_class_refusal : Source → ℕ → Option ClassError

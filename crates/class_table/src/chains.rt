@@ -42,7 +42,8 @@ pub fn parents(
 ) -> Result<Vec<Option<u32>>, ClassError>
     requires few { length program.now.classes.items ≤ MOST_CLASSES }
     requires named { names.now.keys ≡ class_names (source_of program.now) }
-    ensures { MatchResult result (λ list. list.items ≡ parents_of (source_of program.now)) (λ error. error ≡ ClassError.NoMemory) }
+    ensures { MatchResult result (λ list. list.items ≡ parents_of (source_of program.now))
+        (λ error. error ≡ ClassError.NoMemory) }
 {
     let mut list = Vec::new(alloc);
     for class in &program.classes {
@@ -69,7 +70,8 @@ fn chain(
     class: Option<u32>,
     steps: u32,
 ) -> Result<Option<Vec<u32>>, ClassError>
-    ensures { MatchResult result (λ line. option_map (λ list. list.items) line ≡ chain_within steps parents.now class) (λ error. error ≡ ClassError.NoMemory) }
+    ensures { MatchResult result (λ line. option_map (λ list. list.items) line
+        ≡ chain_within steps parents.now class) (λ error. error ≡ ClassError.NoMemory) }
 {
     let Some(class) = class else {
         return Ok(Some(Vec::new(alloc)));
@@ -94,7 +96,10 @@ pub fn lines(
 ) -> Result<Vec<Vec<u32>>, ClassError>
     requires few { length program.now.classes.items ≤ MOST_CLASSES }
     requires known { parents.now ≡ parents_of (source_of program.now) }
-    ensures { MatchResult result (λ list. (map (λ line. line.items) list.items ≡ lines_of (source_of program.now)) × (inheritance_cycle (source_of program.now) ≡ None)) (IsFirst (inheritance_cycle (source_of program.now))) }
+    ensures { MatchResult result
+        (λ list. (map (λ line. line.items) list.items ≡ lines_of (source_of program.now))
+        × (inheritance_cycle (source_of program.now) ≡ None))
+        (IsFirst (inheritance_cycle (source_of program.now))) }
 {
     let steps = program.classes.len() as u32;
     let mut list = Vec::new(alloc);

@@ -72,7 +72,9 @@ fn add_field_names(
     names: &mut IndexSet<Text>,
     vars: &[Var],
 ) -> Result<(), ClassError>
-    ensures { MatchResult result (λ _. names.new.keys ≡ with_names names.old.keys (map field_name vars.now)) (λ error. error ≡ ClassError.NoMemory) }
+    ensures { MatchResult result (λ _. names.new.keys
+        ≡ with_names names.old.keys (map field_name vars.now))
+        (λ error. error ≡ ClassError.NoMemory) }
 {
     for var in vars {
         let _added = add_name(alloc, names, &var.name.text)?;
@@ -82,7 +84,8 @@ fn add_field_names(
 
 /// The names of the fields of these classes, each once.
 fn names_along(alloc: Global, program: &Program, line: &[u32]) -> Result<IndexSet<Text>, ClassError>
-    ensures { MatchResult result (λ names. names.keys ≡ all_names (source_of program.now) [] line.now) (λ error. error ≡ ClassError.NoMemory) }
+    ensures { MatchResult result (λ names. names.keys
+        ≡ all_names (source_of program.now) [] line.now) (λ error. error ≡ ClassError.NoMemory) }
 {
     let mut names = IndexSet::new(alloc);
     for number in line {
@@ -93,7 +96,8 @@ fn names_along(alloc: Global, program: &Program, line: &[u32]) -> Result<IndexSe
 
 /// Whether each new field has a name that is neither among these nor that of an earlier one.
 fn check_own_fields(alloc: Global, mut names: IndexSet<Text>, own: &[Var]) -> Result<(), ClassError>
-    ensures { MatchResult result (λ _. taken_field names.keys own.now ≡ None) (IsFirst (taken_field names.keys own.now)) }
+    ensures { MatchResult result (λ _. taken_field names.keys own.now ≡ None)
+        (IsFirst (taken_field names.keys own.now)) }
 {
     for var in own {
         if !add_name(alloc, &mut names, &var.name.text)? {
@@ -114,7 +118,9 @@ fn check_fields_of(
 ) -> Result<(), ClassError>
     requires known { map (λ line. line.items) lines.now ≡ lines_of (source_of program.now) }
     requires within { number < length program.now.classes.items }
-    ensures { MatchResult result (λ _. duplicate_field_at (source_of program.now) number (class_text_of class.now) ≡ None) (IsFirst (duplicate_field_at (source_of program.now) number (class_text_of class.now))) }
+    ensures { MatchResult result (λ _. duplicate_field_at (source_of program.now) number
+        (class_text_of class.now) ≡ None)
+        (IsFirst (duplicate_field_at (source_of program.now) number (class_text_of class.now))) }
 {
     let line = line_at(lines, number);
     let names = names_along(alloc, program, &line[..line.len().saturating_sub(1)])?;
@@ -124,7 +130,8 @@ fn check_fields_of(
 /// Whether the fields of each class have names of their own.
 pub fn check_fields(alloc: Global, program: &Program, lines: &[Vec<u32>]) -> Result<(), ClassError>
     requires { map (λ line. line.items) lines.now ≡ lines_of (source_of program.now) }
-    ensures { MatchResult result (λ _. duplicate_field (source_of program.now) ≡ None) (IsFirst (duplicate_field (source_of program.now))) }
+    ensures { MatchResult result (λ _. duplicate_field (source_of program.now) ≡ None)
+        (IsFirst (duplicate_field (source_of program.now))) }
 {
     for (number, class) in program.classes.iter().enumerate() {
         check_fields_of(alloc, program, lines, number, class)?;
@@ -134,7 +141,8 @@ pub fn check_fields(alloc: Global, program: &Program, lines: &[Vec<u32>]) -> Res
 
 /// Puts copies of variables last.
 fn add_vars(alloc: Global, list: &mut Vec<Var>, vars: &[Var]) -> Result<(), ClassError>
-    ensures { MatchResult result (λ _. list.new.items ≡ list.old.items ++ vars.now) (λ error. error ≡ ClassError.NoMemory) }
+    ensures { MatchResult result (λ _. list.new.items ≡ list.old.items ++ vars.now)
+        (λ error. error ≡ ClassError.NoMemory) }
 {
     for var in vars {
         let Ok(copy) = var.copy(alloc) else {
@@ -149,7 +157,8 @@ fn add_vars(alloc: Global, list: &mut Vec<Var>, vars: &[Var]) -> Result<(), Clas
 
 /// The fields of these classes, one class after another.
 fn fields_along(alloc: Global, program: &Program, line: &[u32]) -> Result<Vec<Var>, ClassError>
-    ensures { MatchResult result (λ list. list.items ≡ all_fields (source_of program.now) line.now) (λ error. error ≡ ClassError.NoMemory) }
+    ensures { MatchResult result (λ list. list.items ≡ all_fields (source_of program.now) line.now)
+        (λ error. error ≡ ClassError.NoMemory) }
 {
     let mut list = Vec::new(alloc);
     for number in line {
@@ -161,7 +170,8 @@ fn fields_along(alloc: Global, program: &Program, line: &[u32]) -> Result<Vec<Va
 /// The names of variables, no two of which have the same.
 fn names_of(alloc: Global, vars: &[Var]) -> Result<IndexSet<Text>, ClassError>
     requires { taken_field [] vars.now ≡ None }
-    ensures { MatchResult result (λ names. names.keys ≡ map field_name vars.now) (λ error. error ≡ ClassError.NoMemory) }
+    ensures { MatchResult result (λ names. names.keys ≡ map field_name vars.now)
+        (λ error. error ≡ ClassError.NoMemory) }
 {
     let mut names = IndexSet::new(alloc);
     for var in vars {
@@ -182,7 +192,9 @@ fn class_fields(
     requires known { map (λ line. line.items) lines.now ≡ lines_of (source_of program.now) }
     requires within { number < length program.now.classes.items }
     requires fresh { taken_field [] (fields_of (source_of program.now) number) ≡ None }
-    ensures { MatchResult result (λ list. (list ≡ fields_of (source_of program.now) number) × (too_many_fields_at (source_of program.now) number (class_text_of class.now) ≡ None)) (IsFirst (too_many_fields_at (source_of program.now) number (class_text_of class.now))) }
+    ensures { MatchResult result (λ list. (list ≡ fields_of (source_of program.now) number)
+        × (too_many_fields_at (source_of program.now) number (class_text_of class.now) ≡ None))
+        (IsFirst (too_many_fields_at (source_of program.now) number (class_text_of class.now))) }
 {
     let vars = fields_along(alloc, program, line_at(lines, number))?;
     if vars.len() > MOST_FIELDS as usize {
@@ -204,7 +216,9 @@ pub fn fields(
 ) -> Result<Vec<ClassFields>, ClassError>
     requires known { map (λ line. line.items) lines.now ≡ lines_of (source_of program.now) }
     requires unique { duplicate_field (source_of program.now) ≡ None }
-    ensures { MatchResult result (λ list. (list.items ≡ fields_of_all (source_of program.now)) × (too_many_fields (source_of program.now) ≡ None)) (IsFirst (too_many_fields (source_of program.now))) }
+    ensures { MatchResult result (λ list. (list.items ≡ fields_of_all (source_of program.now))
+        × (too_many_fields (source_of program.now) ≡ None))
+        (IsFirst (too_many_fields (source_of program.now))) }
 {
     let mut list = Vec::new(alloc);
     for (number, class) in program.classes.iter().enumerate() {

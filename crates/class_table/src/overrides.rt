@@ -18,7 +18,8 @@ use std::alloc::Global;
 
 /// Whether each method of a class has a name of its own.
 fn check_own_methods(alloc: Global, methods: &[Method]) -> Result<(), ClassError>
-    ensures { MatchResult result (λ _. first_after method_taken [] (map procedure_of methods.now) ≡ None) (IsFirst (first_after method_taken [] (map procedure_of methods.now))) }
+    ensures { MatchResult result (λ _. first_after method_taken [] (map procedure_of methods.now)
+        ≡ None) (IsFirst (first_after method_taken [] (map procedure_of methods.now))) }
 {
     let mut names = IndexSet::new(alloc);
     for method in methods {
@@ -31,7 +32,8 @@ fn check_own_methods(alloc: Global, methods: &[Method]) -> Result<(), ClassError
 
 /// Whether the methods of each class have names of their own.
 pub fn check_methods(alloc: Global, program: &Program) -> Result<(), ClassError>
-    ensures { MatchResult result (λ _. duplicate_method (source_of program.now) ≡ None) (IsFirst (duplicate_method (source_of program.now))) }
+    ensures { MatchResult result (λ _. duplicate_method (source_of program.now) ≡ None)
+        (IsFirst (duplicate_method (source_of program.now))) }
 {
     for class in &program.classes {
         check_own_methods(alloc, &class.methods)?;
@@ -81,7 +83,8 @@ fn overrides(
     slots: &IndexMap<Text, MethodId>,
     method: &Method,
 ) -> Option<ClassError>
-    ensures { result ≡ override_differs (source_of program.now) slots.now.entries (procedure_of method.now) }
+    ensures { result ≡ override_differs (source_of program.now) slots.now.entries
+        (procedure_of method.now) }
 {
     let Some(slot) = slots.get_index_of(&method.name.text) else {
         return None;
@@ -98,7 +101,8 @@ fn method_overrides(
     slots: &IndexMap<Text, MethodId>,
     methods: &[Method],
 ) -> Option<ClassError>
-    ensures { result ≡ first_in (override_differs (source_of program.now) slots.now.entries) (map procedure_of methods.now) }
+    ensures { result ≡ first_in (override_differs (source_of program.now) slots.now.entries)
+        (map procedure_of methods.now) }
 {
     for method in methods {
         let refused = overrides(program, slots, method);
@@ -118,7 +122,8 @@ fn slots_above(
 ) -> Result<IndexMap<Text, MethodId>, ClassError>
     requires known { map (λ line. line.items) lines.now ≡ lines_of (source_of program.now) }
     requires within { number < length program.now.classes.items }
-    ensures { MatchResult result (λ slots. slots.entries ≡ inherited_slots (source_of program.now) number) (λ error. error ≡ ClassError.NoMemory) }
+    ensures { MatchResult result (λ slots. slots.entries
+        ≡ inherited_slots (source_of program.now) number) (λ error. error ≡ ClassError.NoMemory) }
 {
     let line = line_at(lines, number);
     slots_along(alloc, program, &line[..line.len().saturating_sub(1)])
@@ -131,7 +136,8 @@ pub fn check_overrides(
     lines: &[Vec<u32>],
 ) -> Result<(), ClassError>
     requires { map (λ line. line.items) lines.now ≡ lines_of (source_of program.now) }
-    ensures { MatchResult result (λ _. differing_override (source_of program.now) ≡ None) (IsFirst (differing_override (source_of program.now))) }
+    ensures { MatchResult result (λ _. differing_override (source_of program.now) ≡ None)
+        (IsFirst (differing_override (source_of program.now))) }
 {
     for (number, class) in program.classes.iter().enumerate() {
         let slots = slots_above(alloc, program, lines, number)?;

@@ -13,7 +13,9 @@ use std::alloc::Global;
 
 /// The names of the classes, each of which has only one.
 pub fn name_classes(alloc: Global, program: &Program) -> Result<IndexSet<Text>, ClassError>
-    ensures { MatchResult result (λ names. (names.keys ≡ class_names (source_of program.now)) × (duplicate_class (source_of program.now) ≡ None)) (IsFirst (duplicate_class (source_of program.now))) }
+    ensures { MatchResult result (λ names. (names.keys ≡ class_names (source_of program.now))
+        × (duplicate_class (source_of program.now) ≡ None))
+        (IsFirst (duplicate_class (source_of program.now))) }
 {
     let mut names = IndexSet::new(alloc);
     for class in &program.classes {

@@ -92,7 +92,9 @@ fn add_methods(
     class: u32,
     methods: &[Method],
 ) -> Result<(), ClassError>
-    ensures { MatchResult result (λ _. slots.new.entries ≡ with_methods class 0 (map procedure_of methods.now) slots.old.entries) (λ error. error ≡ ClassError.NoMemory) }
+    ensures { MatchResult result (λ _. slots.new.entries
+        ≡ with_methods class 0 (map procedure_of methods.now) slots.old.entries)
+        (λ error. error ≡ ClassError.NoMemory) }
 {
     for (number, method) in methods.iter().enumerate() {
         let Ok(number) = u32::try_from(number) else {
@@ -123,7 +125,8 @@ pub fn slots_along(
     program: &Program,
     line: &[u32],
 ) -> Result<IndexMap<Text, MethodId>, ClassError>
-    ensures { MatchResult result (λ slots. slots.entries ≡ all_slots (source_of program.now) [] line.now) (λ error. error ≡ ClassError.NoMemory) }
+    ensures { MatchResult result (λ slots. slots.entries
+        ≡ all_slots (source_of program.now) [] line.now) (λ error. error ≡ ClassError.NoMemory) }
 {
     let mut slots = IndexMap::new(alloc);
     for number in line {
@@ -143,7 +146,9 @@ fn class_slots(
 ) -> Result<MethodSlots, ClassError>
     requires known { map (λ line. line.items) lines.now ≡ lines_of (source_of program.now) }
     requires within { number < length program.now.classes.items }
-    ensures { MatchResult result (λ slots. (slots ≡ slots_of (source_of program.now) number) × (too_many_slots_at (source_of program.now) number (class_text_of class.now) ≡ None)) (IsFirst (too_many_slots_at (source_of program.now) number (class_text_of class.now))) }
+    ensures { MatchResult result (λ slots. (slots ≡ slots_of (source_of program.now) number)
+        × (too_many_slots_at (source_of program.now) number (class_text_of class.now) ≡ None))
+        (IsFirst (too_many_slots_at (source_of program.now) number (class_text_of class.now))) }
 {
     let map = slots_along(alloc, program, line_at(lines, number))?;
     if map.len() > MOST_METHODS as usize {
@@ -162,7 +167,9 @@ pub fn slots(
     lines: &[Vec<u32>],
 ) -> Result<Vec<MethodSlots>, ClassError>
     requires { map (λ line. line.items) lines.now ≡ lines_of (source_of program.now) }
-    ensures { MatchResult result (λ list. (list.items ≡ slots_of_all (source_of program.now)) × (too_many_slots (source_of program.now) ≡ None)) (IsFirst (too_many_slots (source_of program.now))) }
+    ensures { MatchResult result (λ list. (list.items ≡ slots_of_all (source_of program.now))
+        × (too_many_slots (source_of program.now) ≡ None))
+        (IsFirst (too_many_slots (source_of program.now))) }
 {
     let mut list = Vec::new(alloc);
     for (number, class) in program.classes.iter().enumerate() {

@@ -26,7 +26,8 @@ abbrev pub cluster_files : (script : List ℕ) → (images : List (List ℕ)) �
 cluster_files script images = script_file script ∷ map image_file images
 
 -- the images that bytes are, or the first refusal
-abbrev pub with_image : Result NotedImage ImageError → Result (List Segments) ImageError → Result (List Segments) ImageError
+abbrev pub with_image : Result NotedImage ImageError → Result (List Segments) ImageError
+    → Result (List Segments) ImageError
 with_image (Err e) rest = Err e
 with_image (Ok noted) (Err e) = Err e
 with_image (Ok noted) (Ok images) = Ok (noted.image ∷ images)
@@ -39,19 +40,24 @@ images_at (bytes ∷ rest) = with_image (image_at bytes) (images_at rest)
 abbrev pub IsEventsPlan : Result (List Event) ScriptError → List Segments → (cells : ℕ) → Planned → Type 0
 IsEventsPlan (Err (BadEvent line)) images cells p = p ≡ prints InputRefused (bad_command_line line)
 IsEventsPlan (Err script.NoMemory) images cells p = ⊥
-IsEventsPlan (Ok events) images cells p = (text : List ℕ) × IsShown images cells events text × (p ≡ prints Done text)
+IsEventsPlan (Ok events) images cells p = (text : List ℕ) × IsShown images cells events text
+    × (p ≡ prints Done text)
 
 -- an image that is refused is told before the script is judged
-abbrev pub IsClusterPlan : Result (List Segments) ImageError → (script : List ℕ) → (cells : ℕ) → Planned → Type 0
+abbrev pub IsClusterPlan : Result (List Segments) ImageError → (script : List ℕ) → (cells : ℕ)
+    → Planned → Type 0
 IsClusterPlan (Err e) script cells p = p ≡ prints ImageRefused (image_line e)
 IsClusterPlan (Ok images) script cells p = IsEventsPlan (events_of (length images) script) images cells p
 
 -- P holds of the texts of these images
 abbrev pub WithImages : Texts → List (List ℕ) → (List (List ℕ) → Type 0) → Type 0
 WithImages texts [] P = P []
-WithImages texts (name ∷ names) P = WithText texts name MOST_IMAGE (λ bytes. WithImages texts names (λ rest. P (bytes ∷ rest)))
+WithImages texts (name ∷ names) P =
+    WithText texts name MOST_IMAGE (λ bytes. WithImages texts names (λ rest. P (bytes ∷ rest)))
 
 -- the plan of `cluster` by this script over these images, on so many cells
-abbrev pub ClustersFiles : (script : List ℕ) → (cells : ℕ) → (images : List (List ℕ)) → Texts → Planned → Type 0
+abbrev pub ClustersFiles : (script : List ℕ) → (cells : ℕ) → (images : List (List ℕ)) → Texts
+    → Planned → Type 0
 ClustersFiles script cells images texts p =
-    WithText texts script MOST_SCRIPT (λ text. WithImages texts images (λ bytes. IsClusterPlan (images_at bytes) text cells p))
+    WithText texts script MOST_SCRIPT
+    (λ text. WithImages texts images (λ bytes. IsClusterPlan (images_at bytes) text cells p))

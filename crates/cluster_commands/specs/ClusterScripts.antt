@@ -18,7 +18,8 @@ step_by (Some who) (Some count) = Some (Step who count)
 step_by _ _ = None
 
 abbrev pub step_event : (processors : ℕ) → List (List ℕ) → Option Event
-step_event processors (who ∷ count ∷ []) = step_by (from_one (number_up_to processors who)) (from_one (number_up_to MOST_AT_ONCE count))
+step_event processors (who ∷ count ∷ []) =
+    step_by (from_one (number_up_to processors who)) (from_one (number_up_to MOST_AT_ONCE count))
 step_event processors _ = None
 
 abbrev pub undo_event : (processors : ℕ) → List (List ℕ) → Option Event
@@ -50,16 +51,22 @@ with_event line events None = Err (BadEvent line)
 with_event line events (Some event) = Ok (events ++ event ∷ [])
 
 abbrev pub with_line : (processors line : ℕ) → List Event → List ℕ → Result (List Event) ScriptError
-with_line processors line events text = if is_blank text then Ok events else with_event line events (event_of processors (pieces 32 text))
+with_line processors line events text =
+    if is_blank text then Ok events else with_event line events
+    (event_of processors (pieces 32 text))
 
-abbrev pub and_then : Result (List Event) ScriptError → (List Event → Result (List Event) ScriptError) → Result (List Event) ScriptError
+abbrev pub and_then : Result (List Event) ScriptError
+    → (List Event → Result (List Event) ScriptError) → Result (List Event) ScriptError
 and_then (Ok events) f = f events
 and_then (Err e) f = Err e
 
 -- line by line, the first of which has this number
-unfoldable pub events_from : (processors line : ℕ) → List Event → List (List ℕ) → Result (List Event) ScriptError
+unfoldable pub events_from : (processors line : ℕ) → List Event → List (List ℕ)
+    → Result (List Event) ScriptError
 events_from processors line events [] = Ok events
-events_from processors line events (text ∷ texts) = and_then (with_line processors line events text) (λ more. events_from processors (line + 1) more texts)
+events_from processors line events (text ∷ texts) =
+    and_then (with_line processors line events text)
+    (λ more. events_from processors (line + 1) more texts)
 
 -- what a text asks of so many processors, or its first line that asks nothing
 abbrev pub events_of : (processors : ℕ) → (text : List ℕ) → Result (List Event) ScriptError
@@ -70,6 +77,7 @@ abbrev pub Fails : ScriptError → Result (List Event) ScriptError → Type 0
 Fails NoMemory read = Unit {0}
 Fails refusal read = read ≡ Err refusal
 
-abbrev pub Gives : {X : Type 0} → (X → List Event) → Result X ScriptError → Result (List Event) ScriptError → Type 0
+abbrev pub Gives : {X : Type 0} → (X → List Event) → Result X ScriptError
+    → Result (List Event) ScriptError → Type 0
 Gives view (Ok x) read = read ≡ Ok (view x)
 Gives view (Err e) read = Fails e read

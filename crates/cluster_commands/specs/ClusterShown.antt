@@ -17,7 +17,8 @@ use Rattle.cluster_commands.specs.declared.script.Event.{Event}
 use Rattle.cluster_commands.specs.declared.script.Event.TheVariants.{Step, Undo, Rewind}
 
 -- what follows a step that was answered so: no more steps behind a stop
-abbrev pub AfterStep : ((made : ℕ) → Option Stop → (d e : Schedule) → Type 0) → Moved → (made : ℕ) → Option Stop → (d e : Schedule) → Type 0
+abbrev pub AfterStep : ((made : ℕ) → Option Stop → (d e : Schedule) → Type 0) → Moved → (made : ℕ)
+    → Option Stop → (d e : Schedule) → Type 0
 AfterStep More (Stopped why) made stop d e = (made ≡ 0) × (stop ≡ Some why) × (e ≡ d)
 AfterStep More (Made serial) made stop d e = (more : ℕ) × (made ≡ suc more) × More more stop d e
 
@@ -25,7 +26,8 @@ AfterStep More (Made serial) made stop d e = (more : ℕ) × (made ≡ suc more)
 abbrev pub MakesSteps : (who wanted : ℕ) → (made : ℕ) → Option Stop → (c e : Schedule) → Type 0
 MakesSteps who zero made stop c e = (made ≡ 0) × (stop ≡ None) × (e ≡ c)
 MakesSteps who (suc wanted) made stop c e =
-    (answer : Moved) × (d : Schedule) × Moves who answer c d × AfterStep (MakesSteps who wanted) answer made stop d e
+    (answer : Moved) × (d : Schedule) × Moves who answer c d
+    × AfterStep (MakesSteps who wanted) answer made stop d e
 
 abbrev pub stop_shown : Option Stop → List ℕ
 stop_shown None = line_end
@@ -37,7 +39,8 @@ made_line made stop = (codes "made " ++ decimal made) ++ stop_shown stop
 abbrev pub undone_line : Undone → List ℕ
 undone_line (Done serial) = codes "undone " ++ (decimal serial ++ line_end)
 undone_line Nothing = codes "nothing" ++ line_end
-undone_line (Blocked who serial) = codes "blocked by " ++ (decimal who ++ (codes " at " ++ (decimal serial ++ line_end)))
+undone_line (Blocked who serial) =
+    codes "blocked by " ++ (decimal who ++ (codes " at " ++ (decimal serial ++ line_end)))
 
 abbrev pub rewound_line : ℕ → List ℕ
 rewound_line count = codes "rewound " ++ (decimal count ++ line_end)
@@ -65,14 +68,18 @@ Shows Rewind c line d = (line ≡ rewound_line (length c.kept)) × (d ≡ rewoun
 abbrev pub ShowsAll : List Event → Schedule → (text : List ℕ) → Schedule → Type 0
 ShowsAll [] c text e = (text ≡ []) × (e ≡ c)
 ShowsAll (event ∷ events) c text e =
-    (line : List ℕ) × (rest : List ℕ) × (d : Schedule) × Shows event c line d × ShowsAll events d rest e × (text ≡ line ++ rest)
+    (line : List ℕ) × (rest : List ℕ) × (d : Schedule) × Shows event c line d
+    × ShowsAll events d rest e × (text ≡ line ++ rest)
 
 abbrev pub kept_line : ℕ → List ℕ
 kept_line count = codes "kept " ++ (decimal count ++ line_end)
 
 abbrev pub processor_line : (number : ℕ) → Core → List ℕ
 processor_line number core =
-    codes "processor " ++ (decimal number ++ (codes " pc " ++ (signed_decimal core.pc ++ (codes " br " ++ (word_shown core.br ++ (codes " dir " ++ (direction core.back ++ line_end)))))))
+    codes "processor " ++ (decimal number
+    ++ (codes " pc " ++ (signed_decimal core.pc
+    ++ (codes " br " ++ (word_shown core.br
+    ++ (codes " dir " ++ (direction core.back ++ line_end)))))))
 
 -- processors from a number on
 abbrev pub processor_lines : (number : ℕ) → List Processor → List ℕ
@@ -90,7 +97,8 @@ filled_lines number (word ∷ words) = filled_line number word ++ filled_lines (
 
 -- how a cluster stands
 abbrev pub end_shown : Schedule → List ℕ
-end_shown c = (kept_line (length c.kept) ++ processor_lines 1 c.joint.processors) ++ filled_lines 0 c.joint.cells
+end_shown c = (kept_line (length c.kept) ++ processor_lines 1 c.joint.processors)
+    ++ filled_lines 0 c.joint.cells
 
 -- what events print from the start on, and then how the cluster stands
 pub record IsShown (images : List Segments) (cells : ℕ) (events : List Event) (text : List ℕ) : Type 0 where

@@ -33,7 +33,8 @@ pub fn cluster<S: Shelf>(
     requires few { length images.now ≤ 8 }
     requires cells { 1 ≤ cells }
     requires most { cells ≤ 65536 }
-    ensures plan { GivesPlan (S.texts shelf.old) (ClustersFiles script.now cells (map string_bytes images.now)) result }
+    ensures plan { GivesPlan (S.texts shelf.old)
+        (ClustersFiles script.now cells (map string_bytes images.now)) result }
     ensures reads { OnlyReads (S.texts shelf.old) (S.texts shelf.new) (S.faults shelf.old) (S.faults shelf.new)
         (cluster_files script.now (map string_bytes images.now)) result }
 {
@@ -75,7 +76,8 @@ fn cluster_over(
     requires few { length texts.now ≤ 8 }
     requires cells { 1 ≤ cells }
     requires most { cells ≤ 65536 }
-    ensures { IfOk result (λ plan. IsClusterPlan (images_at (map (λ v. v.items) texts.now)) script.now cells (planned plan)) }
+    ensures { IfOk result (λ plan. IsClusterPlan (images_at (map (λ v. v.items) texts.now))
+        script.now cells (planned plan)) }
 {
     match judge_images(alloc, texts) {
         Ok(images) => judge_script(alloc, script, images, cells),
@@ -109,7 +111,8 @@ fn judge_script(
     requires few { vec_len images ≤ 8 }
     requires cells { 1 ≤ cells }
     requires most { cells ≤ 65536 }
-    ensures { IfOk result (λ plan. IsEventsPlan (events_of (length images.items) script.now) images.items cells (planned plan)) }
+    ensures { IfOk result (λ plan. IsEventsPlan (events_of (length images.items) script.now)
+        images.items cells (planned plan)) }
 {
     match read_events(alloc, images.len() as u32, script) {
         Ok(events) => {

@@ -43,7 +43,8 @@ pub(crate) fn read_events(
 // The events of the lines, which line feeds part.
 fn read_lines(alloc: Global, processors: u32, text: &[u8]) -> Result<Vec<Event>, ScriptError>
     requires { length text.now ≤ MOST_SCRIPT }
-    ensures events { Gives (λ events. events.items) result (events_from processors 1 [] (pieces_of 10 text.now)) }
+    ensures events { Gives (λ events. events.items) result
+        (events_from processors 1 [] (pieces_of 10 text.now)) }
     ensures there { IfOk result (λ events. All (IsEvent processors) events.items) }
     ensures few { IfOk result (λ events. length events.items ≤ length text.now + 1) }
 {
@@ -66,7 +67,8 @@ fn add_line(
     line: &[u8],
 ) -> Result<(), ScriptError>
     requires { All (IsEvent processors) events.old.items }
-    ensures events { Gives (λ _. events.new.items) result (with_line processors number events.old.items line.now) }
+    ensures events { Gives (λ _. events.new.items) result
+        (with_line processors number events.old.items line.now) }
     ensures there { OnOk result (All (IsEvent processors) events.new.items) }
     ensures one { OnOk result (length events.new.items ≤ length events.old.items + 1) }
 {

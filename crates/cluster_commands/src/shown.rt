@@ -16,7 +16,8 @@ fn add_kept(text: &mut String, count: usize) -> Result<(), AllocError>
 
 // Adds the line on a processor.
 fn add_processor(text: &mut String, number: u32, core: &Core) -> Result<(), AllocError>
-    ensures { OnOk result (string_bytes text.new ≡ string_bytes text.old ++ processor_line number core.now) }
+    ensures { OnOk result (string_bytes text.new
+        ≡ string_bytes text.old ++ processor_line number core.now) }
 {
     let pc = core.pc;
     let br = core.br.cast_signed();
@@ -28,7 +29,8 @@ fn add_processor(text: &mut String, number: u32, core: &Core) -> Result<(), Allo
 fn add_processors(text: &mut String, cluster: &Cluster, count: u32) -> Result<(), AllocError>
     requires count { count ≡ length cluster.now.joint.processors }
     requires few { count < 2 ^ 31 }
-    ensures { OnOk result (string_bytes text.new ≡ string_bytes text.old ++ processor_lines 1 cluster.now.joint.processors) }
+    ensures { OnOk result (string_bytes text.new
+        ≡ string_bytes text.old ++ processor_lines 1 cluster.now.joint.processors) }
 {
     for before in 0..count {
         add_processor(text, before + 1, cluster.core(before + 1))?;
@@ -49,7 +51,8 @@ fn add_filled(text: &mut String, at: u32, word: u32) -> Result<(), AllocError>
 // Adds the lines on the cells that are not 0, of so many.
 fn add_cells(text: &mut String, cluster: &Cluster, count: u32) -> Result<(), AllocError>
     requires { count ≡ length cluster.now.joint.cells }
-    ensures { OnOk result (string_bytes text.new ≡ string_bytes text.old ++ filled_lines 0 cluster.now.joint.cells) }
+    ensures { OnOk result (string_bytes text.new
+        ≡ string_bytes text.old ++ filled_lines 0 cluster.now.joint.cells) }
 {
     for at in 0..count {
         let Some(word) = cluster.cell(at) else {

@@ -31,10 +31,10 @@ use Rattle.expr_uncompute.proofs.Bounds.{update_most, update_sharing_most, updat
 abbrev kept_by : ℕ → Bool → Run (Unit {0})
 kept_by cost shared = spend cost >>= λ _. fault_if shared_array_fault shared
 
-less : (b k c : ℕ) → 1 ≤ b → c ≤ k → c ≤ b * k
+pub less : (b k c : ℕ) → 1 ≤ b → c ≤ k → c ≤ b * k
 less b k c h l = let e : 1 * k ≤ b * k = mul-le-mul_right k h in omega arith
 
-rated : (x b k c : ℕ) → x ≤ b → k ≤ x * c → k ≤ b * c
+pub rated : (x b k c : ℕ) → x ≤ b → k ≤ x * c → k ≤ b * c
 rated x b k c h l = let e : x * c ≤ b * c = mul-le-mul_right c h in omega arith
 
 module _ (setting : Setting) (address slot : State → ℕ → ℕ) (R : State → Memory → Type 0) (spot : List ℕ → Spot) (free : ℕ) where

@@ -164,14 +164,18 @@ operator_cells op.Sub = sub left_operand right_operand ∷ []
 operator_cells op.Xor = xor left_operand right_operand ∷ []
 operator_cells op.And = andx outcome left_operand right_operand ∷ []
 operator_cells op.Or = orx outcome left_operand right_operand ∷ []
-operator_cells op.AndAlso = truth_cells left_truth left_operand ++ (truth_cells right_truth right_operand ++ andx outcome left_truth right_truth ∷ [])
-operator_cells op.OrElse = truth_cells left_truth left_operand ++ (truth_cells right_truth right_operand ++ orx outcome left_truth right_truth ∷ [])
+operator_cells op.AndAlso = truth_cells left_truth left_operand
+    ++ (truth_cells right_truth right_operand ++ andx outcome left_truth right_truth ∷ [])
+operator_cells op.OrElse = truth_cells left_truth left_operand
+    ++ (truth_cells right_truth right_operand ++ orx outcome left_truth right_truth ∷ [])
 operator_cells op.Less = sltx outcome left_operand right_operand ∷ []
 operator_cells op.Greater = sltx outcome right_operand left_operand ∷ []
 operator_cells op.AtMost = sltx outcome right_operand left_operand ∷ xori outcome 1 ∷ []
 operator_cells op.AtLeast = sltx outcome left_operand right_operand ∷ xori outcome 1 ∷ []
-operator_cells op.Equal = sltx outcome left_operand right_operand ∷ sltx outcome right_operand left_operand ∷ xori outcome 1 ∷ []
-operator_cells op.NotEqual = sltx outcome left_operand right_operand ∷ sltx outcome right_operand left_operand ∷ []
+operator_cells op.Equal = sltx outcome left_operand right_operand
+    ∷ sltx outcome right_operand left_operand ∷ xori outcome 1 ∷ []
+operator_cells op.NotEqual = sltx outcome left_operand right_operand
+    ∷ sltx outcome right_operand left_operand ∷ []
 operator_cells op.Mul = []
 operator_cells op.Div = []
 operator_cells op.Rem = []
@@ -190,12 +194,16 @@ nil_check = around (sltx outcome nought right_operand ∷ xori outcome 1 ∷ [])
 -- fault 9 where the index, without sign, is not below the array's length
 abbrev pub index_check : List Symbol
 index_check =
-    around (exch content right_operand ∷ []) (around (sltx outcome left_operand content ∷ sltx outcome left_operand nought ∷ xori outcome 1 ∷ []) (check_cells outcome 9))
+    around (exch content right_operand ∷ [])
+    (around (sltx outcome left_operand content ∷ sltx outcome left_operand nought
+    ∷ xori outcome 1 ∷ []) (check_cells outcome 9))
 
 -- fault 16 where the words of two spots are the same
 abbrev pub compare_cells : (x y : Spot) → List Symbol
 compare_cells x y =
-    around (copy_cells x left_operand ++ (reach_cells y ++ sltx outcome left_operand content ∷ sltx outcome content left_operand ∷ xori outcome 1 ∷ [])) (check_cells outcome 16)
+    around (copy_cells x left_operand
+    ++ (reach_cells y ++ sltx outcome left_operand content ∷ sltx outcome content left_operand
+    ∷ xori outcome 1 ∷ [])) (check_cells outcome 16)
 
 -- the address of the element in the array's register
 abbrev pub point_cells : List Symbol
@@ -222,7 +230,8 @@ abbrev pub update_middle : UpdateOp → List Symbol
 update_middle op = exch content place ∷ update_cell op content amount ∷ exch content place ∷ []
 
 abbrev pub swap_middle : List Symbol
-swap_middle = exch first_word place ∷ exch second_word other_place ∷ exch second_word place ∷ exch first_word other_place ∷ []
+swap_middle = exch first_word place ∷ exch second_word other_place ∷ exch second_word place
+    ∷ exch first_word other_place ∷ []
 
 module _ (spot : List ℕ → Spot) where
   -- a changed element's array, by its spot, compared with those of which an expression reads elements
@@ -230,7 +239,8 @@ module _ (spot : List ℕ → Spot) where
   compare_all changed (Number at word) = []
   compare_all changed (Null at) = []
   compare_all changed (Variable name) = []
-  compare_all changed (Element name index) = compare_cells changed (spot name.text) ++ compare_all changed index
+  compare_all changed (Element name index) =
+      compare_cells changed (spot name.text) ++ compare_all changed index
   compare_all changed (Binary at op left right) = compare_all changed left ++ compare_all changed right
 
   -- the check of a place that changes against two expressions that are read
@@ -240,7 +250,8 @@ module _ (spot : List ℕ → Spot) where
 
   -- of both places of a swap
   abbrev pub both_apart_cells : (left right : Lvalue) → List Symbol
-  both_apart_cells left right = apart_cells left (index_of left) (index_of right) ++ apart_cells right (index_of left) (index_of right)
+  both_apart_cells left right = apart_cells left (index_of left) (index_of right)
+      ++ apart_cells right (index_of left) (index_of right)
 
 module _ (spot : List ℕ → Spot) (free : ℕ) where
   -- the value of an operand xored into a register: a word of the frame has it, from i on, where it is no leaf
@@ -254,16 +265,19 @@ module _ (spot : List ℕ → Spot) (free : ℕ) where
   -- an element's index and array, both checked
   abbrev pub checked_cells : List ℕ → Expression → (i : ℕ) → List Symbol
   checked_cells name index i =
-      operand_cells index i left_operand ++ (copy_cells (spot name) right_operand ++ (nil_check ++ index_check))
+      operand_cells index i left_operand
+      ++ (copy_cells (spot name) right_operand ++ (nil_check ++ index_check))
 
   -- the value of an expression in its register, where its parts are prepared
   abbrev pub open_cells : Expression → (i : ℕ) → List Symbol
   open_cells (Number at word) i = xori content word ∷ []
   open_cells (Null at) i = []
   open_cells (Variable name) i = reach_cells (spot name.text)
-  open_cells (Element name index) i = checked_cells name.text index (i + 1) ++ (point_cells ++ exch item right_operand ∷ [])
+  open_cells (Element name index) i =
+      checked_cells name.text index (i + 1) ++ (point_cells ++ exch item right_operand ∷ [])
   open_cells (Binary at op left right) i =
-      operand_cells left (i + 1) left_operand ++ (operand_cells right (i + 1 + words left) right_operand ++ operator_cells op)
+      operand_cells left (i + 1) left_operand
+      ++ (operand_cells right (i + 1 + words left) right_operand ++ operator_cells op)
 
   -- every element and operator computed once into its word of the frame, from word i on
   abbrev pub prepare_cells : Expression → (i : ℕ) → List Symbol
@@ -271,15 +285,18 @@ module _ (spot : List ℕ → Spot) (free : ℕ) where
   prepare_cells (Null at) i = []
   prepare_cells (Variable name) i = []
   prepare_cells (Element name index) i =
-      prepare_cells index (i + 1) ++ around (open_cells (Element name index) i) (store_cells (Frame (free + i)) item)
+      prepare_cells index (i + 1) ++ around (open_cells (Element name index) i)
+      (store_cells (Frame (free + i)) item)
   prepare_cells (Binary at op left right) i =
       (prepare_cells left (i + 1) ++ prepare_cells right (i + 1 + words left))
-      ++ around (open_cells (Binary at op left right) i) (store_cells (Frame (free + i)) (operator_result op))
+      ++ around (open_cells (Binary at op left right) i)
+      (store_cells (Frame (free + i)) (operator_result op))
 
   -- the parts of an expression prepared
   abbrev pub parts_cells : Expression → (i : ℕ) → List Symbol
   parts_cells (Element name index) i = prepare_cells index (i + 1)
-  parts_cells (Binary at op left right) i = prepare_cells left (i + 1) ++ prepare_cells right (i + 1 + words left)
+  parts_cells (Binary at op left right) i =
+      prepare_cells left (i + 1) ++ prepare_cells right (i + 1 + words left)
   parts_cells _ i = []
 
   -- the parts prepared, and the value xored into a register
@@ -295,25 +312,33 @@ module _ (spot : List ℕ → Spot) (free : ℕ) where
   -- whether it is true xored into a register
   abbrev pub test_cells : Expression → (into : ℕ) → List Symbol
   test_cells e into =
-      around (parts_cells e 0) (around (open_cells e 0 ++ truth_cells truth (result_of e)) (xor into truth ∷ []))
+      around (parts_cells e 0) (around (open_cells e 0 ++ truth_cells truth (result_of e))
+      (xor into truth ∷ []))
 
   -- the address of a place in a register
   abbrev pub place_cells : Lvalue → (i into : ℕ) → List Symbol
-  place_cells (Whole name) i into = xor into (base_of (spot name.text)) ∷ addi into (offset_of (spot name.text)) ∷ []
+  place_cells (Whole name) i into =
+      xor into (base_of (spot name.text)) ∷ addi into (offset_of (spot name.text)) ∷ []
   place_cells (Item name index) i into =
-      prepare_cells index i ++ around (checked_cells name.text index i ++ point_cells) (xor into right_operand ∷ [])
+      prepare_cells index i ++ around (checked_cells name.text index i ++ point_cells)
+      (xor into right_operand ∷ [])
 
   -- what a statement finds, and the check that the place that changes is an element of no array that is read: a place
   abbrev pub found_place_cells : Lvalue → List Symbol
-  found_place_cells target = place_cells target 0 place ++ apart_cells spot target (index_of target) (Null 0)
+  found_place_cells target = place_cells target 0 place ++ apart_cells spot target (index_of target)
+      (Null 0)
 
   -- a place and a value
   abbrev pub found_value_cells : Lvalue → Expression → List Symbol
-  found_value_cells target value = (place_cells target 0 place ++ fetch_cells value (place_words target) amount) ++ apart_cells spot target (index_of target) value
+  found_value_cells target value =
+      (place_cells target 0 place ++ fetch_cells value (place_words target) amount)
+      ++ apart_cells spot target (index_of target) value
 
   -- two places, of which the second changes
   abbrev pub found_places_cells : (source target : Lvalue) → List Symbol
-  found_places_cells source target = (place_cells source 0 place ++ place_cells target (place_words source) other_place) ++ apart_cells spot target (index_of source) (index_of target)
+  found_places_cells source target =
+      (place_cells source 0 place ++ place_cells target (place_words source) other_place)
+      ++ apart_cells spot target (index_of source) (index_of target)
 
   -- an update of a place by a value
   abbrev pub update_cells : UpdateOp → Lvalue → Expression → List Symbol
@@ -323,4 +348,5 @@ module _ (spot : List ℕ → Spot) (free : ℕ) where
   -- the words of two places swapped; where they are one, it stays as it is
   abbrev pub swap_cells : Lvalue → Lvalue → List Symbol
   swap_cells left right =
-      around ((place_cells left 0 place ++ place_cells right (place_words left) other_place) ++ both_apart_cells spot left right) swap_middle
+      around ((place_cells left 0 place ++ place_cells right (place_words left) other_place)
+      ++ both_apart_cells spot left right) swap_middle

@@ -27,7 +27,8 @@ pub data TrapsWithin (code most : ℕ) : Outcome → Type 0 where
 
 -- a value in `amount`, and the addresses of a place and of a second one, over other cells
 abbrev pub found : (v a a' : ℕ) → List ℕ → Memory → Memory
-found v a a' cells m = record (with_reg (with_reg (with_reg m amount v) place a) other_place a') { cells = cells }
+found v a a' cells m = record (with_reg (with_reg (with_reg m amount v) place a) other_place a')
+    { cells = cells }
 
 -- the same cells, but for n words from an address on, which hold any words
 pub record Filled (low n : ℕ) (cells ys : List ℕ) : Type 0 where
@@ -51,9 +52,11 @@ pub record Encloses (im : Image) (d : Bool) (m : Memory) (low n steps v a a' : �
   pub leads : (cells' : List ℕ) (least most : ℕ) → Changes low m.cells cells' → Kept cells'
       → ((ys ys' : List ℕ) → Filled low n m.cells ys → Filled low n cells' ys' → Changes low ys ys'
       → Will im middle d (found v a a' ys m) (LeavesWithin (found v a a' ys' m) least most))
-      → Will im p d m (LeavesWithin (record m { cells = cells' }) (steps + (least + steps)) (steps + (most + steps)))
+      → Will im p d m (LeavesWithin (record m { cells = cells' }) (steps + (least + steps))
+      (steps + (most + steps)))
   pub traps : (code most : ℕ)
-      → ((ys : List ℕ) → Filled low n m.cells ys → Will im middle d (found v a a' ys m) (TrapsWithin code most))
+      → ((ys : List ℕ) → Filled low n m.cells ys
+      → Will im middle d (found v a a' ys m) (TrapsWithin code most))
       → Will im p d m (TrapsWithin code (steps + most))
 
 -- ---- the laws
@@ -64,7 +67,8 @@ abbrev pub found_place_steps : Lvalue → ℕ
 found_place_steps target = place_steps target + apart_steps target (index_of target) (Null 0)
 
 abbrev pub found_value_steps : Lvalue → Expression → ℕ
-found_value_steps target value = place_steps target + fetch_steps value + apart_steps target (index_of target) value
+found_value_steps target value =
+    place_steps target + fetch_steps value + apart_steps target (index_of target) value
 
 abbrev pub found_places_steps : (source target : Lvalue) → ℕ
 found_places_steps source target = place_steps source + place_steps target + apart_steps target
@@ -82,7 +86,8 @@ pub record PlaceAroundLaw (spot : List ℕ → Spot) (free : ℕ) (target : Lval
       (Stays spot (bases_of m) (free_at free m) target (Null 0) m.cells) middle p
   pub place_faults : (im : Image) (d : Bool) (m : Memory)
       → CanRun spot free (place_words target) (read_of target) (Null 0) m → (code : ℕ)
-      → place_address spot (bases_of m) m.cells target ≡ Err code → IsTrap im p d m code (place_steps target)
+      → place_address spot (bases_of m) m.cells target ≡ Err code
+      → IsTrap im p d m code (place_steps target)
   pub sharing_faults : (im : Image) (d : Bool) (m : Memory)
       → CanRun spot free (place_words target) (read_of target) (Null 0) m → (a : ℕ)
       → place_address spot (bases_of m) m.cells target ≡ Ok a
@@ -94,13 +99,16 @@ pub record ValueAroundLaw (spot : List ℕ → Spot) (free : ℕ) (target : Lval
     (middle p : List Symbol) : Type 0 where
   pub encloses : (im : Image) (d : Bool) (m : Memory)
       → CanRun spot free (place_words target + words value) (read_of target) value m → (a v : ℕ)
-      → place_address spot (bases_of m) m.cells target ≡ Ok a → number spot (bases_of m) m.cells value ≡ Ok v
+      → place_address spot (bases_of m) m.cells target ≡ Ok a
+      → number spot (bases_of m) m.cells value ≡ Ok v
       → update_shares spot (bases_of m) m.cells target value ≡ false
-      → Encloses im d m (free_at free m) (place_words target + words value) (found_value_steps target value) v a
+      → Encloses im d m (free_at free m) (place_words target + words value)
+      (found_value_steps target value) v a
       0 (Stays spot (bases_of m) (free_at free m) target value m.cells) middle p
   pub place_faults : (im : Image) (d : Bool) (m : Memory)
       → CanRun spot free (place_words target + words value) (read_of target) value m → (code : ℕ)
-      → place_address spot (bases_of m) m.cells target ≡ Err code → IsTrap im p d m code (place_steps target)
+      → place_address spot (bases_of m) m.cells target ≡ Err code
+      → IsTrap im p d m code (place_steps target)
   pub value_faults : (im : Image) (d : Bool) (m : Memory)
       → CanRun spot free (place_words target + words value) (read_of target) value m → (a code : ℕ)
       → place_address spot (bases_of m) m.cells target ≡ Ok a
@@ -108,7 +116,8 @@ pub record ValueAroundLaw (spot : List ℕ → Spot) (free : ℕ) (target : Lval
       → IsTrap im p d m code (place_steps target + fetch_steps value)
   pub sharing_faults : (im : Image) (d : Bool) (m : Memory)
       → CanRun spot free (place_words target + words value) (read_of target) value m → (a v : ℕ)
-      → place_address spot (bases_of m) m.cells target ≡ Ok a → number spot (bases_of m) m.cells value ≡ Ok v
+      → place_address spot (bases_of m) m.cells target ≡ Ok a
+      → number spot (bases_of m) m.cells value ≡ Ok v
       → update_shares spot (bases_of m) m.cells target value ≡ true
       → IsTrap im p d m shared_array_fault (found_value_steps target value)
 

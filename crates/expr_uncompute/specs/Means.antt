@@ -38,7 +38,8 @@ module _ (address slot : ℕ → ℕ) where
   -- two words, or two references that are the same exactly where their words are, for an operator that takes them
   pub data AreOperands (o : BinOp) (l r : Value) : Type 0 where
     words : number_of l ≡ shown l → number_of r ≡ shown r → AreOperands o l r
-    compared : is_equation o ≡ true → (number_of l ≡ number_of r → shown l ≡ shown r) → (shown l ≡ shown r → number_of l ≡ number_of r) → AreOperands o l r
+    compared : is_equation o ≡ true → (number_of l ≡ number_of r → shown l ≡ shown r)
+        → (shown l ≡ shown r → number_of l ≡ number_of r) → AreOperands o l r
 
   abbrev pub OperandsOf : BinOp → Result Value ℕ → Result Value ℕ → Type 0
   OperandsOf o (Err f) y = Unit {0}
@@ -55,7 +56,9 @@ module _ (address slot : ℕ → ℕ) where
     StandsArray (Word w) = ⊥
     StandsArray Nil = Unit {0}
     StandsArray (Name n) =
-        (address n ≢ 0) × (slice_index cells (address n) ≡ length (object_at st.store n).cells) × ((i : ℕ) → i < length (object_at st.store n).cells → slice_index cells (address n + i + 2) ≡ shown (read st (Part n i)))
+        (address n ≢ 0) × (slice_index cells (address n) ≡ length (object_at st.store n).cells)
+        × ((i : ℕ) → i < length (object_at st.store n).cells
+        → slice_index cells (address n + i + 2) ≡ shown (read st (Part n i)))
 
     -- a variable has its value's word
     abbrev pub HasWord : List ℕ → Type 0
@@ -66,13 +69,19 @@ module _ (address slot : ℕ → ℕ) where
     Means (Number at word) = Unit {0}
     Means (Null at) = Unit {0}
     Means (Variable name) = HasWord name.text
-    Means (Element name index) = HasWord name.text × StandsArray (variable_value program st name.text) × IsInt (value program st index) × Means index
-    Means (Binary at o left right) = Means left × Means right × OperandsOf o (value program st left) (value program st right)
+    Means (Element name index) = HasWord name.text
+        × StandsArray (variable_value program st name.text) × IsInt (value program st index)
+        × Means index
+    Means (Binary at o left right) = Means left × Means right
+        × OperandsOf o (value program st left) (value program st right)
 
     -- the same of a place
     abbrev pub MeansPlace : Lvalue → Type 0
-    MeansPlace (Whole name) = address_of b (spot name.text) ≡ cell_address (cell_named program st name.text)
-    MeansPlace (Item name index) = HasWord name.text × StandsArray (variable_value program st name.text) × IsInt (value program st index) × Means index
+    MeansPlace (Whole name) = address_of b (spot name.text)
+        ≡ cell_address (cell_named program st name.text)
+    MeansPlace (Item name index) = HasWord name.text
+        × StandsArray (variable_value program st name.text) × IsInt (value program st index)
+        × Means index
 
     -- an array is one of which an expression reads an element exactly where their words are the same
     abbrev pub TellsArrays : (array : Value) → Expression → Type 0
@@ -80,13 +89,16 @@ module _ (address slot : ℕ → ℕ) where
     TellsArrays array (Null at) = Unit {0}
     TellsArrays array (Variable name) = Unit {0}
     TellsArrays array (Element name index) =
-        (same_value array (variable_value program st name.text) ≡ nat_eq (shown array) (shown (variable_value program st name.text))) × TellsArrays array index
+        (same_value array (variable_value program st name.text)
+        ≡ nat_eq (shown array) (shown (variable_value program st name.text)))
+        × TellsArrays array index
     TellsArrays array (Binary at o left right) = TellsArrays array left × TellsArrays array right
 
     -- the same of the array of a place that changes, and two expressions that are read
     abbrev pub TellsShares : Lvalue → (e e' : Expression) → Type 0
     TellsShares (Whole name) e e' = Unit {0}
-    TellsShares (Item name index) e e' = TellsArrays (variable_value program st name.text) e × TellsArrays (variable_value program st name.text) e'
+    TellsShares (Item name index) e e' = TellsArrays (variable_value program st name.text) e
+        × TellsArrays (variable_value program st name.text) e'
 
 -- at each of its nodes an expression has the same value in two states
 module _ (program : Source) (st st' : State) where
@@ -94,10 +106,16 @@ module _ (program : Source) (st st' : State) where
   SameValues (Number at word) = Unit {0}
   SameValues (Null at) = Unit {0}
   SameValues (Variable name) = variable_value program st' name.text ≡ variable_value program st name.text
-  SameValues (Element name index) = (value program st' (Element name index) ≡ value program st (Element name index)) × SameValues index
-  SameValues (Binary at o left right) = (value program st' (Binary at o left right) ≡ value program st (Binary at o left right)) × SameValues left × SameValues right
+  SameValues (Element name index) =
+      (value program st' (Element name index) ≡ value program st (Element name index))
+      × SameValues index
+  SameValues (Binary at o left right) =
+      (value program st' (Binary at o left right) ≡ value program st (Binary at o left right))
+      × SameValues left × SameValues right
 
   -- a place means the same cell
   abbrev pub SameCells : Lvalue → Type 0
   SameCells (Whole name) = cell_named program st' name.text ≡ cell_named program st name.text
-  SameCells (Item name index) = (cell_of program st' (Item name index) ≡ cell_of program st (Item name index)) × SameValues index
+  SameCells (Item name index) =
+      (cell_of program st' (Item name index) ≡ cell_of program st (Item name index))
+      × SameValues index

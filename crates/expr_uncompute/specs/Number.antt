@@ -19,7 +19,8 @@ address_of b (Frame i) = b.frame + i
 -- the address of an element of an array, by its index without sign
 abbrev pub element_address : List ℕ → (array index : ℕ) → Result ℕ ℕ
 element_address cells array index =
-    if nat_eq array 0 then Err 5 else (if nat_lt index (slice_index cells array) then Ok (array + index + 2) else Err 9)
+    if nat_eq array 0 then Err 5 else (if nat_lt index (slice_index cells array)
+    then Ok (array + index + 2) else Err 9)
 
 abbrev pub element_at : List ℕ → (array : ℕ) → Result ℕ ℕ → Result ℕ ℕ
 element_at cells array (Err fault) = Err fault
@@ -59,7 +60,8 @@ module _ (spot : List ℕ → Spot) (b : Bases) where
   number cells (Number at word) = Ok word
   number cells (Null at) = Ok 0
   number cells (Variable name) = Ok (word_of cells name.text)
-  number cells (Element name index) = word_in cells (element_at cells (word_of cells name.text) (number cells index))
+  number cells (Element name index) =
+      word_in cells (element_at cells (word_of cells name.text) (number cells index))
   number cells (Binary at op left right) = combined op (number cells left) (number cells right)
 
   -- the address of a place, or the fault that is met first
@@ -72,13 +74,17 @@ module _ (spot : List ℕ → Spot) (b : Bases) where
   reads_array cells array (Number at word) = false
   reads_array cells array (Null at) = false
   reads_array cells array (Variable name) = false
-  reads_array cells array (Element name index) = nat_eq array (word_of cells name.text) || reads_array cells array index
-  reads_array cells array (Binary at op left right) = reads_array cells array left || reads_array cells array right
+  reads_array cells array (Element name index) =
+      nat_eq array (word_of cells name.text) || reads_array cells array index
+  reads_array cells array (Binary at op left right) =
+      reads_array cells array left || reads_array cells array right
 
   -- whether a place that changes is an element of an array of which one of two expressions reads an element
   abbrev pub shares : List ℕ → Lvalue → (e e' : Expression) → Bool
   shares cells (Whole name) e e' = false
-  shares cells (Item name index) e e' = reads_array cells (word_of cells name.text) e || reads_array cells (word_of cells name.text) e'
+  shares cells (Item name index) e e' =
+      reads_array cells (word_of cells name.text) e
+      || reads_array cells (word_of cells name.text) e'
 
   -- the same of an update, which reads the place's index and the value
   abbrev pub update_shares : List ℕ → Lvalue → Expression → Bool
@@ -86,7 +92,8 @@ module _ (spot : List ℕ → Spot) (b : Bases) where
 
   -- and of a swap, which changes both places and reads both indexes
   abbrev pub swap_shares : List ℕ → (left right : Lvalue) → Bool
-  swap_shares cells left right = shares cells left (index_of left) (index_of right) || shares cells right (index_of left) (index_of right)
+  swap_shares cells left right = shares cells left (index_of left) (index_of right)
+      || shares cells right (index_of left) (index_of right)
 
   -- a word that is nil, or where an array stands, all below an address
   pub record IsArray (low : ℕ) (cells : List ℕ) (a : ℕ) : Type 0 where
@@ -99,7 +106,8 @@ module _ (spot : List ℕ → Spot) (b : Bases) where
   Sees low cells (Null at) = Unit {0}
   Sees low cells (Variable name) = address_of b (spot name.text) < low
   Sees low cells (Element name index) =
-      (address_of b (spot name.text) < low) × IsArray low cells (word_of cells name.text) × Sees low cells index
+      (address_of b (spot name.text) < low) × IsArray low cells (word_of cells name.text)
+      × Sees low cells index
   Sees low cells (Binary at op left right) = Sees low cells left × Sees low cells right
 
   -- at each of its nodes an expression has the same number in two memories
@@ -107,11 +115,16 @@ module _ (spot : List ℕ → Spot) (b : Bases) where
   Same cells cells' (Number at word) = Unit {0}
   Same cells cells' (Null at) = Unit {0}
   Same cells cells' (Variable name) = word_of cells' name.text ≡ word_of cells name.text
-  Same cells cells' (Element name index) = (number cells' (Element name index) ≡ number cells (Element name index)) × Same cells cells' index
+  Same cells cells' (Element name index) =
+      (number cells' (Element name index) ≡ number cells (Element name index))
+      × Same cells cells' index
   Same cells cells' (Binary at op left right) =
-      (number cells' (Binary at op left right) ≡ number cells (Binary at op left right)) × Same cells cells' left × Same cells cells' right
+      (number cells' (Binary at op left right) ≡ number cells (Binary at op left right))
+      × Same cells cells' left × Same cells cells' right
 
   -- a place has the same address
   abbrev pub SamePlace : (cells cells' : List ℕ) → Lvalue → Type 0
   SamePlace cells cells' (Whole name) = Unit {0}
-  SamePlace cells cells' (Item name index) = (place_address cells' (Item name index) ≡ place_address cells (Item name index)) × Same cells cells' index
+  SamePlace cells cells' (Item name index) =
+      (place_address cells' (Item name index) ≡ place_address cells (Item name index))
+      × Same cells cells' index

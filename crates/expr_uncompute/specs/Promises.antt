@@ -21,11 +21,13 @@ SeesIn spot free m e = Sees spot (bases_of m) (free_at free m) m.cells e
 
 -- the number of an expression is xored into a register, or its fault is a trap, either way; nothing else differs
 pub record ValueLaw (spot : List ℕ → Spot) (free into : ℕ) (e : Expression) (p : List Symbol) : Type 0 where
-  pub xors : (im : Image) (d : Bool) (m : Memory) → Ready free (words e) m → SeesIn spot free m e → Xored into (value_steps e) m (number spot (bases_of m) m.cells e) im p d
+  pub xors : (im : Image) (d : Bool) (m : Memory) → Ready free (words e) m → SeesIn spot free m e
+      → Xored into (value_steps e) m (number spot (bases_of m) m.cells e) im p d
 
 -- the truth of it
 pub record TestLaw (spot : List ℕ → Spot) (free into : ℕ) (e : Expression) (p : List Symbol) : Type 0 where
-  pub xors : (im : Image) (d : Bool) (m : Memory) → Ready free (words e) m → SeesIn spot free m e → Xored into (test_steps e) m (truth_of (number spot (bases_of m) m.cells e)) im p d
+  pub xors : (im : Image) (d : Bool) (m : Memory) → Ready free (words e) m → SeesIn spot free m e
+      → Xored into (test_steps e) m (truth_of (number spot (bases_of m) m.cells e)) im p d
 
 -- what a statement on places needs
 pub record CanRun (spot : List ℕ → Spot) (free n : ℕ) (e e' : Expression) (m : Memory) : Type 0 where
@@ -39,14 +41,53 @@ IsTrap im p d m code steps = (k : ℕ) × (k ≤ steps) × Runs im p d m (Trappe
 
 -- forward the place is updated, backward the update is undone; the place's fault comes before the value's, and then the one of a shared array
 pub record UpdateLaw (spot : List ℕ → Spot) (free : ℕ) (op : UpdateOp) (target : Lvalue) (value : Expression) (p : List Symbol) : Type 0 where
-  pub updates : (im : Image) (d : Bool) (m : Memory) → CanRun spot free (place_words target + words value) (read_of target) value m → (a v : ℕ) → place_address spot (bases_of m) m.cells target ≡ Ok a → number spot (bases_of m) m.cells value ≡ Ok v → update_shares spot (bases_of m) m.cells target value ≡ false → Stays spot (bases_of m) (free_at free m) target value m.cells (updated_at d op a v m.cells) → Runs im p d m (Done (record m { cells = updated_at d op a v m.cells }) (update_steps target value))
-  pub place_faults : (im : Image) (d : Bool) (m : Memory) → CanRun spot free (place_words target + words value) (read_of target) value m → (code : ℕ) → place_address spot (bases_of m) m.cells target ≡ Err code → IsTrap im p d m code (place_steps target)
-  pub value_faults : (im : Image) (d : Bool) (m : Memory) → CanRun spot free (place_words target + words value) (read_of target) value m → (a code : ℕ) → place_address spot (bases_of m) m.cells target ≡ Ok a → number spot (bases_of m) m.cells value ≡ Err code → IsTrap im p d m code (place_steps target + fetch_steps value)
-  pub sharing_faults : (im : Image) (d : Bool) (m : Memory) → CanRun spot free (place_words target + words value) (read_of target) value m → (a v : ℕ) → place_address spot (bases_of m) m.cells target ≡ Ok a → number spot (bases_of m) m.cells value ≡ Ok v → update_shares spot (bases_of m) m.cells target value ≡ true → IsTrap im p d m shared_array_fault (place_steps target + fetch_steps value + apart_steps target (index_of target) value)
+  pub updates : (im : Image) (d : Bool) (m : Memory)
+      → CanRun spot free (place_words target + words value) (read_of target) value m → (a v : ℕ)
+      → place_address spot (bases_of m) m.cells target ≡ Ok a
+      → number spot (bases_of m) m.cells value ≡ Ok v
+      → update_shares spot (bases_of m) m.cells target value ≡ false
+      → Stays spot (bases_of m) (free_at free m) target value m.cells (updated_at d op a v m.cells)
+      → Runs im p d m (Done (record m { cells = updated_at d op a v m.cells })
+      (update_steps target value))
+  pub place_faults : (im : Image) (d : Bool) (m : Memory)
+      → CanRun spot free (place_words target + words value) (read_of target) value m → (code : ℕ)
+      → place_address spot (bases_of m) m.cells target ≡ Err code
+      → IsTrap im p d m code (place_steps target)
+  pub value_faults : (im : Image) (d : Bool) (m : Memory)
+      → CanRun spot free (place_words target + words value) (read_of target) value m → (a code : ℕ)
+      → place_address spot (bases_of m) m.cells target ≡ Ok a
+      → number spot (bases_of m) m.cells value ≡ Err code
+      → IsTrap im p d m code (place_steps target + fetch_steps value)
+  pub sharing_faults : (im : Image) (d : Bool) (m : Memory)
+      → CanRun spot free (place_words target + words value) (read_of target) value m → (a v : ℕ)
+      → place_address spot (bases_of m) m.cells target ≡ Ok a
+      → number spot (bases_of m) m.cells value ≡ Ok v
+      → update_shares spot (bases_of m) m.cells target value ≡ true
+      → IsTrap im p d m shared_array_fault
+      (place_steps target + fetch_steps value + apart_steps target (index_of target) value)
 
 -- either way two places are swapped; where they are one, nothing changes
 pub record SwapLaw (spot : List ℕ → Spot) (free : ℕ) (left right : Lvalue) (p : List Symbol) : Type 0 where
-  pub swaps : (im : Image) (d : Bool) (m : Memory) → CanRun spot free (place_words left + place_words right) (read_of left) (read_of right) m → (a a' : ℕ) → place_address spot (bases_of m) m.cells left ≡ Ok a → place_address spot (bases_of m) m.cells right ≡ Ok a' → swap_shares spot (bases_of m) m.cells left right ≡ false → BothStay spot (bases_of m) (free_at free m) left right m.cells (swapped_at a a' m.cells) → Runs im p d m (Done (record m { cells = swapped_at a a' m.cells }) (swap_steps left right))
-  pub left_faults : (im : Image) (d : Bool) (m : Memory) → CanRun spot free (place_words left + place_words right) (read_of left) (read_of right) m → (code : ℕ) → place_address spot (bases_of m) m.cells left ≡ Err code → IsTrap im p d m code (place_steps left)
-  pub right_faults : (im : Image) (d : Bool) (m : Memory) → CanRun spot free (place_words left + place_words right) (read_of left) (read_of right) m → (a code : ℕ) → place_address spot (bases_of m) m.cells left ≡ Ok a → place_address spot (bases_of m) m.cells right ≡ Err code → IsTrap im p d m code (place_steps left + place_steps right)
-  pub sharing_faults : (im : Image) (d : Bool) (m : Memory) → CanRun spot free (place_words left + place_words right) (read_of left) (read_of right) m → (a a' : ℕ) → place_address spot (bases_of m) m.cells left ≡ Ok a → place_address spot (bases_of m) m.cells right ≡ Ok a' → swap_shares spot (bases_of m) m.cells left right ≡ true → IsTrap im p d m shared_array_fault (place_steps left + place_steps right + both_apart_steps left right)
+  pub swaps : (im : Image) (d : Bool) (m : Memory)
+      → CanRun spot free (place_words left + place_words right) (read_of left) (read_of right) m
+      → (a a' : ℕ) → place_address spot (bases_of m) m.cells left ≡ Ok a
+      → place_address spot (bases_of m) m.cells right ≡ Ok a'
+      → swap_shares spot (bases_of m) m.cells left right ≡ false
+      → BothStay spot (bases_of m) (free_at free m) left right m.cells (swapped_at a a' m.cells)
+      → Runs im p d m (Done (record m { cells = swapped_at a a' m.cells }) (swap_steps left right))
+  pub left_faults : (im : Image) (d : Bool) (m : Memory)
+      → CanRun spot free (place_words left + place_words right) (read_of left) (read_of right) m
+      → (code : ℕ) → place_address spot (bases_of m) m.cells left ≡ Err code
+      → IsTrap im p d m code (place_steps left)
+  pub right_faults : (im : Image) (d : Bool) (m : Memory)
+      → CanRun spot free (place_words left + place_words right) (read_of left) (read_of right) m
+      → (a code : ℕ) → place_address spot (bases_of m) m.cells left ≡ Ok a
+      → place_address spot (bases_of m) m.cells right ≡ Err code
+      → IsTrap im p d m code (place_steps left + place_steps right)
+  pub sharing_faults : (im : Image) (d : Bool) (m : Memory)
+      → CanRun spot free (place_words left + place_words right) (read_of left) (read_of right) m
+      → (a a' : ℕ) → place_address spot (bases_of m) m.cells left ≡ Ok a
+      → place_address spot (bases_of m) m.cells right ≡ Ok a'
+      → swap_shares spot (bases_of m) m.cells left right ≡ true
+      → IsTrap im p d m shared_array_fault
+      (place_steps left + place_steps right + both_apart_steps left right)

@@ -25,7 +25,7 @@ tables_long : (number : ℕ) (places : List (List ℕ)) → length places ≤ le
 tables_long number [] = omega arith
 tables_long number (p ∷ places) = let r = tables_long (number + 1) places in let a = length-append p (tables (number + 1) places) in omega (arith, r, a)
 
-offset_low : (number : ℕ) (places : List (List ℕ)) (class : ℕ) → table_offset places class ≤ length (tables number places)
+pub offset_low : (number : ℕ) (places : List (List ℕ)) (class : ℕ) → table_offset places class ≤ length (tables number places)
 offset_low number [] class = omega arith
 offset_low number (p ∷ places) zero = omega arith
 offset_low number (p ∷ places) (suc class) = let r = offset_low (number + 1) places class in let a = length-append p (tables (number + 1) places) in omega (arith, r, a)

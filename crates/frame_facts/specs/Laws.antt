@@ -51,7 +51,8 @@ pub record IsLinked (place : Place) (routine : ℕ → Ident → ℕ) : Type 0 w
   pub statics_are : place.statics ≡ image.statics
   pub few : length place.statics ≤ most_statics
   pub routes : (own class slot : ℕ) (name : Ident)
-      → is_or_inherits place.setting.program own class ≡ true → class < length place.setting.program.classes
+      → is_or_inherits place.setting.program own class ≡ true
+      → class < length place.setting.program.classes
       → slot_in (table_of place.setting.program) class name.text ≡ Some slot
       → Route place.setting.program has.places place.routines routine own slot name
   pub placed : (r : ℕ) → r < place.routines.count
@@ -86,7 +87,8 @@ pub record OpensMain (place : Place) (input : List FieldWord) (main : ℕ) : Typ
 abbrev pub MainIsOpen : Type 0
 MainIsOpen =
     (place : Place) (image : Segments) (input : List FieldWord) (main : ℕ)
-    → IsAccepted place.setting.program → HasStatics place.setting.program image → place.statics ≡ image.statics
+    → IsAccepted place.setting.program → HasStatics place.setting.program image
+    → place.statics ≡ image.statics
     → length place.statics ≤ most_statics → length image.code < 2 ^ 32
     → IsLimits place.setting.limits → IsValid place.setting.program input
     → main < place.routines.count → (place.routines.method main).body ≡ main_body place.setting.program

@@ -31,7 +31,9 @@ script_file name = record { name = name; limit = MOST_SCRIPT }
 
 -- what the commands print from the loaded memory on is printed, whatever stops they meet
 abbrev pub followed : Segments → Limits → List Command → Planned
-followed image limits commands = prints Done (shown commands (first_position image zero_registers (loaded image.statics limits [])))
+followed image limits commands =
+    prints Done (shown commands (first_position image zero_registers
+    (loaded image.statics limits [])))
 
 -- the first line of the script that is no command is told, or its commands are followed
 abbrev pub IsScriptPlan : Result (List Command) ScriptError → Segments → Limits → Planned → Type 0
@@ -44,11 +46,15 @@ abbrev pub IsRoomPlan : Option LoadError → Segments → Limits → (script : L
 IsRoomPlan (Some e) image limits script p = p ≡ prints InputRefused (load_line e)
 IsRoomPlan None image limits script p = IsScriptPlan (script_of script) image limits p
 
-abbrev pub IsDebugPlan : Result NotedImage ImageError → (heap deep : ℕ) → (script : List ℕ) → Planned → Type 0
+abbrev pub IsDebugPlan : Result NotedImage ImageError → (heap deep : ℕ) → (script : List ℕ)
+    → Planned → Type 0
 IsDebugPlan read heap deep script p =
-    OfImage (λ n. IsRoomPlan (limits_refusal heap deep MOST_DEEP) n.image (record { heap = heap; deep = deep }) script) read p
+    OfImage (λ n. IsRoomPlan (limits_refusal heap deep MOST_DEEP) n.image
+    (record { heap = heap; deep = deep }) script) read p
 
 -- the plan of `debug` of this file, by the script of another
 abbrev pub DebugsFile : (image : List ℕ) → (heap deep : ℕ) → (script : List ℕ) → Texts → Planned → Type 0
 DebugsFile image heap deep script texts p =
-    WithText texts image MOST_IMAGE (λ bytes. WithText texts script MOST_SCRIPT (λ text. IsDebugPlan (image_at bytes) heap deep text p))
+    WithText texts image MOST_IMAGE
+    (λ bytes. WithText texts script MOST_SCRIPT
+    (λ text. IsDebugPlan (image_at bytes) heap deep text p))

@@ -42,7 +42,11 @@ saved None last = None
 saved (Some name) last = Some (record { name = name; bytes = state_bytes (memory last.regs last.cells) })
 
 abbrev pub ran : NoteLists → (save : Option (List ℕ)) → End → Planned
-ran notes save end = record { verdict = verdict_of end.why; text = end_lines notes end; writing = saved save end.last }
+ran notes save end = record {
+  verdict = verdict_of end.why;
+  text = end_lines notes end;
+  writing = saved save end.last;
+}
 
 -- the first refusal of an image file is told, or P holds of the image that was read
 abbrev pub OfImage : (P : NotedImage → Planned → Type 0) → Result NotedImage ImageError → Planned → Type 0
@@ -52,21 +56,27 @@ OfImage P (Ok n) p = P n p
 -- where a run of an image begins: at the loaded memory, or at a state
 abbrev pub first_of : Segments → Limits → Option (List ℕ) → Result Position LoadError
 first_of image limits None = Ok (first_position image zero_registers (loaded image.statics limits []))
-first_of image limits (Some bytes) = at_start image (state_at (memory_size (length image.statics) limits) bytes)
+first_of image limits (Some bytes) =
+    at_start image (state_at (memory_size (length image.statics) limits) bytes)
 
 -- the state is judged, and then the run is made
-abbrev pub IsRanPlan : Result Position LoadError → NoteLists → (save : Option (List ℕ)) (steps : ℕ) → Planned → Type 0
+abbrev pub IsRanPlan : Result Position LoadError → NoteLists → (save : Option (List ℕ)) (steps : ℕ)
+    → Planned → Type 0
 IsRanPlan (Err e) notes save steps p = p ≡ prints ImageRefused (load_line e)
 IsRanPlan (Ok first) notes save steps p = p ≡ ran notes save (run first.image.code steps first.state)
 
 -- the size of the memory is tried before the state
-abbrev pub IsSizedPlan : Option LoadError → NotedImage → Limits → (state save : Option (List ℕ)) (steps : ℕ) → Planned → Type 0
+abbrev pub IsSizedPlan : Option LoadError → NotedImage → Limits
+    → (state save : Option (List ℕ)) (steps : ℕ) → Planned → Type 0
 IsSizedPlan (Some e) n limits state save steps p = p ≡ prints InputRefused (load_line e)
-IsSizedPlan None n limits state save steps p = IsRanPlan (first_of n.image limits state) n.notes save steps p
+IsSizedPlan None n limits state save steps p =
+    IsRanPlan (first_of n.image limits state) n.notes save steps p
 
-abbrev pub IsRunPlan : Result NotedImage ImageError → (heap deep steps : ℕ) (state save : Option (List ℕ)) → Planned → Type 0
+abbrev pub IsRunPlan : Result NotedImage ImageError
+    → (heap deep steps : ℕ) (state save : Option (List ℕ)) → Planned → Type 0
 IsRunPlan read heap deep steps state save p =
-    OfImage (λ n. IsSizedPlan (limits_refusal heap deep MOST_DEEP) n (record { heap = heap; deep = deep }) state save steps) read p
+    OfImage (λ n. IsSizedPlan (limits_refusal heap deep MOST_DEEP) n
+    (record { heap = heap; deep = deep }) state save steps) read p
 
 -- the image that an assembly text writes is written with its notes, or its first refusal is told
 abbrev pub IsAsmPlan : Result NotedImage AsmError → (name : List ℕ) → Planned → Type 0
@@ -75,25 +85,34 @@ IsAsmPlan (Ok n) name p = p ≡ writes name (image_bytes n) (cells_line (codes "
 
 -- the listing of an image that was read is written, with its notes
 abbrev pub IsListPlan : Result NotedImage ImageError → (name : List ℕ) → Planned → Type 0
-IsListPlan read name p = OfImage (λ n p. p ≡ writes name (listing n) (cells_line (codes "listed") n.image.code)) read p
+IsListPlan read name p =
+    OfImage (λ n p. p ≡ writes name (listing n) (cells_line (codes "listed") n.image.code)) read p
 
 -- the flipped image of an image that was read is written, with its notes turned
 abbrev pub IsFlipPlan : Result NotedImage ImageError → (name : List ℕ) → Planned → Type 0
-IsFlipPlan read name p = OfImage (λ n p. p ≡ writes name (image_bytes (flipped_noted n)) (cells_line (codes "flipped") n.image.code)) read p
+IsFlipPlan read name p =
+    OfImage (λ n p. p ≡ writes name (image_bytes (flipped_noted n))
+    (cells_line (codes "flipped") n.image.code)) read p
 
 -- the plan of `asm` of this file to that of an image
 abbrev pub AssemblesFile : (text image : List ℕ) → Texts → Planned → Type 0
-AssemblesFile text image texts p = WithText texts text MOST_TEXT (λ bytes. IsAsmPlan (noted_of_text bytes) image p)
+AssemblesFile text image texts p =
+    WithText texts text MOST_TEXT (λ bytes. IsAsmPlan (noted_of_text bytes) image p)
 
 -- the plan of `list` of this file to that of a text
 abbrev pub ListsFile : (image text : List ℕ) → Texts → Planned → Type 0
-ListsFile image text texts p = WithText texts image MOST_IMAGE (λ bytes. IsListPlan (image_at bytes) text p)
+ListsFile image text texts p =
+    WithText texts image MOST_IMAGE (λ bytes. IsListPlan (image_at bytes) text p)
 
 -- the plan of `flip` of this file to another
 abbrev pub FlipsFile : (image flipped : List ℕ) → Texts → Planned → Type 0
-FlipsFile image flipped texts p = WithText texts image MOST_IMAGE (λ bytes. IsFlipPlan (image_at bytes) flipped p)
+FlipsFile image flipped texts p =
+    WithText texts image MOST_IMAGE (λ bytes. IsFlipPlan (image_at bytes) flipped p)
 
 -- the plan of `run` of this file, from a state where one is named, to one where it is to be saved
-abbrev pub RunsFile : (image : List ℕ) → (heap deep steps : ℕ) → (state save : Option (List ℕ)) → Texts → Planned → Type 0
+abbrev pub RunsFile : (image : List ℕ) → (heap deep steps : ℕ) → (state save : Option (List ℕ))
+    → Texts → Planned → Type 0
 RunsFile image heap deep steps state save texts p =
-    WithText texts image MOST_IMAGE (λ bytes. WithState texts state (λ given. IsRunPlan (image_at bytes) heap deep steps given save p))
+    WithText texts image MOST_IMAGE
+    (λ bytes. WithState texts state (λ given. IsRunPlan (image_at bytes) heap deep steps given
+    save p))

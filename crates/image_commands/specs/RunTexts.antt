@@ -41,7 +41,8 @@ from_line (Some m) = codes "from " ++ (decimal m.at ++ line_end)
 
 -- a name with the word in its cell, 0 behind the memory
 abbrev pub name_line : (cells : List ℕ) → FieldName → List ℕ
-name_line cells n = n.text ++ (codes " = " ++ (word_shown (unwrap_or (slice_get cells n.cell) 0) ++ line_end))
+name_line cells n =
+    n.text ++ (codes " = " ++ (word_shown (unwrap_or (slice_get cells n.cell) 0) ++ line_end))
 
 abbrev pub name_lines : (cells : List ℕ) → List FieldName → List ℕ
 name_lines cells [] = []
@@ -53,10 +54,12 @@ HasAsciiText n = IsAscii n.text
 -- the place, the branch register and the direction
 abbrev pub place_lines : (pc : ℤ) (br : ℕ) (back : Bool) → List ℕ
 place_lines pc br back =
-    codes "pc " ++ (signed_decimal pc ++ (codes "\nbr " ++ (word_shown br ++ (codes "\ndir " ++ (direction back ++ line_end)))))
+    codes "pc " ++ (signed_decimal pc
+    ++ (codes "\nbr " ++ (word_shown br ++ (codes "\ndir " ++ (direction back ++ line_end)))))
 
 -- why the run ended, its steps, where the machine stands, its statement, the registers that are not 0, and the names' words
 abbrev pub end_lines : NoteLists → End → List ℕ
 end_lines notes end =
     ((((stop_line end.why ++ steps_line end.spent) ++ place_lines end.last.pc end.last.br end.last.back)
-    ++ from_line (narrowest end.last.pc None notes.marks)) ++ register_lines 0 end.last.regs) ++ name_lines end.last.cells notes.names
+    ++ from_line (narrowest end.last.pc None notes.marks)) ++ register_lines 0 end.last.regs)
+    ++ name_lines end.last.cells notes.names

@@ -41,7 +41,8 @@ pub fn debug<S: Shelf, L: Ledger>(
     room: Room,
     steps: &mut Steps<L>,
 ) -> Result<Plan, NoPlan>
-    ensures plan { GivesPlan (S.texts shelf.old) (DebugsFile image.now room.heap room.deep script.now) result }
+    ensures plan { GivesPlan (S.texts shelf.old)
+        (DebugsFile image.now room.heap room.deep script.now) result }
     ensures reads { OnlyReads (S.texts shelf.old) (S.texts shelf.new) (S.faults shelf.old) (S.faults shelf.new)
         (image_file image.now ∷ script_file script.now ∷ []) result }
 {
@@ -64,7 +65,8 @@ fn debug_over<L: Ledger>(
     steps: &mut Steps<L>,
 ) -> Result<Plan, NoMemory>
     requires { length script.now ≤ MOST_SCRIPT }
-    ensures { IfOk result (λ plan. IsDebugPlan (image_at bytes.now) room.heap room.deep script.now (planned plan)) }
+    ensures { IfOk result (λ plan. IsDebugPlan (image_at bytes.now) room.heap room.deep script.now
+        (planned plan)) }
 {
     match read_image(alloc, bytes) {
         Ok(noted) => debug_sized(alloc, noted.into_parts().0, script, room, steps),

@@ -22,7 +22,8 @@ use std::alloc::Global;
 /// Assembles the text in a file into an image file.
 pub fn asm<S: Shelf>(alloc: Global, shelf: &mut S, text: &str, image: &str) -> Result<Plan, NoPlan>
     ensures plan { GivesPlan (S.texts shelf.old) (AssemblesFile text.now image.now) result }
-    ensures reads { OnlyReads (S.texts shelf.old) (S.texts shelf.new) (S.faults shelf.old) (S.faults shelf.new) (assembly text.now ∷ []) result }
+    ensures reads { OnlyReads (S.texts shelf.old) (S.texts shelf.new) (S.faults shelf.old)
+        (S.faults shelf.new) (assembly text.now ∷ []) result }
 {
     let bytes = read_file(alloc, shelf, text, MOST_TEXT as u64)?;
     Ok(asm_text(alloc, &bytes, image)?)
@@ -42,7 +43,8 @@ fn asm_text(alloc: Global, text: &[u8], name: &str) -> Result<Plan, NoMemory>
 /// Writes the listing of the image in a file.
 pub fn list<S: Shelf>(alloc: Global, shelf: &mut S, image: &str, text: &str) -> Result<Plan, NoPlan>
     ensures plan { GivesPlan (S.texts shelf.old) (ListsFile image.now text.now) result }
-    ensures reads { OnlyReads (S.texts shelf.old) (S.texts shelf.new) (S.faults shelf.old) (S.faults shelf.new) (image_file image.now ∷ []) result }
+    ensures reads { OnlyReads (S.texts shelf.old) (S.texts shelf.new) (S.faults shelf.old)
+        (S.faults shelf.new) (image_file image.now ∷ []) result }
 {
     let bytes = read_file(alloc, shelf, image, MOST_IMAGE as u64)?;
     Ok(list_bytes(alloc, &bytes, text)?)
@@ -74,7 +76,8 @@ pub fn flip<S: Shelf>(
     flipped: &str,
 ) -> Result<Plan, NoPlan>
     ensures plan { GivesPlan (S.texts shelf.old) (FlipsFile image.now flipped.now) result }
-    ensures reads { OnlyReads (S.texts shelf.old) (S.texts shelf.new) (S.faults shelf.old) (S.faults shelf.new) (image_file image.now ∷ []) result }
+    ensures reads { OnlyReads (S.texts shelf.old) (S.texts shelf.new) (S.faults shelf.old)
+        (S.faults shelf.new) (image_file image.now ∷ []) result }
 {
     let bytes = read_file(alloc, shelf, image, MOST_IMAGE as u64)?;
     Ok(flip_bytes(alloc, &bytes, flipped)?)

@@ -35,7 +35,8 @@ pub fn end_lines(
 
 // Where a machine stands.
 fn add_place(text: &mut String, core: &Core) -> Result<(), AllocError>
-    ensures { OnOk result (string_bytes text.new ≡ string_bytes text.old ++ place_lines core.now.pc core.now.br core.now.back) }
+    ensures { OnOk result (string_bytes text.new
+        ≡ string_bytes text.old ++ place_lines core.now.pc core.now.br core.now.back) }
 {
     let pc = core.pc;
     let br = core.br.cast_signed();
@@ -101,7 +102,8 @@ fn add_statement(text: &mut String, mark: Option<Mark>) -> Result<(), AllocError
 // The lines of the names.
 fn add_names(text: &mut String, machine: &Machine, names: &[FieldName]) -> Result<(), AllocError>
     requires { All HasAsciiText names.now }
-    ensures { OnOk result (string_bytes text.new ≡ string_bytes text.old ++ name_lines machine.now.state.cells names.now) }
+    ensures { OnOk result (string_bytes text.new
+        ≡ string_bytes text.old ++ name_lines machine.now.state.cells names.now) }
 {
     for name in names {
         add_name(text, machine, name)?;
@@ -112,7 +114,8 @@ fn add_names(text: &mut String, machine: &Machine, names: &[FieldName]) -> Resul
 // A name with the word in its cell.
 fn add_name(text: &mut String, machine: &Machine, name: &FieldName) -> Result<(), AllocError>
     requires { IsAscii name.now.text }
-    ensures { OnOk result (string_bytes text.new ≡ string_bytes text.old ++ name_line machine.now.state.cells name.now) }
+    ensures { OnOk result (string_bytes text.new
+        ≡ string_bytes text.old ++ name_line machine.now.state.cells name.now) }
 {
     add_text(text, name.text.bytes())?;
     let value = word_at(machine, name.cell).cast_signed();

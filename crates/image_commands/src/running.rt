@@ -124,7 +124,8 @@ fn first_machine(
     state: &Option<Vec<u8>>,
 ) -> Result<Machine, LoadError>
     requires { IsLimits limits }
-    ensures exact { Gives (λ machine. machine) result (first_of image limits (option_map (λ v. v.items) state.now)) }
+    ensures exact { Gives (λ machine. machine) result
+        (first_of image limits (option_map (λ v. v.items) state.now)) }
     ensures first { IfOk result (λ machine. machine.made ≡ 0) }
 {
     match state {
@@ -153,7 +154,9 @@ fn run_machine<L: Ledger>(
     requires first { machine.made ≡ 0 }
     requires bound { bound < 2 ^ 63 }
     requires names { All HasAsciiText notes.now.names }
-    ensures { IfOk result (λ plan. planned plan ≡ ran_plan notes.now (save_of_names states.now) (run_of_code machine.image.code bound machine.state)) }
+    ensures { IfOk result (λ plan. planned plan
+        ≡ ran_plan notes.now (save_of_names states.now)
+        (run_of_code machine.image.code bound machine.state)) }
 {
     let mut machine = machine;
     let end = machine.run(bound, steps);
@@ -187,7 +190,8 @@ fn saved(
     machine: &Machine,
     states: &Option<StateNames>,
 ) -> Result<Option<Writing>, NoMemory>
-    ensures { IfOk result (λ writing. option_map written writing ≡ saved_state (save_of_names states.now) machine.now.state) }
+    ensures { IfOk result (λ writing. option_map written writing
+        ≡ saved_state (save_of_names states.now) machine.now.state) }
 {
     let Some(names) = states else {
         return Ok(None);

@@ -25,4 +25,5 @@ pub record Leads (code : List Cell) (n : ℕ) (from to : Memory) : Type 0 where
 
 -- wherever a run of the code leads, a run of the other code leads back, in as many steps
 abbrev pub LeadsBack : (code other : List Cell) → Type 0
-LeadsBack code other = (n : ℕ) (from to : Memory) → IsState (begun code from) → Leads code n from to → Leads other n to from
+LeadsBack code other = (n : ℕ) (from to : Memory) → IsState (begun code from) → Leads code n from to
+    → Leads other n to from

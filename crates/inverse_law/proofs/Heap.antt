@@ -39,7 +39,7 @@ plain_zeros f (var ∷ vars) = ap (λ v. v ∷ map (renamed f) (zero_values vars
     by kind.IntArray = refl
     by (kind.ClassArray c) = refl
 
-zeros_are_zero : (vars : List Var) → all_zero (zero_values vars) ≡ true
+pub zeros_are_zero : (vars : List Var) → all_zero (zero_values vars) ≡ true
 zeros_are_zero [] = refl
 zeros_are_zero (var ∷ vars) = ap (λ t. t && all_zero (zero_values vars)) (by var.kind) ∙ zeros_are_zero vars
   where

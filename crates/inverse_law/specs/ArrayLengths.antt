@@ -11,5 +11,6 @@ is_class_head (OfObjects class length) = false
 
 -- each array has an element, and no more than a positive word tells
 pub record ArraysHaveElements (store : Store) : Type 0 where
-  pub long : (name : ℕ) (object : Object) → object_named store name ≡ Some object → is_class_head object.head ≡ false
+  pub long : (name : ℕ) (object : Object) → object_named store name ≡ Some object
+      → is_class_head object.head ≡ false
       → is_less (length object.cells) 1 ≡ false

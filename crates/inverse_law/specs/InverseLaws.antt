@@ -32,7 +32,8 @@ InverseLaw =
     (program : Source) (limits : Limits) (input : List FieldWord) (fuel : ℕ) (end : State) (cost : ℕ)
     → IsAccepted program → IsLimits limits → IsValid program input
     → source program limits input fuel ≡ Done end cost
-    → LeadsBack (record { program = program; limits = limits }) (main_body program) (starting program input) end cost
+    → LeadsBack (record { program = program; limits = limits }) (main_body program)
+    (starting program input) end cost
 
 -- it leads back to a state with the report of its start
 pub record ShowsBack (setting : Setting) (body : Statements) (start end : State) (cost : ℕ) : Type 0 where
@@ -45,7 +46,8 @@ InputComesBack =
     (program : Source) (limits : Limits) (input : List FieldWord) (fuel : ℕ) (end : State) (cost : ℕ)
     → IsAccepted program → IsLimits limits → IsValid program input
     → source program limits input fuel ≡ Done end cost
-    → ShowsBack (record { program = program; limits = limits }) (main_body program) (starting program input) end cost
+    → ShowsBack (record { program = program; limits = limits }) (main_body program)
+    (starting program input) end cost
 
 -- the inverse of a checked block undoes what the block did from a sound state
 abbrev pub BlocksUndo : Type 0
@@ -55,13 +57,15 @@ BlocksUndo =
     → IsAccepted program
     → class < length program.classes → MeansSame locals shape
     → check_statements (setting_in program (table_of program) class) locals body ≡ passed → IsPlain body
-    → Sound (record { program = program; limits = limits }) extra shape class start → ArraysHaveElements start.store
+    → Sound (record { program = program; limits = limits }) extra shape class start
+    → ArraysHaveElements start.store
     → exec (record { program = program; limits = limits }) fuel body start ≡ Done end cost
     → LeadsBack (record { program = program; limits = limits }) body start end cost
 
 -- what `BlocksUndo` asks of arrays holds at the start of a run
 abbrev pub StartHasElements : Type 0
-StartHasElements = (program : Source) (input : List FieldWord) → ArraysHaveElements (starting program input).store
+StartHasElements = (program : Source) (input : List FieldWord)
+    → ArraysHaveElements (starting program input).store
 
 -- and checked blocks keep it
 abbrev pub ArraysKeepElements : Type 0
@@ -71,6 +75,7 @@ ArraysKeepElements =
     → IsAccepted program
     → class < length program.classes → MeansSame locals shape
     → check_statements (setting_in program (table_of program) class) locals body ≡ passed → IsPlain body
-    → Sound (record { program = program; limits = limits }) extra shape class start → ArraysHaveElements start.store
+    → Sound (record { program = program; limits = limits }) extra shape class start
+    → ArraysHaveElements start.store
     → exec (record { program = program; limits = limits }) fuel body start ≡ Done end cost
     → ArraysHaveElements end.store

@@ -23,7 +23,8 @@ InverseIsAccepted = (program : Source) → IsAccepted program → IsAccepted (in
 -- the main method of the inverse program leads back from an end, at this cost, to a state that agrees with the start
 pub record MainLeadsBack (program : Source) (limits : Limits) (begin end : State) (cost : ℕ) : Type 0 where
   pub back : State
-  pub runs : exec (record { program = inverse_program program; limits = limits }) cost (main_body (inverse_program program)) end
+  pub runs : exec (record { program = inverse_program program; limits = limits }) cost
+      (main_body (inverse_program program)) end
       ≡ Done back cost
   pub agrees : AgreeStates limits.heap begin back
 
@@ -65,7 +66,8 @@ abbrev pub FinalFieldsAreInput : Type 0
 FinalFieldsAreInput =
     (program : Source) (limits : Limits) (input : List FieldWord) (fuel : ℕ) (end : State) (cost : ℕ)
     → IsAccepted program → IsLimits limits → IsValid program input
-    → source program limits input fuel ≡ Done end cost → names_nothing (object_at end.store main_name).cells ≡ true
+    → source program limits input fuel ≡ Done end cost
+    → names_nothing (object_at end.store main_name).cells ≡ true
     → AreInput program (object_at end.store main_name).cells
 
 -- the inverse program, run with an input, ends at this cost in a state that agrees with the start, and its report is the start's
@@ -78,7 +80,8 @@ pub record RunsBack (program : Source) (limits : Limits) (begin : State) (input 
 -- what an accepted program did, its inverse program undoes at the same cost, where the end can be begun with
 abbrev pub InverseProgramUndoes : Type 0
 InverseProgramUndoes =
-    (program : Source) (limits : Limits) (input final : List FieldWord) (fuel : ℕ) (end : State) (cost : ℕ)
+    (program : Source) (limits : Limits) (input final : List FieldWord) (fuel : ℕ) (end : State)
+    (cost : ℕ)
     → IsAccepted program → IsLimits limits → IsValid program input
     → source program limits input fuel ≡ Done end cost → BeginsAnew program limits end final
     → RunsBack program limits (starting program input) final cost

@@ -17,5 +17,6 @@ pub record AgreeStates (h : ℕ) (first second : State) : Type 0 where
   pub self : second.self ≡ stores.there first.self
   pub depth : second.depth ≡ first.depth
   pub book : book_of (place h second.log) ≡ book_of (place h first.log)
-  pub blocks : (name : ℕ) (object : Object) → object_named first.store name ≡ Some object → name ≢ main_name
+  pub blocks : (name : ℕ) (object : Object) → object_named first.store name ≡ Some object
+      → name ≢ main_name
       → block_in (place h second.log) (stores.there name) ≡ block_in (place h first.log) name

@@ -14,7 +14,8 @@ direction true = codes "-1"
 
 -- a register, unless it is 0
 abbrev pub register_line : (number word : ℕ) → List ℕ
-register_line number word = if nat_eq word 0 then [] else codes "$" ++ (decimal number ++ (codes " = " ++ (word_shown word ++ line_end)))
+register_line number word = if nat_eq word 0 then []
+    else codes "$" ++ (decimal number ++ (codes " = " ++ (word_shown word ++ line_end)))
 
 -- the registers from this number on
 abbrev pub register_lines : (number : ℕ) → List ℕ → List ℕ
@@ -22,4 +23,5 @@ register_lines number [] = []
 register_lines number (word ∷ words) = register_line number word ++ register_lines (suc number) words
 
 abbrev pub cell_line : (number word : ℕ) → List ℕ
-cell_line number word = codes "cell " ++ (decimal number ++ (codes " = " ++ (word_shown word ++ line_end)))
+cell_line number word = codes "cell "
+    ++ (decimal number ++ (codes " = " ++ (word_shown word ++ line_end)))

@@ -55,15 +55,11 @@ use Rattle.object_codegen.specs.declared.shape.Shape.TheVariants.{Lengthy}
 use Rattle.object_codegen.specs.Creations.{creation_words}
 use Rattle.object_codegen.specs.News.{Lacks, ArrayLaw}
 use Rattle.object_codegen.proofs.MakeFacts as facts
-use Rattle.object_codegen.proofs.ArrayRows.{new_ints_does, delete_ints_does, new_objects_does, delete_objects_does}
+use Rattle.object_codegen.proofs.ArrayRows.{from_one_on, new_ints_does, delete_ints_does, new_objects_does, delete_objects_does}
 use Rattle.copy_laws.proofs.CountPlaces.{IsRefers, refers}
 use Rattle.making_laws.proofs.ArrayHeads.{Arrays, as_many, cells_fit, none_held, all_nothing, no_int, no_element, found_mark, found_some, of_ints, ints_place, OfObjectsOf, of_objects}
 use Rattle.making_laws.proofs.BlocksFit.{order_word, refers_by, word_by, sized, stands_there, head_word_is, lacks_block, takes_block, after_given, gives_block}
 use Rattle.making_laws.proofs.GoodFrames.{good, context as good_context}
-
--- the sign of a length
-length_small : (v : ℕ) → v < 2 ^ 32 → is_less v 1 ≡ false → (v < 2 ^ 31) × (v ≢ 0)
-length_small v h e = grind (arith, ints, nat_tests)
 
 module _ (p : Place) (routine : ℕ → Ident → ℕ) (linked : IsLinked p routine) (s : Scope) (u : Under) (name : Ident) (size : Expression) (array element : Kind) (head : ℕ → Head) (first : Value) (arrays : Arrays p.setting.program array element head first)
     (place_typed : place_type (typing_in p.setting.program s) (shape_of p.setting.program s) (Whole name) ≡ Ok array) (size_typed : type_of (typing_in p.setting.program s) (shape_of p.setting.program s) size ≡ Ok kind.Int) (apart : occurs name.text size ≡ false) (size_words : HasWords size) (room : HasRoom p.setting.program s (place_words (Whole name) + words size)) where
@@ -229,7 +225,7 @@ module _ (p : Place) (routine : ℕ → Ident → ℕ) (linked : IsLinked p rout
     refers = λ st m r. refers_by p routine linked classes s u st m r (own st) array (has st m r) (no_int P array element head first arrays);
     word = λ st m r. word_by p routine linked classes s u st m r (own st) array (has st m r);
     stands = λ st m k r e. stands st m r k e;
-    makes = λ st m v r q e l f. let b = length_small (number_of v) (int_word st m r v q) l in makes st m r (number_of v) e b.0 b.1 f;
+    makes = λ st m v r q e l f. let b = from_one_on (number_of v) (int_word st m r v q) l in makes st m r (number_of v) e b.0 b.1 f;
     made_same = λ st m v r q e l f. made_same st m r (number_of v);
     lacks = λ st m v r q e l f. lacks st m r (number_of v) (int_word st m r v q) f;
     frees = λ st m v k r q e l c z. frees st m r k e c z (number_of v) l;

@@ -32,6 +32,7 @@ use Rattle.sound_execution.proofs.Cells.{read_fits}
 use Rattle.sound_execution.proofs.Classes.{KnowsClasses}
 use Rattle.sound_execution.proofs.Makes.{NewClass, new_class, no_int_takes, class_is_inside, zeros_fit, zeros_hold_none}
 use Rattle.sound_execution.proofs.Stores.{live_object, differs}
+use Rattle.inverse_law.proofs.Heap.{zeros_are_zero}
 use Rattle.inverse_law.proofs.Making.{MakeParts, make_parts, made_place, made_apart, gone_place, gone_apart}
 use Rattle.inverse_law.proofs.Steady.{avoids_of}
 use Rattle.statement_laws.specs.Form.{Scope, StmtLaw}
@@ -63,16 +64,6 @@ use Rattle.copy_laws.proofs.CountPlaces.{refers}
 use Rattle.making_laws.proofs.Tables.{fields_few, tables_apart, table_small}
 use Rattle.making_laws.proofs.GoodFrames.{good, context}
 use Rattle.making_laws.proofs.BlocksFit as blocks
-
-zeros_are_zero : (vars : List Var) → all_zero (zero_values vars) ≡ true
-zeros_are_zero [] = refl
-zeros_are_zero (var ∷ vars) = ap (λ t. t && all_zero (zero_values vars)) (by var.kind) ∙ zeros_are_zero vars
-  where
-    by : (k : VarType) → is_zero (zero_value k) ≡ true
-    by type.Int = refl
-    by (type.Class c) = refl
-    by type.IntArray = refl
-    by (type.ClassArray c) = refl
 
 module _ (p : Place) (routine : ℕ → Ident → ℕ) (linked : IsLinked p routine) (classes : KnowsClasses p.setting.program) (s : Scope) (u : Under) (here : ℕ) (class : Ident) (target : Lvalue)
     (rules : make_rules (typing_in p.setting.program s) (shape_of p.setting.program s) here (AnObject class) target ≡ passed) (target_words : PlaceHasWords target) (room : HasRoom p.setting.program s (place_words target)) where

@@ -18,21 +18,11 @@ use Rattle.class_table.specs.Program.{IsAccepted}
 use Rattle.roopl_semantics.specs.Source.{main_fields}
 use Rattle.roopl_semantics.specs.Layout.{HasStatics, table_at, main_statics, tables}
 use Rattle.pisa_isa.specs.Image.{Segments}
-use Rattle.open_frame.proofs.TableWords.{table_offset, table_place}
+use Rattle.class_table.proofs.FreshFields.{neither, passed_at}
+use Rattle.open_frame.proofs.TableWords.{table_offset, table_place, tables_ascend}
+use Rattle.frame_facts.proofs.StaticsWords.{offset_low}
 
 -- ---- a rule that refuses nothing passes each class
-
-neither : {E : Type 0} (first last : Option E) → first_of first last ≡ None → (first ≡ None) × (last ≡ None)
-neither None last h = (refl, h)
-neither (Some error) last h = absurd (cc)
-
-passed_at : {E : Type 0} (rule : ℕ → ClassText → Option E) (n k : ℕ) (classes : List ClassText) → first_at rule n classes ≡ None → k < length classes → rule (n + k) (unwrap_or (slice_get classes k) no_class) ≡ None
-passed_at rule n k [] h inside = absurd (omega arith)
-passed_at rule n zero (class ∷ classes) h inside = let z : n + 0 ≡ n = omega arith in ap (λ i. rule i class) z ∙ (neither (rule n class) (first_at rule (n + 1) classes) h).0
-passed_at rule n (suc k) (class ∷ classes) h inside =
-    let rest = passed_at rule (n + 1) k classes (neither (rule n class) (first_at rule (n + 1) classes) h).1 (omega arith) in
-    let e : n + 1 + k ≡ n + suc k = omega arith in
-    subst (λ m. rule m (unwrap_or (slice_get classes k) no_class) ≡ None) e rest
 
 none_refused : {E : Type 0} (b : Bool) (e : E) → refused_if b e ≡ None → b ≡ false
 none_refused true e h = absurd (cc)
@@ -62,14 +52,6 @@ fields_few program accepted class inside =
 
 -- ---- addresses of tables
 
-tables_ascend : (program : Source) (c d : ℕ) → c < d → table_at program c < table_at program d
-tables_ascend program c zero h = absurd (omega arith)
-tables_ascend program c (suc d) h = by (λ l. tables_ascend program c d l) (nat_lt c d) refl
-  where
-    by : (c < d → table_at program c < table_at program d) → (b : Bool) → nat_lt c d ≡ b → table_at program c < table_at program (suc d)
-    by rest true e = let a = rest (ltb-true c d e) in omega arith
-    by rest false e = let a : c ≡ d = (let l = ltb-false c d e in omega arith) in let b = ap (table_at program) a in omega arith
-
 -- two classes have two tables
 pub tables_apart : (program : Source) (c d : ℕ) → c ≢ d → table_at program c ≢ table_at program d
 tables_apart program c d apart e =
@@ -78,11 +60,6 @@ tables_apart program c d apart e =
     by : (d < c) ⊎ (c ≤ d) → d ≤ c → ⊥
     by (inl l) h = let a = tables_ascend program d c l in omega (arith, a, e)
     by (inr l) h = apart (omega arith)
-
-offset_low : (number : ℕ) (places : List (List ℕ)) (class : ℕ) → table_offset places class ≤ length (tables number places)
-offset_low number [] class = omega arith
-offset_low number (p ∷ places) zero = omega arith
-offset_low number (p ∷ places) (suc class) = let r = offset_low (number + 1) places class in let a = length-append p (tables (number + 1) places) in omega (arith, r, a)
 
 -- each is a word
 pub table_small : (program : Source) (image : Segments) (has : HasStatics program image) → length image.statics ≤ 262144 → (class : ℕ) → class ≤ length program.classes → table_at program class < 2 ^ 32

@@ -17,7 +17,8 @@ NewsAreTold =
     → (s : Scope) (at : ℕ) (made : Creation) (target : Lvalue)
     → IsPassed place.setting.program s (New at made target) (creation_words made target)
     → (p : List Symbol)
-    → NewLaw place.setting.program (spot_in place.setting.program s) (free_in place.setting.program s) made target p
+    → NewLaw place.setting.program (spot_in place.setting.program s)
+    (free_in place.setting.program s) made target p
     → StmtLaw (world_of place) s (New at made target) p
 
 -- and its mirror that of a `delete`, back what the source says of its inverse
@@ -27,5 +28,6 @@ DeletesAreTold =
     → (s : Scope) (at : ℕ) (made : Creation) (target : Lvalue)
     → IsPassed place.setting.program s (Delete at made target) (creation_words made target)
     → (p : List Symbol)
-    → NewLaw place.setting.program (spot_in place.setting.program s) (free_in place.setting.program s) made target p
+    → NewLaw place.setting.program (spot_in place.setting.program s)
+    (free_in place.setting.program s) made target p
     → StmtLaw (world_of place) s (Delete at made target) (mirror_cells p)

@@ -45,7 +45,9 @@ above_row word = add 6 4 ∷ addi 6 (512 + word) ∷ []
 
 -- the value of a variable moves into word 16 + j of the frame above; back, the variable is to be 0
 abbrev pub move_code : Spot → ℕ → List Symbol
-move_code spot j = around (line (spot_row spot)) (around (line (above_row (first_word + j))) (check_cells 8 15 ++ line (exch 8 5 ∷ exch 8 6 ∷ [])))
+move_code spot j = around (line (spot_row spot))
+    (around (line (above_row (first_word + j)))
+    (check_cells 8 15 ++ line (exch 8 5 ∷ exch 8 6 ∷ [])))
 
 -- the last argument first
 abbrev pub moves_code : (Ident → Spot) → List Ident → List Symbol
@@ -94,7 +96,8 @@ main_code routine = around (line main_row) (Enter routine false ∷ [])
 
 -- a value goes into the word of a new variable; back, the word is to be the value, or fault 3 comes
 abbrev pub local_open : ℕ → List Symbol → List Symbol
-local_open word value = check_cells 12 3 ++ (value ++ around (line (spot_row (Frame word))) (line (exch 12 5 ∷ [])))
+local_open word value = check_cells 12 3
+    ++ (value ++ around (line (spot_row (Frame word))) (line (exch 12 5 ∷ [])))
 
 -- a block with a local variable: the codes of its value, its block and the closing value
 abbrev pub local_code : ℕ → (value body last : List Symbol) → List Symbol
@@ -118,7 +121,10 @@ onto_code = around (line (above_row 1)) (line (exch 3 6 ∷ [])) ++ line (add 3 
 
 -- before a call on the object of a variable
 abbrev pub front_on_code : (Ident → Spot) → Ident → ℕ → List Ident → List Symbol
-front_on_code spot x slot args = nil_code (spot x) ++ (depth_code ++ (moves_code spot args ++ (take_code (spot x) ++ (onto_code ++ line (addi 4 512 ∷ fetch_row slot)))))
+front_on_code spot x slot args =
+    nil_code (spot x) ++ (depth_code
+    ++ (moves_code spot args ++ (take_code (spot x)
+    ++ (onto_code ++ line (addi 4 512 ∷ fetch_row slot)))))
 
 -- a call or uncall on the object of a variable
 abbrev pub call_on_code : (Ident → Spot) → Bool → Ident → ℕ → List Ident → List Symbol
@@ -147,7 +153,8 @@ front_on_of x slot args = nil_code x ++ checked_of x slot args
 
 -- a call on the present object, by the spots of its arguments
 unfoldable pub own_cells : Bool → ℕ → List Spot → List Symbol
-own_cells back slot args = around (depth_code ++ (moves_of args ++ last_cells slot)) (enter_at_cells 12 back)
+own_cells back slot args = around (depth_code ++ (moves_of args ++ last_cells slot))
+    (enter_at_cells 12 back)
 
 -- the main piece, under one name
 unfoldable pub main_cells : ℕ → List Symbol

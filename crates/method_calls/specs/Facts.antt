@@ -127,53 +127,82 @@ pub record FrameFacts (w : World) (knows : Known w) : Type 0 where
       (s : Scope) (u : w.Under) (vals : List Moved) (st : State) (cells : List ℕ) (name : Ident)
       → w.opens s u vals st cells → knows.IsVariable s name → length vals < 32
       → not (nat_lt (knows.depth_of u) w.setting.limits.deep) ≡ false
-      → MovesIn cells (address (w.object_of u) (w.frame_of u) (knows.spot s name)) (w.frame_of u + (512 + (first_word + length vals))) (w.opens s u (record { from = name; value = read st (knows.cell_of s u name) } ∷ vals) (written st (knows.cell_of s u name) (cleared (read st (knows.cell_of s u name)))))
+      → MovesIn cells (address (w.object_of u) (w.frame_of u) (knows.spot s name))
+      (w.frame_of u + (512 + (first_word + length vals)))
+      (w.opens s u (record { from = name; value = read st (knows.cell_of s u name) } ∷ vals)
+      (written st (knows.cell_of s u name) (cleared (read st (knows.cell_of s u name)))))
   pub moves_back :
-      (s : Scope) (u : w.Under) (v : Value) (vals : List Moved) (st : State) (cells : List ℕ) (name : Ident)
+      (s : Scope) (u : w.Under) (v : Value) (vals : List Moved) (st : State) (cells : List ℕ)
+      (name : Ident)
       → w.opens s u (record { from = name; value = v } ∷ vals) st cells → knows.IsVariable s name
-      → MovesBack cells (address (w.object_of u) (w.frame_of u) (knows.spot s name)) (w.frame_of u + (512 + (first_word + length vals))) (is_zero (read st (knows.cell_of s u name))) (w.opens s u vals (written st (knows.cell_of s u name) v))
+      → MovesBack cells (address (w.object_of u) (w.frame_of u) (knows.spot s name))
+      (w.frame_of u + (512 + (first_word + length vals)))
+      (is_zero (read st (knows.cell_of s u name)))
+      (w.opens s u vals (written st (knows.cell_of s u name) v))
   -- ---- a frame with all arguments above it is the callee's open frame, and back
   pub enters :
-      (s : Scope) (u : w.Under) (vals : List Value) (st : State) (cells : List ℕ) (name : Ident) (args : List Ident)
+      (s : Scope) (u : w.Under) (vals : List Value) (st : State) (cells : List ℕ) (name : Ident)
+      (args : List Ident)
       → w.opens s u (pairs args vals) st cells → knows.IsMethod s name args → length vals ≡ length args
       → not (nat_lt (knows.depth_of u) w.setting.limits.deep) ≡ false
-      → w.opens (w.routines.scope (knows.routine (knows.class_of u) name)) (knows.deeper s u st) [] (record { frame = bound (w.routines.method (knows.routine (knows.class_of u) name)).params vals; self = st.self; depth = 1 + st.depth; store = st.store; log = st.log }) cells
+      → w.opens (w.routines.scope (knows.routine (knows.class_of u) name)) (knows.deeper s u st) []
+      (record {
+        frame = bound (w.routines.method (knows.routine (knows.class_of u) name)).params
+            vals;
+        self = st.self;
+        depth = 1 + st.depth;
+        store = st.store;
+        log = st.log;
+      }) cells
   pub leaves :
-      (s : Scope) (u : w.Under) (st end : State) (cells : List ℕ) (name : Ident) (args : List Ident) (vals : List Moved) (before : List ℕ)
+      (s : Scope) (u : w.Under) (st end : State) (cells : List ℕ) (name : Ident) (args : List Ident)
+      (vals : List Moved) (before : List ℕ)
       → w.opens s u vals st before
-      → w.opens (w.routines.scope (knows.routine (knows.class_of u) name)) (knows.deeper s u st) [] end cells
+      → w.opens (w.routines.scope (knows.routine (knows.class_of u) name)) (knows.deeper s u st) []
+      end cells
       → knows.IsMethod s name args
-      → w.opens s u (pairs args (map (λ binding. binding.value) end.frame)) (record st { store = end.store; log = end.log }) cells
+      → w.opens s u (pairs args (map (λ binding. binding.value) end.frame))
+      (record st { store = end.store; log = end.log }) cells
   pub as_many :
       (s : Scope) (u : w.Under) (st end : State) (cells : List ℕ) (name : Ident) (args : List Ident)
-      → w.opens (w.routines.scope (knows.routine (knows.class_of u) name)) (knows.deeper s u st) [] end cells
+      → w.opens (w.routines.scope (knows.routine (knows.class_of u) name)) (knows.deeper s u st) []
+      end cells
       → knows.IsMethod s name args → length (map (λ binding. binding.value) end.frame) ≡ length args
-  pub same_object : (s : Scope) (u : w.Under) (st : State) → w.object_of (knows.deeper s u st) ≡ w.object_of u
+  pub same_object : (s : Scope) (u : w.Under) (st : State)
+      → w.object_of (knows.deeper s u st) ≡ w.object_of u
   pub fresh : (s : Scope) (u : w.Under) (st : State) → w.IsFresh (knows.deeper s u st)
   pub next_frame : (s : Scope) (u : w.Under) (st : State)
       → w.frame_of (knows.deeper s u st) ≡ w.frame_of u + 512
   -- ---- the class table
-  pub is_routine : (s : Scope) (u : w.Under) (vals : List Moved) (st : State) (cells : List ℕ) (name : Ident) (args : List Ident)
+  pub is_routine : (s : Scope) (u : w.Under) (vals : List Moved) (st : State) (cells : List ℕ)
+      (name : Ident) (args : List Ident)
       → w.opens s u vals st cells → knows.IsMethod s name args
       → knows.routine (knows.class_of u) name < w.routines.count
-  pub is_method : (s : Scope) (u : w.Under) (vals : List Moved) (st : State) (cells : List ℕ) (name : Ident) (args : List Ident)
+  pub is_method : (s : Scope) (u : w.Under) (vals : List Moved) (st : State) (cells : List ℕ)
+      (name : Ident) (args : List Ident)
       → w.opens s u vals st cells → knows.IsMethod s name args
-      → method_named w.setting.program (knows.class_of u) name.text ≡ w.routines.method (knows.routine (knows.class_of u) name)
+      → method_named w.setting.program (knows.class_of u) name.text
+      ≡ w.routines.method (knows.routine (knows.class_of u) name)
   pub has_place :
       (s : Scope) (u : w.Under) (st end : State) (cells : List ℕ) (name : Ident) (args : List Ident)
-      → w.opens (w.routines.scope (knows.routine (knows.class_of u) name)) (knows.deeper s u st) [] end cells
+      → w.opens (w.routines.scope (knows.routine (knows.class_of u) name)) (knows.deeper s u st) []
+      end cells
       → knows.IsMethod s name args
-      → HasPlace cells (w.object_of u) (knows.slot s name) (w.routines.top (knows.routine (knows.class_of u) name) + 1)
+      → HasPlace cells (w.object_of u) (knows.slot s name)
+      (w.routines.top (knows.routine (knows.class_of u) name) + 1)
   pub slot_small : (s : Scope) (name : Ident) (args : List Ident) → knows.IsMethod s name args
       → knows.slot s name < 2 ^ 20
   -- ---- what is put by
-  pub saves : (s : Scope) (u : w.Under) (st : State) (cells : List ℕ) → w.opens s u [] st cells → w.IsFresh u
+  pub saves : (s : Scope) (u : w.Under) (st : State) (cells : List ℕ) → w.opens s u [] st cells
+      → w.IsFresh u
       → HasWords cells (w.frame_of u) 0 0
   pub put_opens : (s : Scope) (u : w.Under) (st : State) (cells : List ℕ) (link place : ℕ)
       → w.opens s u [] st cells → w.IsFresh u → link < 2 ^ 32 → place < 2 ^ 32
-      → w.opens s (knows.put u link place) [] st (slice_set (slice_set cells (w.frame_of u) link) (w.frame_of u + 2) place)
+      → w.opens s (knows.put u link place) [] st
+      (slice_set (slice_set cells (w.frame_of u) link) (w.frame_of u + 2) place)
   pub put_words : (s : Scope) (u : w.Under) (st : State) (cells : List ℕ) (link place : ℕ)
-      → w.opens s (knows.put u link place) [] st cells → w.IsFresh u → HasWords cells (w.frame_of u) link place
+      → w.opens s (knows.put u link place) [] st cells → w.IsFresh u
+      → HasWords cells (w.frame_of u) link place
   pub put_back : (s : Scope) (u : w.Under) (st : State) (cells : List ℕ) (link place : ℕ)
       → w.opens s (knows.put u link place) [] st cells → w.IsFresh u
       → w.opens s u [] st (slice_set (slice_set cells (w.frame_of u + 2) 0) (w.frame_of u) 0)
@@ -189,7 +218,8 @@ pub record MainFacts (w : World) (statics : List ℕ) (input : List FieldWord) :
   pub fresh : w.IsFresh first
   pub object_is : w.object_of first ≡ 40
   pub frame_small : w.frame_of first < 2 ^ 23
-  pub starts : w.opens (w.routines.scope main) first [] (starting w.setting.program input) (loaded statics w.setting.limits input)
+  pub starts : w.opens (w.routines.scope main) first [] (starting w.setting.program input)
+      (loaded statics w.setting.limits input)
   pub base_in : (st : State) (cells : List ℕ) → w.opens (w.routines.scope main) first [] st cells
       → 3 < length cells
   pub base_is : (st : State) (cells : List ℕ) → w.opens (w.routines.scope main) first [] st cells
@@ -211,9 +241,11 @@ pub record LocalFacts (w : World) (IsInit : Scope → Var → Expression → Typ
       → w.opens s u [] st cells → IsInit s var e → w.frame_of u + new_word s < length cells
   pub free_word : (s : Scope) (u : w.Under) (st : State) (cells : List ℕ) (var : Var) (e : Expression)
       → w.opens s u [] st cells → IsInit s var e → slice_index cells (w.frame_of u + new_word s) ≡ 0
-  pub declares : (s : Scope) (u : w.Under) (st : State) (cells : List ℕ) (var : Var) (e : Expression) (v : Value) (c : ℕ)
+  pub declares : (s : Scope) (u : w.Under) (st : State) (cells : List ℕ) (var : Var)
+      (e : Expression) (v : Value) (c : ℕ)
       → w.opens s u [] st cells → IsInit s var e → told (evaluated w.setting.program e st) ≡ Fine v c
-      → w.opens (with_var s var) u [] (opened var.name.text v st) (slice_set cells (w.frame_of u + new_word s) (w.word_of u st v))
+      → w.opens (with_var s var) u [] (opened var.name.text v st)
+      (slice_set cells (w.frame_of u + new_word s) (w.word_of u st v))
   pub var_in : (s : Scope) (u : w.Under) (st : State) (cells : List ℕ) (var : Var) (e : Expression)
       → w.opens (with_var s var) u [] st cells → IsInit s var e → w.frame_of u + new_word s < length cells
   pub var_word : (s : Scope) (u : w.Under) (st : State) (cells : List ℕ) (var : Var) (e : Expression)
@@ -223,20 +255,26 @@ pub record LocalFacts (w : World) (IsInit : Scope → Var → Expression → Typ
   pub undeclares : (s : Scope) (u : w.Under) (st : State) (cells : List ℕ) (var : Var) (e : Expression)
       → w.opens (with_var s var) u [] st cells → IsInit s var e
       → w.reads s u (closed st) (slice_set cells (w.frame_of u + new_word s) 0)
-  pub closes : (s : Scope) (u : w.Under) (st : State) (cells : List ℕ) (var : Var) (e : Expression) (v : Value) (c : ℕ)
+  pub closes : (s : Scope) (u : w.Under) (st : State) (cells : List ℕ) (var : Var) (e : Expression)
+      (v : Value) (c : ℕ)
       → w.opens (with_var s var) u [] st cells → IsInit s var e
-      → told (evaluated w.setting.program e (closed st)) ≡ Fine v c → same_value (read st (Slot 0)) v ≡ true
+      → told (evaluated w.setting.program e (closed st)) ≡ Fine v c
+      → same_value (read st (Slot 0)) v ≡ true
       → w.opens s u [] (closed st) (slice_set cells (w.frame_of u + new_word s) 0)
   pub not_named : (s : Scope) (u : w.Under) (st : State) (cells : List ℕ) (var : Var) (e : Expression)
       → w.opens (with_var s var) u [] st cells → IsInit s var e
       → evaluated w.setting.program e st ≡ evaluated w.setting.program e (closed st)
-  pub same_words : (s : Scope) (u : w.Under) (st : State) (cells : List ℕ) (var : Var) (e : Expression) (v : Value) (c : ℕ)
+  pub same_words : (s : Scope) (u : w.Under) (st : State) (cells : List ℕ) (var : Var)
+      (e : Expression) (v : Value) (c : ℕ)
       → w.opens (with_var s var) u [] st cells → IsInit s var e
-      → told (evaluated w.setting.program e (closed st)) ≡ Fine v c → same_value (read st (Slot 0)) v ≡ true
+      → told (evaluated w.setting.program e (closed st)) ≡ Fine v c
+      → same_value (read st (Slot 0)) v ≡ true
       → bit_xor (w.word_of u st (read st (Slot 0))) (w.word_of u (closed st) v) ≡ 0
-  pub other_words : (s : Scope) (u : w.Under) (st : State) (cells : List ℕ) (var : Var) (e : Expression) (v : Value) (c : ℕ)
+  pub other_words : (s : Scope) (u : w.Under) (st : State) (cells : List ℕ) (var : Var)
+      (e : Expression) (v : Value) (c : ℕ)
       → w.opens (with_var s var) u [] st cells → IsInit s var e
-      → told (evaluated w.setting.program e (closed st)) ≡ Fine v c → same_value (read st (Slot 0)) v ≡ false
+      → told (evaluated w.setting.program e (closed st)) ≡ Fine v c
+      → same_value (read st (Slot 0)) v ≡ false
       → bit_xor (w.word_of u st (read st (Slot 0))) (w.word_of u (closed st) v) ≢ 0
 
 -- the receiver's word leaves its cell, and the caller's object is put by in the frame above
@@ -279,62 +317,115 @@ pub record ReceiverFacts (w : World) (knows : Known w) (on : Receivers w) : Type
   pub at_in : (s : Scope) (u : w.Under) (st : State) (cells : List ℕ) (x name : Ident) (args : List Ident)
       → w.opens s u [] st cells → on.IsReceiver s x name args
       → address (w.object_of u) (w.frame_of u) (knows.spot s x) < length cells
-  pub word_small : (s : Scope) (u : w.Under) (st : State) (cells : List ℕ) (x name : Ident) (args : List Ident)
+  pub word_small : (s : Scope) (u : w.Under) (st : State) (cells : List ℕ) (x name : Ident)
+      (args : List Ident)
       → w.opens s u [] st cells → on.IsReceiver s x name args
       → slice_index cells (address (w.object_of u) (w.frame_of u) (knows.spot s x)) < 2 ^ 31
-  pub nil_word : (s : Scope) (u : w.Under) (st : State) (cells : List ℕ) (x name : Ident) (args : List Ident)
-      → w.opens s u [] st cells → on.IsReceiver s x name args → is_nil (read st (knows.cell_of s u x)) ≡ true
+  pub nil_word : (s : Scope) (u : w.Under) (st : State) (cells : List ℕ) (x name : Ident)
+      (args : List Ident)
+      → w.opens s u [] st cells → on.IsReceiver s x name args
+      → is_nil (read st (knows.cell_of s u x)) ≡ true
       → slice_index cells (address (w.object_of u) (w.frame_of u) (knows.spot s x)) ≡ 0
-  pub name_word : (s : Scope) (u : w.Under) (st : State) (cells : List ℕ) (x name : Ident) (args : List Ident)
-      → w.opens s u [] st cells → on.IsReceiver s x name args → is_nil (read st (knows.cell_of s u x)) ≡ false
+  pub name_word : (s : Scope) (u : w.Under) (st : State) (cells : List ℕ) (x name : Ident)
+      (args : List Ident)
+      → w.opens s u [] st cells → on.IsReceiver s x name args
+      → is_nil (read st (knows.cell_of s u x)) ≡ false
       → 0 < slice_index cells (address (w.object_of u) (w.frame_of u) (knows.spot s x))
-  pub is_name : (s : Scope) (u : w.Under) (st : State) (cells : List ℕ) (x name : Ident) (args : List Ident)
-      → w.opens s u [] st cells → on.IsReceiver s x name args → is_nil (read st (knows.cell_of s u x)) ≡ false
+  pub is_name : (s : Scope) (u : w.Under) (st : State) (cells : List ℕ) (x name : Ident)
+      (args : List Ident)
+      → w.opens s u [] st cells → on.IsReceiver s x name args
+      → is_nil (read st (knows.cell_of s u x)) ≡ false
       → read st (knows.cell_of s u x) ≡ Name (number_of (read st (knows.cell_of s u x)))
   -- its cell is there, so that it reads what was written
-  pub is_there : (s : Scope) (u : w.Under) (vals : List Moved) (st : State) (v : Value) (cells : List ℕ) (x name : Ident) (args : List Ident)
+  pub is_there : (s : Scope) (u : w.Under) (vals : List Moved) (st : State) (v : Value)
+      (cells : List ℕ) (x name : Ident) (args : List Ident)
       → w.opens s u vals (written st (knows.cell_of s u x) v) cells → on.IsReceiver s x name args
       → read (written st (knows.cell_of s u x) v) (knows.cell_of s u x) ≡ v
   -- which method it is, of an object that may stand in the variable
-  pub is_for : (s : Scope) (u : w.Under) (st caller : State) (cells : List ℕ) (x name : Ident) (args : List Ident)
-      → w.opens s u [] st cells → on.IsReceiver s x name args → is_nil (read st (knows.cell_of s u x)) ≡ false
+  pub is_for : (s : Scope) (u : w.Under) (st caller : State) (cells : List ℕ) (x name : Ident)
+      (args : List Ident)
+      → w.opens s u [] st cells → on.IsReceiver s x name args
+      → is_nil (read st (knows.cell_of s u x)) ≡ false
       → caller ≡ out_from (knows.cell_of s u x ∷ map (knows.cell_of s u) args) st
-      → on.IsFor s x (knows.class_of (on.deeper_on s u caller (number_of (read st (knows.cell_of s u x)))))
-  pub class_on : (s : Scope) (u : w.Under) (st caller : State) (cells : List ℕ) (x name : Ident) (args : List Ident)
-      → w.opens s u [] st cells → on.IsReceiver s x name args → is_nil (read st (knows.cell_of s u x)) ≡ false
+      → on.IsFor s x (knows.class_of
+      (on.deeper_on s u caller (number_of (read st (knows.cell_of s u x)))))
+  pub class_on : (s : Scope) (u : w.Under) (st caller : State) (cells : List ℕ) (x name : Ident)
+      (args : List Ident)
+      → w.opens s u [] st cells → on.IsReceiver s x name args
+      → is_nil (read st (knows.cell_of s u x)) ≡ false
       → caller ≡ out_from (knows.cell_of s u x ∷ map (knows.cell_of s u) args) st
-      → class_of w.setting st (number_of (read st (knows.cell_of s u x))) ≡ knows.class_of (on.deeper_on s u caller (number_of (read st (knows.cell_of s u x))))
-  pub routine_on : (s : Scope) (u : w.Under) (st caller : State) (cells : List ℕ) (x name : Ident) (args : List Ident)
-      → w.opens s u [] st cells → on.IsReceiver s x name args → is_nil (read st (knows.cell_of s u x)) ≡ false
+      → class_of w.setting st (number_of (read st (knows.cell_of s u x)))
+      ≡ knows.class_of (on.deeper_on s u caller (number_of (read st (knows.cell_of s u x))))
+  pub routine_on : (s : Scope) (u : w.Under) (st caller : State) (cells : List ℕ) (x name : Ident)
+      (args : List Ident)
+      → w.opens s u [] st cells → on.IsReceiver s x name args
+      → is_nil (read st (knows.cell_of s u x)) ≡ false
       → caller ≡ out_from (knows.cell_of s u x ∷ map (knows.cell_of s u) args) st
-      → knows.routine (knows.class_of (on.deeper_on s u caller (number_of (read st (knows.cell_of s u x))))) name < w.routines.count
-  pub method_on : (s : Scope) (u : w.Under) (st caller : State) (cells : List ℕ) (x name : Ident) (args : List Ident)
-      → w.opens s u [] st cells → on.IsReceiver s x name args → is_nil (read st (knows.cell_of s u x)) ≡ false
+      → knows.routine (knows.class_of
+      (on.deeper_on s u caller (number_of (read st (knows.cell_of s u x))))) name
+      < w.routines.count
+  pub method_on : (s : Scope) (u : w.Under) (st caller : State) (cells : List ℕ) (x name : Ident)
+      (args : List Ident)
+      → w.opens s u [] st cells → on.IsReceiver s x name args
+      → is_nil (read st (knows.cell_of s u x)) ≡ false
       → caller ≡ out_from (knows.cell_of s u x ∷ map (knows.cell_of s u) args) st
-      → method_named w.setting.program (knows.class_of (on.deeper_on s u caller (number_of (read st (knows.cell_of s u x))))) name.text ≡ w.routines.method (knows.routine (knows.class_of (on.deeper_on s u caller (number_of (read st (knows.cell_of s u x))))) name)
+      → method_named w.setting.program
+      (knows.class_of (on.deeper_on s u caller (number_of (read st (knows.cell_of s u x)))))
+      name.text ≡ w.routines.method
+      (knows.routine (knows.class_of
+      (on.deeper_on s u caller (number_of (read st (knows.cell_of s u x))))) name)
   -- the last move, and the callee's frame is open: st has its arguments moved, and its receiver not yet
   pub enters_on :
-      (s : Scope) (u : w.Under) (vals : List Value) (st : State) (cells : List ℕ) (x name : Ident) (args : List Ident) (n : ℕ)
+      (s : Scope) (u : w.Under) (vals : List Value) (st : State) (cells : List ℕ) (x name : Ident)
+      (args : List Ident) (n : ℕ)
       → w.opens s u (pairs args vals) st cells → on.IsReceiver s x name args → length vals ≡ length args
       → not (nat_lt (knows.depth_of u) w.setting.limits.deep) ≡ false
       → is_nil (read st (knows.cell_of s u x)) ≡ false → number_of (read st (knows.cell_of s u x)) ≡ n
-      → GoesOn cells (address (w.object_of u) (w.frame_of u) (knows.spot s x)) (w.frame_of u + (512 + 1)) (w.object_of u) (w.object_of (on.deeper_on s u (written st (knows.cell_of s u x) (cleared (read st (knows.cell_of s u x)))) n))
-      (w.opens (w.routines.scope (knows.routine (knows.class_of (on.deeper_on s u (written st (knows.cell_of s u x) (cleared (read st (knows.cell_of s u x)))) n)) name)) (on.deeper_on s u (written st (knows.cell_of s u x) (cleared (read st (knows.cell_of s u x)))) n) []
-      (record { frame = bound (w.routines.method (knows.routine (knows.class_of (on.deeper_on s u (written st (knows.cell_of s u x) (cleared (read st (knows.cell_of s u x)))) n)) name)).params vals; self = n; depth = 1 + st.depth; store = (written st (knows.cell_of s u x) (cleared (read st (knows.cell_of s u x)))).store; log = st.log }))
+      → GoesOn cells (address (w.object_of u) (w.frame_of u) (knows.spot s x))
+      (w.frame_of u + (512 + 1)) (w.object_of u)
+      (w.object_of (on.deeper_on s u
+      (written st (knows.cell_of s u x) (cleared (read st (knows.cell_of s u x)))) n))
+      (w.opens (w.routines.scope
+      (knows.routine (knows.class_of
+      (on.deeper_on s u (written st (knows.cell_of s u x)
+      (cleared (read st (knows.cell_of s u x)))) n)) name))
+      (on.deeper_on s u (written st (knows.cell_of s u x)
+      (cleared (read st (knows.cell_of s u x)))) n) []
+      (record {
+        frame = bound (w.routines.method
+            (knows.routine (knows.class_of
+            (on.deeper_on s u (written st (knows.cell_of s u x)
+            (cleared (read st (knows.cell_of s u x)))) n)) name)).params vals;
+        self = n;
+        depth = 1 + st.depth;
+        store = (written st (knows.cell_of s u x)
+            (cleared (read st (knows.cell_of s u x)))).store;
+        log = st.log;
+      }))
   pub leaves_on :
-      (s : Scope) (u : w.Under) (st0 st end : State) (cells : List ℕ) (x name : Ident) (args : List Ident) (n : ℕ) (vals : List Moved) (before : List ℕ)
+      (s : Scope) (u : w.Under) (st0 st end : State) (cells : List ℕ) (x name : Ident)
+      (args : List Ident) (n : ℕ) (vals : List Moved) (before : List ℕ)
       → w.opens s u vals st0 before
       → st ≡ written st0 (knows.cell_of s u x) (cleared (read st0 (knows.cell_of s u x)))
-      → w.opens (w.routines.scope (knows.routine (knows.class_of (on.deeper_on s u st n)) name)) (on.deeper_on s u st n) [] end cells
+      → w.opens (w.routines.scope (knows.routine (knows.class_of (on.deeper_on s u st n)) name))
+      (on.deeper_on s u st n) [] end cells
       → on.IsReceiver s x name args → on.IsFor s x (knows.class_of (on.deeper_on s u st n))
-      → ComesBack cells (address (w.object_of u) (w.frame_of u) (knows.spot s x)) (w.frame_of u + (512 + 1)) (w.object_of u) (w.object_of (on.deeper_on s u st n)) (is_zero (read (record st { store = end.store; log = end.log }) (knows.cell_of s u x)))
-      (w.opens s u (pairs args (map (λ binding. binding.value) end.frame)) (written (record st { store = end.store; log = end.log }) (knows.cell_of s u x) (Name n)))
-  pub as_many_on : (s : Scope) (u : w.Under) (st end : State) (cells : List ℕ) (x name : Ident) (args : List Ident) (n : ℕ)
-      → w.opens (w.routines.scope (knows.routine (knows.class_of (on.deeper_on s u st n)) name)) (on.deeper_on s u st n) [] end cells
+      → ComesBack cells (address (w.object_of u) (w.frame_of u) (knows.spot s x))
+      (w.frame_of u + (512 + 1)) (w.object_of u) (w.object_of (on.deeper_on s u st n))
+      (is_zero (read (record st { store = end.store; log = end.log }) (knows.cell_of s u x)))
+      (w.opens s u (pairs args (map (λ binding. binding.value) end.frame))
+      (written (record st { store = end.store; log = end.log }) (knows.cell_of s u x) (Name n)))
+  pub as_many_on : (s : Scope) (u : w.Under) (st end : State) (cells : List ℕ) (x name : Ident)
+      (args : List Ident) (n : ℕ)
+      → w.opens (w.routines.scope (knows.routine (knows.class_of (on.deeper_on s u st n)) name))
+      (on.deeper_on s u st n) [] end cells
       → on.IsReceiver s x name args → on.IsFor s x (knows.class_of (on.deeper_on s u st n))
       → length (map (λ binding. binding.value) end.frame) ≡ length args
   pub place_on :
-      (s : Scope) (u : w.Under) (st end : State) (cells : List ℕ) (x name : Ident) (args : List Ident) (n : ℕ)
-      → w.opens (w.routines.scope (knows.routine (knows.class_of (on.deeper_on s u st n)) name)) (on.deeper_on s u st n) [] end cells
+      (s : Scope) (u : w.Under) (st end : State) (cells : List ℕ) (x name : Ident)
+      (args : List Ident) (n : ℕ)
+      → w.opens (w.routines.scope (knows.routine (knows.class_of (on.deeper_on s u st n)) name))
+      (on.deeper_on s u st n) [] end cells
       → on.IsReceiver s x name args → on.IsFor s x (knows.class_of (on.deeper_on s u st n))
-      → HasPlace cells (w.object_of (on.deeper_on s u st n)) (on.slot_on s x name) (w.routines.top (knows.routine (knows.class_of (on.deeper_on s u st n)) name) + 1)
+      → HasPlace cells (w.object_of (on.deeper_on s u st n)) (on.slot_on s x name)
+      (w.routines.top (knows.routine (knows.class_of (on.deeper_on s u st n)) name) + 1)

@@ -26,20 +26,23 @@ use Rattle.method_calls.specs.Names.{HasMethod, IsReceiver, IsInit, known_of, re
 -- Its word takes the value and, behind the body, is to be the closing value, or it stops with fault 3; back it is the inverse
 -- statement, where the two values change places. So are the blocks that `construct` and calls on elements mean.
 pub record LocalCode (word : ℕ) (v p x all : List Symbol) : Type 0 where
-  pub law : (place : Place) (s : Scope) (at : ℕ) (var : Var) (value : Expression) (body : Statements) (end_var : Var) (end_value : Expression)
+  pub law : (place : Place) (s : Scope) (at : ℕ) (var : Var) (value : Expression)
+      (body : Statements) (end_var : Var) (end_value : Expression)
       → LocalFacts (world_of place) (IsInit place.setting.program)
       → new_word s ≡ word → end_var.name.text ≡ var.name.text
       → IsInit place.setting.program s var value → IsInit place.setting.program s var end_value
       → ValueLaw (world_of place) s value v → ValueLaw (world_of place) s end_value x
       → BlockLaw (world_of place) (with_var s var) body p
       → StmtLaw (world_of place) s (Local at var value body end_var end_value) all
-  pub construct : (place : Place) (s : Scope) (at : ℕ) (class : Ident) (var : Var) (body : Statements) (end : Ident)
+  pub construct : (place : Place) (s : Scope) (at : ℕ) (class : Ident) (var : Var)
+      (body : Statements) (end : Ident)
       → LocalFacts (world_of place) (IsInit place.setting.program)
       → new_word s ≡ word → IsInit place.setting.program s var (Null at)
       → ValueLaw (world_of place) s (Null at) v → ValueLaw (world_of place) s (Null at) x
       → BlockLaw (world_of place) (with_var s var) (constructed at class var.name body) p
       → StmtLaw (world_of place) s (Construct at class var.name body end) all
-  pub element : (place : Place) (s : Scope) (at : ℕ) (back : Bool) (array : Ident) (index : Expression) (method : Ident) (args : List Ident) (var : Var)
+  pub element : (place : Place) (s : Scope) (at : ℕ) (back : Bool) (array : Ident)
+      (index : Expression) (method : Ident) (args : List Ident) (var : Var)
       → LocalFacts (world_of place) (IsInit place.setting.program)
       → new_word s ≡ word → var.name ≡ element_name at → IsInit place.setting.program s var (Null at)
       → ValueLaw (world_of place) s (Null at) v → ValueLaw (world_of place) s (Null at) x
@@ -71,9 +74,11 @@ AreVariables w knows s (name ∷ names) = knows.IsVariable s name × AreVariable
 -- one more call may not be open, and with fault 15 where an argument does not move back. Which method it is, the class of the
 -- object tells.
 pub record OwnCallCode (back : Bool) (slot : ℕ) (spots : List Spot) (all : List Symbol) : Type 0 where
-  pub law : (place : Place) (routine : ℕ → Ident → ℕ) (s : Scope) (at : ℕ) (name : Ident) (args : List Ident)
+  pub law : (place : Place) (routine : ℕ → Ident → ℕ) (s : Scope) (at : ℕ) (name : Ident)
+      (args : List Ident)
       → FrameFacts (world_of place) (known_of place routine)
-      → HasMethod place.setting.program s s.class name args → slot_of place.setting.program s.class name ≡ slot
+      → HasMethod place.setting.program s s.class name args
+      → slot_of place.setting.program s.class name ≡ slot
       → AreVariables (world_of place) (known_of place routine) s args
       → map (spot_in place.setting.program s) args ≡ spots
       → NamesApart (world_of place) (known_of place routine) s args
@@ -82,12 +87,14 @@ pub record OwnCallCode (back : Bool) (slot : ℕ) (spots : List Spot) (all : Lis
 -- A call or uncall on the object of a variable at a spot: fault 5 comes before fault 14, where the variable is nil, and fault 15
 -- where it does not move back.
 pub record CallOnCode (back : Bool) (spot : Spot) (slot : ℕ) (spots : List Spot) (all : List Symbol) : Type 0 where
-  pub law : (place : Place) (routine : ℕ → Ident → ℕ) (s : Scope) (at : ℕ) (x name : Ident) (args : List Ident)
+  pub law : (place : Place) (routine : ℕ → Ident → ℕ) (s : Scope) (at : ℕ) (x name : Ident)
+      (args : List Ident)
       → FrameFacts (world_of place) (known_of place routine)
       → ReceiverFacts (world_of place) (known_of place routine) (receivers_of place)
       → IsReceiver place.setting.program s x name args
       → slot_of place.setting.program (class_named place.setting.program s x) name ≡ slot
-      → AreVariables (world_of place) (known_of place routine) s args → spot_in place.setting.program s x ≡ spot
+      → AreVariables (world_of place) (known_of place routine) s args
+      → spot_in place.setting.program s x ≡ spot
       → map (spot_in place.setting.program s) args ≡ spots
       → NamesApart (world_of place) (known_of place routine) s (x ∷ args)
       → StmtLaw (world_of place) s (Call at back (Some (Whole x)) name args) all
@@ -111,5 +118,7 @@ pub record MainCode (number : ℕ) (all : List Symbol) : Type 0 where
       → (main : MainFacts (world_of place) place.statics input)
       → place.routines.number main.main ≡ number → AllMethods (world_of place)
       → (n : ℕ) → Will place.im all false (quiet (loaded place.statics place.setting.limits input))
-      (Meets (λ st m. m ≡ quiet (layout place.setting.program place.setting.limits place.statics st.store st.log)) (rates_of place.setting) n 900
-      (told (exec place.setting n (main_body place.setting.program) (starting place.setting.program input))))
+      (Meets (λ st m. m ≡ quiet (layout place.setting.program place.setting.limits place.statics
+      st.store st.log)) (rates_of place.setting) n 900
+      (told (exec place.setting n (main_body place.setting.program)
+      (starting place.setting.program input))))

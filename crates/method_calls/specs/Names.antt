@@ -27,7 +27,8 @@ use Rattle.method_calls.specs.Facts.{IsNear, Known, Receivers}
 -- a name is a variable or a field, of a type, and stands near
 pub record IsVariable (program : Source) (s : Scope) (name : Ident) : Type 0 where
   pub kind : Kind
-  pub typed : variable_type (setting_in program (table_of program) s.class) (shape_of program s) name ≡ Ok kind
+  pub typed : variable_type (setting_in program (table_of program) s.class) (shape_of program s)
+      name ≡ Ok kind
   pub near : IsNear (spot_in program s name)
 
 -- names with their types
@@ -36,21 +37,25 @@ AllTyped program s [] [] = Unit {0}
 AllTyped program s [] (k ∷ ks) = ⊥
 AllTyped program s (x ∷ names) [] = ⊥
 AllTyped program s (x ∷ names) (k ∷ ks) =
-    (variable_type (setting_in program (table_of program) s.class) (shape_of program s) x ≡ Ok k) × AllTyped program s names ks
+    (variable_type (setting_in program (table_of program) s.class) (shape_of program s) x ≡ Ok k)
+    × AllTyped program s names ks
 
 -- a method of a class, with arguments of its parameters' types
 pub record HasMethod (program : Source) (s : Scope) (class : ℕ) (name : Ident) (args : List Ident) : Type 0 where
   pub slot : ℕ
   pub is_slot : slot_in (table_of program) class name.text ≡ Some slot
   pub small : slot < 2 ^ 20
-  pub types : AllTyped program s args (map (kind_of_var program) (parameters_of program (dispatch_in (table_of program) class slot)))
+  pub types : AllTyped program s args
+      (map (kind_of_var program) (parameters_of program
+      (dispatch_in (table_of program) class slot)))
   pub few : length args ≤ 32
   pub inside : class < length program.classes
 
 -- a variable of a class with the method
 pub record IsReceiver (program : Source) (s : Scope) (x name : Ident) (args : List Ident) : Type 0 where
   pub class : ℕ
-  pub typed : variable_type (setting_in program (table_of program) s.class) (shape_of program s) x ≡ Ok (kind.Class class)
+  pub typed : variable_type (setting_in program (table_of program) s.class) (shape_of program s) x
+      ≡ Ok (kind.Class class)
   pub near : IsNear (spot_in program s x)
   pub method : HasMethod program s class name args
 
@@ -68,7 +73,8 @@ class_found (Ok k) = class_of_kind k
 class_found (Err e) = 0
 
 abbrev pub class_named : Source → Scope → Ident → ℕ
-class_named program s x = class_found (variable_type (setting_in program (table_of program) s.class) (shape_of program s) x)
+class_named program s x =
+    class_found (variable_type (setting_in program (table_of program) s.class) (shape_of program s) x)
 
 -- ---- open calls
 
@@ -78,11 +84,24 @@ put u link place = record u { put_by = link ∷ slice_index u.put_by 1 ∷ place
 
 -- the open frame as a frame below
 abbrev pub caller_of : Scope → Under → State → Caller
-caller_of s u st = record { scope = s; frame = st.frame; self = u.self; class = u.class; object = u.object; put_by = u.put_by }
+caller_of s u st = record {
+  scope = s;
+  frame = st.frame;
+  self = u.self;
+  class = u.class;
+  object = u.object;
+  put_by = u.put_by;
+}
 
 -- while a call on the present object is open
 abbrev pub deeper : Scope → Under → State → Under
-deeper s u st = record { callers = caller_of s u st ∷ u.callers; self = u.self; class = u.class; object = u.object; put_by = replicate put_size 0 }
+deeper s u st = record {
+  callers = caller_of s u st ∷ u.callers;
+  self = u.self;
+  class = u.class;
+  object = u.object;
+  put_by = replicate put_size 0;
+}
 
 -- while a call on the object of a name is open: the caller's object is put by in word 1
 abbrev pub deeper_on : Place → Scope → Under → State → ℕ → Under
@@ -90,7 +109,8 @@ deeper_on p s u st name = record {
   callers = caller_of s u st ∷ u.callers;
   self = name;
   class = class_of_head (object_at st.store name).head;
-  object = address_of p.setting p.statics (unwrap_or (place p.setting.limits.heap st.log) no_placing) name;
+  object = address_of p.setting p.statics
+      (unwrap_or (place p.setting.limits.heap st.log) no_placing) name;
   put_by = 0 ∷ u.object ∷ replicate 14 0;
 }
 

@@ -110,7 +110,9 @@ fn change_piece(alloc: Global) -> Result<Piece, NoMemory>
 
 fn lifted_piece(alloc: Global, word: u32) -> Result<Piece, NoMemory>
     requires { word < 2 ^ 16 }
-    ensures code { IfOk result (λ p. p ≡ unmarked (around (line (above_row word)) (check_cells 8 15 ++ line (exch 8 5 ∷ exch 8 6 ∷ [])))) }
+    ensures code { IfOk result (λ p. p
+        ≡ unmarked (around (line (above_row word))
+        (check_cells 8 15 ++ line (exch 8 5 ∷ exch 8 6 ∷ [])))) }
 {
     bare_around(alloc, above_piece(alloc, word)?, change_piece(alloc)?)
 }
@@ -255,7 +257,8 @@ fn front_piece(alloc: Global, slot: u32, args: &[Spot]) -> Result<Piece, NoMemor
     requires near { All IsNear args.now }
     requires few { length args.now ≤ 32 }
     requires slot { slot < 2 ^ 20 }
-    ensures code { IfOk result (λ p. p ≡ unmarked (depth_code ++ (moves_of args.now ++ last_cells slot))) }
+    ensures code { IfOk result (λ p. p
+        ≡ unmarked (depth_code ++ (moves_of args.now ++ last_cells slot))) }
 {
     seq(depth_piece(alloc)?, arguments_piece(alloc, slot, args)?)
 }

@@ -17,7 +17,8 @@ use std::alloc::Global;
 
 fn store_piece(alloc: Global, word: u32) -> Result<Piece, NoMemory>
     requires word { word < 2 ^ 16 }
-    ensures code { IfOk result (λ p. p ≡ unmarked (around (line (spot_row (Frame word))) (line (exch 12 5 ∷ [])))) }
+    ensures code { IfOk result (λ p. p
+        ≡ unmarked (around (line (spot_row (Frame word))) (line (exch 12 5 ∷ [])))) }
 {
     bare_around(
         alloc,
@@ -91,7 +92,8 @@ pub fn local_block(
     requires last_none { last.marks ≡ [] }
     ensures law { IfOk result (λ p. LocalCode word value.cells body.cells last.cells p.cells) }
     ensures held { IfOk result (λ p. Holds body p) }
-    ensures size { IfOk result (λ p. length p.cells ≡ length value.cells + length body.cells + length last.cells + 20) }
+    ensures size { IfOk result (λ p. length p.cells
+        ≡ length value.cells + length body.cells + length last.cells + 20) }
 {
     local_piece(alloc, word, value, body, last)
 }

@@ -33,7 +33,8 @@ fn peek_piece(alloc: Global, spot: Spot) -> Result<Piece, NoMemory>
 }
 
 fn nil_test(alloc: Global) -> Result<Piece, NoMemory>
-    ensures code { IfOk result (λ p. p ≡ unmarked (around (line (sltx 11 7 8 ∷ xori 11 1 ∷ [])) (check_cells 11 5))) }
+    ensures code { IfOk result (λ p. p
+        ≡ unmarked (around (line (sltx 11 7 8 ∷ xori 11 1 ∷ [])) (check_cells 11 5))) }
 {
     let test = then(alloc, plain(alloc, sltx(11, 7, 8))?, xori(11, 1))?;
     bare_around(alloc, test, check_zero(alloc, 11, 5)?)
@@ -131,7 +132,8 @@ fn on_piece(
     requires all { All IsNear args.now }
     requires few { length args.now ≤ 32 }
     requires slot { slot < 2 ^ 20 }
-    ensures code { IfOk result (λ p. p ≡ unmarked (around (front_on_of spot slot args.now) (enter_at_cells 12 back))) }
+    ensures code { IfOk result (λ p. p
+        ≡ unmarked (around (front_on_of spot slot args.now) (enter_at_cells 12 back))) }
 {
     bare_around(
         alloc,

@@ -46,7 +46,8 @@ place_named name (var ∷ rest) =
 
 -- the type of the field of a name
 abbrev pub field_type : List Var → List ℕ → Option VarType
-field_type fields name = option_map (λ number. (unwrap_or (slice_get fields number) no_var).kind) (field_of fields name)
+field_type fields name = option_map (λ number. (unwrap_or (slice_get fields number) no_var).kind)
+    (field_of fields name)
 
 -- a name means the innermost variable of that name, else the field: its type
 abbrev pub kind_named : Known → List ℕ → Option VarType
@@ -55,7 +56,8 @@ kind_named known name = option_or (type_named name known.variables) (field_type 
 -- and where it stands
 abbrev pub spot_named : Known → List ℕ → Option Spot
 spot_named known name =
-    option_or (option_map Frame (word_named name known.variables)) (option_map Field (field_of known.fields name))
+    option_or (option_map Frame (word_named name known.variables))
+    (option_map Field (field_of known.fields name))
 
 -- for a name that means nothing the code takes the first field
 abbrev pub spot_of : Known → List ℕ → Spot

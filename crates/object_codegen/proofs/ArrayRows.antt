@@ -32,7 +32,8 @@ use Rattle.expr_uncompute.proofs.Meaning.{number_is}
 use Rattle.object_codegen.specs.declared.shape.Shape.TheVariants.{Lengthy}
 use Rattle.buddy_book.specs.Book.{order_for}
 use Rattle.object_codegen.specs.News.{filled, whole_steps, Makes, ArrayLaw}
-use Rattle.object_codegen.proofs.CopyRows.{Refers, rated, less}
+use Rattle.expr_uncompute.proofs.StatementRows.{rated, less}
+use Rattle.object_codegen.proofs.CopyRows.{Refers}
 use Rattle.object_codegen.proofs.MakeFacts.{length_at, count_at, is_empty, is_full, made, number_in, KeepsNames, ArrayStands, ArrayFacts}
 use Rattle.object_codegen.proofs.MakeKept.{kept_numbers}
 
@@ -40,7 +41,7 @@ use Rattle.object_codegen.proofs.MakeKept.{kept_numbers}
 below_one : (v : ℕ) → v < 2 ^ 32 → is_less v 1 ≡ true → is_less 0 v ≡ false
 below_one v h e = grind (arith, ints, nat_tests)
 
-from_one_on : (v : ℕ) → v < 2 ^ 32 → is_less v 1 ≡ false → (v < 2 ^ 31) × (v ≢ 0)
+pub from_one_on : (v : ℕ) → v < 2 ^ 32 → is_less v 1 ≡ false → (v < 2 ^ 31) × (v ≢ 0)
 from_one_on v h e = grind (arith, ints, nat_tests)
 
 -- ---- the rows

@@ -1,7 +1,6 @@
 -- Copies against the source's rows, in both directions, with faults, counts and steps, from what a relation gives.
 use Rattle.std.proofs.Common.{◌≡◌, ◌≢◌, ℕ, suc, ◌+◌, ◌-◌, ◌*◌, ◌^◌, ◌<◌, ◌≤◌, Bool, true, false, List, ◌++◌, length, refl, sym, ap, ◌∙◌, subst, arith}
 use Rattle.std.specs.Prelude.{slice_index, nat_eq, not, ◌||◌, Result, Ok, Err}
-use Rattle.std.proofs.Math.Nat.{mul-le-mul_right}
 use Rattle.std.proofs.lemmas.Bool.Decides.{nat_tests}
 use Rattle.rpp_tree.specs.declared.tree.VarType.{VarType}
 use Rattle.rpp_tree.specs.Tree.{Lvalue, Whole, Item, Source, Copy, Uncopy, index_nodes}
@@ -30,15 +29,10 @@ use Rattle.expr_uncompute.proofs.Bounds.{place_less, found_places_most, found_pl
 use Rattle.expr_uncompute.proofs.Meaning.{place_is}
 use Rattle.expr_uncompute.proofs.Sharing.{places_share_is}
 use Rattle.expr_uncompute.proofs.SourceLaws.{same_places}
+use Rattle.expr_uncompute.proofs.StatementRows.{rated, less}
 use Rattle.expr_uncompute.proofs.Transport.{place_means_by}
 use Rattle.expr_uncompute.proofs.Updates.{place_low}
 use Rattle.object_codegen.specs.Promises.{referring, unreferring, Places, CopyLaw, copy_steps}
-
-pub rated : (x b k c : ℕ) → x ≤ b → k ≤ x * c → k ≤ b * c
-rated x b k c h l = let e : x * c ≤ b * c = mul-le-mul_right c h in omega arith
-
-pub less : (b k c : ℕ) → 1 ≤ b → c ≤ k → c ≤ b * k
-less b k c h l = let e : 1 * k ≤ b * k = mul-le-mul_right k h in omega arith
 
 -- a value of a class or an array type: nil, or a name that stands somewhere
 abbrev pub Refers : (ℕ → ℕ) → Value → Type 0

@@ -31,7 +31,8 @@ use Rattle.expr_uncompute.proofs.Meaning.{place_is}
 use Rattle.expr_uncompute.proofs.Sharing.{update_shares_is}
 use Rattle.object_codegen.specs.declared.shape.Shape.TheVariants.{Fixed}
 use Rattle.object_codegen.specs.News.{filled, whole_steps, Makes, ObjectLaw}
-use Rattle.object_codegen.proofs.CopyRows.{Refers, rated, less}
+use Rattle.expr_uncompute.proofs.StatementRows.{rated, less}
+use Rattle.object_codegen.proofs.CopyRows.{Refers}
 use Rattle.object_codegen.proofs.MakeFacts.{made, number_in, length_at, count_at, is_empty, fresh_cells, same_class, is_full, KeepsNames, StandsThere, ObjectStands, ObjectFacts}
 use Rattle.object_codegen.proofs.MakeKept.{kept_places}
 

@@ -17,7 +17,8 @@ nil_place r code = around (exch content r ∷ []) (check_cells content code)
 
 -- it is not nil, or the fault
 abbrev pub some_place : (r code : ℕ) → List Symbol
-some_place r code = around (exch content r ∷ sltx outcome nought content ∷ xori outcome 1 ∷ []) (check_cells outcome code)
+some_place r code = around (exch content r ∷ sltx outcome nought content ∷ xori outcome 1 ∷ [])
+    (check_cells outcome code)
 
 -- ---- copies
 
@@ -30,7 +31,8 @@ abbrev pub same_words : List Symbol
 same_words = around (load_cells place ++ load_cells other_place) (check_cells first_word 10)
 
 abbrev pub two_places : List Symbol
-two_places = around (sltx outcome place other_place ∷ sltx outcome other_place place ∷ xori outcome 1 ∷ []) (check_cells outcome 10)
+two_places = around (sltx outcome place other_place ∷ sltx outcome other_place place
+    ∷ xori outcome 1 ∷ []) (check_cells outcome 10)
 
 -- what is tried before a copy, and before its inverse
 abbrev pub copy_checks : List Symbol
@@ -45,7 +47,8 @@ refer_cells = around (exch content other_place ∷ []) (xor content first_word �
 
 -- one more variable has it
 abbrev pub count_cells : List Symbol
-count_cells = around (addi first_word 1 ∷ []) (around (exch content first_word ∷ []) (addi content 1 ∷ []))
+count_cells = around (addi first_word 1 ∷ [])
+    (around (exch content first_word ∷ []) (addi content 1 ∷ []))
 
 abbrev pub copy_alter : List Symbol
 copy_alter = around (load_cells place) (refer_cells ++ count_cells)
@@ -75,11 +78,13 @@ some_reference = around (sltx outcome nought first_word ∷ xori outcome 1 ∷ [
 
 -- the first word of the block is what it is to be
 abbrev pub same_mark : Shape → List Symbol
-same_mark shape = around (exch content first_word ∷ mark_cell amount shape ∷ []) (check_cells content (mark_fault shape))
+same_mark shape = around (exch content first_word ∷ mark_cell amount shape ∷ [])
+    (check_cells content (mark_fault shape))
 
 -- one variable has it
 abbrev pub single : List Symbol
-single = around (addi first_word 1 ∷ exch content first_word ∷ xori content 1 ∷ []) (check_cells content 6)
+single = around (addi first_word 1 ∷ exch content first_word ∷ xori content 1 ∷ [])
+    (check_cells content 6)
 
 -- the flag turns where the word is past the first one, and where it is before the end
 abbrev pub walk_head : List Symbol
@@ -93,15 +98,18 @@ walk_cells = loop_cells outcome walk_head walk_tail
 
 -- where the cells begin and end
 abbrev pub ends_cells : Shape → List Symbol
-ends_cells shape = addi first_word 2 ∷ xor left_truth first_word ∷ xor right_truth first_word ∷ grow_cell right_truth shape ∷ []
+ends_cells shape = addi first_word 2 ∷ xor left_truth first_word ∷ xor right_truth first_word
+    ∷ grow_cell right_truth shape ∷ []
 
 -- all cells are 0
 abbrev pub zeros_cells : Shape → List Symbol
-zeros_cells shape = around (ends_cells shape) (around (xori outcome 1 ∷ []) walk_cells ++ mirror_cells (grow_cell first_word shape ∷ []))
+zeros_cells shape = around (ends_cells shape)
+    (around (xori outcome 1 ∷ []) walk_cells ++ mirror_cells (grow_cell first_word shape ∷ []))
 
 -- what is tried before a delete
 abbrev pub delete_checks : Shape → List Symbol
-delete_checks shape = around (load_cells place) (some_reference ++ (same_mark shape ++ (single ++ zeros_cells shape)))
+delete_checks shape = around (load_cells place)
+    (some_reference ++ (same_mark shape ++ (single ++ zeros_cells shape)))
 
 -- the length is above 0
 abbrev pub positive : List Symbol
@@ -139,12 +147,15 @@ at_length = 15
 -- the place and the length leave the registers that the allocator uses
 abbrev pub move_cells : Shape → List Symbol
 move_cells (Fixed table fields) = xor at_place place ∷ xor place at_place ∷ []
-move_cells Lengthy = xor at_place place ∷ xor place at_place ∷ xor at_length amount ∷ xor amount at_length ∷ []
+move_cells Lengthy = xor at_place place ∷ xor place at_place ∷ xor at_length amount
+    ∷ xor amount at_length ∷ []
 
 -- the block gets its first word and its count, and the place its address
 abbrev pub fill_cells : Shape → List Symbol
 fill_cells shape =
-    mark_cell at_length shape ∷ exch content block ∷ (around (addi block 1 ∷ []) (xori content 1 ∷ exch content block ∷ []) ++ exch block at_place ∷ [])
+    mark_cell at_length shape ∷ exch content block
+    ∷ (around (addi block 1 ∷ []) (xori content 1 ∷ exch content block ∷ [])
+    ++ exch block at_place ∷ [])
 
 -- the allocator is routine 0
 abbrev pub new_alter : Shape → List Symbol → List Symbol
@@ -181,4 +192,6 @@ order_bit k =
 -- 1 and the logarithm of the length's successor, bit by bit
 abbrev pub order_cells : List Symbol
 order_cells =
-    addi at_length 1 ∷ (order_bit 4 ++ (order_bit 3 ++ (order_bit 2 ++ (order_bit 1 ++ (order_bit 0 ++ addi order 1 ∷ addi at_length (negated 1) ∷ [])))))
+    addi at_length 1 ∷ (order_bit 4
+    ++ (order_bit 3 ++ (order_bit 2
+    ++ (order_bit 1 ++ (order_bit 0 ++ addi order 1 ∷ addi at_length (negated 1) ∷ [])))))

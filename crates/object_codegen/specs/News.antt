@@ -29,7 +29,8 @@ use Rattle.object_codegen.specs.Code.{mark_fault, mark_of, size_of}
 -- place, the length, and the length and the place as they were found
 abbrev pub room : (object frame c u w order block p v a q : ℕ) → List ℕ → Memory
 room object frame c u w order block p v a q cells = record {
-  regs = 0 ∷ 0 ∷ 0 ∷ object ∷ frame ∷ 0 ∷ c ∷ 0 ∷ u ∷ w ∷ 0 ∷ 0 ∷ order ∷ block ∷ p ∷ v ∷ 0 ∷ 0 ∷ 0 ∷ a ∷ q ∷ 0 ∷ 0 ∷ 0 ∷ 0 ∷ 0 ∷ 0 ∷ 0 ∷ 0 ∷ 0 ∷ 0 ∷ 0 ∷ [];
+  regs = 0 ∷ 0 ∷ 0 ∷ object ∷ frame ∷ 0 ∷ c ∷ 0 ∷ u ∷ w ∷ 0 ∷ 0 ∷ order ∷ block ∷ p ∷ v ∷ 0 ∷ 0 ∷ 0
+      ∷ a ∷ q ∷ 0 ∷ 0 ∷ 0 ∷ 0 ∷ 0 ∷ 0 ∷ 0 ∷ 0 ∷ 0 ∷ 0 ∷ 0 ∷ [];
   cells = cells;
 }
 
@@ -45,7 +46,8 @@ moved_length v Lengthy = v
 -- the memory of a call: the order and the block in their registers, the place and the length out of the
 -- allocator's way
 abbrev pub calling : (object frame order block p v : ℕ) → Shape → List ℕ → Memory
-calling object frame order block p v shape cells = room object frame 0 0 0 order block p (moved_length v shape)
+calling object frame order block p v shape cells =
+    room object frame 0 0 0 order block p (moved_length v shape)
     (left_length v shape) 0 cells
 
 -- over any filled words of the frame, the allocator called with this order takes the block x, and back it gives
@@ -111,7 +113,8 @@ order_steps Lengthy = 43
 -- the middle, with so many cells, where the allocator makes t steps
 abbrev pub middle_steps : Shape → (size t : ℕ) → ℕ
 middle_steps shape size t = check_steps shape +
-    (((move_steps shape + order_steps shape) + ((t + 7) + (move_steps shape + order_steps shape))) + (51 + 15 * size))
+    (((move_steps shape + order_steps shape) + ((t + 7) + (move_steps shape + order_steps shape))) +
+    (51 + 15 * size))
 
 -- and with what finds the place, in so many steps there and back
 abbrev pub whole_steps : (steps : ℕ) → Shape → (size t : ℕ) → ℕ
@@ -139,11 +142,13 @@ pub record Makes (im : Image) (m : Memory) (object frame low n steps a v order :
       → Will im p true m
       (LeavesWithin (record m { cells = given })
       (whole_steps steps shape (size_of v shape) least) (whole_steps steps shape (size_of v shape) most))
-  pub not_nil_faults : slice_index m.cells a ≢ 0 → Will im p false m (TrapsWithin not_nil_fault (steps + 5))
+  pub not_nil_faults : slice_index m.cells a ≢ 0
+      → Will im p false m (TrapsWithin not_nil_fault (steps + 5))
   pub full_faults : (most : ℕ) → IsLength v shape → slice_index m.cells a ≡ 0
       → Lacks im object frame order a v shape low n most m.cells
       → Will im p false m
-      (TrapsWithin heap_full_fault (steps + (check_steps shape + ((move_steps shape + order_steps shape) + most))))
+      (TrapsWithin heap_full_fault
+      (steps + (check_steps shape + ((move_steps shape + order_steps shape) + most))))
   pub nil_faults : slice_index m.cells a ≡ 0 → Will im p true m (TrapsWithin nil_fault (steps + 9))
   pub other_faults : (x : ℕ) → slice_index m.cells a ≡ x → x < low → x < 2 ^ 31 → x ≢ 0
       → slice_index m.cells x ≢ mark_of v shape
@@ -153,7 +158,8 @@ pub record Makes (im : Image) (m : Memory) (object frame low n steps a v order :
       → Will im p true m (TrapsWithin count_fault (steps + 26))
   pub not_empty_faults : (x i : ℕ) → slice_index m.cells a ≡ x → x + 2 + size_of v shape ≤ low
       → x + 2 + size_of v shape < 2 ^ 31 → x ≢ 0 → slice_index m.cells x ≡ mark_of v shape
-      → slice_index m.cells (x + 1) ≡ 1 → x + 2 ≤ i → i < x + 2 + size_of v shape → slice_index m.cells i ≢ 0
+      → slice_index m.cells (x + 1) ≡ 1 → x + 2 ≤ i → i < x + 2 + size_of v shape
+      → slice_index m.cells i ≢ 0
       → Will im p true m (TrapsWithin not_empty_fault (steps + (37 + 15 * size_of v shape)))
 
 -- a new and a delete of an object with a class's table and so many fields, in a block of this order
@@ -167,7 +173,8 @@ pub record ObjectLaw (spot : List ℕ → Spot) (free table fields order : ℕ) 
       (Fixed table fields) (Stays spot (bases_of m) (free_at free m) target (Null 0) m.cells) p
   pub place_faults : (im : Image) (d : Bool) (m : Memory)
       → CanRun spot free (place_words target) (read_of target) (Null 0) m → (code : ℕ)
-      → place_address spot (bases_of m) m.cells target ≡ Err code → IsTrap im p d m code (place_steps target)
+      → place_address spot (bases_of m) m.cells target ≡ Err code
+      → IsTrap im p d m code (place_steps target)
   pub sharing_faults : (im : Image) (d : Bool) (m : Memory)
       → CanRun spot free (place_words target) (read_of target) (Null 0) m → (a : ℕ)
       → place_address spot (bases_of m) m.cells target ≡ Ok a
@@ -178,9 +185,11 @@ pub record ObjectLaw (spot : List ℕ → Spot) (free table fields order : ℕ) 
 -- above 0
 pub record ArrayLaw (spot : List ℕ → Spot) (free : ℕ) (target : Lvalue) (size : Expression)
     (p : List Symbol) : Type 0 where
-  pub makes : (im : Image) (m : Memory) (object frame a v : ℕ) → m.regs ≡ registers 0 object frame 0 0 0 0 0
+  pub makes : (im : Image) (m : Memory) (object frame a v : ℕ)
+      → m.regs ≡ registers 0 object frame 0 0 0 0 0
       → CanRun spot free (place_words target + words size) (read_of target) size m
-      → place_address spot (bases_of m) m.cells target ≡ Ok a → number spot (bases_of m) m.cells size ≡ Ok v
+      → place_address spot (bases_of m) m.cells target ≡ Ok a
+      → number spot (bases_of m) m.cells size ≡ Ok v
       → update_shares spot (bases_of m) m.cells target size ≡ false
       → Makes im m object frame (free_at free m) (place_words target + words size)
       (found_value_steps target size) a v (order_for (2 + v)) Lengthy
@@ -188,19 +197,23 @@ pub record ArrayLaw (spot : List ℕ → Spot) (free : ℕ) (target : Lvalue) (s
   pub length_faults : (im : Image) (m : Memory) (object frame a v : ℕ)
       → m.regs ≡ registers 0 object frame 0 0 0 0 0
       → CanRun spot free (place_words target + words size) (read_of target) size m
-      → place_address spot (bases_of m) m.cells target ≡ Ok a → number spot (bases_of m) m.cells size ≡ Ok v
+      → place_address spot (bases_of m) m.cells target ≡ Ok a
+      → number spot (bases_of m) m.cells size ≡ Ok v
       → update_shares spot (bases_of m) m.cells target size ≡ false → slice_index m.cells a ≡ 0
       → is_less 0 v ≡ false
       → Will im p false m (TrapsWithin length_fault (found_value_steps target size + 12))
   pub place_faults : (im : Image) (d : Bool) (m : Memory)
       → CanRun spot free (place_words target + words size) (read_of target) size m → (code : ℕ)
-      → place_address spot (bases_of m) m.cells target ≡ Err code → IsTrap im p d m code (place_steps target)
+      → place_address spot (bases_of m) m.cells target ≡ Err code
+      → IsTrap im p d m code (place_steps target)
   pub length_value_faults : (im : Image) (d : Bool) (m : Memory)
       → CanRun spot free (place_words target + words size) (read_of target) size m → (a code : ℕ)
-      → place_address spot (bases_of m) m.cells target ≡ Ok a → number spot (bases_of m) m.cells size ≡ Err code
+      → place_address spot (bases_of m) m.cells target ≡ Ok a
+      → number spot (bases_of m) m.cells size ≡ Err code
       → IsTrap im p d m code (place_steps target + fetch_steps size)
   pub sharing_faults : (im : Image) (d : Bool) (m : Memory)
       → CanRun spot free (place_words target + words size) (read_of target) size m → (a v : ℕ)
-      → place_address spot (bases_of m) m.cells target ≡ Ok a → number spot (bases_of m) m.cells size ≡ Ok v
+      → place_address spot (bases_of m) m.cells target ≡ Ok a
+      → number spot (bases_of m) m.cells size ≡ Ok v
       → update_shares spot (bases_of m) m.cells target size ≡ true
       → IsTrap im p d m shared_array_fault (found_value_steps target size)

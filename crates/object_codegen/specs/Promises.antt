@@ -74,7 +74,8 @@ copy_steps source target = found_places_steps source target + (66 + found_places
 pub record CopyLaw (spot : List ℕ → Spot) (free : ℕ) (source target : Lvalue) (p : List Symbol) : Type 0 where
   pub copies : (im : Image) (m : Memory) (a a' x c : ℕ) → Places spot free source target m a a'
       → Copies (free_at free m) a a' x c m.cells
-      → PlacesStay spot (bases_of m) (free_at free m) source target m.cells (referring a' x (c + 1) m.cells)
+      → PlacesStay spot (bases_of m) (free_at free m) source target m.cells
+      (referring a' x (c + 1) m.cells)
       → Will im p false m
       (LeavesWithin (record m { cells = referring a' x (c + 1) m.cells })
       (copy_steps source target) (copy_steps source target))

@@ -230,7 +230,8 @@ fn between(alloc: Global, before: Piece, change: Piece, inverse: Piece) -> Resul
     requires before { before.marks ≡ [] }
     requires change { change.marks ≡ [] }
     requires inverse { inverse.marks ≡ [] }
-    ensures { IfOk result (λ p. p ≡ unmarked (before.cells ++ (change.cells ++ mirror_cells inverse.cells))) }
+    ensures { IfOk result (λ p. p ≡ unmarked
+        (before.cells ++ (change.cells ++ mirror_cells inverse.cells))) }
 {
     let behind = mirror(alloc, &inverse)?;
     let rest = seq(change, behind)?;

@@ -8,7 +8,7 @@ use Rattle.class_table.specs.Scope.{Locals}
 use Rattle.buddy_book.specs.Book.{Book, take, take_past, below_taken}
 use Rattle.buddy_book.specs.Place.{Placing, Taken, count_taken, place, after_request, with_block}
 use Rattle.buddy_book.specs.Shown.{Shown, TakenBlocks, order_in, with_taken, IsKept}
-use Rattle.buddy_book.proofs.Orders.{TookOrder, take_took}
+use Rattle.buddy_book.proofs.Orders.{TookOrder, take_took, take_past-above}
 use Rattle.buddy_book.proofs.Kept.{none_taken, take_kept}
 use Rattle.buddy_book.proofs.Table.{order_in-with}
 use Rattle.buddy_pisa.specs.Promise.{most_steps}
@@ -33,13 +33,6 @@ use Rattle.object_codegen.specs.declared.shape.Shape.{Shape}
 use Rattle.object_codegen.specs.News.{Allocates, Lacks}
 use Rattle.object_codegen.proofs.OverLayout.{IsLeft, allocates, lacks}
 use Rattle.object_laws.proofs.BookWords.{memory_small}
-
--- an order above the heap's has no block
-take_beyond : (lower size : ℕ) (book : Book) → length book ≤ lower → take_past lower size book ≡ None
-take_beyond zero size [] h = refl
-take_beyond zero size (x ∷ book) h = absurd (omega arith)
-take_beyond (suc lower) size [] h = refl
-take_beyond (suc lower) size (free ∷ higher) h = ap (below_taken free) (take_beyond lower size higher (omega arith))
 
 module _ (p : Place) (routine : ℕ → Ident → ℕ) (linked : IsLinked p routine) (extra : ℕ → ℕ) (shape : Locals) (class : ℕ) (st : State) (t : Typed p.setting extra shape class st) (g : IsGrounded (setup p.setting p.statics) st.store) where
   abbrev P : Source
@@ -155,4 +148,4 @@ module _ (p : Place) (routine : ℕ → Ident → ℕ) (linked : IsLinked p rout
           absurd (cc)
 
   pub none_above : (order : ℕ) → h < order → take at.book order ≡ None
-  none_above order l = take_beyond (order - 1) (2 ^ order) at.book (let k = t.placed.kept.lists in omega (arith, k, l))
+  none_above order l = take_past-above (order - 1) (2 ^ order) at.book (let k = t.placed.kept.lists in omega (arith, k, l))

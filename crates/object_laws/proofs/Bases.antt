@@ -6,14 +6,8 @@ use Rattle.pisa_isa.specs.Loaded.{statics_at}
 use Rattle.buddy_book.proofs.Orders.{pow_pos}
 use Rattle.buddy_book.proofs.StoredLaws.{two_power}
 use Rattle.roopl_semantics.specs.Execution.{Setting}
+use Rattle.open_frame.proofs.Tells.{rounded_below}
 use Rattle.statement_laws.specs.Frames.{base}
-
-rounded_below : (x s : ℕ) → 0 < s → (x + s - 1) / s * s < x + s
-rounded_below x s pos =
-    let n = x + s - 1 in
-    let e = mod-add-div n s in
-    let c : n / s * s ≡ s * (n / s) = omega arith in
-    omega arith
 
 pub base_small : (setting : Setting) (statics : List ℕ) → IsLimits setting.limits → length statics ≤ 262144 → base setting statics ≤ 2 ^ 21
 base_small setting statics limits few =

@@ -27,10 +27,14 @@ asked setting head st = Taken (2 + count_taken st.log) (order_of_cells (length (
 -- the state with a new object or array in a cell
 abbrev pub with_new : Setting → Head → List Value → Cell → State → State
 with_new setting head values cell st =
-    written (record st { store = (2 + count_taken st.log, new_object head values) ∷ st.store; log = asked setting head st }) cell (Name (2 + count_taken st.log))
+    written (record st {
+      store = (2 + count_taken st.log, new_object head values) ∷ st.store;
+      log = asked setting head st;
+    }) cell (Name (2 + count_taken st.log))
 
 -- a block of zeros is taken for it, and filled; then the frame is open with it
-pub record IsMade (setting : Setting) (statics : List ℕ) (s : Scope) (u : Under) (st : State) (cells : List ℕ)
+pub record IsMade (setting : Setting) (statics : List ℕ) (s : Scope) (u : Under) (st : State)
+    (cells : List ℕ)
     (cell : Cell) (head : Head) (values : List Value) : Type 0 where
   pub at : ℕ
   pub block : ℕ
@@ -43,7 +47,8 @@ abbrev pub NewsAreOpen : Type 0
 NewsAreOpen =
     (setting : Setting) (statics : List ℕ) → length statics ≤ most_statics
     → (s : Scope) (u : Under) (st : State) (cells : List ℕ) → Stands setting statics s u [] st cells
-    → (cell : Cell) (k : Kind) → cell_kind setting.program (shape_of setting.program s) st.store cell ≡ Some k
+    → (cell : Cell) (k : Kind) → cell_kind setting.program (shape_of setting.program s) st.store
+    cell ≡ Some k
     → read st cell ≡ Nil → (head : Head) (values : List Value) → head_fits setting.program k head ≡ true
     → ((store : Store) → AllFit setting.program store (cell_kinds setting.program head) values)
     → ((m : ℕ) → holders_among m values ≡ 0) → all_zero values ≡ true → HasElements head
@@ -53,14 +58,16 @@ NewsAreOpen =
     → IsMade setting statics s u st cells cell head values
 
 -- the memory is one in which its block was taken and filled; with the block given back the frame is open without it
-pub record IsGone (setting : Setting) (statics : List ℕ) (s : Scope) (u : Under) (st : State) (cells : List ℕ)
+pub record IsGone (setting : Setting) (statics : List ℕ) (s : Scope) (u : Under) (st : State)
+    (cells : List ℕ)
     (cell : Cell) (n : ℕ) : Type 0 where
   pub at : ℕ
   pub block : ℕ
   pub given : List ℕ
   pub taken : List ℕ
   pub was : cells ≡ filled at block (head_word setting.program (object_at st.store n).head) taken
-  pub takes : Takes (behind setting statics u s) (length (object_at st.store n).cells) at block given taken
+  pub takes : Takes (behind setting statics u s) (length (object_at st.store n).cells) at block
+      given taken
   pub after : Stands setting statics s u [] (freed setting cell n st) given
 
 -- so it is with each of count 1 and of zeros that a cell names
@@ -68,7 +75,8 @@ abbrev pub DeletesAreOpen : Type 0
 DeletesAreOpen =
     (setting : Setting) (statics : List ℕ) → length statics ≤ most_statics
     → (s : Scope) (u : Under) (st : State) (cells : List ℕ) → Stands setting statics s u [] st cells
-    → (cell : Cell) (k : Kind) → cell_kind setting.program (shape_of setting.program s) st.store cell ≡ Some k
+    → (cell : Cell) (k : Kind) → cell_kind setting.program (shape_of setting.program s) st.store
+    cell ≡ Some k
     → is_int k ≡ false → (n : ℕ) → read st cell ≡ Name n → (object_at st.store n).count ≡ 1
     → all_zero (object_at st.store n).cells ≡ true
     → IsGone setting statics s u st cells cell n

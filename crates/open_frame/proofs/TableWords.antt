@@ -1,7 +1,8 @@
 -- The words of the class tables in the memory of an open frame.
-use Rattle.std.proofs.Common.{◌≡◌, ◌∙◌, sym, ap, refl, ℕ, zero, suc, ◌+◌, ◌-◌, ◌<◌, ◌≤◌, List, [], ◌∷◌, ◌++◌, map, length, drop, arith, length-append}
+use Rattle.std.proofs.Common.{◌≡◌, ◌∙◌, sym, ap, refl, ℕ, zero, suc, ◌+◌, ◌-◌, ◌<◌, ◌≤◌, Bool, true, false, List, [], ◌∷◌, ◌++◌, map, length, drop, arith, length-append}
+use Rattle.std.proofs.lemmas.Bool.{ltb-true, ltb-false}
 use Rattle.std.proofs.lemmas.List.{get_or_append_left, get_or-append_right, drop_at, length-map, length-replicate}
-use Rattle.std.specs.Prelude.{slice_get, slice_index}
+use Rattle.std.specs.Prelude.{nat_lt, slice_get, slice_index}
 use Rattle.std.specs.Option.{unwrap_or}
 use Rattle.rpp_tree.specs.Tree.{Source}
 use Rattle.class_table.specs.Classes.{class_slots}
@@ -115,3 +116,12 @@ table_low program image has own slot inside h =
     let total : length image.statics ≡ length (main_statics program) + length (tables 1 places) = ap length has.words ∙ length-append (main_statics program) (tables 1 places) in
     let low = table_inside 1 places own slot (omega arith) in
     omega arith
+
+-- the tables of the classes stand one behind the other
+pub tables_ascend : (program : Source) (c d : ℕ) → c < d → table_at program c < table_at program d
+tables_ascend program c zero h = absurd (omega arith)
+tables_ascend program c (suc d) h = by (λ l. tables_ascend program c d l) (nat_lt c d) refl
+  where
+    by : (c < d → table_at program c < table_at program d) → (b : Bool) → nat_lt c d ≡ b → table_at program c < table_at program (suc d)
+    by rest true e = let a = rest (ltb-true c d e) in omega arith
+    by rest false e = let a : c ≡ d = (let l = ltb-false c d e in omega arith) in let b = ap (table_at program) a in omega arith

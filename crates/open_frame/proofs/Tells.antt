@@ -31,7 +31,7 @@ use Rattle.open_frame.proofs.Memory.{base_above, second, fourth, fixed, statics,
 
 -- ---- the number of cells
 
-rounded_below : (x s : ℕ) → 0 < s → (x + s - 1) / s * s < x + s
+pub rounded_below : (x s : ℕ) → 0 < s → (x + s - 1) / s * s < x + s
 rounded_below x s pos =
     let n = x + s - 1 in
     let e = mod-add-div n s in

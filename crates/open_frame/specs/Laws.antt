@@ -18,13 +18,17 @@ with_word m address word = record m { cells = slice_set m.cells address word }
 -- write there
 pub record CellsAreWords (u : Setup) (shape : Locals) (at : Placing) (st : State) (below : List ℕ) (m : Machine) : Type 0 where
   pub reads : (cell : Cell) (k : Kind) → cell_kind u.setting.program shape st.store cell ≡ Some k
-      → slice_index m.cells (cell_address u at.blocks st cell) ≡ word_of (base_of u) at.blocks (read st cell)
-  pub writes : (cell : Cell) (k : Kind) (v : Value) → cell_kind u.setting.program shape st.store cell ≡ Some k
-      → Open u at below (written st cell v) (with_word m (cell_address u at.blocks st cell) (word_of (base_of u) at.blocks v))
+      → slice_index m.cells (cell_address u at.blocks st cell)
+      ≡ word_of (base_of u) at.blocks (read st cell)
+  pub writes : (cell : Cell) (k : Kind) (v : Value)
+      → cell_kind u.setting.program shape st.store cell ≡ Some k
+      → Open u at below (written st cell v)
+      (with_word m (cell_address u at.blocks st cell) (word_of (base_of u) at.blocks v))
 
 abbrev pub OpenCells : Type 0
 OpenCells =
-    (u : Setup) (extra : ℕ → ℕ) (shape : Locals) (class : ℕ) (st : State) (s : Typed u.setting extra shape class st)
+    (u : Setup) (extra : ℕ → ℕ) (shape : Locals) (class : ℕ) (st : State)
+    (s : Typed u.setting extra shape class st)
     (below : List ℕ) (m : Machine)
     → IsGrounded u st.store → Open u s.placed.at below st m → CellsAreWords u shape s.placed.at st below m
 

@@ -48,7 +48,8 @@ address_of u blocks name = if nat_eq name main_name then statics_at else base_of
 -- all cells, with these words on the stack and zeros above them
 abbrev pub memory : Setup → Placing → Store → List ℕ → List ℕ
 memory u at store stack =
-    laid u.setting.program u.setting.limits u.statics store at (overlaid (replicate (frame_size * u.setting.limits.deep) 0) 0 stack)
+    laid u.setting.program u.setting.limits u.statics store at
+    (overlaid (replicate (frame_size * u.setting.limits.deep) 0) 0 stack)
 
 -- the words of the variables, the outermost first
 abbrev pub frame_words : ℕ → List (ℕ × ℕ) → List Binding → List ℕ

@@ -88,35 +88,53 @@ Back w d Q (Bad v k) = Q (Bad v (lead d + k))
 Back w d Q (Still k) = Q (Still (lead d + k))
 
 abbrev pub Back_at : ℕ → ℕ → ℕ → Bool → (Outcome → Type 0) → Outcome → Type 0
-Back_at a s w d Q (Done m k) = (reg m 2 ≡ w) × ((e : ℕ) → 6 ≤ e → e ≤ 15 → Q (Done (with_reg m 2 (left_in d (reg m a) s)) (k + e)))
+Back_at a s w d Q (Done m k) = (reg m 2 ≡ w)
+    × ((e : ℕ) → 6 ≤ e → e ≤ 15 → Q (Done (with_reg m 2 (left_in d (reg m a) s)) (k + e)))
 Back_at a s w d Q (Trapped v k) = (e : ℕ) → 6 ≤ e → e ≤ 15 → Q (Trapped v (k + e))
 Back_at a s w d Q (Bad v k) = (e : ℕ) → 6 ≤ e → e ≤ 15 → Q (Bad v (k + e))
 Back_at a s w d Q (Still k) = (e : ℕ) → 6 ≤ e → e ≤ 15 → Q (Still (k + e))
 
 -- at most j rounds of a loop
-abbrev pub rounds_fine : ℕ → (Bool → Memory → (Outcome → Type 0) → Type 0) → (Bool → Memory → (Outcome → Type 0) → Type 0) → ℕ → Bool → Memory → (Outcome → Type 0) → Type 0
+abbrev pub rounds_fine : ℕ → (Bool → Memory → (Outcome → Type 0) → Type 0)
+    → (Bool → Memory → (Outcome → Type 0) → Type 0) → ℕ → Bool → Memory → (Outcome → Type 0)
+    → Type 0
 rounds_fine r head tail zero d m Q = Q (Still 0)
 rounds_fine r head tail (suc j) d m Q =
     head d m (And_next (λ m1 k.
     ((reg m1 r ≢ 0) × Q (Done m1 (k + 3)))
-    ⊎ ((reg m1 r ≡ 0) × tail d m1 (And_next (λ m2 k2. (reg m2 r ≡ 0) × rounds_fine r head tail j d m2 (λ o. Q (after (k + to_tail d + (k2 + to_head d)) o))) (λ o. Q (after (k + to_tail d) o))))) Q)
+    ⊎ ((reg m1 r ≡ 0) × tail d m1
+    (And_next (λ m2 k2. (reg m2 r ≡ 0)
+    × rounds_fine r head tail j d m2 (λ o. Q (after (k + to_tail d + (k2 + to_head d)) o)))
+    (λ o. Q (after (k + to_tail d) o))))) Q)
 
 -- the conditions on a run, with n rounds or calls, one in the other; Q is to hold of its outcome
-abbrev pub fine_with : Routines → ℕ → (Shape → Bool → Memory → (Outcome → Type 0) → Type 0) → Shape → Bool → Memory → (Outcome → Type 0) → Type 0
+abbrev pub fine_with : Routines → ℕ → (Shape → Bool → Memory → (Outcome → Type 0) → Type 0) → Shape
+    → Bool → Memory → (Outcome → Type 0) → Type 0
 fine_with rs n calls Nothing d m Q = Q (Done m 0)
 fine_with rs n calls (One c) d m Q = Q (outcome_of d c m)
-fine_with rs n calls (Then p q) false m Q = fine_with rs n calls p false m (And_next (λ m1 k. fine_with rs n calls q false m1 (λ o. Q (after k o))) Q)
-fine_with rs n calls (Then p q) true m Q = fine_with rs n calls q true m (And_next (λ m1 k. fine_with rs n calls p true m1 (λ o. Q (after k o))) Q)
+fine_with rs n calls (Then p q) false m Q =
+    fine_with rs n calls p false m
+    (And_next (λ m1 k. fine_with rs n calls q false m1 (λ o. Q (after k o))) Q)
+fine_with rs n calls (Then p q) true m Q =
+    fine_with rs n calls q true m
+    (And_next (λ m1 k. fine_with rs n calls p true m1 (λ o. Q (after k o))) Q)
 fine_with rs n calls (Turned p) d m Q = fine_with rs n calls p (not d) m Q
 fine_with rs n calls (Choose r p q) d m Q =
     ((reg m r ≢ 0) × fine_with rs n calls p d m (λ o. Left (λ m1. reg m1 r ≢ 0) o × Q (around 3 3 o)))
     ⊎ ((reg m r ≡ 0) × fine_with rs n calls q d m (λ o. Left (λ m1. reg m1 r ≡ 0) o × Q (around_no d o)))
-fine_with rs n calls (Loop r p q) d m Q = (reg m r ≢ 0) × rounds_fine r (fine_with rs n calls p) (fine_with rs n calls q) n d m (λ o. Q (after 3 o))
-fine_with rs n calls (Check r code) d m Q = ((reg m r ≡ 0) × Q (Done m 4)) ⊎ ((reg m r ≢ 0) × ((k : ℕ) → k ≤ 4 → Q (Trapped code k)))
+fine_with rs n calls (Loop r p q) d m Q =
+    (reg m r ≢ 0) × rounds_fine r (fine_with rs n calls p) (fine_with rs n calls q) n d m
+    (λ o. Q (after 3 o))
+fine_with rs n calls (Check r code) d m Q =
+    ((reg m r ≡ 0) × Q (Done m 4)) ⊎ ((reg m r ≢ 0) × ((k : ℕ) → k ≤ 4 → Q (Trapped code k)))
 fine_with rs n calls (Call r b) d m Q =
-    (r < rs.count) × (2 < length m.regs) × (reg m 2 ≡ 0) × ((w : ℕ) → 0 < w → w < 2 ^ 32 → calls (rs.body r) (xor b d) (with_reg m 2 w) (Back w (xor b d) Q))
+    (r < rs.count) × (2 < length m.regs) × (reg m 2 ≡ 0)
+    × ((w : ℕ) → 0 < w → w < 2 ^ 32
+    → calls (rs.body r) (xor b d) (with_reg m 2 w) (Back w (xor b d) Q))
 fine_with rs n calls (Call_at a b) d m Q =
-    (r : ℕ) × (r < rs.count) × (2 < length m.regs) × (reg m 2 ≡ 0) × (reg m a ≡ rs.top r + 1) × ((w : ℕ) → 0 < w → w < 2 ^ 32 → calls (rs.body r) (xor b d) (with_reg m 2 w) (Back_at a (rs.top r + 1) w (xor b d) Q))
+    (r : ℕ) × (r < rs.count) × (2 < length m.regs) × (reg m 2 ≡ 0) × (reg m a ≡ rs.top r + 1)
+    × ((w : ℕ) → 0 < w → w < 2 ^ 32
+    → calls (rs.body r) (xor b d) (with_reg m 2 w) (Back_at a (rs.top r + 1) w (xor b d) Q))
 
 abbrev pub fine : Routines → ℕ → Shape → Bool → Memory → (Outcome → Type 0) → Type 0
 fine rs zero s d m Q = Q (Still 0)

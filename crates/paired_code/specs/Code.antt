@@ -64,7 +64,9 @@ pub record Marked : Type 0 where
 
 abbrev pub marked_parts : List Symbol → List Mark → List Marked
 marked_parts cells [] = []
-marked_parts cells (k ∷ ks) = record { at = k.at; cells = take (k.end - k.first) (drop k.first cells) } ∷ marked_parts cells ks
+marked_parts cells (k ∷ ks) =
+    record { at = k.at; cells = take (k.end - k.first) (drop k.first cells) }
+    ∷ marked_parts cells ks
 
 abbrev pub parts : Code → List Marked
 parts c = marked_parts c.cells c.marks
@@ -74,7 +76,8 @@ parts c = marked_parts c.cells c.marks
 -- those of the routines, of which the first has its top at t: each body stands three cells behind its routine's top
 abbrev pub routine_marks : ℕ → List Code → List Mark
 routine_marks t [] = []
-routine_marks t (b ∷ bs) = shift (t + 1 + 1 + 1) b.marks ++ routine_marks (t + 1 + 1 + 1 + length b.cells + 1) bs
+routine_marks t (b ∷ bs) = shift (t + 1 + 1 + 1) b.marks
+    ++ routine_marks (t + 1 + 1 + 1 + length b.cells + 1) bs
 
 -- main stands from cell 1 on, and the routines behind FINISH
 abbrev pub link_marks : Code → List Code → List Mark

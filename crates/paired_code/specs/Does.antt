@@ -34,7 +34,8 @@ pub record Rates : Type 0 where
 
 -- the run does what the source says with fuel n: within the rates b, and x steps more
 pub data Meets {A : Type 0} (R : A → Memory → Type 0) (b : Rates) (n x : ℕ) : Told A → Outcome → Type 0 where
-  fine : {a : A} {m : Memory} {c k : ℕ} → R a m → c ≤ b.counts * k → k ≤ b.steps * c + x → Meets R b n x (Fine a c) (Done m k)
+  fine : {a : A} {m : Memory} {c k : ℕ} → R a m → c ≤ b.counts * k → k ≤ b.steps * c + x
+      → Meets R b n x (Fine a c) (Done m k)
   faults : {w c k : ℕ} → k ≤ b.steps * c + x → Meets R b n x (Fault w c) (Trapped w k)
   more : {k : ℕ} → n ≤ b.counts * (k + 1) → Meets R b n x More (Still k)
 
@@ -50,7 +51,8 @@ in_order true (p ∷ ps) = in_order true ps ++ p
 
 -- a value of 0 or 1 that is xored into a register, with what it costs: v is the register's value before
 pub record Tells {A : Type 0} (im : Image) (p : List Symbol) (d : Bool) (R : Bool → A → Memory → Type 0) (b : Rates) (x : ℕ) (t : ℕ → A → Told Bool) : Type 0 where
-  pub tells : (n : ℕ) (v : Bool) (a : A) (m : Memory) → R v a m → Will im p d m (Meets (λ w m1. R (xor v w) a m1) b n x (t n a))
+  pub tells : (n : ℕ) (v : Bool) (a : A) (m : Memory) → R v a m
+      → Will im p d m (Meets (λ w m1. R (xor v w) a m1) b n x (t n a))
 
 abbrev pub chosen : {A : Type 0} → Bool → Told A → Told A → Told A
 chosen true s t = s
@@ -64,7 +66,9 @@ agreed false a = Fine a 0
 -- the meaning of `if t then p else q fi u`
 abbrev pub if_told : {A : Type 0} → (t u : ℕ → A → Told Bool) (p q : ℕ → A → Told A) → ℕ → A → Told A
 if_told t u p q n a =
-    ticked n (λ n. told_then (t n a) (λ c v. told_then (chosen v (p (n - c) a) (q (n - c) a)) (λ c2 a1. told_then (u (n - c - c2) a1) (λ c3 w. agreed (xor v w) a1))))
+    ticked n (λ n. told_then (t n a)
+    (λ c v. told_then (chosen v (p (n - c) a) (q (n - c) a))
+    (λ c2 a1. told_then (u (n - c - c2) a1) (λ c3 w. agreed (xor v w) a1))))
 
 -- its code, where t and u stand for the code of the tests
 abbrev pub if_cells : ℕ → (t u p q : List Symbol) → List Symbol

@@ -10,22 +10,31 @@ use Rattle.paired_code.specs.Pieces.{Outcome, Done, Trapped, Bad, Still, Ends, n
 
 -- all is p and then q, and back q and then p
 pub record SeqLaw (p q all : List Symbol) : Type 0 where
-  pub ahead : (im : Image) (m : Memory) (o : Outcome) (g : Memory → Outcome) → Runs im p false m o → ((m1 : Memory) (k : ℕ) → o ≡ Done m1 k → Runs im q false m1 (g m1)) → Runs im all false m (then_do o g)
-  pub back : (im : Image) (m : Memory) (o : Outcome) (g : Memory → Outcome) → Runs im q true m o → ((m1 : Memory) (k : ℕ) → o ≡ Done m1 k → Runs im p true m1 (g m1)) → Runs im all true m (then_do o g)
+  pub ahead : (im : Image) (m : Memory) (o : Outcome) (g : Memory → Outcome) → Runs im p false m o
+      → ((m1 : Memory) (k : ℕ) → o ≡ Done m1 k → Runs im q false m1 (g m1))
+      → Runs im all false m (then_do o g)
+  pub back : (im : Image) (m : Memory) (o : Outcome) (g : Memory → Outcome) → Runs im q true m o
+      → ((m1 : Memory) (k : ℕ) → o ≡ Done m1 k → Runs im p true m1 (g m1))
+      → Runs im all true m (then_do o g)
 
 -- all is p run the other way
 pub record MirrorLaw (p all : List Symbol) : Type 0 where
-  pub turns : (im : Image) (d : Bool) (m : Memory) (o : Outcome) → Runs im p (not d) m o → Runs im all d m o
-  pub returns : (im : Image) (d : Bool) (m : Memory) (o : Outcome) → Runs im all d m o → Runs im p (not d) m o
+  pub turns : (im : Image) (d : Bool) (m : Memory) (o : Outcome) → Runs im p (not d) m o
+      → Runs im all d m o
+  pub returns : (im : Image) (d : Bool) (m : Memory) (o : Outcome) → Runs im all d m o
+      → Runs im p (not d) m o
 
 -- all is p where the register is not 0, and else q
 pub record BranchLaw (r : ℕ) (p q all : List Symbol) : Type 0 where
-  pub yes_part : (im : Image) (d : Bool) (m : Memory) (o : Outcome) → reg m r ≢ 0 → Runs im p d m o → ((m1 : Memory) (k : ℕ) → o ≡ Done m1 k → reg m1 r ≢ 0) → Runs im all d m (around 3 3 o)
-  pub no_part : (im : Image) (d : Bool) (m : Memory) (o : Outcome) → reg m r ≡ 0 → Runs im q d m o → ((m1 : Memory) (k : ℕ) → o ≡ Done m1 k → reg m1 r ≡ 0) → Runs im all d m (around_no d o)
+  pub yes_part : (im : Image) (d : Bool) (m : Memory) (o : Outcome) → reg m r ≢ 0 → Runs im p d m o
+      → ((m1 : Memory) (k : ℕ) → o ≡ Done m1 k → reg m1 r ≢ 0) → Runs im all d m (around 3 3 o)
+  pub no_part : (im : Image) (d : Bool) (m : Memory) (o : Outcome) → reg m r ≡ 0 → Runs im q d m o
+      → ((m1 : Memory) (k : ℕ) → o ≡ Done m1 k → reg m1 r ≡ 0) → Runs im all d m (around_no d o)
 
 -- one step, by the cell's effect in the direction; or no step, where EXCH has a bad address
 abbrev pub outcome_of : Bool → Cell → Memory → Outcome
-outcome_of d c m = if has_cell c.op c.b (state (pos 0) 0 false m) then Done (effect_along d c m) 1 else Bad (reg m c.b) 0
+outcome_of d c m = if has_cell c.op c.b (state (pos 0) 0 false m) then Done (effect_along d c m) 1
+    else Bad (reg m c.b) 0
 
 abbrev pub PlainLaw : Cell → List Symbol → Type 0
 PlainLaw c all = (im : Image) (d : Bool) (m : Memory) → Runs im all d m (outcome_of d c m)
@@ -37,7 +46,8 @@ EmptyLaw all = (im : Image) (d : Bool) (m : Memory) → Runs im all d m (Done m 
 -- a stop with the code exactly where the register is not 0
 pub record CheckLaw (r code : ℕ) (all : List Symbol) : Type 0 where
   pub zero_part : (im : Image) (d : Bool) (m : Memory) → reg m r ≡ 0 → Runs im all d m (Done m 4)
-  pub other_part : (im : Image) (d : Bool) (m : Memory) → reg m r ≢ 0 → (k : ℕ) × (k ≤ 4) × Runs im all d m (Trapped code k)
+  pub other_part : (im : Image) (d : Bool) (m : Memory) → reg m r ≢ 0 → (k : ℕ) × (k ≤ 4)
+      × Runs im all d m (Trapped code k)
 
 -- what a body's run makes of a call, where it leaves $2 as it found it: w
 abbrev pub came_back : ℕ → Outcome → Type 0
@@ -57,7 +67,13 @@ called d (Still k) = Still (lead d + k)
 
 -- a call of routine r, forward or back: $2 is 0, and the body finds in it a word that is not 0, which it leaves there
 pub record EnterLaw (r : ℕ) (b : Bool) (all : List Symbol) : Type 0 where
-  pub enters : (im : Image) (top : ℕ) (body : List Symbol) (d : Bool) (m : Memory) (o : ℕ → Outcome) → Routine im r top body → Tidy im → 2 < length m.regs → reg m 2 ≡ 0 → ((w : ℕ) → 0 < w → w < 2 ^ 32 → Runs im body (xor b d) (with_reg m 2 w) (o w) × came_back w (o w)) → (f : Frame) (i : ℕ) → i + length all < 2 ^ 30 → Stands im f i all → (w : ℕ) × (0 < w) × (w < 2 ^ 32) × Ends im f d i (i + length all) (near_end d i (i + length all)) m (far_end d i (i + length all)) (called (xor b d) (o w))
+  pub enters : (im : Image) (top : ℕ) (body : List Symbol) (d : Bool) (m : Memory) (o : ℕ → Outcome)
+      → Routine im r top body → Tidy im → 2 < length m.regs → reg m 2 ≡ 0
+      → ((w : ℕ) → 0 < w → w < 2 ^ 32 → Runs im body (xor b d) (with_reg m 2 w) (o w)
+      × came_back w (o w)) → (f : Frame) (i : ℕ) → i + length all < 2 ^ 30 → Stands im f i all
+      → (w : ℕ) × (0 < w) × (w < 2 ^ 32)
+      × Ends im f d i (i + length all) (near_end d i (i + length all)) m
+      (far_end d i (i + length all)) (called (xor b d) (o w))
 
 -- what a call by a register leaves in $2, where the body left v in the register in place of s: 0 where they are one
 abbrev pub left_in : Bool → ℕ → ℕ → ℕ
@@ -73,16 +89,27 @@ called_at a s d e (Still k) = Still (k + e)
 
 -- the same of a call by a register
 pub record EnterAtLaw (a : ℕ) (b : Bool) (all : List Symbol) : Type 0 where
-  pub enters : (im : Image) (r top : ℕ) (body : List Symbol) (d : Bool) (m : Memory) (o : ℕ → Outcome) → Routine im r top body → Tidy im → 2 < length m.regs → reg m 2 ≡ 0 → reg m a ≡ top + 1 → ((w : ℕ) → 0 < w → w < 2 ^ 32 → Runs im body (xor b d) (with_reg m 2 w) (o w) × came_back w (o w)) → (f : Frame) (i : ℕ) → i + length all < 2 ^ 30 → Stands im f i all → (w : ℕ) × (e : ℕ) × (0 < w) × (w < 2 ^ 32) × (6 ≤ e) × (e ≤ 15) × Ends im f d i (i + length all) (near_end d i (i + length all)) m (far_end d i (i + length all)) (called_at a (top + 1) (xor b d) e (o w))
+  pub enters : (im : Image) (r top : ℕ) (body : List Symbol) (d : Bool) (m : Memory)
+      (o : ℕ → Outcome) → Routine im r top body → Tidy im → 2 < length m.regs → reg m 2 ≡ 0
+      → reg m a ≡ top + 1 → ((w : ℕ) → 0 < w → w < 2 ^ 32
+      → Runs im body (xor b d) (with_reg m 2 w) (o w) × came_back w (o w)) → (f : Frame) (i : ℕ)
+      → i + length all < 2 ^ 30 → Stands im f i all → (w : ℕ) × (e : ℕ) × (0 < w) × (w < 2 ^ 32)
+      × (6 ≤ e) × (e ≤ 15) × Ends im f d i (i + length all) (near_end d i (i + length all)) m
+      (far_end d i (i + length all)) (called_at a (top + 1) (xor b d) e (o w))
 
 -- how a loop goes from the beginning of head on
 pub data Rounds (im : Image) (r : ℕ) (head tail : List Symbol) (d : Bool) : Memory → Outcome → Type 0 where
   pause : {m : Memory} → Rounds im r head tail d m (Still 0)
   ends_in_head : {m : Memory} {o : Outcome} → Runs im head d m o → IsOver o → Rounds im r head tail d m o
-  leaves : {m m1 : Memory} {k : ℕ} → Runs im head d m (Done m1 k) → reg m1 r ≢ 0 → Rounds im r head tail d m (Done m1 (k + 3))
-  ends_in_tail : {m m1 : Memory} {k : ℕ} {o : Outcome} → Runs im head d m (Done m1 k) → reg m1 r ≡ 0 → Runs im tail d m1 o → IsOver o → Rounds im r head tail d m (after (k + to_tail d) o)
-  again : {m m1 m2 : Memory} {k k2 : ℕ} {o : Outcome} → Runs im head d m (Done m1 k) → reg m1 r ≡ 0 → Runs im tail d m1 (Done m2 k2) → reg m2 r ≡ 0 → Rounds im r head tail d m2 o → Rounds im r head tail d m (after (k + to_tail d + (k2 + to_head d)) o)
+  leaves : {m m1 : Memory} {k : ℕ} → Runs im head d m (Done m1 k) → reg m1 r ≢ 0
+      → Rounds im r head tail d m (Done m1 (k + 3))
+  ends_in_tail : {m m1 : Memory} {k : ℕ} {o : Outcome} → Runs im head d m (Done m1 k) → reg m1 r ≡ 0
+      → Runs im tail d m1 o → IsOver o → Rounds im r head tail d m (after (k + to_tail d) o)
+  again : {m m1 m2 : Memory} {k k2 : ℕ} {o : Outcome} → Runs im head d m (Done m1 k) → reg m1 r ≡ 0
+      → Runs im tail d m1 (Done m2 k2) → reg m2 r ≡ 0 → Rounds im r head tail d m2 o
+      → Rounds im r head tail d m (after (k + to_tail d + (k2 + to_head d)) o)
 
 -- all is entered with the register not 0, and then goes in rounds
 pub record WhileLaw (r : ℕ) (head tail all : List Symbol) : Type 0 where
-  pub turns : (im : Image) (d : Bool) (m : Memory) (o : Outcome) → reg m r ≢ 0 → Rounds im r head tail d m o → Runs im all d m (after 3 o)
+  pub turns : (im : Image) (d : Bool) (m : Memory) (o : Outcome) → reg m r ≢ 0
+      → Rounds im r head tail d m o → Runs im all d m (after 3 o)

@@ -77,7 +77,8 @@ resolved im true p c = base im.routines p (inverse_sym c)
 -- these cells stand along the line from cell i on
 abbrev pub Stands : Image → Frame → ℕ → List Symbol → Type 0
 Stands im f i [] = Unit {0}
-Stands im f i (c ∷ p) = (fetch im.code (place f i) ≡ Some (resolved im f.flip (place f i) c)) × Stands im f (i + 1) p
+Stands im f i (c ∷ p) = (fetch im.code (place f i) ≡ Some (resolved im f.flip (place f i) c))
+    × Stands im f (i + 1) p
 
 abbrev pub mirror_cells : List Symbol → List Symbol
 mirror_cells [] = []
@@ -90,16 +91,25 @@ fork r w p = Own (bgtz r w) ∷ Own (bltz r w) ∷ p
 -- fork; no; jump; fork; yes; fork; jump; fork
 abbrev pub branch_cells : ℕ → List Symbol → List Symbol → List Symbol
 branch_cells r p q =
-    fork r (between 0 (3 + length q)) (q ++ (Own (bra (between 0 (5 + length p))) ∷ fork r (between (3 + length q) 0) (p ++ fork r (between 0 3) (Own (bra (between (5 + length p) 0)) ∷ fork r (between 3 0) []))))
+    fork r (between 0 (3 + length q))
+    (q ++ (Own (bra (between 0 (5 + length p)))
+    ∷ fork r (between (3 + length q) 0)
+    (p ++ fork r (between 0 3) (Own (bra (between (5 + length p) 0))
+    ∷ fork r (between 3 0) []))))
 
 -- fork; jump; tail; fork; head; fork; jump; fork
 abbrev pub loop_cells : ℕ → List Symbol → List Symbol → List Symbol
 loop_cells r head tail =
-    fork r (between 0 (3 + length tail)) (Own (bra (between 0 (5 + length tail + length head))) ∷ (tail ++ fork r (between (3 + length tail) 0) (head ++ fork r (between 0 3) (Own (bra (between (5 + length tail + length head) 0)) ∷ fork r (between 3 0) []))))
+    fork r (between 0 (3 + length tail))
+    (Own (bra (between 0 (5 + length tail + length head)))
+    ∷ (tail ++ fork r (between (3 + length tail) 0)
+    (head ++ fork r (between 0 3) (Own (bra (between (5 + length tail + length head) 0))
+    ∷ fork r (between 3 0) []))))
 
 -- a jump over a DATA cell, to which the fork leads
 abbrev pub check_cells : ℕ → ℕ → List Symbol
-check_cells r code = Own (bra (between 0 2)) ∷ Own (data_word code) ∷ Own (bra (between 2 0)) ∷ Own (bgtz r (between 3 1)) ∷ Own (bltz r (between 4 1)) ∷ []
+check_cells r code = Own (bra (between 0 2)) ∷ Own (data_word code) ∷ Own (bra (between 2 0))
+    ∷ Own (bgtz r (between 3 1)) ∷ Own (bltz r (between 4 1)) ∷ []
 
 -- $2 is 0 before a call and holds no place of a routine, so that a call by it is never made; its cells are those of another
 abbrev pub place_register : ℕ → ℕ
@@ -107,7 +117,8 @@ place_register a = if nat_eq a 2 then 3 else a
 
 -- turn; add; aim; swap; aim; add; turn: a call of the routine whose code place is in the register
 abbrev pub enter_at_cells : ℕ → Bool → List Symbol
-enter_at_cells a b = Turn true false b ∷ Fixed (add 2 a) ∷ Aim false ∷ Fixed (swapbr 2) ∷ Aim true ∷ Fixed (add 2 a) ∷ Turn false true b ∷ []
+enter_at_cells a b = Turn true false b ∷ Fixed (add 2 a) ∷ Aim false ∷ Fixed (swapbr 2) ∷ Aim true
+    ∷ Fixed (add 2 a) ∷ Turn false true b ∷ []
 
 -- the code itself, as a line
 abbrev pub code_line : Frame
@@ -117,14 +128,17 @@ code_line = record { flip = false; base = pos 0 }
 pub record Routine (im : Image) (r top : ℕ) (body : List Symbol) : Type 0 where
   pub listed : slice_index im.routines r ≡ top + 1
   pub known : is_routine im.routines (pos (top + 1)) ≡ true
-  pub top_cell : fetch im.code (place code_line top) ≡ Some (bra (between top (top + 1 + 1 + 1 + length body)))
+  pub top_cell : fetch im.code (place code_line top)
+      ≡ Some (bra (between top (top + 1 + 1 + 1 + length body)))
   pub sub_cell : fetch im.code (place code_line (top + 1)) ≡ Some (swapbr 2)
   pub neg_cell : fetch im.code (place code_line (top + 1 + 1)) ≡ Some (neg 2)
   pub body_there : Stands im code_line (top + 1 + 1 + 1) body
-  pub bot_cell : fetch im.code (place code_line (top + 1 + 1 + 1 + length body)) ≡ Some (bra (between (top + 1 + 1 + 1 + length body) top))
+  pub bot_cell : fetch im.code (place code_line (top + 1 + 1 + 1 + length body))
+      ≡ Some (bra (between (top + 1 + 1 + 1 + length body) top))
   pub small : top + 1 + 1 + 1 + length body < 2 ^ 30
 
 -- the cell before each routine's place is a jump, and the code is not long
 pub record Tidy (im : Image) : Type 0 where
-  pub jump_before : (s : ℕ) → is_routine im.routines (pos (s + 1)) ≡ true → (w : ℕ) × (fetch im.code (pos s) ≡ Some (bra w))
+  pub jump_before : (s : ℕ) → is_routine im.routines (pos (s + 1)) ≡ true → (w : ℕ)
+      × (fetch im.code (pos s) ≡ Some (bra w))
   pub short : length im.code < 2 ^ 30

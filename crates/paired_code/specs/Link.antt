@@ -31,7 +31,8 @@ linked rs a (c ∷ p) = base rs (pos a) c ∷ linked rs (a + 1) p
 -- a routine with its top at t: a jump over it, SWAPBR, NEG, the body, and the jump back
 abbrev pub routine_code : List ℕ → ℕ → List Symbol → List Cell
 routine_code rs t b =
-    bra (between t (t + 1 + 1 + 1 + length b)) ∷ swapbr 2 ∷ neg 2 ∷ (linked rs (t + 1 + 1 + 1) b ++ bra (between (t + 1 + 1 + 1 + length b) t) ∷ [])
+    bra (between t (t + 1 + 1 + 1 + length b)) ∷ swapbr 2 ∷ neg 2
+    ∷ (linked rs (t + 1 + 1 + 1) b ++ bra (between (t + 1 + 1 + 1 + length b) t) ∷ [])
 
 abbrev pub routines_code : List ℕ → ℕ → List (List Symbol) → List Cell
 routines_code rs t [] = []
@@ -44,10 +45,12 @@ first_top main = 1 + length main + 1
 -- START, main, FINISH and the routines
 abbrev pub link_code : List Symbol → List (List Symbol) → List Cell
 link_code main bodies =
-    start ∷ (linked (places (first_top main) bodies) 1 main ++ finish ∷ routines_code (places (first_top main) bodies) (first_top main) bodies)
+    start ∷ (linked (places (first_top main) bodies) 1 main ++ finish
+    ∷ routines_code (places (first_top main) bodies) (first_top main) bodies)
 
 abbrev pub link_image : List Symbol → List (List Symbol) → Image
-link_image main bodies = record { code = link_code main bodies; routines = places (first_top main) bodies }
+link_image main bodies =
+    record { code = link_code main bodies; routines = places (first_top main) bodies }
 
 -- how many cells that are
 abbrev pub routines_size : List (List Symbol) → ℕ
@@ -73,7 +76,8 @@ AllPlaced im n t (b ∷ bs) = Routine im n t b × AllPlaced im (n + 1) (t + 1 + 
 
 -- with any bound from k on, the run from this memory stops so in this state, after k counted steps
 abbrev pub StopsAfter : List Cell → Memory → ℕ → Stop → State → Type 0
-StopsAfter code m k why s = (j : ℕ) → run code (k + j) (started code m.regs m.cells) ≡ record { why = why; spent = k; last = s }
+StopsAfter code m k why s = (j : ℕ) → run code (k + j) (started code m.regs m.cells)
+    ≡ record { why = why; spent = k; last = s }
 
 -- the run of the image, where main's piece goes so: the step at START and the stop are counted too
 abbrev pub GoesSo : List Cell → ℕ → Memory → Outcome → Type 0
@@ -99,7 +103,8 @@ pub record Linked (main : List Symbol) (bodies : List (List Symbol)) (im : Image
   pub tidy : Tidy im
   pub in_words : InWords im
   pub runs : (m : Memory) (o : Outcome)
-      → Ends im code_line false 1 (1 + length main) 1 m (1 + length main) o → Whole im.code (1 + length main) m o
+      → Ends im code_line false 1 (1 + length main) 1 m (1 + length main) o
+      → Whole im.code (1 + length main) m o
   pub closed : (shapes : List Shape) → shapes_cells shapes ≡ bodies → AllMade shapes
       → (s : Shape) → IsMade s → (a : ℕ) (d : Bool) (m : Memory) (n : ℕ)
       → Stands im code_line a (cells_of_shape s) → a + length (cells_of_shape s) < 2 ^ 30

@@ -28,30 +28,38 @@ pub record Coming (far : ℤ) (back : Bool) (e : ℕ) (s : State) : Type 0 where
 -- the run comes there first after k steps, with this memory
 abbrev pub Comes : Image → ℤ → Bool → ℕ → ℕ → State → Memory → Type 0
 Comes im far back zero e s m = Coming far back e s × (mem_of s ≡ m)
-Comes im far back (suc k) e s m = (¬ Coming far back e s) × (stop im.code s ≡ None) × Comes im far back k (opened (change_at im.routines (fetch im.code s.pc) s) e) (next im.code s) m
+Comes im far back (suc k) e s m = (¬ Coming far back e s) × (stop im.code s ≡ None)
+    × Comes im far back k (opened (change_at im.routines (fetch im.code s.pc) s) e) (next im.code s) m
 
 -- the run stops so after k steps, and has not come there before
 abbrev pub Stops : Image → ℤ → Bool → Stop → ℕ → ℕ → State → Type 0
 Stops im far back why zero e s = (¬ Coming far back e s) × (stop im.code s ≡ Some why)
-Stops im far back why (suc k) e s = (¬ Coming far back e s) × (stop im.code s ≡ None) × Stops im far back why k (opened (change_at im.routines (fetch im.code s.pc) s) e) (next im.code s)
+Stops im far back why (suc k) e s = (¬ Coming far back e s) × (stop im.code s ≡ None)
+    × Stops im far back why k (opened (change_at im.routines (fetch im.code s.pc) s) e)
+    (next im.code s)
 
 -- neither has it come there nor stopped, up to and with the k-th step
 abbrev pub Stays : Image → ℤ → Bool → ℕ → ℕ → State → Type 0
 Stays im far back zero e s = Unit {0}
-Stays im far back (suc k) e s = (¬ Coming far back e s) × (stop im.code s ≡ None) × Stays im far back k (opened (change_at im.routines (fetch im.code s.pc) s) e) (next im.code s)
+Stays im far back (suc k) e s = (¬ Coming far back e s) × (stop im.code s ≡ None)
+    × Stays im far back k (opened (change_at im.routines (fetch im.code s.pc) s) e) (next im.code s)
 
 -- the piece, from code cell a on, goes from memory m to m' in the direction d in k steps
 abbrev pub Goes : Image → ℕ → List Symbol → Bool → Memory → Memory → ℕ → Type 0
-Goes im a p d m m' k = Comes im (at code_line d (far_end d a (a + length p)) m).pc d k 0 (at code_line d (near_end d a (a + length p)) m) m'
+Goes im a p d m m' k = Comes im (at code_line d (far_end d a (a + length p)) m).pc d k 0
+    (at code_line d (near_end d a (a + length p)) m) m'
 
 abbrev pub Traps : Image → ℕ → List Symbol → Bool → Memory → ℕ → ℕ → Type 0
-Traps im a p d m w k = Stops im (at code_line d (far_end d a (a + length p)) m).pc d (Trap w) k 0 (at code_line d (near_end d a (a + length p)) m)
+Traps im a p d m w k = Stops im (at code_line d (far_end d a (a + length p)) m).pc d (Trap w) k 0
+    (at code_line d (near_end d a (a + length p)) m)
 
 abbrev pub Fails : Image → ℕ → List Symbol → Bool → Memory → ℕ → ℕ → Type 0
-Fails im a p d m w k = Stops im (at code_line d (far_end d a (a + length p)) m).pc d (BadAddress w) k 0 (at code_line d (near_end d a (a + length p)) m)
+Fails im a p d m w k = Stops im (at code_line d (far_end d a (a + length p)) m).pc d (BadAddress w)
+    k 0 (at code_line d (near_end d a (a + length p)) m)
 
 abbrev pub Goes_on_for : Image → ℕ → List Symbol → Bool → Memory → ℕ → Type 0
-Goes_on_for im a p d m k = Stays im (at code_line d (far_end d a (a + length p)) m).pc d k 0 (at code_line d (near_end d a (a + length p)) m)
+Goes_on_for im a p d m k = Stays im (at code_line d (far_end d a (a + length p)) m).pc d k 0
+    (at code_line d (near_end d a (a + length p)) m)
 
 -- an outcome of the piece that stands from code cell a on, in these words
 abbrev pub Said : Image → ℕ → List Symbol → Bool → Memory → Outcome → Type 0
@@ -62,4 +70,5 @@ Said im a p d m (Still k) = Goes_on_for im a p d m k
 
 -- what the laws say of a piece's run is so in the words of the machine, wherever the piece stands in the code
 abbrev pub InWords : Image → Type 0
-InWords im = (p : List Symbol) (a : ℕ) (d : Bool) (m : Memory) (o : Outcome) → Stands im code_line a p → a + length p < 2 ^ 30 → Runs im p d m o → Said im a p d m o
+InWords im = (p : List Symbol) (a : ℕ) (d : Bool) (m : Memory) (o : Outcome)
+    → Stands im code_line a p → a + length p < 2 ^ 30 → Runs im p d m o → Said im a p d m o

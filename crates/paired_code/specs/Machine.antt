@@ -89,7 +89,8 @@ pub data Change : Type 0 where
 
 -- a routine is entered where its SWAPBR leaves the branch register 0, and else left
 abbrev pub swap_change : List ℕ → ℕ → State → Change
-swap_change rs d s = if is_routine rs s.pc then (if is_zero (slice_index s.regs d) then Enters else Leaves) else Same
+swap_change rs d s = if is_routine rs s.pc
+    then (if is_zero (slice_index s.regs d) then Enters else Leaves) else Same
 
 abbrev pub change_by : Op → List ℕ → ℕ → State → Change
 change_by Swapbr rs d s = swap_change rs d s

@@ -17,7 +17,10 @@ pub data Inside (f : Frame) (a b : ℕ) : ℕ → ℤ → ℕ → Type 0 where
 -- so many steps lead from a state to another, each made inside; e counts the open routines
 pub data Path (im : Image) (f : Frame) (a b : ℕ) : ℕ → ℕ → State → ℕ → State → Type 0 where
   stay : {e : ℕ} {s : State} → Path im f a b 0 e s e s
-  step : {k e e1 e' : ℕ} {s s' : State} (c : Cell) → Inside f a b e s.pc s.br → fetch im.code s.pc ≡ Some c → stop_at (Some c) s ≡ None → is_end c ≡ false → Level (change im.routines c s) e e1 → Path im f a b k e1 (act c s) e' s' → Path im f a b (suc k) e s e' s'
+  step : {k e e1 e' : ℕ} {s s' : State} (c : Cell) → Inside f a b e s.pc s.br
+      → fetch im.code s.pc ≡ Some c → stop_at (Some c) s ≡ None → is_end c ≡ false
+      → Level (change im.routines c s) e e1 → Path im f a b k e1 (act c s) e' s'
+      → Path im f a b (suc k) e s e' s'
 
 -- how a run of a piece goes, with its number of steps
 pub data Outcome : Type 0 where
@@ -61,11 +64,13 @@ pub data Ends (im : Image) (f : Frame) (d : Bool) (a b i : ℕ) (m : Memory) (j 
 
 -- the piece, wherever it stands, run along or back from this memory goes so
 pub record Runs (im : Image) (p : List Symbol) (d : Bool) (m : Memory) (o : Outcome) : Type 0 where
-  pub run : (f : Frame) (i : ℕ) → i + length p < 2 ^ 30 → Stands im f i p → Ends im f d i (i + length p) (near_end d i (i + length p)) m (far_end d i (i + length p)) o
+  pub run : (f : Frame) (i : ℕ) → i + length p < 2 ^ 30 → Stands im f i p
+      → Ends im f d i (i + length p) (near_end d i (i + length p)) m (far_end d i (i + length p)) o
 
 -- wherever the piece stands, run along or back from this memory, it goes in one of these ways
 pub record Will (im : Image) (p : List Symbol) (d : Bool) (m : Memory) (Q : Outcome → Type 0) : Type 0 where
-  pub will : (f : Frame) (i : ℕ) → i + length p < 2 ^ 30 → Stands im f i p → (o : Outcome) × Ends im f d i (i + length p) (near_end d i (i + length p)) m (far_end d i (i + length p)) o × Q o
+  pub will : (f : Frame) (i : ℕ) → i + length p < 2 ^ 30 → Stands im f i p → (o : Outcome)
+      × Ends im f d i (i + length p) (near_end d i (i + length p)) m (far_end d i (i + length p)) o × Q o
 
 -- the steps of an outcome, and more before or after
 abbrev pub after : ℕ → Outcome → Outcome

@@ -174,7 +174,8 @@ pub fn enter_at(alloc: Global, reg: u8, back: bool) -> Result<Piece, NoMemory>
 pub fn marked(at: u32, piece: Piece) -> Result<Piece, NoMemory>
     requires { at ≤ LAST_PLACE }
     ensures code { IfOk result (λ p. p ≡ marked_code at piece) }
-    ensures marks { IfOk result (λ p. parts p ≡ parts piece ++ record { at = at; cells = piece.cells } ∷ []) }
+    ensures marks { IfOk result (λ p. parts p
+        ≡ parts piece ++ record { at = at; cells = piece.cells } ∷ []) }
 {
     let cells = piece.cells;
     let mut marks = piece.marks;

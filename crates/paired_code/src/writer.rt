@@ -28,9 +28,15 @@ pub fn link(
     requires statics_in_limit { length statics.items ≤ MOST_STATICS }
     requires few_marks { length main.marks + marks_size routines.items ≤ MOST_MARKS }
     ensures code { IfOk result (λ n. n.image.code ≡ link_code main.cells (bodies routines.items)) }
-    ensures statics { IfOk result (λ n. n.image.statics ≡ map (static_word (places (first_top main.cells) (bodies routines.items))) statics.items) }
+    ensures statics { IfOk result (λ n. n.image.statics
+        ≡ map (static_word (places (first_top main.cells) (bodies routines.items))) statics.items) }
     ensures image { IfOk result (λ n. IsImage n.image) }
-    ensures law { IfOk result (λ n. Linked main.cells (bodies routines.items) (record { code = n.image.code; routines = places (first_top main.cells) (bodies routines.items) })) }
+    ensures law { IfOk result (λ n. Linked main.cells (bodies routines.items)
+        (record {
+          code = n.image.code;
+          routines = places (first_top main.cells)
+              (bodies routines.items);
+        })) }
     ensures marks { IfOk result (λ n. IsPermutation (link_marks main routines.items) n.notes.marks) }
     ensures ascending { IfOk result (λ n. IsNonDecreasingBy (λ k. k.at) n.notes.marks) }
     ensures no_names { IfOk result (λ n. n.notes.names ≡ []) }
@@ -51,9 +57,11 @@ fn image_of(
     requires code_in_limit { link_size main.cells (bodies routines.items) ≤ MOST_CELLS }
     requires statics_in_limit { length statics.items ≤ MOST_STATICS }
     ensures code { IfOk result (λ p. p.code ≡ link_code main.cells (bodies routines.items)) }
-    ensures statics { IfOk result (λ p. p.statics ≡ map (static_word (places (first_top main.cells) (bodies routines.items))) statics.items) }
+    ensures statics { IfOk result (λ p. p.statics
+        ≡ map (static_word (places (first_top main.cells) (bodies routines.items))) statics.items) }
     ensures image { IfOk result IsImage }
-    ensures law { IfOk result (λ p. Linked main.cells (bodies routines.items) (record { code = p.code; routines = places (first_top main.cells) (bodies routines.items) })) }
+    ensures law { IfOk result (λ p. Linked main.cells (bodies routines.items)
+        (record { code = p.code; routines = places (first_top main.cells) (bodies routines.items) })) }
 {
     let cells = cells_of(&main);
     let places = places_of(alloc, &routines, 1 + cells.len() as u32 + 1)?;
@@ -86,7 +94,9 @@ fn places_of(alloc: Global, routines: &[Piece], first: u32) -> Result<Vec<u32>, 
 
 fn put_routines(code: &mut Vec<Cell>, routines: &[Piece], places: &[u32]) -> Result<(), NoMemory>
     requires { length code.old.items + routines_size (bodies routines.now) < 2 ^ 30 }
-    ensures code { OnOk result (code.new.items ≡ code.old.items ++ routines_code places.now (length code.old.items) (bodies routines.now)) }
+    ensures code { OnOk result (code.new.items
+        ≡ code.old.items ++ routines_code places.now (length code.old.items)
+        (bodies routines.now)) }
     ensures fit { OnOk result (EachFit (bodies routines.now)) }
 {
     for piece in routines {
@@ -97,7 +107,8 @@ fn put_routines(code: &mut Vec<Cell>, routines: &[Piece], places: &[u32]) -> Res
 
 fn put_routine(code: &mut Vec<Cell>, cells: &[Symbol], places: &[u32]) -> Result<(), NoMemory>
     requires { length code.old.items + (length cells.now + 4) < 2 ^ 30 }
-    ensures { OnOk result (code.new.items ≡ code.old.items ++ routine_code places.now (length code.old.items) cells.now) }
+    ensures { OnOk result (code.new.items ≡ code.old.items
+        ++ routine_code places.now (length code.old.items) cells.now) }
 {
     let over = cells.len() as u32 + 3;
     code.push(bra(over))?;
@@ -110,7 +121,8 @@ fn put_routine(code: &mut Vec<Cell>, cells: &[Symbol], places: &[u32]) -> Result
 
 fn put_cells(code: &mut Vec<Cell>, cells: &[Symbol], places: &[u32]) -> Result<(), NoMemory>
     requires { length code.old.items + length cells.now < 2 ^ 30 }
-    ensures { OnOk result (code.new.items ≡ code.old.items ++ linked places.now (length code.old.items) cells.now) }
+    ensures { OnOk result (code.new.items ≡ code.old.items
+        ++ linked places.now (length code.old.items) cells.now) }
 {
     for cell in cells {
         let at = code.len() as u32;

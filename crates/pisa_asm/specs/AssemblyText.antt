@@ -18,9 +18,13 @@ use Rattle.pisa_asm.specs.Operands.{last_of}
 
 -- decimal digits with an optional sign, for a number that is at least -low and below `end`, and its word
 pub data NumberText (low end : ℕ) (bytes : List ℕ) (word : ℕ) : Type 0 where
-  plain : IsNumeral 10 bytes → digits_value 10 bytes < end → word ≡ digits_value 10 bytes → NumberText low end bytes word
-  plus : (digits : List ℕ) → bytes ≡ 43 ∷ digits → IsNumeral 10 digits → digits_value 10 digits < end → word ≡ digits_value 10 digits → NumberText low end bytes word
-  minus : (digits : List ℕ) → bytes ≡ 45 ∷ digits → IsNumeral 10 digits → digits_value 10 digits ≤ low → word ≡ negated (digits_value 10 digits) → NumberText low end bytes word
+  plain : IsNumeral 10 bytes → digits_value 10 bytes < end → word ≡ digits_value 10 bytes
+      → NumberText low end bytes word
+  plus : (digits : List ℕ) → bytes ≡ 43 ∷ digits → IsNumeral 10 digits
+      → digits_value 10 digits < end → word ≡ digits_value 10 digits → NumberText low end bytes word
+  minus : (digits : List ℕ) → bytes ≡ 45 ∷ digits → IsNumeral 10 digits
+      → digits_value 10 digits ≤ low → word ≡ negated (digits_value 10 digits)
+      → NumberText low end bytes word
 
 -- `$` and 0 to 31 without leading zeros
 pub record RegisterText (bytes : List ℕ) (r : ℕ) : Type 0 where
@@ -35,14 +39,17 @@ RegisterWords true words r = (word : List ℕ) × (words ≡ word ∷ []) × Reg
 -- an offset: a number, or a label's name and then its place minus this one
 pub data OffsetText (labels : Labels) (at : ℕ) (bytes : List ℕ) (offset : ℕ) : Type 0 where
   by_number : NumberText (2 ^ 31) (2 ^ 31) bytes offset → OffsetText labels at bytes offset
-  by_label : (place : ℕ) → is_name bytes ≡ true → place_of bytes labels ≡ Some place → offset ≡ difference_of place at → OffsetText labels at bytes offset
+  by_label : (place : ℕ) → is_name bytes ≡ true → place_of bytes labels ≡ Some place
+      → offset ≡ difference_of place at → OffsetText labels at bytes offset
 
 -- the words for what a row has behind its registers
 abbrev pub LastWords : Labels → ℕ → Last → List (List ℕ) → ℕ → Type 0
 LastWords labels at Nothing words imm = (words ≡ []) × (imm ≡ 0)
-LastWords labels at Word words imm = (word : List ℕ) × (words ≡ word ∷ []) × NumberText (2 ^ 31) (2 ^ 32) word imm
+LastWords labels at Word words imm = (word : List ℕ) × (words ≡ word ∷ [])
+    × NumberText (2 ^ 31) (2 ^ 32) word imm
 LastWords labels at Amount words imm = (word : List ℕ) × (words ≡ word ∷ []) × NumberText 0 32 word imm
-LastWords labels at Offset words imm = (word : List ℕ) × (words ≡ word ∷ []) × OffsetText labels at word imm
+LastWords labels at Offset words imm = (word : List ℕ) × (words ≡ word ∷ [])
+    × OffsetText labels at word imm
 
 -- an instruction at a place: its mnemonic, its registers in their order, and what else it has
 pub record InstructionText (labels : Labels) (at : ℕ) (words : List (List ℕ)) (cell : Cell) : Type 0 where
@@ -87,16 +94,22 @@ one_name n = record { marks = []; names = n ∷ [] }
 
 -- notes, and behind them those of others
 abbrev pub joined : NoteLists → NoteLists → NoteLists
-joined before behind = record { marks = before.marks ++ behind.marks; names = before.names ++ behind.names }
+joined before behind =
+    record { marks = before.marks ++ behind.marks; names = before.names ++ behind.names }
 
 -- nothing, an instruction, STATIC and a word, MARK and three numbers, or NAME, a number and a name
 pub data ItemText (labels : Labels) (at : ℕ) (words : List (List ℕ)) (code : List Cell) (statics : List ℕ) (notes : NoteLists) : Type 0 where
-  nothing : words ≡ [] → code ≡ [] → statics ≡ [] → notes ≡ no_notes → ItemText labels at words code statics notes
-  instruction : (cell : Cell) → InstructionText labels at words cell → code ≡ cell ∷ [] → statics ≡ [] → notes ≡ no_notes → ItemText labels at words code statics notes
-  static : (word : List ℕ) (n : ℕ) → words ≡ static_word ∷ word ∷ [] → NumberText (2 ^ 31) (2 ^ 32) word n → code ≡ [] → statics ≡ n ∷ [] → notes ≡ no_notes
+  nothing : words ≡ [] → code ≡ [] → statics ≡ [] → notes ≡ no_notes
       → ItemText labels at words code statics notes
-  marked : (m : Mark) → MarkText words m → code ≡ [] → statics ≡ [] → notes ≡ one_mark m → ItemText labels at words code statics notes
-  named : (n : FieldName) → NameText words n → code ≡ [] → statics ≡ [] → notes ≡ one_name n → ItemText labels at words code statics notes
+  instruction : (cell : Cell) → InstructionText labels at words cell → code ≡ cell ∷ []
+      → statics ≡ [] → notes ≡ no_notes → ItemText labels at words code statics notes
+  static : (word : List ℕ) (n : ℕ) → words ≡ static_word ∷ word ∷ []
+      → NumberText (2 ^ 31) (2 ^ 32) word n → code ≡ [] → statics ≡ n ∷ [] → notes ≡ no_notes
+      → ItemText labels at words code statics notes
+  marked : (m : Mark) → MarkText words m → code ≡ [] → statics ≡ [] → notes ≡ one_mark m
+      → ItemText labels at words code statics notes
+  named : (n : FieldName) → NameText words n → code ≡ [] → statics ≡ [] → notes ≡ one_name n
+      → ItemText labels at words code statics notes
 
 -- a name followed directly by `:`
 abbrev pub label_word : List ℕ → List ℕ
@@ -110,11 +123,13 @@ pub record LabeledLine (line : List ℕ) (names words : List (List ℕ)) : Type 
 -- lines, the first of which has this place for its cell, write these labels, code cells, static words and notes
 pub data LinesText (labels : Labels) : (at : ℕ) (lines : List (List ℕ)) (written : Labels) (code : List Cell) (statics : List ℕ) (notes : NoteLists) → Type 0 where
   finish : (at : ℕ) → LinesText labels at [] [] [] [] no_notes
-  one_line : (at : ℕ) (line : List ℕ) (lines names words : List (List ℕ)) (written : Labels) (cells code : List Cell) (words_here statics : List ℕ) (notes_here notes : NoteLists)
+  one_line : (at : ℕ) (line : List ℕ) (lines names words : List (List ℕ)) (written : Labels)
+      (cells code : List Cell) (words_here statics : List ℕ) (notes_here notes : NoteLists)
       → LabeledLine line names words
       → ItemText labels at words cells words_here notes_here
       → LinesText labels (at + length cells) lines written code statics notes
-      → LinesText labels at (line ∷ lines) (map (λ name. (name, at)) names ++ written) (cells ++ code) (words_here ++ statics) (joined notes_here notes)
+      → LinesText labels at (line ∷ lines) (map (λ name. (name, at)) names ++ written)
+      (cells ++ code) (words_here ++ statics) (joined notes_here notes)
 
 -- each label is none of those before it
 abbrev pub AreNew : (before labels : Labels) → Type 0

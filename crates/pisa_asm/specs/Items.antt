@@ -27,7 +27,8 @@ unsigned_from (word ∷ words) = option_map (λ n. (n, words)) (unsigned_number 
 -- the mark behind MARK: its first cell, its end and its place
 abbrev pub mark_from : List (List ℕ) → Option Mark
 mark_from words =
-    option_and_then (λ first. option_and_then (λ end. option_map (λ at. record { first = first.0; end = end.0; at = at })
+    option_and_then (λ first. option_and_then
+    (λ end. option_map (λ at. record { first = first.0; end = end.0; at = at })
     (option_and_then unsigned_number (sole end.1))) (unsigned_from first.1)) (unsigned_from words)
 
 -- a word as a name
@@ -36,19 +37,24 @@ name_of cell word = if is_name word then Some (record { cell = cell; text = word
 
 -- the name behind NAME: its data cell and its bytes
 abbrev pub name_from : List (List ℕ) → Option FieldName
-name_from words = option_and_then (λ cell. option_and_then (name_of cell.0) (sole cell.1)) (unsigned_from words)
+name_from words = option_and_then (λ cell. option_and_then (name_of cell.0) (sole cell.1))
+    (unsigned_from words)
 
 -- what a first word that is no mnemonic begins
 abbrev pub other_item : ℕ → List ℕ → List (List ℕ) → Result Item AsmError
 other_item line first words =
-    if bytes_eq first static_word then and_then (or_bad line (static_from words)) (λ word. Ok (Static word))
-    else (if bytes_eq first mark_word then and_then (or_bad line (mark_from words)) (λ mark. Ok (Marked mark))
-    else (if bytes_eq first name_word then and_then (or_bad line (name_from words)) (λ name. Ok (Named name))
+    if bytes_eq first static_word then and_then (or_bad line (static_from words))
+    (λ word. Ok (Static word))
+    else (if bytes_eq first mark_word then and_then (or_bad line (mark_from words))
+    (λ mark. Ok (Marked mark))
+    else (if bytes_eq first name_word then and_then (or_bad line (name_from words))
+    (λ name. Ok (Named name))
     else Err (UnknownMnemonic line)))
 
 -- by the row that the first word names
 abbrev pub item_by : ℕ → List ℕ → List (List ℕ) → Option Op → Result Item AsmError
-item_by line first words (Some op) = and_then (or_bad line (given_from op words)) (λ given. Ok (Code given))
+item_by line first words (Some op) =
+    and_then (or_bad line (given_from op words)) (λ given. Ok (Code given))
 item_by line first words None = other_item line first words
 
 -- nothing, an instruction, a static word or a note

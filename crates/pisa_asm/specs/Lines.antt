@@ -39,4 +39,5 @@ begins_word (b ∷ rest) = not (is_blank b)
 -- what stands between blanks
 abbrev pub words_of : List ℕ → List (List ℕ)
 words_of [] = []
-words_of (b ∷ rest) = if is_blank b then words_of rest else (if begins_word rest then onto_first b (words_of rest) else (b ∷ []) ∷ words_of rest)
+words_of (b ∷ rest) = if is_blank b then words_of rest
+    else (if begins_word rest then onto_first b (words_of rest) else (b ∷ []) ∷ words_of rest)

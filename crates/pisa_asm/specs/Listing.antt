@@ -18,7 +18,8 @@ signed_text word = if nat_lt word (2 ^ 31) then decimal word else 45 ∷ decimal
 
 -- an offset in signed decimal with its sign
 abbrev pub offset_text : ℕ → List ℕ
-offset_text offset = if nat_lt offset (2 ^ 31) then 43 ∷ decimal offset else 45 ∷ decimal (2 ^ 32 - offset)
+offset_text offset = if nat_lt offset (2 ^ 31) then 43 ∷ decimal offset
+    else 45 ∷ decimal (2 ^ 32 - offset)
 
 -- a register behind a space, where the row has it
 abbrev pub register_text : Bool → ℕ → List ℕ
@@ -35,7 +36,8 @@ last_text Offset imm = 32 ∷ offset_text imm
 -- the line of a cell, without its line feed
 abbrev pub cell_text : Cell → List ℕ
 cell_text c =
-    mnemonic c.op ++ register_text (has_a c.op) c.a ++ register_text (has_b c.op) c.b ++ register_text (c_is_source c.op) c.c ++ last_text (last_of c.op) c.imm
+    mnemonic c.op ++ register_text (has_a c.op) c.a ++ register_text (has_b c.op) c.b
+    ++ register_text (c_is_source c.op) c.c ++ last_text (last_of c.op) c.imm
 
 -- the line of a static word, without its line feed
 abbrev pub static_text : ℕ → List ℕ
@@ -64,4 +66,5 @@ lines_by text (x ∷ xs) = text x ++ 10 ∷ lines_by text xs
 
 -- a line for each code cell, then one for each static word, then one for each mark, and then one for each name
 abbrev pub listing : NotedImage → List ℕ
-listing n = lines_by cell_text n.image.code ++ lines_by static_text n.image.statics ++ lines_by mark_text n.notes.marks ++ lines_by name_text n.notes.names
+listing n = lines_by cell_text n.image.code ++ lines_by static_text n.image.statics
+    ++ lines_by mark_text n.notes.marks ++ lines_by name_text n.notes.names

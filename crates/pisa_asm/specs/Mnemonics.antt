@@ -44,7 +44,9 @@ mnemonic DataWord = codes "DATA"
 
 -- the rows of the table of instructions
 unfoldable pub rows : List Op
-rows = Add ∷ Sub ∷ Xor ∷ Neg ∷ Addi ∷ Xori ∷ Rl ∷ Rr ∷ Rlv ∷ Rrv ∷ Andx ∷ Orx ∷ Norx ∷ Sltx ∷ Andix ∷ Orix ∷ Sllx ∷ Srlx ∷ Srax ∷ Sllvx ∷ Srlvx ∷ Sravx ∷ Exch ∷ Swapbr ∷ Bra ∷ Rbra ∷ Beq ∷ Bne ∷ Bgez ∷ Bgtz ∷ Blez ∷ Bltz ∷ Start ∷ Finish ∷ DataWord ∷ []
+rows = Add ∷ Sub ∷ Xor ∷ Neg ∷ Addi ∷ Xori ∷ Rl ∷ Rr ∷ Rlv ∷ Rrv ∷ Andx ∷ Orx ∷ Norx ∷ Sltx ∷ Andix
+    ∷ Orix ∷ Sllx ∷ Srlx ∷ Srax ∷ Sllvx ∷ Srlvx ∷ Sravx ∷ Exch ∷ Swapbr ∷ Bra ∷ Rbra ∷ Beq ∷ Bne
+    ∷ Bgez ∷ Bgtz ∷ Blez ∷ Bltz ∷ Start ∷ Finish ∷ DataWord ∷ []
 
 -- the first of these rows with this mnemonic
 abbrev pub row_among : List Op → List ℕ → Option Op

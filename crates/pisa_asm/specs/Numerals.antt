@@ -6,7 +6,8 @@ use Rattle.rpp_words.specs.Words.{negated}
 -- the number that decimal digits write behind those of `before`, where they are digits alone
 abbrev pub numeral_from : ℕ → List ℕ → Option ℕ
 numeral_from before [] = Some before
-numeral_from before (digit ∷ rest) = if is_ascii_digit digit then numeral_from (10 * before + (digit - 48)) rest else None
+numeral_from before (digit ∷ rest) =
+    if is_ascii_digit digit then numeral_from (10 * before + (digit - 48)) rest else None
 
 -- the number that one or more digits write
 abbrev pub numeral : List ℕ → Option ℕ
@@ -53,4 +54,5 @@ plain_digits (digit ∷ more ∷ rest) = not (digit == 48)
 -- `$` and a number from 0 to 31 without leading zeros
 abbrev pub register_number : List ℕ → Option ℕ
 register_number [] = None
-register_number (first ∷ digits) = if (first == 36) && plain_digits digits then below 32 (numeral digits) else None
+register_number (first ∷ digits) = if (first == 36) && plain_digits digits
+    then below 32 (numeral digits) else None

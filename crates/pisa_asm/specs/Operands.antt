@@ -44,7 +44,8 @@ register_from true (word ∷ words) = option_map (λ r. (r, words)) (register_nu
 -- the registers of a row in their order, and the words behind them
 abbrev pub registers_from : Op → List (List ℕ) → Option (Cell × List (List ℕ))
 registers_from op words =
-    option_and_then (λ a. option_and_then (λ b. option_map (λ c. (record { op = op; a = a.0; b = b.0; c = c.0; imm = 0 }, c.1))
+    option_and_then (λ a. option_and_then
+    (λ b. option_map (λ c. (record { op = op; a = a.0; b = b.0; c = c.0; imm = 0 }, c.1))
     (register_from (c_is_source op) b.1)) (register_from (has_b op) a.1)) (register_from (has_a op) words)
 
 -- an offset is a number or a label's name
@@ -76,4 +77,5 @@ with_operand cell (Label name) = record { cell = cell; target = Some name }
 -- the cell of a row with these operands
 abbrev pub given_from : Op → List (List ℕ) → Option Given
 given_from op words =
-    option_and_then (λ registers. option_map (with_operand registers.0) (operand_from (last_of op) registers.1)) (registers_from op words)
+    option_and_then (λ registers. option_map (with_operand registers.0)
+    (operand_from (last_of op) registers.1)) (registers_from op words)

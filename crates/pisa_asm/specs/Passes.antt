@@ -37,17 +37,21 @@ label_at line name place labels (Some earlier) = Err (DuplicateLabel line)
 abbrev pub labels_at : ℕ → ℕ → Labels → List (List ℕ) → Result Labels AsmError
 labels_at line place labels [] = Ok labels
 labels_at line place labels (name ∷ names) =
-    and_then (label_at line name place labels (place_of name labels)) (λ longer. labels_at line place longer names)
+    and_then (label_at line name place labels (place_of name labels))
+    (λ longer. labels_at line place longer names)
 
 -- what stands behind the labels, counted
 abbrev pub counted : ℕ → Surveyed → Item → Result Surveyed AsmError
 counted line so_far Nothing = Ok so_far
 counted line so_far (Code given) =
     if is_one_to_one given.cell
-    then (if nat_lt so_far.cells MOST_CELLS then Ok (record so_far { cells = so_far.cells + 1 }) else Err (TooManyCells line))
+    then (if nat_lt so_far.cells MOST_CELLS then Ok (record so_far { cells = so_far.cells + 1 })
+    else Err (TooManyCells line))
     else Err (NotOneToOne line)
 counted line so_far (Static word) =
-    if nat_lt (length so_far.statics) MOST_STATICS then Ok (record so_far { statics = so_far.statics ++ word ∷ [] }) else Err (TooManyCells line)
+    if nat_lt (length so_far.statics) MOST_STATICS
+    then Ok (record so_far { statics = so_far.statics ++ word ∷ [] })
+    else Err (TooManyCells line)
 counted line so_far (Marked mark) = Ok so_far
 counted line so_far (Named name) = Ok so_far
 
@@ -62,12 +66,14 @@ surveyed_words line so_far words =
 abbrev pub surveyed : ℕ → Surveyed → List (List ℕ) → Result Surveyed AsmError
 surveyed number so_far [] = Ok so_far
 surveyed number so_far (line ∷ lines) =
-    and_then (surveyed_words number so_far (words_of (content_of line))) (λ longer. surveyed (number + 1) longer lines)
+    and_then (surveyed_words number so_far (words_of (content_of line)))
+    (λ longer. surveyed (number + 1) longer lines)
 
 -- a cell at a place, with its offset where a label gives it: the label's place minus this one
 abbrev pub resolved_by : Labels → ℕ → Cell → Option (List ℕ) → Option Cell
 resolved_by labels at cell None = Some cell
-resolved_by labels at cell (Some name) = option_map (λ place. record cell { imm = difference_of place at }) (place_of name labels)
+resolved_by labels at cell (Some name) =
+    option_map (λ place. record cell { imm = difference_of place at }) (place_of name labels)
 
 abbrev pub resolved : Labels → ℕ → Given → Option Cell
 resolved labels at given = resolved_by labels at given.cell given.target
@@ -96,7 +102,8 @@ linked number labels code (line ∷ lines) =
 abbrev pub sealed : List Cell → List ℕ → Result Segments AsmError
 sealed code statics =
     if nat_eq (count_by is_start code) 1
-    then (if nat_eq (count_by is_finish code) 1 then Ok (record { code = code; statics = statics }) else Err NoFinish)
+    then (if nat_eq (count_by is_finish code) 1 then Ok (record { code = code; statics = statics })
+    else Err NoFinish)
     else Err NoStart
 
 -- a mark put last

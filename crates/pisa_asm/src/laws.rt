@@ -16,6 +16,8 @@ pub fn listing_reads_back()
 /// The image that is read of a text, with its notes, is the one that its lines write, and where no image is
 /// read, they write none.
 pub fn what_is_read_is_written()
-    ensures sound { (lines : List (List ℕ)) (n : NotedImage) → noted_of_lines lines ≡ Ok n → AssemblyText lines n }
-    ensures complete { (lines : List (List ℕ)) (n : NotedImage) → AssemblyText lines n → noted_of_lines lines ≡ Ok n }
+    ensures sound { (lines : List (List ℕ)) (n : NotedImage) → noted_of_lines lines ≡ Ok n
+        → AssemblyText lines n }
+    ensures complete { (lines : List (List ℕ)) (n : NotedImage) → AssemblyText lines n
+        → noted_of_lines lines ≡ Ok n }
 {}

@@ -135,7 +135,9 @@ fn word_len(line: &[u8]) -> usize
 
 /// The first word, and what stands behind it; none where only blanks are left.
 pub fn next_word(line: &[u8]) -> Option<(&[u8], &[u8])>
-    ensures { MatchOption result (words_of line.now ≡ []) (λ p. (words_of line.now ≡ p.0.now ∷ words_of p.1.now) × (length p.1.now < length line.now)) }
+    ensures { MatchOption result (words_of line.now ≡ [])
+        (λ p. (words_of line.now ≡ p.0.now ∷ words_of p.1.now)
+        × (length p.1.now < length line.now)) }
 {
     let line = behind(line, blank_len(line));
     if line.is_empty() {

@@ -62,7 +62,8 @@ fn add_last(out: &mut String, last: Last, imm: u32) -> Result<(), AllocError>
 
 /// Puts the line of a cell last.
 fn add_cell(out: &mut String, cell: &Cell) -> Result<(), AllocError>
-    ensures { OnOk result (string_bytes out.new ≡ string_bytes out.old ++ (cell_text cell.now ++ 10 ∷ [])) }
+    ensures { OnOk result (string_bytes out.new
+        ≡ string_bytes out.old ++ (cell_text cell.now ++ 10 ∷ [])) }
 {
     let (has_a, has_b, has_c) = has_registers(cell.op);
     out.push_str(mnemonic(cell.op))?;
@@ -94,7 +95,8 @@ fn add_code(out: &mut String, code: &[Cell]) -> Result<(), AllocError>
 
 /// Puts the lines of static words last.
 fn add_statics(out: &mut String, statics: &[u32]) -> Result<(), AllocError>
-    ensures { OnOk result (string_bytes out.new ≡ string_bytes out.old ++ lines_by static_text statics.now) }
+    ensures { OnOk result (string_bytes out.new
+        ≡ string_bytes out.old ++ lines_by static_text statics.now) }
 {
     for word in statics {
         add_static(out, *word)?;
@@ -111,7 +113,8 @@ fn add_number(out: &mut String, number: u32) -> Result<(), AllocError>
 
 /// Puts the line of a mark last.
 fn add_mark(out: &mut String, mark: &Mark) -> Result<(), AllocError>
-    ensures { OnOk result (string_bytes out.new ≡ string_bytes out.old ++ (mark_text mark.now ++ 10 ∷ [])) }
+    ensures { OnOk result (string_bytes out.new
+        ≡ string_bytes out.old ++ (mark_text mark.now ++ 10 ∷ [])) }
 {
     out.push_str("MARK")?;
     add_number(out, mark.first)?;
@@ -144,7 +147,8 @@ fn add_bytes(out: &mut String, bytes: &[u8]) -> Result<(), AllocError>
 /// Puts the line of a name last.
 fn add_name(out: &mut String, name: &FieldName) -> Result<(), AllocError>
     requires { IsAscii name.now.text }
-    ensures { OnOk result (string_bytes out.new ≡ string_bytes out.old ++ (name_text name.now ++ 10 ∷ [])) }
+    ensures { OnOk result (string_bytes out.new
+        ≡ string_bytes out.old ++ (name_text name.now ++ 10 ∷ [])) }
 {
     out.push_str("NAME")?;
     add_number(out, name.cell)?;

@@ -123,7 +123,8 @@ fn registers_from(op: Op, words: &[u8]) -> Option<(Cell, &[u8])>
 
 /// The only word.
 pub fn sole_word(words: &[u8]) -> Option<&[u8]>
-    ensures { MatchOption result (sole (words_of words.now) ≡ None) (λ word. sole (words_of words.now) ≡ Some word.now) }
+    ensures { MatchOption result (sole (words_of words.now) ≡ None)
+        (λ word. sole (words_of words.now) ≡ Some word.now) }
 {
     match next_word(words) {
         None => None,

@@ -76,7 +76,16 @@ makers kept = map (λ step. step.who) kept
 
 -- a processor at the START of its image, with zero registers
 abbrev pub started_processor : Segments → Processor
-started_processor image = record { image = image; core = record { pc = pos (start_of image.code); br = 0; back = false; regs = zero_registers } }
+started_processor image =
+    record {
+      image = image;
+      core = record {
+        pc = pos (start_of image.code);
+        br = 0;
+        back = false;
+        regs = zero_registers;
+      };
+    }
 
 -- the processors of images at their START, and so many zero cells
 abbrev pub begun : List Segments → (cells : ℕ) → Joint

@@ -49,7 +49,8 @@ pub enum Undone {
 /// Processors at the START of their images, with zero registers.
 fn started_all(alloc: Global, images: Vec<Image>) -> Result<Vec<Processor>, NoMemory>
     ensures started { IfOk result (λ processors. processors.items ≡ map started_processor images.items) }
-    ensures images { IfOk result (λ processors. All (λ (p : Processor). IsImage p.image) processors.items) }
+    ensures images { IfOk result (λ processors. All (λ (p : Processor). IsImage p.image)
+        processors.items) }
 {
     let mut processors = Vec::with_capacity(alloc, images.len())?;
     for image in images {
@@ -189,7 +190,8 @@ impl Cluster {
     pub fn core(&self, who: u32) -> &Core
         requires first { 1 ≤ who }
         requires last { who ≤ length self.now.joint.processors }
-        ensures core { option_map (λ (p : Processor). p.core) (processor_at self.now.joint who) ≡ Some result.now }
+        ensures core { option_map (λ (p : Processor). p.core) (processor_at self.now.joint who)
+            ≡ Some result.now }
         ensures cluster { IsCluster self.now }
     {
         &self.processors[who as usize - 1].core

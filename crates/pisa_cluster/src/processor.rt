@@ -78,8 +78,13 @@ impl Processor {
     /// Makes one step, or answers why the processor stops, and then changes nothing.
     pub(crate) fn step(&mut self, cells: &mut Common) -> Option<Stop>
         ensures stops { result ≡ stop self.old.image.code (seen self.old cells.old.words.items) }
-        ensures processor { self.new ≡ (if is_none result then in_state self.old (next self.old.image.code (seen self.old cells.old.words.items)) else self.old) }
-        ensures cells { cells.new.words.items ≡ (if is_none result then (next self.old.image.code (seen self.old cells.old.words.items)).cells else cells.old.words.items) }
+        ensures processor { self.new ≡ (if is_none result
+            then in_state self.old (next self.old.image.code (seen self.old cells.old.words.items))
+            else self.old) }
+        ensures cells { cells.new.words.items
+            ≡ (if is_none result
+            then (next self.old.image.code (seen self.old cells.old.words.items)).cells
+            else cells.old.words.items) }
     {
         step(&mut self.core, self.image.code(), cells)
     }

@@ -16,11 +16,13 @@ cell_bytes cell = number_of cell.op ∷ cell.a ∷ cell.b ∷ cell.c ∷ word_by
 
 -- the mark of the format, a version of it, the numbers of code cells and of static cells
 abbrev pub header_bytes : (version cells statics : ℕ) → List ℕ
-header_bytes version cells statics = codes "RPPI" ++ word_bytes version ++ word_bytes cells ++ word_bytes statics
+header_bytes version cells statics =
+    codes "RPPI" ++ word_bytes version ++ word_bytes cells ++ word_bytes statics
 
 -- the header, the code, the static cells
 abbrev pub segment_bytes : (version : ℕ) → Segments → List ℕ
-segment_bytes version image = header_bytes version (length image.code) (length image.statics) ++ flat_map cell_bytes image.code ++ words_bytes image.statics
+segment_bytes version image = header_bytes version (length image.code) (length image.statics)
+    ++ flat_map cell_bytes image.code ++ words_bytes image.statics
 
 -- twelve bytes: the first cell, the end and the place
 abbrev pub mark_bytes : Mark → List ℕ
@@ -33,7 +35,8 @@ name_bytes name = word_bytes name.cell ++ word_bytes (length name.text) ++ name.
 -- the number of marks and the marks, the number of names and the names
 abbrev pub notes_bytes : NoteLists → List ℕ
 notes_bytes notes =
-    word_bytes (length notes.marks) ++ flat_map mark_bytes notes.marks ++ word_bytes (length notes.names) ++ flat_map name_bytes notes.names
+    word_bytes (length notes.marks) ++ flat_map mark_bytes notes.marks
+    ++ word_bytes (length notes.names) ++ flat_map name_bytes notes.names
 
 -- the image, and then its notes
 abbrev pub image_bytes : NotedImage → List ℕ

@@ -17,10 +17,12 @@ abbrev pub ◌>>=◌ : {E A B : Type 0} → Result A E → (A → Result B E) �
 
 -- the number at the front and the bytes behind it, where these bytes stand at a place; else they are refused as cut at their end
 abbrev pub word_at : {E : Type 0} → (cut : ℕ → E) → (at : ℕ) → List ℕ → Result (ℕ × List ℕ) E
-word_at cut at bytes = if nat_lt (length bytes) 4 then Err (cut (at + length bytes)) else Ok (from_le_bytes w32 (take 4 bytes), drop 4 bytes)
+word_at cut at bytes = if nat_lt (length bytes) 4 then Err (cut (at + length bytes))
+    else Ok (from_le_bytes w32 (take 4 bytes), drop 4 bytes)
 
 -- so many items by a reader of one, each of so many bytes, and the bytes behind them
-unfoldable pub many_at : {E A : Type 0} → (one : ℕ → List ℕ → Result (A × List ℕ) E) → (size count at : ℕ) → List ℕ → Result (List A × List ℕ) E
+unfoldable pub many_at : {E A : Type 0} → (one : ℕ → List ℕ → Result (A × List ℕ) E)
+    → (size count at : ℕ) → List ℕ → Result (List A × List ℕ) E
 many_at one size zero at bytes = Ok ([], bytes)
 many_at one size (suc count) at bytes = do
   first ← one at bytes

@@ -36,8 +36,11 @@ byte_below at end [] = Err (ImageTruncated at)
 byte_below at end (byte ∷ rest) = if nat_lt byte end then Ok (byte, rest) else Err (ImageField at)
 
 -- a number that passes a test, with the refusal of one that does not
-abbrev pub tested_word : (passes : ℕ → Bool) → ImageError → (at : ℕ) → List ℕ → Result (ℕ × List ℕ) ImageError
-tested_word passes refusal at bytes = word_at (λ k. ImageTruncated k) at bytes >>= λ number. if passes number.0 then Ok number else Err refusal
+abbrev pub tested_word : (passes : ℕ → Bool) → ImageError → (at : ℕ) → List ℕ
+    → Result (ℕ × List ℕ) ImageError
+tested_word passes refusal at bytes =
+    word_at (λ k. ImageTruncated k) at bytes >>= λ number. if passes number.0 then Ok number
+    else Err refusal
 
 -- the number of a row
 abbrev pub row_or : ImageError → Option Op → List ℕ → Result (Op × List ℕ) ImageError
@@ -70,7 +73,8 @@ cells_at count at bytes = many_at cell_at 8 count at bytes
 
 -- a number of one range
 abbrev pub number_between : (low high at : ℕ) → List ℕ → Result (ℕ × List ℕ) ImageError
-number_between low high at bytes = tested_word (λ n. nat_le low n && nat_le n high) (ImageField at) at bytes
+number_between low high at bytes =
+    tested_word (λ n. nat_le low n && nat_le n high) (ImageField at) at bytes
 
 -- the mark of the format, its version, and the numbers of code cells and of static cells
 unfoldable pub header_at : List ℕ → Result (ℕ × ℕ × ℕ × List ℕ) ImageError
@@ -128,7 +132,8 @@ name_at statics left at bytes = do
   Ok (record { cell = cell.0; text = text.0 }, text.1)
 
 -- so many names, and the place behind them
-unfoldable pub names_at : (statics left count at : ℕ) → List ℕ → Result (List FieldName × ℕ × List ℕ) ImageError
+unfoldable pub names_at : (statics left count at : ℕ) → List ℕ
+    → Result (List FieldName × ℕ × List ℕ) ImageError
 names_at statics left zero at bytes = Ok ([], at, bytes)
 names_at statics left (suc count) at bytes = do
   first ← name_at statics left at bytes
@@ -146,7 +151,8 @@ notes_at cells statics at bytes = do
 
 -- the version before has no notes
 abbrev pub notes_of : (version cells statics at : ℕ) → List ℕ → Result (NoteLists × ℕ × List ℕ) ImageError
-notes_of version cells statics at bytes = if nat_eq version OLD_VERSION then Ok (no_notes, at, bytes) else notes_at cells statics at bytes
+notes_of version cells statics at bytes =
+    if nat_eq version OLD_VERSION then Ok (no_notes, at, bytes) else notes_at cells statics at bytes
 
 -- nothing follows
 abbrev pub ended : {A : Type 0} → A → (at : ℕ) → List ℕ → Result A ImageError
@@ -155,7 +161,9 @@ ended x at rest = if nat_eq (length rest) 0 then Ok x else Err (ImageTrailing at
 -- an image has one START and one FINISH
 abbrev pub sealed : Segments → Result Segments ImageError
 sealed image =
-    if nat_eq (count_by is_start image.code) 1 then (if nat_eq (count_by is_finish image.code) 1 then Ok image else Err NoFinish) else Err NoStart
+    if nat_eq (count_by is_start image.code) 1
+    then (if nat_eq (count_by is_finish image.code) 1 then Ok image else Err NoFinish)
+    else Err NoStart
 
 abbrev pub noted : NoteLists → Segments → NotedImage
 noted notes image = record { image = image; notes = notes }

@@ -26,7 +26,8 @@ pub(crate) fn notes_of(
 ) -> Result<(Notes, u32, &[u8]), ImageError>
     requires cells { cells ≤ MOST_CELLS }
     requires statics { statics ≤ MOST_STATICS }
-    ensures read { Gives (λ x. (x.0, x.1, x.2.now)) result (notes_of version cells statics (16 + 8 * cells + 4 * statics) bytes.now) }
+    ensures read { Gives (λ x. (x.0, x.1, x.2.now)) result
+        (notes_of version cells statics (16 + 8 * cells + 4 * statics) bytes.now) }
     ensures fit { IfOk result (λ x. IsTrue (notes_fit cells statics x.0)) }
 {
     let at = 16 + 8 * cells + 4 * statics;
@@ -118,7 +119,8 @@ fn names_at(
     requires statics { statics ≤ MOST_STATICS }
     requires count { count ≤ MOST_NAMES }
     requires from { from < 2 ^ 29 }
-    ensures read { Gives (λ x. (x.0.items, x.1, x.2.now)) result (names_at statics MOST_NAME_BYTES count from bytes.now) }
+    ensures read { Gives (λ x. (x.0.items, x.1, x.2.now)) result
+        (names_at statics MOST_NAME_BYTES count from bytes.now) }
     ensures fit { IfOk result (λ x. IsTrue (names_fit statics MOST_NAME_BYTES x.0.items)) }
     ensures len { IfOk result (λ x. length x.0.items ≡ count) }
 {

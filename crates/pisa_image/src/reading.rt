@@ -75,7 +75,8 @@ fn segments_at(
 ) -> Result<(Vec<Cell>, Vec<u32>, &[u8]), ImageError>
     requires cells { cells ≤ MOST_CELLS }
     requires statics { statics ≤ MOST_STATICS }
-    ensures read { Gives (λ x. (segments x.0.items x.1.items, x.2.now)) result (segments_at cells statics bytes.now) }
+    ensures read { Gives (λ x. (segments x.0.items x.1.items, x.2.now)) result
+        (segments_at cells statics bytes.now) }
     ensures cells { IfOk result (λ x. All IsCell x.0.items) }
     ensures code { IfOk result (λ x. vec_len x.0 ≡ cells) }
     ensures words { IfOk result (λ x. vec_len x.1 ≡ statics) }
@@ -97,7 +98,9 @@ fn noted_at(
     requires cells { All IsCell code.items }
     requires code_in_limit { vec_len code ≤ MOST_CELLS }
     requires statics_in_limit { vec_len words ≤ MOST_STATICS }
-    ensures { Gives (λ n. n) result (noted_at version (vec_len code) (vec_len words) (segments code.items words.items) bytes.now) }
+    ensures { Gives (λ n. n) result
+        (noted_at version (vec_len code) (vec_len words) (segments code.items words.items)
+        bytes.now) }
 {
     let cells = code.len() as u32;
     let statics = words.len() as u32;
@@ -171,7 +174,8 @@ fn words_at(
 ) -> Result<(Vec<u32>, &[u8]), ImageError>
     requires count { count ≤ MOST_STATICS }
     requires from { from < 2 ^ 30 }
-    ensures read { Gives (λ x. (x.0.items, x.1.now)) result (words_at (λ at. ImageTruncated at) count from bytes.now) }
+    ensures read { Gives (λ x. (x.0.items, x.1.now)) result
+        (words_at (λ at. ImageTruncated at) count from bytes.now) }
     ensures len { IfOk result (λ x. vec_len x.0 ≡ count) }
 {
     let mut words = Vec::with_capacity(alloc, (count as usize).min(bytes.len() / 4))?;

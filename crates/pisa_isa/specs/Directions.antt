@@ -30,7 +30,8 @@ value_by op back x y z i = new_value op x y z i
 abbrev pub row_by : Op → Bool → (a x y c i : ℕ) → State → State
 row_by Exch back a x y c i m = exchanged_at m a y
 row_by Swapbr back a x y c i m = record m { br = x; regs = slice_set m.regs a m.br }
-row_by Rbra back a x y c o m = record m { br = negated (sum_of m.br (offset_by back o)); back = not m.back }
+row_by Rbra back a x y c o m =
+    record m { br = negated (sum_of m.br (offset_by back o)); back = not m.back }
 row_by Bra back a x y c o m = branched (is_taken Bra x y) (offset_by back o) m
 row_by Beq back a x y c o m = branched (is_taken Beq x y) (offset_by back o) m
 row_by Bne back a x y c o m = branched (is_taken Bne x y) (offset_by back o) m

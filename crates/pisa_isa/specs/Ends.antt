@@ -35,4 +35,5 @@ pub record IsCleanFinish (code : List Cell) (n : ℕ) (m : State) : Type 0 where
 -- a step at START is only the first one, and a step at FINISH only the one that stops the run as Finished
 pub record MeetsEndsOnce (code : List Cell) (n : ℕ) (m : State) : Type 0 where
   pub start_is_first : All (λ s. IsFalse (is_at_start code s)) (drop 1 (visited code n m))
-  pub finish_is_last : All (λ s. IsTrue (is_at_finish code s) → stop code s ≡ Some Finished) (visited code n m)
+  pub finish_is_last : All (λ s. IsTrue (is_at_finish code s) → stop code s ≡ Some Finished)
+      (visited code n m)

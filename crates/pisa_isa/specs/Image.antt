@@ -43,7 +43,9 @@ pub record IsImage (image : Segments) : Type 0 where
 -- the first refusal: a cell that is not one-to-one, else not one START cell, else not one FINISH cell
 abbrev pub refusal_by : Option ℕ → (starts finishes : ℕ) → Option SealError
 refusal_by (Some at) starts finishes = Some (NotOneToOne at)
-refusal_by None starts finishes = if nat_eq starts 1 then (if nat_eq finishes 1 then None else Some NoFinish) else Some NoStart
+refusal_by None starts finishes = if nat_eq starts 1
+    then (if nat_eq finishes 1 then None else Some NoFinish) else Some NoStart
 
 abbrev pub first_seal_refusal : List Cell → Option SealError
-first_seal_refusal code = refusal_by (position (λ c. not (is_one_to_one c)) code) (count_by is_start code) (count_by is_finish code)
+first_seal_refusal code = refusal_by (position (λ c. not (is_one_to_one c)) code)
+    (count_by is_start code) (count_by is_finish code)

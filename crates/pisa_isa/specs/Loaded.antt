@@ -18,7 +18,8 @@ heap_base heap statics = (statics_at + statics + 2 ^ heap - 1) / 2 ^ heap * 2 ^ 
 -- the fixed cells: the order, the heap base, the stack base, the stack end, and the heads of the free lists from order 1 on
 abbrev pub fixed_cells : (heap deep base : ℕ) → List ℕ → List ℕ
 fixed_cells heap deep base heads =
-    0 ∷ heap ∷ base ∷ (base + 2 ^ heap) ∷ (base + 2 ^ heap + FRAME_WORDS * deep) ∷ 0 ∷ 0 ∷ 0 ∷ 0 ∷ (heads ++ replicate (31 - length heads) 0)
+    0 ∷ heap ∷ base ∷ (base + 2 ^ heap) ∷ (base + 2 ^ heap + FRAME_WORDS * deep) ∷ 0 ∷ 0 ∷ 0 ∷ 0
+    ∷ (heads ++ replicate (31 - length heads) 0)
 
 -- the heads of an empty heap: the whole heap is the one free block
 abbrev pub empty_heads : (heap base : ℕ) → List ℕ

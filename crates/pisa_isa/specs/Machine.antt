@@ -27,7 +27,10 @@ with_reg m r w = record m { regs = slice_set m.regs r w }
 
 -- register d and the data cell at an address are swapped
 abbrev pub exchanged_at : State → (d at : ℕ) → State
-exchanged_at m d at = record m { regs = slice_set m.regs d (slice_index m.cells at); cells = slice_set m.cells at (reg m d) }
+exchanged_at m d at = record m {
+  regs = slice_set m.regs d (slice_index m.cells at);
+  cells = slice_set m.cells at (reg m d);
+}
 
 -- the address is in register s
 abbrev pub exchanged : State → ℕ → ℕ → State
@@ -136,7 +139,13 @@ back code m = let u = moved (turned m) in turned (effect_at (fetch code u.pc) u)
 
 -- what the code's registers and cells are as a state
 abbrev pub state_of : Core → List ℕ → State
-state_of core cells = record { pc = core.pc; br = core.br; back = core.back; regs = core.regs; cells = cells }
+state_of core cells = record {
+  pc = core.pc;
+  br = core.br;
+  back = core.back;
+  regs = core.regs;
+  cells = cells;
+}
 
 pub record IsCode (code : List Cell) : Type 0 where
   pub in_limit : length code ≤ MOST_CELLS

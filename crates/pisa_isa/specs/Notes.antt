@@ -43,16 +43,19 @@ marks_fit cells marks = nat_le (length marks) MOST_MARKS && list_all (mark_fits 
 
 -- the data cell is a static one, and so many bytes are left for the name
 abbrev pub name_fits : (statics left : ℕ) → FieldName → Bool
-name_fits statics left n = nat_le FIXED_CELLS n.cell && nat_lt (n.cell - FIXED_CELLS) statics && nat_le (length n.text) left && is_name n.text
+name_fits statics left n = nat_le FIXED_CELLS n.cell && nat_lt (n.cell - FIXED_CELLS) statics
+    && nat_le (length n.text) left && is_name n.text
 
 -- all of these names, where they have so many bytes together
 abbrev pub names_fit : (statics left : ℕ) → List FieldName → Bool
 names_fit statics left [] = true
-names_fit statics left (n ∷ names) = name_fits statics left n && names_fit statics (left - length n.text) names
+names_fit statics left (n ∷ names) =
+    name_fits statics left n && names_fit statics (left - length n.text) names
 
 -- the notes can be kept with so many code cells and so many static cells
 abbrev pub notes_fit : (cells statics : ℕ) → NoteLists → Bool
-notes_fit cells statics notes = marks_fit cells notes.marks && nat_le (length notes.names) MOST_NAMES && names_fit statics MOST_NAME_BYTES notes.names
+notes_fit cells statics notes = marks_fit cells notes.marks
+    && nat_le (length notes.names) MOST_NAMES && names_fit statics MOST_NAME_BYTES notes.names
 
 -- they can be kept with an image
 abbrev pub fits : Segments → NoteLists → Bool
@@ -67,4 +70,7 @@ turned_notes cells notes = record notes { marks = map (turned_mark cells) notes.
 
 -- the flipped image with its notes
 abbrev pub flipped_noted : NotedImage → NotedImage
-flipped_noted n = record { image = flipped_image n.image; notes = turned_notes (length n.image.code) n.notes }
+flipped_noted n = record {
+  image = flipped_image n.image;
+  notes = turned_notes (length n.image.code) n.notes;
+}

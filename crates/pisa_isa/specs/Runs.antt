@@ -8,7 +8,8 @@ use Rattle.pisa_isa.specs.Image.{start_of}
 
 -- where a run of an image begins: at its START cell, with `br` 0 and direction 1
 abbrev pub started : List Cell → (regs cells : List ℕ) → State
-started code regs cells = record { pc = pos (start_of code); br = 0; back = false; regs = regs; cells = cells }
+started code regs cells =
+    record { pc = pos (start_of code); br = 0; back = false; regs = regs; cells = cells }
 
 -- the registers of a run that begins with none of its own
 abbrev pub zero_registers : List ℕ

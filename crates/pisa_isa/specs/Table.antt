@@ -103,7 +103,8 @@ c_is_source _ = false
 -- no source is the target
 abbrev pub is_one_to_one : Cell → Bool
 is_one_to_one c =
-    (if b_is_source c.op then not (nat_eq c.a c.b) else true) && (if c_is_source c.op then not (nat_eq c.a c.c) else true)
+    (if b_is_source c.op then not (nat_eq c.a c.b) else true)
+    && (if c_is_source c.op then not (nat_eq c.a c.c) else true)
 
 -- whether a row names a register in a
 abbrev pub has_a : Op → Bool

@@ -113,7 +113,8 @@ impl Image {
         requires in_range { All IsInRange code.items }
         ensures sealed { MatchResult result (λ _. first_seal_refusal code.items ≡ None)
             (λ refusal. first_seal_refusal code.items ≡ Some refusal) }
-        ensures image { IfOk result (λ image. image ≡ record { code = code.items; statics = statics.items }) }
+        ensures image { IfOk result (λ image. image
+            ≡ record { code = code.items; statics = statics.items }) }
     {
         match first_refusal(&code) {
             Some(refusal) => Err(refusal),

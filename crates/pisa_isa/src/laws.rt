@@ -28,8 +28,10 @@ pub fn flipped_image_is_image()
 
 /// The notes of a flipped image fit it, and flipping it again gives the image with its notes.
 pub fn flipped_notes_fit()
-    ensures fits { (n : NotedImage) → IsTrue (fits n.image n.notes) → IsTrue (fits (flipped_noted n).image (flipped_noted n).notes) }
-    ensures twice { (n : NotedImage) → IsImage n.image → IsTrue (fits n.image n.notes) → flipped_noted (flipped_noted n) ≡ n }
+    ensures fits { (n : NotedImage) → IsTrue (fits n.image n.notes)
+        → IsTrue (fits (flipped_noted n).image (flipped_noted n).notes) }
+    ensures twice { (n : NotedImage) → IsImage n.image → IsTrue (fits n.image n.notes)
+        → flipped_noted (flipped_noted n) ≡ n }
 {}
 
 /// Where a run of an image from START finishes cleanly, the run of the flipped code from START, from

@@ -138,7 +138,10 @@ fn is_below_zero(x: u32) -> bool
 
 /// Adds an offset to the branch register where a branch is taken.
 fn branch_if(core: &mut Core, taken: bool, offset: u32)
-    ensures { core.new ≡ record core.old { br = if taken then sum_of core.old.br offset else core.old.br } }
+    ensures { core.new ≡ record core.old {
+      br = if taken then sum_of core.old.br offset
+          else core.old.br;
+    } }
 {
     if taken {
         core.br = wrap_add(core.br, offset);
@@ -147,7 +150,8 @@ fn branch_if(core: &mut Core, taken: bool, offset: u32)
 
 /// Adds an offset to the branch register, negates it and turns the direction.
 fn reverse(core: &mut Core, offset: u32)
-    ensures { core.new ≡ record core.old { br = negated (sum_of core.old.br offset); back = not core.old.back } }
+    ensures { core.new ≡ record core.old
+        { br = negated (sum_of core.old.br offset); back = not core.old.back } }
 {
     core.br = wrap_sub(0, wrap_add(core.br, offset));
     core.back = !core.back;
@@ -156,8 +160,10 @@ fn reverse(core: &mut Core, offset: u32)
 /// Swaps a register with the data cell at an address, or stops where there is none.
 fn exchange<C: Cells>(core: &mut Core, a: usize, at: u32, cells: &mut C) -> Option<Stop>
     requires { a < 32 }
-    ensures stops { result ≡ (if nat_lt at (length (C.words cells.old)) then None else Some (BadAddress at)) }
-    ensures stays { IsSome result → state_of core.new (C.words cells.new) ≡ state_of core.old (C.words cells.old) }
+    ensures stops { result ≡ (if nat_lt at (length (C.words cells.old)) then None
+        else Some (BadAddress at)) }
+    ensures stays { IsSome result → state_of core.new (C.words cells.new)
+        ≡ state_of core.old (C.words cells.old) }
     ensures swaps { IsTrue (nat_lt at (length (C.words cells.old)))
         → state_of core.new (C.words cells.new) ≡ exchanged_at (state_of core.old (C.words cells.old)) a at }
     ensures place { core.new.pc ≡ core.old.pc }
@@ -214,7 +220,8 @@ fn act<C: Cells>(
     requires c { c < 32 }
     requires x { x ≡ slice_index core.old.regs a }
     ensures stops { result ≡ stop_by op back y i (state_of core.old (C.words cells.old)) }
-    ensures stays { IsSome result → state_of core.new (C.words cells.new) ≡ state_of core.old (C.words cells.old) }
+    ensures stays { IsSome result → state_of core.new (C.words cells.new)
+        ≡ state_of core.old (C.words cells.old) }
     ensures acts { IsTrue (has_cell_at op y (state_of core.old (C.words cells.old)))
         → state_of core.new (C.words cells.new) ≡ row_by op back a x y c i (state_of core.old (C.words cells.old)) }
     ensures place { core.new.pc ≡ core.old.pc }
@@ -265,8 +272,11 @@ fn act<C: Cells>(
 #[inline(always)]
 fn act_by<C: Cells>(core: &mut Core, cell: &Cell, back: bool, cells: &mut C) -> Option<Stop>
     requires cell { IsCell cell.now }
-    ensures stops { result ≡ stop_by cell.now.op back (reg (state_of core.old (C.words cells.old)) cell.now.b) cell.now.imm (state_of core.old (C.words cells.old)) }
-    ensures stays { IsSome result → state_of core.new (C.words cells.new) ≡ state_of core.old (C.words cells.old) }
+    ensures stops { result ≡ stop_by cell.now.op back
+        (reg (state_of core.old (C.words cells.old)) cell.now.b) cell.now.imm
+        (state_of core.old (C.words cells.old)) }
+    ensures stays { IsSome result → state_of core.new (C.words cells.new)
+        ≡ state_of core.old (C.words cells.old) }
     ensures acts { IsTrue (has_cell cell.now.op cell.now.b (state_of core.old (C.words cells.old)))
         → state_of core.new (C.words cells.new) ≡ row_of (faced back cell.now) (state_of core.old (C.words cells.old)) }
     ensures place { core.new.pc ≡ core.old.pc }
@@ -285,7 +295,8 @@ fn step_by<C: Cells>(core: &mut Core, cell: &Cell, back: bool, cells: &mut C) ->
     requires low { pos 0 ≤ℤ core.old.pc }
     requires high { core.old.pc ≤ℤ pos (2 ^ 32) }
     ensures stops { result ≡ stop_in cell.now.op cell.now (state_of core.old (C.words cells.old)) }
-    ensures stays { IsSome result → state_of core.new (C.words cells.new) ≡ state_of core.old (C.words cells.old) }
+    ensures stays { IsSome result → state_of core.new (C.words cells.new)
+        ≡ state_of core.old (C.words cells.old) }
     ensures goes { IsNone result
         → state_of core.new (C.words cells.new) ≡ moved (effect cell.now (state_of core.old (C.words cells.old))) }
 {
@@ -326,7 +337,8 @@ fn unstep_by<C: Cells>(core: &mut Core, code: &[Cell], back: bool, cells: &mut C
     requires code { IsCode code.now }
     requires made { IsNext code.now (state_of core.old (C.words cells.old)) }
     requires back { back ≡ not core.old.back }
-    ensures back { state_of core.new (C.words cells.new) ≡ before code.now (state_of core.old (C.words cells.old)) }
+    ensures back { state_of core.new (C.words cells.new)
+        ≡ before code.now (state_of core.old (C.words cells.old)) }
     ensures undoes { (m : State) → IsState m → stop code.now m ≡ None
         → state_of core.old (C.words cells.old) ≡ next code.now m
         → state_of core.new (C.words cells.new) ≡ m }
@@ -340,7 +352,8 @@ fn unstep_by<C: Cells>(core: &mut Core, code: &[Cell], back: bool, cells: &mut C
 pub fn unstep<C: Cells>(core: &mut Core, code: &[Cell], cells: &mut C)
     requires code { IsCode code.now }
     requires made { IsNext code.now (state_of core.old (C.words cells.old)) }
-    ensures back { state_of core.new (C.words cells.new) ≡ back code.now (state_of core.old (C.words cells.old)) }
+    ensures back { state_of core.new (C.words cells.new)
+        ≡ back code.now (state_of core.old (C.words cells.old)) }
     ensures undoes { (m : State) → IsState m → stop code.now m ≡ None
         → state_of core.old (C.words cells.old) ≡ next code.now m
         → state_of core.new (C.words cells.new) ≡ m }

@@ -34,7 +34,9 @@ pub record Parts : Type 0 where
 
 -- blanks, a name, blanks, `=`, blanks, a number, blanks
 abbrev pub line_of : Parts → List ℕ
-line_of p = p.before ++ (p.name ++ (p.between ++ (61 ∷ (p.behind_sign ++ (sign p.minus ++ (p.digits ++ p.after))))))
+line_of p =
+    p.before
+    ++ (p.name ++ (p.between ++ (61 ∷ (p.behind_sign ++ (sign p.minus ++ (p.digits ++ p.after))))))
 
 pub record AreParts (p : Parts) : Type 0 where
   pub blank_before : are_blanks p.before ≡ true

@@ -38,13 +38,15 @@ word_up_to false number = if nat_lt number (2 ^ 31) then Some number else None
 -- digits, which blanks may follow up to the end of the line
 unfoldable pub digits_word : (minus : Bool) → List ℕ → Option ℕ
 digits_word minus text =
-    if nat_eq (prefix_len (is_of Digit) text) 0 || not (list_all (is_of Blank) (behind (is_of Digit) text)) then None
+    if nat_eq (prefix_len (is_of Digit) text) 0
+    || not (list_all (is_of Blank) (behind (is_of Digit) text)) then None
     else word_up_to minus (decimal_from 0 (take_while (is_of Digit) text))
 
 -- a number, which may begin with a minus
 abbrev pub number_word : List ℕ → Option ℕ
 number_word [] = None
-number_word (byte ∷ rest) = if nat_eq byte 45 then digits_word true rest else digits_word false (byte ∷ rest)
+number_word (byte ∷ rest) = if nat_eq byte 45 then digits_word true rest
+    else digits_word false (byte ∷ rest)
 
 -- the name and the word of a line that sets a field
 pub record Entry : Type 0 where
@@ -59,13 +61,16 @@ unfoldable pub entry_in : List ℕ → Option Entry
 entry_in line =
     let text = behind (is_of Blank) line in
     if nat_eq (prefix_len (is_of Letter) text) 0 then None
-    else option_and_then (λ value. option_and_then (λ word. Some (entry (take_while (is_of InName) text) word)) (number_word (behind (is_of Blank) value)))
+    else option_and_then (λ value. option_and_then
+    (λ word. Some (entry (take_while (is_of InName) text) word))
+    (number_word (behind (is_of Blank) value)))
     (after 61 (behind (is_of Blank) (behind (is_of InName) text)))
 
 -- the number of the first field of this name
 abbrev pub field_named : List InputField → List ℕ → Option ℕ
 field_named [] name = None
-field_named (known ∷ fields) name = if bytes_eq known.name name then Some known.field else field_named fields name
+field_named (known ∷ fields) name = if bytes_eq known.name name then Some known.field
+    else field_named fields name
 
 abbrev pub is_set : List FieldWord → ℕ → Bool
 is_set words field = list_any (λ word. nat_eq word.field field) words
@@ -73,24 +78,30 @@ is_set words field = list_any (λ word. nat_eq word.field field) words
 -- a field that no earlier line set is set
 abbrev pub new_word : (line : ℕ) → List FieldWord → Option ℕ → ℕ → Result (Option FieldWord) LoadError
 new_word line words None word = Err (UnknownField line)
-new_word line words (Some field) word = if is_set words field then Err (UnknownField line) else Ok (Some (record { field = field; word = word }))
+new_word line words (Some field) word = if is_set words field then Err (UnknownField line)
+    else Ok (Some (record { field = field; word = word }))
 
-abbrev pub entry_word : List InputField → (line : ℕ) → List FieldWord → Option Entry → Result (Option FieldWord) LoadError
+abbrev pub entry_word : List InputField → (line : ℕ) → List FieldWord → Option Entry
+    → Result (Option FieldWord) LoadError
 entry_word fields line words None = Err (BadInputLine line)
 entry_word fields line words (Some e) = new_word line words (field_named fields e.name) e.word
 
 -- what a line sets beside the words of the lines before it
-abbrev pub line_word : List InputField → (line : ℕ) → List FieldWord → List ℕ → Result (Option FieldWord) LoadError
-line_word fields line words text = if list_all (is_of Blank) text then Ok None else entry_word fields line words (entry_in text)
+abbrev pub line_word : List InputField → (line : ℕ) → List FieldWord → List ℕ
+    → Result (Option FieldWord) LoadError
+line_word fields line words text = if list_all (is_of Blank) text then Ok None
+    else entry_word fields line words (entry_in text)
 
 abbrev pub with_word : List FieldWord → Option FieldWord → List FieldWord
 with_word words None = words
 with_word words (Some word) = words ++ word ∷ []
 
 -- line by line, the first of which has this number
-unfoldable pub words_from : List InputField → (line : ℕ) → List FieldWord → List (List ℕ) → Result (List FieldWord) LoadError
+unfoldable pub words_from : List InputField → (line : ℕ) → List FieldWord → List (List ℕ)
+    → Result (List FieldWord) LoadError
 words_from fields line words [] = Ok words
-words_from fields line words (text ∷ texts) = line_word fields line words text >>= λ word. words_from fields (line + 1) (with_word words word) texts
+words_from fields line words (text ∷ texts) =
+    line_word fields line words text >>= λ word. words_from fields (line + 1) (with_word words word) texts
 
 -- line feeds part the lines
 abbrev pub input_of : List InputField → List ℕ → Result (List FieldWord) LoadError

@@ -14,7 +14,8 @@ is_outside number most = nat_eq number 0 || nat_lt most number
 -- the order of the heap is tried first
 abbrev pub limits_refusal : (heap deep most : ℕ) → Option LoadError
 limits_refusal heap deep most =
-    if is_outside heap MOST_HEAP then Some HeapOrder else if is_outside deep most then Some DeepRange else None
+    if is_outside heap MOST_HEAP then Some HeapOrder else if is_outside deep most
+    then Some DeepRange else None
 
 -- the end of the stack is that of the memory
 abbrev pub memory_size : (statics : ℕ) → Limits → ℕ

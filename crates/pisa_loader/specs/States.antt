@@ -25,7 +25,8 @@ pub record IsMemory (count : ℕ) (m : Memory) : Type 0 where
 
 -- the mark of the format, its version, the registers, the number of cells, the cells
 abbrev pub state_bytes : Memory → List ℕ
-state_bytes m = codes "RPPS" ++ word_bytes STATE_VERSION ++ words_bytes m.regs ++ word_bytes (length m.cells) ++ words_bytes m.cells
+state_bytes m = codes "RPPS" ++ word_bytes STATE_VERSION ++ words_bytes m.regs
+    ++ word_bytes (length m.cells) ++ words_bytes m.cells
 
 -- what a function returned, seen by `view`, is what reading gives, unless memory ran out
 abbrev pub Fails : {Y : Type 0} → LoadError → Result Y LoadError → Type 0
@@ -38,7 +39,8 @@ Gives view (Err e) read = Fails e read
 
 -- a number that must be this one, and the bytes behind it
 abbrev pub known_word : (known at : ℕ) → List ℕ → Result (List ℕ) LoadError
-known_word known at bytes = word_at (λ k. BadState k) at bytes >>= λ number. if nat_eq number.0 known then Ok number.1 else Err (BadState at)
+known_word known at bytes = word_at (λ k. BadState k) at bytes >>= λ number. if nat_eq number.0
+    known then Ok number.1 else Err (BadState at)
 
 -- a state with so many cells, all of the bytes
 unfoldable pub state_at : (count : ℕ) → List ℕ → Result Memory LoadError

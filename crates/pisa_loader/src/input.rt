@@ -65,7 +65,8 @@ fn add(words: &mut Vec<FieldWord>, word: Option<FieldWord>) -> Result<(), AllocE
 
 /// The lines, which line feeds part.
 fn lines(alloc: Global, bytes: &[u8]) -> Result<Vec<&[u8]>, AllocError>
-    ensures { IfOk result (λ lines. map (λ line. line.now) lines.items ≡ slice_split (λ b. nat_eq b 10) bytes.now) }
+    ensures { IfOk result (λ lines. map (λ line. line.now) lines.items
+        ≡ slice_split (λ b. nat_eq b 10) bytes.now) }
 {
     bytes.split(|byte| *byte == b'\n').collect(alloc)
 }

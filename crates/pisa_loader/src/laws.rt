@@ -7,5 +7,6 @@ ghost use Rattle.pisa_loader.specs.InputGrammar.{Sets};
 /// that form is read so.
 pub fn lines_have_one_form()
     ensures found { (line : List ℕ) (e : Entry) → entry_in line ≡ Some e → Sets line e.name e.word }
-    ensures only { (line name : List ℕ) (word : ℕ) → Sets line name word → entry_in line ≡ Some (entry name word) }
+    ensures only { (line name : List ℕ) (word : ℕ) → Sets line name word
+        → entry_in line ≡ Some (entry name word) }
 {}

@@ -62,7 +62,8 @@ pub(crate) fn is_blank_line(text: &[u8]) -> bool
 
 /// What stands behind a byte that must come first.
 fn after(first: u8, text: &[u8]) -> Option<&[u8]>
-    ensures { MatchOption result (after first text.now ≡ None) (λ rest. after first text.now ≡ Some rest.now) }
+    ensures { MatchOption result (after first text.now ≡ None)
+        (λ rest. after first text.now ≡ Some rest.now) }
 {
     match text {
         [byte, rest @ ..] if *byte == first => Some(rest),
@@ -121,7 +122,8 @@ fn number_word(text: &[u8]) -> Option<u32>
 /// The name and the word of a line that sets a field.
 #[tactic(auto, unfolding(crate::specs::InputLines::entry_in))]
 pub(crate) fn entry_in(line: &[u8]) -> Option<(&[u8], u32)>
-    ensures { MatchOption result (entry_in line.now ≡ None) (λ e. entry_in line.now ≡ Some (entry e.0.now e.1)) }
+    ensures { MatchOption result (entry_in line.now ≡ None)
+        (λ e. entry_in line.now ≡ Some (entry e.0.now e.1)) }
 {
     let text = behind(Kind::Blank, line);
     if front_len(Kind::Letter, text) == 0 {

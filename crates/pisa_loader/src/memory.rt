@@ -70,7 +70,8 @@ fn memory(
     requires statics { length statics.now ≤ MOST_STATICS }
     requires input { IsInputOf statics.now input.now }
     requires room { more ≤ 2 ^ 24 }
-    ensures items { IfOk result (λ cells. cells.items ≡ loaded statics.now limits input.now ++ replicate more 0) }
+    ensures items { IfOk result (λ cells. cells.items ≡ loaded statics.now limits input.now
+        ++ replicate more 0) }
     ensures len { IfOk result (λ cells. vec_len cells < 2 ^ 32) }
 {
     let count = statics.len() as u32;
@@ -106,7 +107,8 @@ fn add_fixed(cells: &mut Vec<u32>, limits: Limits, base: u32) -> Result<(), Allo
     requires limits { IsLimits limits }
     requires base { base < 2 ^ 22 }
     requires empty { vec_len cells.old ≡ 0 }
-    ensures items { OnOk result (cells.new.items ≡ fixed_cells limits.heap limits.deep base (empty_heads limits.heap base)) }
+    ensures items { OnOk result (cells.new.items
+        ≡ fixed_cells limits.heap limits.deep base (empty_heads limits.heap base)) }
     ensures len { OnOk result (vec_len cells.new ≡ FIXED_CELLS) }
 {
     let stack = base + heap_size(limits.heap);

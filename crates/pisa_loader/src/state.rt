@@ -32,10 +32,13 @@ pub fn load_state(
 ) -> Result<Machine, LoadError>
     requires { IsLimits limits }
     // What it answers, the first refusal included.
-    ensures exact { Gives (λ machine. machine) result (at_start image (state_at (memory_size (length image.statics) limits) bytes.now)) }
+    ensures exact { Gives (λ machine. machine) result
+        (at_start image (state_at (memory_size (length image.statics) limits) bytes.now)) }
     // What is read as a state is the bytes of the machine's, and its cells are as many.
-    ensures found { IfOk result (λ machine. bytes.now ≡ state_bytes (memory machine.state.regs machine.state.cells)) }
-    ensures size { IfOk result (λ machine. length machine.state.cells ≡ memory_size (length image.statics) limits) }
+    ensures found { IfOk result (λ machine. bytes.now
+        ≡ state_bytes (memory machine.state.regs machine.state.cells)) }
+    ensures size { IfOk result (λ machine. length machine.state.cells
+        ≡ memory_size (length image.statics) limits) }
     // The bytes of a memory of this size are read as it, unless memory runs out.
     ensures only { (m : Memory) → IsMemory (memory_size (length image.statics) limits) m → bytes.now ≡ state_bytes m
         → Gives (λ machine. machine) result (Ok (first_position image m.regs m.cells)) }
@@ -50,7 +53,8 @@ fn machine_of(
     bytes: &[u8],
 ) -> Result<Machine, LoadError>
     requires { IsLimits limits }
-    ensures read { Gives (λ machine. machine) result (at_start image (state_at (memory_size (length image.statics) limits) bytes.now)) }
+    ensures read { Gives (λ machine. machine) result
+        (at_start image (state_at (memory_size (length image.statics) limits) bytes.now)) }
     ensures size { memory_size (length image.statics) limits < 2 ^ 24 }
 {
     let count = memory_size(image.statics().len() as u32, limits);
@@ -109,7 +113,8 @@ fn words_at(
 ) -> Result<(Vec<u32>, &[u8]), LoadError>
     requires count { count < 2 ^ 24 }
     requires from { from < 2 ^ 30 }
-    ensures read { Gives (λ x. (x.0.items, x.1.now)) result (words_at (λ at. BadState at) count from bytes.now) }
+    ensures read { Gives (λ x. (x.0.items, x.1.now)) result
+        (words_at (λ at. BadState at) count from bytes.now) }
     ensures len { IfOk result (λ x. vec_len x.0 ≡ count) }
 {
     // No more room than the bytes that are there can fill.
@@ -142,7 +147,8 @@ fn word_at(at: u32, bytes: &[u8]) -> Result<(u32, &[u8]), LoadError>
 
 /// The bytes of a machine's registers and data cells.
 pub fn save_state(alloc: Global, machine: &Machine) -> Result<Vec<u8>, NoMemory>
-    ensures bytes { IfOk result (λ bytes. bytes.items ≡ state_bytes (memory machine.now.state.regs machine.now.state.cells)) }
+    ensures bytes { IfOk result (λ bytes. bytes.items
+        ≡ state_bytes (memory machine.now.state.regs machine.now.state.cells)) }
     // They are read as these registers and cells.
     ensures reads_back { IfOk result (λ bytes. state_at (length machine.now.state.cells) bytes.items
         ≡ Ok (memory machine.now.state.regs machine.now.state.cells)) }

@@ -1,9 +1,10 @@
 -- Runs in parts, each of which goes one way.
-use Rattle.std.proofs.Common.{◌≡◌, ◌∙◌, sym, ap, ℕ, ◌+◌, ◌-◌, ◌<◌, List, Some, None, arith}
+use Rattle.std.proofs.Common.{◌≡◌, ◌∙◌, sym, ap, subst, ℕ, zero, suc, ◌+◌, ◌-◌, ◌<◌, List, Some, None, arith}
 use Rattle.pisa_isa.specs.declared.cell.Cell.{Cell}
 use Rattle.pisa_isa.specs.declared.machine.Stop.{Stop}
-use Rattle.pisa_isa.specs.Machine.{State, stop, stop_at, stop_in, next, fetch, effect, effect_at, moved}
-use Rattle.pisa_isa.specs.Runs.{End, run, steps, later, and_then, unless_stop, counted, stop_at_bound}
+use Rattle.pisa_isa.specs.Machine.{State, IsCode, stop, stop_at, stop_in, next, fetch, effect, effect_at, moved}
+use Rattle.pisa_isa.specs.Runs.{End, run, steps, later, and_then, unless_stop, counted, stop_at_bound, IsReached}
+use Rattle.pisa_isa.proofs.Keeps.{first_step, reached_after}
 use Rattle.pisa_isa.proofs.Runs.{steps-add, run-stop}
 use Rattle.pisa_isa.proofs.Longer.{run-steps}
 
@@ -22,6 +23,17 @@ one_more_at code n m here there cell reaches found goes is =
 -- so many steps more
 pub more : (code : List Cell) (n k : ℕ) (m here there : State) → steps code n m ≡ Some here → steps code k here ≡ Some there → steps code (n + k) m ≡ Some there
 more code n k m here there reaches goes = steps-add code n k m ∙ ap (λ o. and_then o (steps code k)) reaches ∙ goes
+
+-- a position so many steps behind one that is reached
+pub reached_more : (code : List Cell) (n k : ℕ) (m there : State) → IsCode code → IsReached code n m → steps code k m ≡ Some there → IsReached code (n + k) there
+reached_more code n zero m there c r is =
+    let same : m ≡ there = cc in
+    let none : n ≡ n + 0 = omega arith in
+    subst (λ (i : ℕ). IsReached code i there) none (subst (λ (s : State). IsReached code n s) same r)
+reached_more code n (suc k) m there c r is =
+    let first = first_step (stop code m) (steps code k (next code m)) there is in
+    let count : suc n + k ≡ n + suc k = omega arith in
+    subst (λ (i : ℕ). IsReached code i there) count (reached_more code (suc n) k (next code m) there c (reached_after code n m c r first.0) first.1)
 
 abbrev pub end_of : Stop → ℕ → State → End
 end_of why spent last = record { why = why; spent = spent; last = last }

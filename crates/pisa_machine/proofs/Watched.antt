@@ -1,7 +1,8 @@
 -- A run that probes watch, step by step.
-use Rattle.std.proofs.Common.{◌≡◌, ◌∙◌, sym, ap, subst, refl, ℕ, zero, suc, ◌+◌, ◌-◌, ◌<◌, List, [], ◌∷◌, ◌++◌, Option, Some, None, map, replicate, zero-add, arith, append_assoc}
+use Rattle.std.proofs.Common.{◌≡◌, ◌∙◌, sym, ap, subst, refl, ℕ, zero, suc, ◌+◌, ◌-◌, ◌<◌, length, take, List, [], ◌∷◌, ◌++◌, Option, Some, None, map, replicate, zero-add, arith, append_assoc}
 use Rattle.std.specs.Prelude.{ℤ, IsSome}
-use Rattle.std.proofs.lemmas.List.{map-append, append-nil}
+use Rattle.std.specs.List.{slice_set}
+use Rattle.std.proofs.lemmas.List.{map-append, append-nil, take_more_set}
 use Rattle.pisa_isa.specs.declared.cell.Cell.{Cell}
 use Rattle.pisa_isa.specs.declared.machine.Stop.{Stop}
 use Rattle.pisa_isa.specs.declared.machine.Stop.TheVariants.{Finished, Returned, Trap, BadAddress, OffCode, Bound}
@@ -13,7 +14,7 @@ use Rattle.pisa_isa.proofs.Longer.{run-steps}
 use Rattle.pisa_isa.proofs.Runs.{steps-add, run-stop}
 use Rattle.rpp_probes.specs.declared.probe.StepAt.{StepAt}
 use Rattle.rpp_probes.specs.Tally.{Watch, going, lines_at, left_after, lines_after, IsCutShort}
-use Rattle.rpp_probes.proofs.Folds.{left_none, left_more, lines_more, left_one, lines_one}
+use Rattle.rpp_probes.proofs.Folds.{left_none, left_more, left_append, lines_more, lines_append, left_one, lines_one}
 use Rattle.pisa_machine.specs.Position.{Position, stepped}
 use Rattle.pisa_machine.specs.Told.{step_at, counted_steps, BreaksOff}
 
@@ -200,3 +201,46 @@ told_once n step now last is left = left ∙ sym (left_one step now) ∙ ap (λ 
 
 pub lines_once : (n : ℕ) (step : StepAt) (now : List Watch) (before after : List (List ℕ)) → n ≡ 1 → after ≡ before ++ lines_at step now → after ≡ before ++ lines_after (replicate n step) now
 lines_once n step now before after is lines = lines ∙ ap (λ l. before ++ l) (sym (lines_one step now)) ∙ ap (λ n. before ++ lines_after (replicate n step) now) (sym is)
+
+-- ---- steps that are told together
+
+pub counted_more : (code : List Cell) (k n : ℕ) (m e : State) → steps code k m ≡ Some e → counted_steps code (k + n) m ≡ counted_steps code k m ++ counted_steps code n e
+counted_more code k n m e reaches =
+    ap (map step_at) (visited-steps code k n m e reaches) ∙ map-append step_at (visited code k m) (visited code n e)
+
+-- as many steps are counted as are made
+pub counted_length : (code : List Cell) (k : ℕ) (m e : State) → steps code k m ≡ Some e → length (counted_steps code k m) ≡ k
+counted_length code zero m e is = refl
+counted_length code (suc k) m e is =
+    let first = first_step (stop code m) (steps code k (next code m)) e is in
+    ap (λ o. length (map step_at (before_step o m (visited code k (next code m))))) first.0
+    ∙ ap (λ n. suc n) (counted_length code k (next code m) e first.1)
+
+-- one more is noted
+pub noted_more : (code : List Cell) (n : ℕ) (m here there : State) (noted : List StepAt) → steps code n m ≡ Some here → steps code (n + 1) m ≡ Some there
+    → take n noted ≡ counted_steps code n m → n < length noted → take (n + 1) (slice_set noted n (step_at here)) ≡ counted_steps code (n + 1) m
+noted_more code n m here there noted reaches goes notes less =
+    let parts = steps-add code n 1 m ∙ ap (λ o. and_then o (steps code 1)) reaches in
+    let one = first_step (stop code here) (steps code 0 (next code here)) there (sym parts ∙ goes) in
+    take_more_set noted n (step_at here) less ∙ ap (λ l. l ++ step_at here ∷ []) notes
+    ∙ sym (counted_more code n 1 m here reaches ∙ ap (λ l. counted_steps code n m ++ map step_at l) (visited-goes code here one.0))
+
+-- steps told together, behind those that were told
+pub told_many : (code code_here : List Cell) (made k : ℕ) (first here there : State) (ws now last : List Watch) (before after : List (List ℕ)) → IsTold code made first here ws now before after
+    → code_here ≡ code → steps code_here k here ≡ Some there → last ≡ left_after (counted_steps code_here k here) now → lines_after (counted_steps code_here k here) now ≡ []
+    → IsTold code (made + k) first there ws last before after
+told_many code code_here made k first here there ws now last before after h same goes left none =
+    let told = counted_more code made k first here h.reaches in
+    let at = ap (λ (c : List Cell). counted_steps c k here) same in
+    let there_is : steps code k here ≡ Some there = ap (λ (c : List Cell). steps c k here) (sym same) ∙ goes in
+    let no_line : lines_after (counted_steps code k here) now ≡ [] = ap (λ l. lines_after l now) (sym at) ∙ none in
+    record {
+      reaches = steps-add code made k first ∙ ap (λ o. and_then o (steps code k)) h.reaches ∙ there_is;
+      stands = left ∙ ap (λ l. left_after l now) at ∙ ap (left_after (counted_steps code k here)) h.stands
+          ∙ sym (left_append (counted_steps code made first) (counted_steps code k here) ws) ∙ ap (λ l. left_after l ws) (sym told);
+      lines = h.lines ∙ ap (λ l. before ++ l)
+          (sym (append-nil (lines_after (counted_steps code made first) ws))
+          ∙ ap (λ l. lines_after (counted_steps code made first) ws ++ l) (sym no_line ∙ ap (lines_after (counted_steps code k here)) h.stands)
+          ∙ sym (lines_append (counted_steps code made first) (counted_steps code k here) ws)
+          ∙ ap (λ l. lines_after l ws) (sym told));
+    }

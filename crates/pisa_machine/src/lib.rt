@@ -4,6 +4,7 @@
 #![tactic(auto)]
 
 mod machine;
+mod noting;
 mod page;
 mod pages;
 mod rows;

@@ -1,12 +1,13 @@
 // Machines.
-ghost use Rattle.std.specs.Prelude.{◌≡◌, IsSome, ◌<◌, ◌≤◌, ◌^◌, ◌+◌, ◌-◌, ◌↔◌, pos, false, All, length, slice_get, vec_len, IsTrue, IsFalse, IfOk, if◌then◌else◌};
+ghost use Rattle.std.specs.Prelude.{◌≡◌, IsSome, ◌<◌, ◌≤◌, ◌^◌, ◌+◌, ◌-◌, ◌↔◌, pos, false, All, length, take, Some, slice_get, vec_len, IsTrue, IsFalse, IfOk, if◌then◌else◌};
 ghost use Rattle.rpp_words.specs.Words.{IsWord};
 ghost use Rattle.pisa_isa.specs.Machine.{state_of, stop, fetch, back, IsCode, IsNext};
 ghost use Rattle.pisa_isa.specs.Image.{IsImage, start_of};
-ghost use Rattle.pisa_isa.specs.Runs.{run, counted, counted_by, stop_at_bound};
+ghost use Rattle.pisa_isa.specs.Runs.{run, steps as steps_made, counted, counted_by, stop_at_bound};
 ghost use Rattle.pisa_machine.specs.Position.{Position, IsMachine, first_position, stepped};
-ghost use Rattle.pisa_machine.specs.Told.{step_at, place_of as number_of};
+ghost use Rattle.pisa_machine.specs.Told.{step_at, counted_steps, place_of as number_of};
 
+use crate::noting::note_leg;
 use crate::page::Pages;
 use crate::run::{RunEnd, count_step, run_from, steps_of, stop_at_bound};
 use crate::steps::Steps;
@@ -120,6 +121,33 @@ impl Machine {
         );
         self.made += end.spent - steps_of(end.stop);
         end
+    }
+
+    /// Makes steps in the direction that the machine has, as many as can be noted at most, up to and with the first that turns
+    /// it, and notes each as it stands before it is made. None of them is a stop.
+    pub(crate) fn note_leg<L: Ledger>(
+        &mut self,
+        noted: &mut [StepAt],
+        steps: &mut Steps<L>,
+    ) -> usize
+        requires { self.old.made + length noted.old < 2 ^ 63 }
+        ensures makes { steps_made self.old.image.code result self.old.state ≡ Some self.new.state }
+        ensures notes { take result noted.new ≡ counted_steps self.old.image.code result self.old.state }
+        ensures image { self.new.image ≡ self.old.image }
+        ensures made { self.new.made ≡ self.old.made + result }
+        ensures within { result ≤ length noted.old }
+        ensures counter { steps.new ≡ steps.old + result }
+        ensures machine { IsMachine self.old }
+    {
+        let made = note_leg(
+            &mut self.core,
+            self.image.code(),
+            &mut self.cells,
+            noted,
+            steps,
+        );
+        self.made += made as u64;
+        made
     }
 
     /// The step that is next, where there is a cell at its place.

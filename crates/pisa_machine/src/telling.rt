@@ -1,9 +1,9 @@
 // Runs that probes watch.
-ghost use Rattle.std.specs.Prelude.{◌≡◌, ◌≤◌, ◌<◌, ◌^◌, ◌+◌, ◌++◌, map, replicate, IfOk, IfErr, OnOk, string_bytes};
-ghost use Rattle.pisa_isa.specs.Runs.{run, counted};
+ghost use Rattle.std.specs.Prelude.{◌≡◌, ◌≤◌, ◌<◌, ◌^◌, ◌+◌, ◌++◌, [], length, map, replicate, Some, IfOk, IfErr, OnOk, string_bytes};
+ghost use Rattle.pisa_isa.specs.Runs.{run, steps as steps_made, counted};
 ghost use Rattle.pisa_machine.specs.Position.{IsMachine};
 ghost use Rattle.pisa_machine.specs.Told.{counted_steps, BreaksOff};
-ghost use Rattle.rpp_probes.specs.Tally.{left_after, lines_after, IsCutShort};
+ghost use Rattle.rpp_probes.specs.Tally.{left_after, lines_after, AreSureFor, IsCutShort};
 
 use crate::machine::Machine;
 use crate::run::{RunEnd, steps_of};
@@ -13,6 +13,9 @@ use rpp_probes::{Probes, StepAt};
 use rpp_words::NoMemory;
 use std::alloc::Global;
 use std::sync::ledger::Ledger;
+
+// How many steps are told together at most.
+const TOLD_TOGETHER: usize = 256;
 
 // Tells probes a step at which the machine stops, where it counts as a step.
 #[cold]
@@ -41,6 +44,55 @@ fn tell_stop<P: Probes>(
 }
 
 impl Machine {
+    // Makes steps that end no probe, as many as can be noted at most, and tells them together.
+    fn tell_leg<L: Ledger, P: Probes>(
+        &mut self,
+        probes: &mut P,
+        noted: &mut [StepAt],
+        steps: &mut Steps<L>,
+    ) -> usize
+        requires made { self.old.made + length noted.old < 2 ^ 63 }
+        requires sure { AreSureFor (length noted.old) (P.watches probes.old) }
+        ensures makes { steps_made self.old.image.code result self.old.state ≡ Some self.new.state }
+        ensures image { self.new.image ≡ self.old.image }
+        ensures made { self.new.made ≡ self.old.made + result }
+        ensures within { result ≤ length noted.old }
+        ensures counter { steps.new ≡ steps.old + result }
+        ensures told { P.watches probes.new ≡
+            left_after (counted_steps self.old.image.code result self.old.state) (P.watches probes.old) }
+        ensures lines { lines_after (counted_steps self.old.image.code result self.old.state) (P.watches probes.old) ≡ [] }
+    {
+        let made = self.note_leg(noted, steps);
+        probes.tell_each(&noted[..made]);
+        made
+    }
+
+    // Makes at most `bound` steps of which the probes are sure that none ends them, as many as can be noted at most, and tells them
+    // together. It may make none.
+    fn tell_sure<L: Ledger, P: Probes>(
+        &mut self,
+        bound: u64,
+        probes: &mut P,
+        noted: &mut [StepAt],
+        steps: &mut Steps<L>,
+    ) -> u64
+        requires { self.old.made + bound < 2 ^ 63 }
+        ensures makes { steps_made self.old.image.code result self.old.state ≡ Some self.new.state }
+        ensures image { self.new.image ≡ self.old.image }
+        ensures made { self.new.made ≡ self.old.made + result }
+        ensures within { result ≤ bound }
+        ensures counter { steps.new ≡ steps.old + result }
+        ensures told { P.watches probes.new ≡
+            left_after (counted_steps self.old.image.code result self.old.state) (P.watches probes.old) }
+        ensures lines { lines_after (counted_steps self.old.image.code result self.old.state) (P.watches probes.old) ≡ [] }
+    {
+        let sure = probes.sure_steps().min(bound).min(noted.len() as u64);
+        if sure == 0 {
+            return 0;
+        }
+        self.tell_leg(probes, &mut noted[..sure as usize], steps) as u64
+    }
+
     /// Runs at most `bound` steps, and counts those that it makes, as `run` does; and tells the probes each counted step, in the
     /// order of the list. A probe that ends with a step is dropped, and its line is added to `lines`; the others keep their order.
     /// After want of memory the machine stands after the step during which it came.
@@ -68,11 +120,17 @@ impl Machine {
         ensures machine { IsMachine self.old }
     {
         let _before = self.made();
-        for made in 0..bound {
+        let mut noted = [StepAt {
+            place: 0,
+            back: false,
+        }; TOLD_TOGETHER];
+        let mut made = 0;
+        while made < bound {
+            made += self.tell_sure(bound - made - 1, probes, &mut noted, steps);
             let step = self.next_step();
             match self.make_step(steps) {
                 None => match probes.tell(alloc, lines, step) {
-                    Ok(()) => {}
+                    Ok(()) => made += 1,
                     Err(NoMemory) => return Err(NoMemory),
                 },
                 Some(stop) => {

@@ -3,8 +3,6 @@ use Rattle.std.proofs.Common.{◌≡◌, ◌∙◌, sym, ap, subst, refl, ℕ, z
 use Rattle.std.specs.Prelude.{All}
 use Rattle.std.specs.List.{flat_map}
 use Rattle.std.specs.Option.{unwrap_or}
-use Rattle.std.proofs.lemmas.List.{take_at, drop_at}
-use Rattle.std.proofs.lemmas.List.Elements.{All-take, All-drop}
 use Rattle.rpp_tree.specs.declared.tree.Program.{Program}
 use Rattle.rpp_tree.specs.declared.tree.Var.{Var}
 use Rattle.rpp_tree.specs.declared.limits.TheConstants.{MOST_BYTES}
@@ -27,15 +25,10 @@ use Rattle.sound_execution.proofs.Numbered.{program_words}
 use Rattle.sound_execution.proofs.Plainness.{program_plain}
 use Rattle.method_scope.specs.Visible.{Visible}
 use Rattle.block_codegen.specs.Pieces.{StandsIn}
+use Rattle.block_codegen.proofs.Standing.{left, right}
 use Rattle.program_codegen.proofs.SameRules.{block_same}
 
 -- ---- parts of what holds of all
-
-left : {A : Type 0} (P : A → Type 0) (xs ys : List A) → All P (xs ++ ys) → All P xs
-left P xs ys all = subst (All P) (take_at xs ys (length xs) refl) (All-take P (length xs) (xs ++ ys) all)
-
-right : {A : Type 0} (P : A → Type 0) (xs ys : List A) → All P (xs ++ ys) → All P ys
-right P xs ys all = subst (All P) (drop_at xs ys (length xs) refl) (All-drop P (length xs) (xs ++ ys) all)
 
 part : {A B : Type 0} (P : B → Type 0) (f : A → List B) (xs : List A) (k : ℕ) (x : A) → slice_get xs k ≡ Some x → All P (flat_map f xs) → All P (f x)
 part P f [] k x at all = absurd (cc)

@@ -18,6 +18,7 @@ use Rattle.paired_code.specs.Link.{places, first_top, link_code, link_size, stat
 use Rattle.paired_code.proofs.Linking.{length-link}
 use Rattle.roopl_semantics.specs.StandsFor.{StandsFor}
 use Rattle.method_calls.specs.Laws.{MainCode}
+use Rattle.program_laws.specs.Laws.{most_cells}
 use Rattle.program_laws.specs.Methods.{Entry, entries, main_routine, statics_of}
 use Rattle.program_codegen.specs.Notes.{unmarked_from, HasMarks}
 use Rattle.program_codegen.specs.Routines.{IsRoutine, AreRoutines}
@@ -98,7 +99,7 @@ module _ (program : Source) (pieces : List Code) (are : AreRoutines program piec
         }
 
 -- the static cells are few
-pub few_statics : (program : Source) (words : List StaticWord) → IsAccepted program → ((places : List ℕ) → map (static_word places) words ≡ statics_of program 1 places) → length words ≤ 65858
+pub few_statics : (program : Source) (words : List StaticWord) → IsAccepted program → ((places : List ℕ) → map (static_word places) words ≡ statics_of program 1 places) → length words ≤ most_cells
 few_statics program words accepted are =
     let e : length words ≡ length (statics_of program 1 []) = sym (length-map words (static_word [])) ∙ ap length (are []) in
     omega (arith, e, statics_are_few program accepted 1 [])

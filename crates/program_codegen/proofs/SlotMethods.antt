@@ -14,7 +14,8 @@ use Rattle.class_table.specs.Overrides.{run_at}
 use Rattle.class_table.specs.Program.{IsAccepted}
 use Rattle.class_table.specs.Table.{Table, table_of, slots_in, dispatch_in}
 use Rattle.class_table.proofs.ChainEnds.{parents_in}
-use Rattle.class_table.proofs.ClassLines.{in_range, own_line}
+use Rattle.class_table.proofs.ClassLines.{in_range}
+use Rattle.class_table.proofs.FoundMethods.{has_line}
 use Rattle.class_table.proofs.InheritedSlots.{there_at, run_is, AreEntries, entries_along}
 use Rattle.class_table.proofs.Numbers.{length-each_below}
 use Rattle.class_table.proofs.Tables.{table_reads}
@@ -29,25 +30,6 @@ pub record IsMethod (program : Source) (id : MethodId) : Type 0 where
   pub inside : id.class < length program.classes
   pub method : Procedure
   pub there : slice_get (class_at program id.class).methods id.method ≡ Some method
-
--- the line of a class with slots
-record HasLine (program : Source) (own : ℕ) : Type 0 where
-  shorter : List ℕ
-  is : line_of program own ≡ shorter ++ own ∷ []
-  chain_is : chain_of program own ≡ Some (shorter ++ own ∷ [])
-
-has_line : (program : Source) (own p : ℕ) (x : List ℕ × MethodId) → slice_get (slots_of program own) p ≡ Some x → HasLine program own
-has_line program own p x h = by (chain_of program own) refl
-  where
-    by : (r : Option (List ℕ)) → chain_of program own ≡ r → HasLine program own
-    by None e =
-        let nothing : line_of program own ≡ [] = ap (λ r. unwrap_or r []) e in
-        let none : slots_of program own ≡ [] = ap (slots_along program []) nothing in
-        let f = ap (λ (s : Slots). slice_get s p) none in
-        absurd (cc)
-    by (Some line) e =
-        let l = own_line program (length program.classes) own line e in
-        record { shorter = l.shorter; is = ap (λ r. unwrap_or r []) e ∙ l.is; chain_is = e ∙ ap Some l.is }
 
 own_inside : (program : Source) (own : ℕ) → own < length program.classes → (number : ℕ) → Some own ≡ Some number → number < length program.classes
 own_inside program own h number e = let s : own ≡ number = cc in subst (λ n. n < length program.classes) s h

@@ -13,7 +13,7 @@ use Rattle.paired_code.specs.Machine.{Image}
 use Rattle.paired_code.specs.Layout.{code_line, Stands}
 use Rattle.roopl_semantics.specs.Source.{main_fields, is_int_type}
 use Rattle.roopl_semantics.specs.declared.main_object.TheConstants.{FIRST_FIELD}
-use Rattle.block_codegen.specs.Places.{statement_place}
+use Rattle.rpp_tree.specs.Places.{statement_place}
 use Rattle.block_codegen.specs.Rows.{Row, block_rows}
 use Rattle.block_codegen.specs.Ranges.{AreNested, is_marked}
 use Rattle.block_codegen.specs.Pieces.{IsRowCode}
@@ -54,7 +54,8 @@ pub record HasMarks (program : Source) (image : Segments) (marks : List Mark) : 
   pub places : List ℕ
   pub ranges : List Mark
   pub same : IsPermutation marks ranges
-  pub each : AllZip (IsStatementMark program (record { code = image.code; routines = places })) (program_rows program) ranges
+  pub each : AllZip (IsStatementMark program (record { code = image.code; routines = places }))
+      (program_rows program) ranges
   pub nested : AreNested (program_rows program) ranges
   pub ascending : IsNonDecreasingBy (λ k. k.at) marks
   pub few : unmarked_from marks 0 (length image.code) ≤ 256 * length (entries program) + 8192
@@ -65,7 +66,8 @@ pub record HasMarks (program : Source) (image : Segments) (marks : List Mark) : 
 abbrev pub field_names : (cell : ℕ) → List Var → List FieldName
 field_names cell [] = []
 field_names cell (var ∷ vars) =
-    if is_int_type var.kind then record { cell = cell; text = var.name.text } ∷ field_names (cell + 1) vars else field_names (cell + 1) vars
+    if is_int_type var.kind then record { cell = cell; text = var.name.text }
+    ∷ field_names (cell + 1) vars else field_names (cell + 1) vars
 
 -- the notes of an image of the program
 pub record AreNotes (program : Source) (image : Segments) (notes : NoteLists) : Type 0 where

@@ -27,7 +27,8 @@ pub fn compile(alloc: Global, checked: &Checked) -> Result<Noted, NoMemory>
     ensures image { IfOk result (λ noted. IsImage noted.image) }
 
     // Its code is at most 200 cells for each token of the program, and 8,192.
-    ensures size { IfOk result (λ noted. length noted.image.code ≤ 200 * source_tokens (source_of checked.now) + 8192) }
+    ensures size { IfOk result (λ noted. length noted.image.code ≤ 200 * source_tokens
+        (source_of checked.now) + 8192) }
 
     // A mark for each statement of the program, over its code, and the names of the main class's int fields.
     ensures notes { IfOk result (λ noted. AreNotes (source_of checked.now) noted.image noted.notes) }
@@ -43,8 +44,10 @@ pub fn compile(alloc: Global, checked: &Checked) -> Result<Noted, NoMemory>
 fn linked(alloc: Global, checked: &Checked) -> Result<Noted, NoMemory>
     ensures stands { IfOk result (λ noted. StandsFor (source_of checked.now) noted.image) }
     ensures image { IfOk result (λ noted. IsImage noted.image) }
-    ensures size { IfOk result (λ noted. length noted.image.code ≤ 200 * source_tokens (source_of checked.now) + 8192) }
-    ensures marks { IfOk result (λ noted. HasMarks (source_of checked.now) noted.image noted.notes.marks) }
+    ensures size { IfOk result (λ noted. length noted.image.code ≤ 200 * source_tokens
+        (source_of checked.now) + 8192) }
+    ensures marks { IfOk result (λ noted. HasMarks (source_of checked.now) noted.image
+        noted.notes.marks) }
 {
     let firsts = first_routines(alloc, checked.program())?;
     let main = main_code(alloc, routine_number(&firsts, checked.table().main()))?;

@@ -73,7 +73,8 @@ fn routine(
     method: &Method,
 ) -> Result<Piece, NoMemory>
     requires inside { id.class < length (source_of checked.now).classes }
-    requires there { slice_get (class_at (source_of checked.now) id.class).methods id.method ≡ Some (procedure_of method.now) }
+    requires there { slice_get (class_at (source_of checked.now) id.class).methods id.method
+        ≡ Some (procedure_of method.now) }
     ensures { IfOk result (λ piece.
         IsRoutine (source_of checked.now) (record { class = id.class; method = procedure_of method.now }) piece) }
 {

@@ -43,18 +43,24 @@ Tells program outcome.More p = p ≡ prints Bound (codes "bound" ++ line_end)
 -- the input is judged, and then the program is interpreted on it
 abbrev pub IsExplainedInput : Result (List FieldWord) LoadError → Source → Limits → ℕ → Planned → Type 0
 IsExplainedInput (Err e) program limits fuel p = p ≡ prints InputRefused (load_line e)
-IsExplainedInput (Ok input) program limits fuel p = p ≡ explained program (source program limits input fuel)
+IsExplainedInput (Ok input) program limits fuel p =
+    p ≡ explained program (source program limits input fuel)
 
 -- the sizes are tried before the input
-abbrev pub IsExplainedWithin : Option LoadError → (given : List ℕ) → Source → Limits → ℕ → Planned → Type 0
+abbrev pub IsExplainedWithin : Option LoadError → (given : List ℕ) → Source → Limits → ℕ → Planned
+    → Type 0
 IsExplainedWithin (Some e) given program limits fuel p = p ≡ prints InputRefused (load_line e)
-IsExplainedWithin None given program limits fuel p = IsExplainedInput (given_input program given) program limits fuel p
+IsExplainedWithin None given program limits fuel p =
+    IsExplainedInput (given_input program given) program limits fuel p
 
 abbrev pub IsExplainPlan : (text given : List ℕ) → (heap deep fuel : ℕ) → Planned → Type 0
 IsExplainPlan text given heap deep fuel p =
-    IsJudgedPlan text (λ program. IsExplainedWithin (limits_refusal heap deep MOST_OPEN) given program (record { heap = heap; deep = deep }) fuel) p
+    IsJudgedPlan text (λ program. IsExplainedWithin (limits_refusal heap deep MOST_OPEN) given
+    program (record { heap = heap; deep = deep }) fuel) p
 
 -- the plan of `explain` of this file, on an input where there is one
-abbrev pub Explains : (file : List ℕ) → (input : Option (List ℕ)) → (heap deep fuel : ℕ) → Texts → Planned → Type 0
+abbrev pub Explains : (file : List ℕ) → (input : Option (List ℕ)) → (heap deep fuel : ℕ) → Texts
+    → Planned → Type 0
 Explains file input heap deep fuel texts p =
-    WithText texts file MOST_BYTES (λ text. WithInput texts input (λ given. IsExplainPlan text given heap deep fuel p))
+    WithText texts file MOST_BYTES
+    (λ text. WithInput texts input (λ given. IsExplainPlan text given heap deep fuel p))

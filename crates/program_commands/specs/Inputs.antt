@@ -12,7 +12,8 @@ use Rattle.roopl_semantics.specs.Source.{main_fields, is_int_type}
 abbrev pub fields_from : ℕ → List Var → List InputField
 fields_from number [] = []
 fields_from number (var ∷ vars) =
-    if is_int_type var.kind then record { name = var.name.text; field = number } ∷ fields_from (number + 1) vars else fields_from (number + 1) vars
+    if is_int_type var.kind then record { name = var.name.text; field = number }
+    ∷ fields_from (number + 1) vars else fields_from (number + 1) vars
 
 -- the int fields of the main class
 abbrev pub input_fields : Source → List InputField

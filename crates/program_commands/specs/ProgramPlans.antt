@@ -47,29 +47,42 @@ pub record ReportsBound (program : Source) (limits : Limits) (input : List Field
 
 -- what is printed of the way back: its steps, the report, and how many cells are as they were
 abbrev pub back_lines : (spent : ℕ) (report : List ℕ) (count : ℕ) → List ℕ
-back_lines spent report count = codes "back " ++ (decimal spent ++ (line_end ++ (report ++ (codes "restored " ++ (decimal count ++ (codes " cells" ++ line_end))))))
+back_lines spent report count =
+    codes "back " ++ (decimal spent
+    ++ (line_end ++ (report ++ (codes "restored "
+    ++ (decimal count ++ (codes " cells" ++ line_end))))))
 
 -- the source gives a store, and the plan reports it, and behind it the store where the source began, as it stands in the first cells
 pub record ReportsTurn (program : Source) (limits : Limits) (input : List FieldWord) (cells first : List ℕ) (spent : ℕ) (p : Planned) : Type 0 where
   pub end : State
   pub gives : GivesDone program limits input end
-  pub reported : p ≡ prints Done ((run_report program end.store cells ++ steps_line spent) ++ back_lines spent (run_report program (starting program input).store first) (length first))
+  pub reported : p ≡ prints Done ((run_report program end.store cells ++ steps_line spent)
+      ++ back_lines spent (run_report program (starting program input).store first) (length first))
 
 -- what the plan of a finished run says, by whether it turns back
-abbrev pub ReportsFinish : (turns : Bool) → Source → Limits → List FieldWord → (cells first : List ℕ) (spent : ℕ) → Planned → Type 0
-ReportsFinish false program limits input cells first spent p = ReportsStore program limits input cells spent p
-ReportsFinish true program limits input cells first spent p = ReportsTurn program limits input cells first spent p
+abbrev pub ReportsFinish : (turns : Bool) → Source → Limits → List FieldWord
+    → (cells first : List ℕ) (spent : ℕ) → Planned → Type 0
+ReportsFinish false program limits input cells first spent p =
+    ReportsStore program limits input cells spent p
+ReportsFinish true program limits input cells first spent p =
+    ReportsTurn program limits input cells first spent p
 
 -- what the plan of a run says, by why the run ended; it never ends otherwise
-abbrev pub ReportsStop : (turns : Bool) → Stop → Source → Limits → List FieldWord → (cells first : List ℕ) (spent steps : ℕ) → Planned → Type 0
-ReportsStop turns Finished program limits input cells first spent steps p = ReportsFinish turns program limits input cells first spent p
-ReportsStop turns (Trap code) program limits input cells first spent steps p = ReportsFault program limits input code spent p
-ReportsStop turns AtBound program limits input cells first spent steps p = ReportsBound program limits input steps p
+abbrev pub ReportsStop : (turns : Bool) → Stop → Source → Limits → List FieldWord
+    → (cells first : List ℕ) (spent steps : ℕ) → Planned → Type 0
+ReportsStop turns Finished program limits input cells first spent steps p =
+    ReportsFinish turns program limits input cells first spent p
+ReportsStop turns (Trap code) program limits input cells first spent steps p =
+    ReportsFault program limits input code spent p
+ReportsStop turns AtBound program limits input cells first spent steps p =
+    ReportsBound program limits input steps p
 ReportsStop turns _ program limits input cells first spent steps p = ⊥
 
 -- what the plan of a run of at most so many steps from these first cells says, by its end
-abbrev pub ReportsEnd : (turns : Bool) → End → Source → Limits → List FieldWord → (first : List ℕ) (steps : ℕ) → Planned → Type 0
-ReportsEnd turns end program limits input first steps p = ReportsStop turns end.why program limits input end.last.cells first end.spent steps p
+abbrev pub ReportsEnd : (turns : Bool) → End → Source → Limits → List FieldWord
+    → (first : List ℕ) (steps : ℕ) → Planned → Type 0
+ReportsEnd turns end program limits input first steps p =
+    ReportsStop turns end.why program limits input end.last.cells first end.spent steps p
 
 -- There is an image that stands for the program, and the plan reports its run, whose steps the source's cost bounds. After a
 -- finish the flipped image restores every register and every cell, in as many steps.
@@ -77,9 +90,13 @@ pub record RunsImage (turns : Bool) (program : Source) (limits : Limits) (input 
   pub image : Segments
   pub is_image : IsImage image
   pub stands : StandsFor program image
-  pub in_time : (cost : ℕ) → EndsAt program limits input cost → (run_of image limits input steps).spent ≤ enough_steps cost
-  pub restores : (run_of image limits input steps).why ≡ Finished → Restores image.code (run_of image limits input steps) steps zero_registers (loaded image.statics limits input)
-  pub reports : ReportsEnd turns (run_of image limits input steps) program limits input (loaded image.statics limits input) steps p
+  pub in_time : (cost : ℕ) → EndsAt program limits input cost
+      → (run_of image limits input steps).spent ≤ enough_steps cost
+  pub restores : (run_of image limits input steps).why ≡ Finished
+      → Restores image.code (run_of image limits input steps) steps zero_registers
+      (loaded image.statics limits input)
+  pub reports : ReportsEnd turns (run_of image limits input steps) program limits input
+      (loaded image.statics limits input) steps p
 
 -- the first refusal of a text is told, or P holds of the program that it is
 abbrev pub OfProgram : (P : Source → Planned → Type 0) → Result Source Refusal → Planned → Type 0
@@ -102,7 +119,8 @@ pub record WritesImage (program : Source) (name : List ℕ) (p : Planned) : Type
   pub stands : StandsFor program image
   pub notes : NoteLists
   pub are_notes : AreNotes program image notes
-  pub written : p ≡ writes name (image_bytes (noted notes image)) (cells_line (codes "compiled") image.code)
+  pub written : p ≡ writes name (image_bytes (noted notes image))
+      (cells_line (codes "compiled") image.code)
 
 abbrev pub IsCompilePlan : (text name : List ℕ) → Planned → Type 0
 IsCompilePlan text name p = IsJudgedPlan text (λ program. WritesImage program name) p

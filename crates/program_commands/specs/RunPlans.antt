@@ -41,7 +41,8 @@ RefusesSizes None given program p = RefusesInput (given_input program given) p
 
 -- the plan tells the first refusal of a text that is to be run: of the text, of the sizes, of the input
 abbrev pub RefusesRun : (text given : List ℕ) → (heap deep : ℕ) → Planned → Type 0
-RefusesRun text given heap deep p = IsJudgedPlan text (RefusesSizes (limits_refusal heap deep MOST_DEEP) given) p
+RefusesRun text given heap deep p =
+    IsJudgedPlan text (RefusesSizes (limits_refusal heap deep MOST_DEEP) given) p
 
 -- nothing of it is refused: the text is this program, which is run with these sizes on this input
 pub record CanRun (text given : List ℕ) (heap deep : ℕ) (program : Source) (limits : Limits) (input : List FieldWord) : Type 0 where
@@ -61,11 +62,14 @@ pub record RunsTo (text given : List ℕ) (heap deep : ℕ) (P : Source → Limi
 -- the plan of `go` of a text on an input
 abbrev pub IsGoPlan : (text given : List ℕ) → (heap deep steps : ℕ) → Planned → Type 0
 IsGoPlan text given heap deep steps p =
-    RefusesRun text given heap deep p ⊎ RunsTo text given heap deep (λ program limits input. RunsImage false program limits input steps p)
+    RefusesRun text given heap deep p
+    ⊎ RunsTo text given heap deep (λ program limits input. RunsImage false program limits input
+    steps p)
 
 -- the steps that `turn` tells of: after a finish those of the run of the flipped image from there, and no others
 abbrev pub back_steps : Stop → List Cell → State → ℕ → List StepAt
-back_steps Finished code m steps = counted_steps (flipped code) steps (started (flipped code) m.regs m.cells)
+back_steps Finished code m steps =
+    counted_steps (flipped code) steps (started (flipped code) m.regs m.cells)
 back_steps _ code m steps = []
 
 -- the plan reports both runs of an image that stands for the program, and the probes were told the steps of the second one
@@ -75,10 +79,12 @@ pub record TurnsImage (before after : List Watch) (program : Source) (limits : L
       after ≡ left_after (back_steps end.why runs.image.code end.last steps) before
 
 -- the plan of `turn` of a text on an input
-abbrev pub IsTurnPlan : (before after : List Watch) → (text given : List ℕ) → (heap deep steps : ℕ) → Planned → Type 0
+abbrev pub IsTurnPlan : (before after : List Watch) → (text given : List ℕ) → (heap deep steps : ℕ)
+    → Planned → Type 0
 IsTurnPlan before after text given heap deep steps p =
     (RefusesRun text given heap deep p × (after ≡ before))
-    ⊎ RunsTo text given heap deep (λ program limits input. TurnsImage before after program limits input steps p)
+    ⊎ RunsTo text given heap deep (λ program limits input. TurnsImage before after program limits
+    input steps p)
 
 -- the counted steps of the run of an image
 abbrev pub run_steps : Segments → Limits → List FieldWord → ℕ → List StepAt
@@ -91,26 +97,34 @@ pub record ProfilesImage (before after : List Watch) (program : Source) (limits 
   pub runs : RunsImage false program limits input steps said
   pub told : after ≡ left_after (run_steps runs.image limits input steps) before
   pub reported : p ≡ record said {
-    text = (said.text ++ lines_shown (lines_after (run_steps runs.image limits input steps) before)) ++ lines_shown (map line_of after);
+    text = (said.text ++ lines_shown (lines_after (run_steps runs.image limits input steps) before))
+        ++ lines_shown (map line_of after);
   }
 
 -- the plan of `profile` of a text
-abbrev pub IsProfilePlan : (before after : List Watch) → (text given : List ℕ) → (heap deep steps : ℕ) → Planned → Type 0
+abbrev pub IsProfilePlan : (before after : List Watch) → (text given : List ℕ)
+    → (heap deep steps : ℕ) → Planned → Type 0
 IsProfilePlan before after text given heap deep steps p =
     (RefusesRun text given heap deep p × (after ≡ before))
-    ⊎ RunsTo text given heap deep (λ program limits input. ProfilesImage before after program limits input steps p)
+    ⊎ RunsTo text given heap deep (λ program limits input. ProfilesImage before after program limits
+    input steps p)
 
 -- the plan of `go` of this file, on an input where there is one
-abbrev pub GoesOn : (file : List ℕ) → (input : Option (List ℕ)) → (heap deep steps : ℕ) → Texts → Planned → Type 0
+abbrev pub GoesOn : (file : List ℕ) → (input : Option (List ℕ)) → (heap deep steps : ℕ) → Texts
+    → Planned → Type 0
 GoesOn file input heap deep steps texts p =
-    WithText texts file MOST_BYTES (λ text. WithInput texts input (λ given. IsGoPlan text given heap deep steps p))
+    WithText texts file MOST_BYTES
+    (λ text. WithInput texts input (λ given. IsGoPlan text given heap deep steps p))
 
 -- that of `turn`
-abbrev pub TurnsFile : (before after : List Watch) → (file : List ℕ) → (input : Option (List ℕ)) → (heap deep steps : ℕ) → Texts → Planned → Type 0
+abbrev pub TurnsFile : (before after : List Watch) → (file : List ℕ) → (input : Option (List ℕ))
+    → (heap deep steps : ℕ) → Texts → Planned → Type 0
 TurnsFile before after file input heap deep steps texts p =
-    WithText texts file MOST_BYTES (λ text. WithInput texts input (λ given. IsTurnPlan before after text given heap deep steps p))
+    WithText texts file MOST_BYTES
+    (λ text. WithInput texts input (λ given. IsTurnPlan before after text given heap deep steps p))
 
 -- that of `profile`, which takes no input
-abbrev pub ProfilesFile : (before after : List Watch) → (file : List ℕ) → (heap deep steps : ℕ) → Texts → Planned → Type 0
+abbrev pub ProfilesFile : (before after : List Watch) → (file : List ℕ) → (heap deep steps : ℕ)
+    → Texts → Planned → Type 0
 ProfilesFile before after file heap deep steps texts p =
     WithText texts file MOST_BYTES (λ text. IsProfilePlan before after text [] heap deep steps p)

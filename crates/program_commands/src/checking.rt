@@ -15,7 +15,8 @@ use std::alloc::Global;
 /// Judges the source in a file.
 pub fn check<S: Shelf>(alloc: Global, shelf: &mut S, file: &str) -> Result<Plan, NoPlan>
     ensures plan { GivesPlan (S.texts shelf.old) (ChecksFile file.now) result }
-    ensures reads { OnlyReads (S.texts shelf.old) (S.texts shelf.new) (S.faults shelf.old) (S.faults shelf.new) (source file.now ∷ []) result }
+    ensures reads { OnlyReads (S.texts shelf.old) (S.texts shelf.new) (S.faults shelf.old)
+        (S.faults shelf.new) (source file.now ∷ []) result }
 {
     let text = read_file(alloc, shelf, file, MOST_BYTES as u64)?;
     Ok(check_text(alloc, &text)?)

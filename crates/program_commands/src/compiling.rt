@@ -23,7 +23,8 @@ pub fn compile_file<S: Shelf>(
     image: &str,
 ) -> Result<Plan, NoPlan>
     ensures plan { GivesPlan (S.texts shelf.old) (CompilesFile file.now image.now) result }
-    ensures reads { OnlyReads (S.texts shelf.old) (S.texts shelf.new) (S.faults shelf.old) (S.faults shelf.new) (source file.now ∷ []) result }
+    ensures reads { OnlyReads (S.texts shelf.old) (S.texts shelf.new) (S.faults shelf.old)
+        (S.faults shelf.new) (source file.now ∷ []) result }
 {
     let text = read_file(alloc, shelf, file, MOST_BYTES as u64)?;
     Ok(compile_text(alloc, &text, image)?)

@@ -45,7 +45,8 @@ pub fn explain<S: Shelf>(
 fn explain_text(alloc: Global, text: &[u8], given: &[u8], sizes: Sizes) -> Result<Plan, NoMemory>
     requires text { length text.now ≤ MOST_BYTES }
     requires given { length given.now ≤ MOST_INPUT }
-    ensures { IfOk result (λ plan. IsExplainPlan text.now given.now sizes.heap sizes.deep sizes.bound (planned plan)) }
+    ensures { IfOk result (λ plan. IsExplainPlan text.now given.now sizes.heap sizes.deep
+        sizes.bound (planned plan)) }
 {
     match judge(alloc, text) {
         Ok(checked) => explain_within(alloc, &checked, given, sizes),
@@ -128,14 +129,16 @@ fn explain_store(
     store: &Store,
     cost: u64,
 ) -> Result<Plan, NoMemory>
-    ensures { IfOk result (λ plan. planned plan ≡ prints Verdict.Done (report_in (source_of checked.now) store.now ++ cost_line cost)) }
+    ensures { IfOk result (λ plan. planned plan
+        ≡ prints Verdict.Done (report_in (source_of checked.now) store.now ++ cost_line cost)) }
 {
     let text = with_cost(report_store(alloc, store, checked)?, cost)?;
     Ok(Plan::prints(Verdict::Done, text))
 }
 
 fn explain_fault(alloc: Global, code: u32, cost: u64) -> Result<Plan, AllocError>
-    ensures { IfOk result (λ plan. planned plan ≡ prints Verdict.Trapped (line_of_fault code ++ cost_line cost)) }
+    ensures { IfOk result (λ plan. planned plan
+        ≡ prints Verdict.Trapped (line_of_fault code ++ cost_line cost)) }
 {
     let text = with_cost(fault_line(alloc, code)?, cost)?;
     Ok(Plan::prints(Verdict::Trapped, text))

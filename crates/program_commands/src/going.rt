@@ -58,7 +58,8 @@ fn go_over<L: Ledger>(
     requires text { length text.now ≤ MOST_BYTES }
     requires given { length given.now ≤ MOST_INPUT }
     requires bound { sizes.bound < 2 ^ 63 }
-    ensures { IfOk result (λ plan. IsGoPlan text.now given.now sizes.heap sizes.deep sizes.bound (planned plan)) }
+    ensures { IfOk result (λ plan. IsGoPlan text.now given.now sizes.heap sizes.deep sizes.bound
+        (planned plan)) }
 {
     match ready(alloc, text, given, sizes)? {
         Ready::Refused(plan) => Ok(plan),
@@ -82,7 +83,8 @@ pub fn compiled_image(alloc: Global, checked: &Checked) -> Result<Image, NoMemor
 
 /// The image of the program, loaded with the input.
 pub fn loaded_program(alloc: Global, setting: &Setting) -> Result<Machine, NoMemory>
-    ensures { IfOk result (λ machine. IsLoaded (source_of setting.now.checked) setting.now.limits setting.now.input.words.items machine) }
+    ensures { IfOk result (λ machine. IsLoaded (source_of setting.now.checked) setting.now.limits
+        setting.now.input.words.items machine) }
 {
     let image = compiled_image(alloc, &setting.checked)?;
     Ok(load(alloc, image, setting.limits, &setting.input)?)
@@ -109,7 +111,8 @@ pub fn report_run(
     machine: &Machine,
     end: RunEnd,
 ) -> Result<Plan, NoMemory>
-    requires { HasRun (source_of setting.now.checked) setting.now.limits setting.now.input.words.items setting.now.bound machine.now end.stop end.spent }
+    requires { HasRun (source_of setting.now.checked) setting.now.limits
+        setting.now.input.words.items setting.now.bound machine.now end.stop end.spent }
     ensures { IfOk result (λ plan. ReportsStop false end.stop (source_of setting.now.checked)
         setting.now.limits setting.now.input.words.items machine.now.state.cells
         (loaded machine.now.image.statics setting.now.limits setting.now.input.words.items) end.spent setting.now.bound (planned plan)) }
@@ -131,7 +134,8 @@ fn report_store(
     machine: &Machine,
     spent: u64,
 ) -> Result<Plan, NoMemory>
-    requires { HasRun (source_of setting.now.checked) setting.now.limits setting.now.input.words.items setting.now.bound machine.now Stop.Finished spent }
+    requires { HasRun (source_of setting.now.checked) setting.now.limits
+        setting.now.input.words.items setting.now.bound machine.now Stop.Finished spent }
     ensures { IfOk result (λ plan. ReportsStore (source_of setting.now.checked)
         setting.now.limits setting.now.input.words.items machine.now.state.cells spent (planned plan)) }
 {
@@ -142,7 +146,8 @@ fn report_store(
 
 // The plan of a run that stopped with a fault.
 fn report_fault(alloc: Global, code: u32, spent: u64) -> Result<Plan, AllocError>
-    ensures { IfOk result (λ plan. planned plan ≡ prints Verdict.Trapped (line_of_fault code ++ steps_line spent)) }
+    ensures { IfOk result (λ plan. planned plan
+        ≡ prints Verdict.Trapped (line_of_fault code ++ steps_line spent)) }
 {
     let text = with_steps(fault_line(alloc, code)?, spent)?;
     Ok(Plan::prints(Verdict::Trapped, text))
@@ -150,7 +155,8 @@ fn report_fault(alloc: Global, code: u32, spent: u64) -> Result<Plan, AllocError
 
 // The plan of a run that the bound ended.
 fn report_bound(alloc: Global, bound: u64) -> Result<Plan, AllocError>
-    ensures { IfOk result (λ plan. planned plan ≡ prints Verdict.Bound (codes "bound" ++ (line_end ++ steps_line bound))) }
+    ensures { IfOk result (λ plan. planned plan
+        ≡ prints Verdict.Bound (codes "bound" ++ (line_end ++ steps_line bound))) }
 {
     Ok(Plan::prints(Verdict::Bound, format!(in alloc; "bound\nsteps {bound}\n")?))
 }

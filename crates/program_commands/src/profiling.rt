@@ -32,7 +32,8 @@ pub fn profile<S: Shelf, P: Probes, L: Ledger>(
     requires { sizes.bound < 2 ^ 63 }
     ensures plan { GivesPlan (S.texts shelf.old)
         (ProfilesFile (P.watches probes.old) (P.watches probes.new) file.now sizes.heap sizes.deep sizes.bound) result }
-    ensures reads { OnlyReads (S.texts shelf.old) (S.texts shelf.new) (S.faults shelf.old) (S.faults shelf.new) (source file.now ∷ []) result }
+    ensures reads { OnlyReads (S.texts shelf.old) (S.texts shelf.new) (S.faults shelf.old)
+        (S.faults shelf.new) (source file.now ∷ []) result }
     ensures untold { IfErr result (UnreadCause (P.watches probes.new ≡ P.watches probes.old)) }
 {
     let text = read_file(alloc, shelf, file, MOST_BYTES as u64)?;
@@ -88,7 +89,8 @@ fn with_probes<P: Probes>(said: Plan, ended: &[String], probes: &P) -> Result<Pl
 
 // Appends lines, each with a line feed.
 fn add_lines(lines: &[String], out: &mut String) -> Result<(), AllocError>
-    ensures { OnOk result (string_bytes out.new ≡ string_bytes out.old ++ lines_shown (map string_bytes lines.now)) }
+    ensures { OnOk result (string_bytes out.new
+        ≡ string_bytes out.old ++ lines_shown (map string_bytes lines.now)) }
 {
     for line in lines {
         out.push_str(line.as_str())?;

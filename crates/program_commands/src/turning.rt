@@ -93,7 +93,8 @@ fn report_turn<P: Probes, L: Ledger>(
     probes: &mut P,
     steps: &mut Steps<L>,
 ) -> Result<Plan, NoMemory>
-    requires { HasRun (source_of setting.now.checked) setting.now.limits setting.now.input.words.items setting.now.bound machine end.stop end.spent }
+    requires { HasRun (source_of setting.now.checked) setting.now.limits
+        setting.now.input.words.items setting.now.bound machine end.stop end.spent }
     ensures stop { IfOk result (λ plan. ReportsStop true end.stop (source_of setting.now.checked)
         setting.now.limits setting.now.input.words.items machine.state.cells
         (loaded machine.image.statics setting.now.limits setting.now.input.words.items) end.spent setting.now.bound (planned plan)) }
@@ -119,7 +120,8 @@ fn report_both<P: Probes, L: Ledger>(
     probes: &mut P,
     steps: &mut Steps<L>,
 ) -> Result<Plan, NoMemory>
-    requires { HasRun (source_of setting.now.checked) setting.now.limits setting.now.input.words.items setting.now.bound machine Finished spent }
+    requires { HasRun (source_of setting.now.checked) setting.now.limits
+        setting.now.input.words.items setting.now.bound machine Finished spent }
     ensures turn { IfOk result (λ plan. ReportsTurn (source_of setting.now.checked)
         setting.now.limits setting.now.input.words.items machine.state.cells
         (loaded machine.image.statics setting.now.limits setting.now.input.words.items) spent (planned plan)) }
@@ -150,8 +152,10 @@ fn run_back<P: Probes, L: Ledger>(
     probes: &mut P,
     steps: &mut Steps<L>,
 ) -> Result<Back, NoMemory>
-    requires { HasRun (source_of setting.now.checked) setting.now.limits setting.now.input.words.items setting.now.bound machine Finished _spent }
-    ensures cells { IfOk result (λ back. back.machine.state.cells ≡ loaded machine.image.statics setting.now.limits setting.now.input.words.items) }
+    requires { HasRun (source_of setting.now.checked) setting.now.limits
+        setting.now.input.words.items setting.now.bound machine Finished _spent }
+    ensures cells { IfOk result (λ back. back.machine.state.cells
+        ≡ loaded machine.image.statics setting.now.limits setting.now.input.words.items) }
     ensures spent { IfOk result (λ back. back.spent ≡ _spent) }
     ensures told { OnOk result (P.watches probes.new ≡
         left_after (back_steps Finished machine.image.code machine.state setting.now.bound) (P.watches probes.old)) }
@@ -168,7 +172,8 @@ fn run_back<P: Probes, L: Ledger>(
 
 // A text with the lines on the way back behind it.
 fn with_back(text: String, spent: u64, report: &str, cells: u32) -> Result<String, AllocError>
-    ensures { IfOk result (λ longer. string_bytes longer ≡ string_bytes text ++ back_lines spent report.now cells) }
+    ensures { IfOk result (λ longer. string_bytes longer
+        ≡ string_bytes text ++ back_lines spent report.now cells) }
 {
     let mut text = text;
     write!(text, "back {spent}\n{report}restored {cells} cells\n")?;

@@ -24,7 +24,8 @@ use Rattle.program_laws.specs.Methods.{Entry, entries, entry_at, scope_at, routi
 -- a method that is there has the routine of its number
 pub record HasRoutine (program : Source) (id : MethodId) (method : Procedure) : Type 0 where
   pub below : routine_of program id < length (entries program)
-  pub entry : entry_at (entries program) (routine_of program id) ≡ record { class = id.class; method = method }
+  pub entry : entry_at (entries program) (routine_of program id)
+      ≡ record { class = id.class; method = method }
 
 abbrev pub MethodsHaveRoutines : Type 0
 MethodsHaveRoutines =
@@ -50,7 +51,8 @@ CallsFindRoutines =
 
 -- the code has the law of its method at every place of an image that is linked from the program
 pub record IsRoutineCode (program : Source) (entry : Entry) (cells : List Symbol) : Type 0 where
-  pub law : (place : Place) (routine : ℕ → Ident → ℕ) → IsLinked place routine → place.setting.program ≡ program
+  pub law : (place : Place) (routine : ℕ → Ident → ℕ) → IsLinked place routine
+      → place.setting.program ≡ program
       → MethodLaw (world_of place) (scope_at entry) entry.method cells
 
 -- one code for each of the methods

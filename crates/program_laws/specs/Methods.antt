@@ -25,14 +25,16 @@ entries_of class (method ∷ methods) = record { class = class; method = method 
 -- the methods of these classes, the first of which has this number
 abbrev pub entries_from : ℕ → List ClassText → List Entry
 entries_from number [] = []
-entries_from number (class ∷ classes) = entries_of number class.methods ++ entries_from (number + 1) classes
+entries_from number (class ∷ classes) =
+    entries_of number class.methods ++ entries_from (number + 1) classes
 
 -- all methods in the order of the text
 abbrev pub entries : Source → List Entry
 entries program = entries_from 0 program.classes
 
 abbrev pub entry_at : List Entry → ℕ → Entry
-entry_at methods number = unwrap_or (slice_get methods number) (record { class = 0; method = no_procedure })
+entry_at methods number = unwrap_or (slice_get methods number)
+    (record { class = 0; method = no_procedure })
 
 -- what is visible at the beginning of a method: its parameters, the first of which is the innermost variable
 abbrev pub scope_at : Entry → Scope
@@ -72,7 +74,8 @@ slot_places program before places class =
 
 -- of each class
 abbrev pub table_places : Source → ℕ → List ℕ → List (List ℕ)
-table_places program before places = each_below (slot_places program before places) (length program.classes)
+table_places program before places =
+    each_below (slot_places program before places) (length program.classes)
 
 -- the static cells of an image with them
 abbrev pub statics_of : Source → ℕ → List ℕ → List ℕ

@@ -19,7 +19,8 @@ use Rattle.program_wrap.specs.Programs.{IsStatic, FollowsWrapped, field_cell}
 -- the wrapped code of an image that stands for a program, for at most 64 static cells, does what the program does
 abbrev pub WrappedProgramsFollow : Type 0
 WrappedProgramsFollow =
-    (program : Source) (image : Segments) (cells : List ℕ) (wrapped : List Cell) (limits : Limits) (input : List FieldWord)
+    (program : Source) (image : Segments) (cells : List ℕ) (wrapped : List Cell) (limits : Limits)
+    (input : List FieldWord)
     → IsImage image → StandsFor program image → Wrapped image.code cells wrapped
     → length cells ≤ 64 → All (IsStatic image) cells
     → IsLimits limits → IsValid program input → All IsWord (loaded image.statics limits input)
@@ -28,7 +29,8 @@ WrappedProgramsFollow =
 -- at the end of a run an int field holds the word in its static cell
 abbrev pub IntFieldsStandInStaticCells : Type 0
 IntFieldsStandInStaticCells =
-    (program : Source) (limits : Limits) (input : List FieldWord) (end : State) (statics : List ℕ) (field : ℕ)
+    (program : Source) (limits : Limits) (input : List FieldWord) (end : State) (statics : List ℕ)
+    (field : ℕ)
     → IsAccepted program → IsLimits limits → IsValid program input → GivesDone program limits input end
     → IsTrue (is_int_field (slice_get (main_fields program) field))
     → slice_get (object_at end.store main_name).cells field

@@ -26,7 +26,8 @@ IsStatic image c = (statics_at ≤ c) × (c < statics_at + length image.statics)
 
 -- the run of at most so many steps of the wrapped code, on the loaded memory with zeros behind it
 abbrev pub wrapped_run : Segments → List ℕ → List Cell → Limits → List FieldWord → (bound : ℕ) → End
-wrapped_run image cells wrapped limits input bound = run_on wrapped bound (with_zeros (loaded image.statics limits input) cells)
+wrapped_run image cells wrapped limits input bound =
+    run_on wrapped bound (with_zeros (loaded image.statics limits input) cells)
 
 -- The source gives a store, and the machine ended with the first memory and, behind it, what the store's layout has in the
 -- cells: the results alone are added.
@@ -51,6 +52,7 @@ enough_wrapped cost = 2000 * cost + 5000
 
 -- what is known of the wrapped runs on an input: each ends as the source does, and in time
 pub record FollowsWrapped (program : Source) (image : Segments) (cells : List ℕ) (wrapped : List Cell) (limits : Limits) (input : List FieldWord) : Type 0 where
-  pub ends : (bound : ℕ) → EndsAsSource program image cells limits input (wrapped_run image cells wrapped limits input bound)
+  pub ends : (bound : ℕ) → EndsAsSource program image cells limits input
+      (wrapped_run image cells wrapped limits input bound)
   pub in_time : (cost bound : ℕ) → EndsAt program limits input cost → enough_wrapped cost ≤ bound
       → (wrapped_run image cells wrapped limits input bound).why ≢ Bound

@@ -35,7 +35,8 @@ ExecutionReaches =
 
 -- a store in which the report's walk from the main object meets every other live object
 pub record IsReached (program : Source) (store : Store) : Type 0 where
-  pub met : (name : ℕ) → is_live store name ≡ true → name ≢ main_name → list_any (nat_eq name) (numbered store) ≡ true
+  pub met : (name : ℕ) → is_live store name ≡ true → name ≢ main_name
+      → list_any (nat_eq name) (numbered store) ≡ true
   pub lives : (name : ℕ) → list_any (nat_eq name) (numbered store) ≡ true → is_live store name ≡ true
   pub no_main : list_any (nat_eq main_name) (numbered store) ≡ false
   pub plain : is_plain program store ≡ true

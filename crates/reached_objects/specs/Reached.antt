@@ -22,4 +22,5 @@ pub record IsClosed (names : ℕ → Bool) (extra : ℕ → ℕ) (st : State) : 
 
 -- each live object is reached from the variables and from what is held besides
 pub record Reaches (extra : ℕ → ℕ) (st : State) : Type 0 where
-  pub all : (names : ℕ → Bool) → IsClosed names extra st → (name : ℕ) → is_live st.store name ≡ true → names name ≡ true
+  pub all : (names : ℕ → Bool) → IsClosed names extra st → (name : ℕ) → is_live st.store name ≡ true
+      → names name ≡ true

@@ -25,7 +25,8 @@ fn know_argument(
     at: u32,
     argument: &Ident,
 ) -> Result<(), TypeError>
-    ensures { verdict_of result ≡ argument_known (setting_of setting.now) (locals_of locals.now) own at argument.now }
+    ensures { verdict_of result ≡ argument_known (setting_of setting.now) (locals_of locals.now) own
+        at argument.now }
 {
     if kind_of_name(setting, locals, &argument.text).is_none() {
         return Err(TypeError::UnknownName { at: argument.at });
@@ -43,7 +44,8 @@ fn know_arguments(
     at: u32,
     arguments: &[Ident],
 ) -> Result<(), TypeError>
-    ensures { verdict_of result ≡ each_passes (argument_known (setting_of setting.now) (locals_of locals.now) own at) arguments.now }
+    ensures { verdict_of result ≡ each_passes
+        (argument_known (setting_of setting.now) (locals_of locals.now) own at) arguments.now }
 {
     for argument in arguments {
         know_argument(setting, locals, own, at, argument)?;
@@ -59,7 +61,8 @@ fn is_among(names: &[Ident], name: &Text) -> bool
 
 /// Whether a plain receiver or an earlier argument is this one.
 fn is_taken(receiver: &Option<Place>, before: &[Ident], name: &Text) -> bool
-    ensures { result ≡ list_any (λ other. bytes_eq other.text name.now) (plain_receiver (optional_lvalue_of receiver.now) ++ before.now) }
+    ensures { result ≡ list_any (λ other. bytes_eq other.text name.now)
+        (plain_receiver (optional_lvalue_of receiver.now) ++ before.now) }
 {
     match receiver {
         None => is_among(before, name),
@@ -75,7 +78,8 @@ fn check_distinct_argument(
     before: &[Ident],
     argument: &Ident,
 ) -> Result<(), TypeError>
-    ensures { verdict_of result ≡ argument_new (plain_receiver (optional_lvalue_of receiver.now) ++ before.now) argument.now }
+    ensures { verdict_of result ≡ argument_new
+        (plain_receiver (optional_lvalue_of receiver.now) ++ before.now) argument.now }
 {
     if is_taken(receiver, before, &argument.text) {
         return Err(TypeError::SameArgument { at: argument.at });
@@ -84,7 +88,8 @@ fn check_distinct_argument(
 }
 
 fn check_distinct_arguments(receiver: &Option<Place>, arguments: &[Ident]) -> Result<(), TypeError>
-    ensures { verdict_of result ≡ each_passes_after argument_new (plain_receiver (optional_lvalue_of receiver.now)) arguments.now }
+    ensures { verdict_of result ≡ each_passes_after argument_new
+        (plain_receiver (optional_lvalue_of receiver.now)) arguments.now }
 {
     for (number, argument) in arguments.iter().enumerate() {
         check_distinct_argument(receiver, &arguments[..number], argument)?;
@@ -98,7 +103,8 @@ fn fit_argument(
     parameter: &Var,
     argument: &Ident,
 ) -> Result<(), TypeError>
-    ensures { verdict_of result ≡ argument_fits (setting_of setting.now) (locals_of locals.now) parameter.now argument.now }
+    ensures { verdict_of result ≡ argument_fits (setting_of setting.now) (locals_of locals.now)
+        parameter.now argument.now }
 {
     let kind = kind_of_name(setting, locals, &argument.text).unwrap_or(Kind::Nil);
     if !equal_kinds(kind_of_type(setting.table, &parameter.kind), kind) {
@@ -113,7 +119,8 @@ fn fit_arguments(
     parameters: &[Var],
     arguments: &[Ident],
 ) -> Result<(), TypeError>
-    ensures { verdict_of result ≡ all_fit (setting_of setting.now) (locals_of locals.now) parameters.now arguments.now }
+    ensures { verdict_of result ≡ all_fit (setting_of setting.now) (locals_of locals.now)
+        parameters.now arguments.now }
 {
     match parameters {
         [] => Ok(()),
@@ -137,7 +144,8 @@ fn parameters_in(methods: &[Method], number: u32) -> &[Var]
 }
 
 fn parameters<'a>(setting: &Setting<'a>, class: u32, slot: u32) -> &'a [Var]
-    ensures { result.now ≡ parameters_of (setting_of setting.now).program (dispatch_in (setting_of setting.now).table class slot) }
+    ensures { result.now ≡ parameters_of (setting_of setting.now).program
+        (dispatch_in (setting_of setting.now).table class slot) }
 {
     let runs = setting.table.dispatch(class, slot);
     parameters_in(methods_at(setting.program, runs.class), runs.method)
@@ -157,7 +165,8 @@ fn class_of_receiver(
     locals: &Locals,
     receiver: &Option<Place>,
 ) -> Result<u32, TypeError>
-    ensures { verdict_of result ≡ receiver_class (setting_of setting.now) (locals_of locals.now) (optional_lvalue_of receiver.now) }
+    ensures { verdict_of result ≡ receiver_class (setting_of setting.now) (locals_of locals.now)
+        (optional_lvalue_of receiver.now) }
 {
     match receiver {
         None => Ok(setting.class),
@@ -191,7 +200,8 @@ pub fn call_rules(
     method: &Ident,
     arguments: &[Ident],
 ) -> Result<(), TypeError>
-    ensures { verdict_of result ≡ of_call (setting_of setting.now) (locals_of locals.now) at (optional_lvalue_of receiver.now) method.now arguments.now }
+    ensures { verdict_of result ≡ of_call (setting_of setting.now) (locals_of locals.now) at
+        (optional_lvalue_of receiver.now) method.now arguments.now }
 {
     let class = class_of_receiver(setting, locals, receiver)?;
     let Some(slot) = setting.table.method_slot(class, &method.text) else {

@@ -98,7 +98,8 @@ fn variable(setting: &Setting, locals: &Locals, name: &Ident) -> Result<Kind, Ty
 /// The type of an expression, or its first refusal.
 #[cycle(types)]
 pub fn type_expr(setting: &Setting, locals: &Locals, e: &Expr) -> Result<Kind, TypeError>
-    ensures { verdict_of result ≡ type_of (setting_of setting.now) (locals_of locals.now) (expression_of e.now) }
+    ensures { verdict_of result ≡ type_of (setting_of setting.now) (locals_of locals.now)
+        (expression_of e.now) }
 {
     match e {
         Expr::Number { .. } => Ok(Kind::Int),
@@ -120,7 +121,8 @@ pub fn type_expr(setting: &Setting, locals: &Locals, e: &Expr) -> Result<Kind, T
 /// The type of a place, or its first refusal.
 #[cycle(types)]
 pub fn type_place(setting: &Setting, locals: &Locals, place: &Place) -> Result<Kind, TypeError>
-    ensures { verdict_of result ≡ place_type (setting_of setting.now) (locals_of locals.now) (lvalue_of place.now) }
+    ensures { verdict_of result ≡ place_type (setting_of setting.now) (locals_of locals.now)
+        (lvalue_of place.now) }
 {
     let kind = variable(setting, locals, &place.name)?;
     match &place.index {

@@ -52,7 +52,9 @@ fn check_body(
     params: &[Var],
     body: &Block,
 ) -> Result<(), TypeError>
-    ensures { verdict_of result ≡ check_statements (setting_of setting.now) (with_parameters (setting_of setting.now) (locals_of locals.now) params.now) (block_of body.now) }
+    ensures { verdict_of result ≡ check_statements (setting_of setting.now)
+        (with_parameters (setting_of setting.now) (locals_of locals.now) params.now)
+        (block_of body.now) }
 {
     match params {
         [] => check_block(setting, locals, body),
@@ -75,7 +77,8 @@ fn check_method(setting: &Setting, method: &Method) -> Result<(), TypeError>
 }
 
 fn check_class(setting: &Setting, class: &Class) -> Result<(), TypeError>
-    ensures { verdict_of result ≡ of_class (source_of setting.now.program.now) setting.now.table.now setting.now.class (class_text_of class.now) }
+    ensures { verdict_of result ≡ of_class (source_of setting.now.program.now) setting.now.table.now
+        setting.now.class (class_text_of class.now) }
 {
     for method in &class.methods {
         check_method(setting, method)?;
@@ -86,7 +89,8 @@ fn check_class(setting: &Setting, class: &Class) -> Result<(), TypeError>
 /// The rules of all methods, in the order of the text.
 pub fn check_all(program: &Program, table: &ClassTable) -> Result<(), TypeError>
     requires { length table.now.names ≡ length program.now.classes.items }
-    ensures { verdict_of result ≡ of_classes (source_of program.now) table.now 0 (map class_text_of program.now.classes.items) }
+    ensures { verdict_of result ≡ of_classes (source_of program.now) table.now 0
+        (map class_text_of program.now.classes.items) }
 {
     let count = table.class_count();
     for (number, class) in program.classes.iter().enumerate() {

@@ -63,7 +63,8 @@ fn update_rules(
     place: &Place,
     value: &Expr,
 ) -> Result<(), TypeError>
-    ensures { verdict_of result ≡ of_update (setting_of setting.now) (locals_of locals.now) at (lvalue_of place.now) (expression_of value.now) }
+    ensures { verdict_of result ≡ of_update (setting_of setting.now) (locals_of locals.now) at
+        (lvalue_of place.now) (expression_of value.now) }
 {
     let place_kind = type_place(setting, locals, place)?;
     let value_kind = type_expr(setting, locals, value)?;
@@ -84,7 +85,8 @@ fn swap_rules(
     left: &Place,
     right: &Place,
 ) -> Result<(), TypeError>
-    ensures { verdict_of result ≡ of_swap (setting_of setting.now) (locals_of locals.now) at (lvalue_of left.now) (lvalue_of right.now) }
+    ensures { verdict_of result ≡ of_swap (setting_of setting.now) (locals_of locals.now) at
+        (lvalue_of left.now) (lvalue_of right.now) }
 {
     let left_kind = type_place(setting, locals, left)?;
     let right_kind = type_place(setting, locals, right)?;
@@ -109,7 +111,8 @@ fn test_rules(
     first: &Expr,
     last: &Expr,
 ) -> Result<(), TypeError>
-    ensures { verdict_of result ≡ of_tests (setting_of setting.now) (locals_of locals.now) (expression_of first.now) (expression_of last.now) }
+    ensures { verdict_of result ≡ of_tests (setting_of setting.now) (locals_of locals.now)
+        (expression_of first.now) (expression_of last.now) }
 {
     let first_kind = type_expr(setting, locals, first)?;
     let last_kind = type_expr(setting, locals, last)?;
@@ -155,7 +158,8 @@ fn local_rules(
     end_var: &Var,
     end_value: &Expr,
 ) -> Result<(), TypeError>
-    ensures { verdict_of result ≡ of_local (setting_of setting.now) (locals_of locals.now) at var.now (expression_of value.now) end_var.now (expression_of end_value.now) }
+    ensures { verdict_of result ≡ of_local (setting_of setting.now) (locals_of locals.now) at
+        var.now (expression_of value.now) end_var.now (expression_of end_value.now) }
 {
     know_type(setting.table, &var.kind)?;
     let name = &var.name.text;
@@ -193,7 +197,8 @@ fn know_made(table: &ClassTable, made: &Made) -> Result<(), TypeError>
 }
 
 fn has_int_length(setting: &Setting, locals: &Locals, made: &Made) -> Result<bool, TypeError>
-    ensures { verdict_of result ≡ length_is_int (setting_of setting.now) (locals_of locals.now) (creation_of made.now) }
+    ensures { verdict_of result ≡ length_is_int (setting_of setting.now) (locals_of locals.now)
+        (creation_of made.now) }
 {
     match made {
         Made::Object(_) => Ok(true),
@@ -244,7 +249,8 @@ fn make_rules(
     made: &Made,
     place: &Place,
 ) -> Result<(), TypeError>
-    ensures { verdict_of result ≡ of_make (setting_of setting.now) (locals_of locals.now) at (creation_of made.now) (lvalue_of place.now) }
+    ensures { verdict_of result ≡ of_make (setting_of setting.now) (locals_of locals.now) at
+        (creation_of made.now) (lvalue_of place.now) }
 {
     know_made(setting.table, made)?;
     let place_kind = type_place(setting, locals, place)?;
@@ -266,7 +272,8 @@ fn construct_rules(
     name: &Ident,
     end: &Ident,
 ) -> Result<(), TypeError>
-    ensures { verdict_of result ≡ of_construct (setting_of setting.now) (locals_of locals.now) class.now name.now end.now }
+    ensures { verdict_of result ≡ of_construct (setting_of setting.now) (locals_of locals.now)
+        class.now name.now end.now }
 {
     know_class(setting.table, class)?;
     if kind_of_local(locals, &name.text).is_some() {
@@ -354,7 +361,8 @@ fn copy_rules(
     source: &Place,
     target: &Place,
 ) -> Result<(), TypeError>
-    ensures { verdict_of result ≡ of_copy (setting_of setting.now) (locals_of locals.now) at written.now (lvalue_of source.now) (lvalue_of target.now) }
+    ensures { verdict_of result ≡ of_copy (setting_of setting.now) (locals_of locals.now) at
+        written.now (lvalue_of source.now) (lvalue_of target.now) }
 {
     know_type(setting.table, written)?;
     let source_kind = type_place(setting, locals, source)?;
@@ -376,7 +384,8 @@ fn copy_rules(
 /// The rules of a block.
 #[cycle(check)]
 pub fn check_block(setting: &Setting, locals: &Locals, b: &Block) -> Result<(), TypeError>
-    ensures { verdict_of result ≡ check_statements (setting_of setting.now) (locals_of locals.now) (block_of b.now) }
+    ensures { verdict_of result ≡ check_statements (setting_of setting.now) (locals_of locals.now)
+        (block_of b.now) }
 {
     for stmt in &b.list {
         check_stmt(setting, locals, stmt)?;
@@ -387,7 +396,8 @@ pub fn check_block(setting: &Setting, locals: &Locals, b: &Block) -> Result<(), 
 /// The rules of a statement, and then of the statements inside it.
 #[cycle(check)]
 pub fn check_stmt(setting: &Setting, locals: &Locals, s: &Stmt) -> Result<(), TypeError>
-    ensures { verdict_of result ≡ check_statement (setting_of setting.now) (locals_of locals.now) (statement_of s.now) }
+    ensures { verdict_of result ≡ check_statement (setting_of setting.now) (locals_of locals.now)
+        (statement_of s.now) }
 {
     match s {
         Stmt::Update {

@@ -44,7 +44,9 @@ NoSign bytes = (sign : Symbol) → bytes ≡ sign_bytes sign → ⊥
 
 -- the longest sign at the front of the rest, if there is one
 abbrev pub IsLongestSign : List ℕ → Option Symbol → Type 0
-IsLongestSign rest None = (sign : Symbol) (len : ℕ) → len ≤ length rest → take len rest ≡ sign_bytes sign → ⊥
+IsLongestSign rest None = (sign : Symbol) (len : ℕ) → len ≤ length rest
+    → take len rest ≡ sign_bytes sign → ⊥
 IsLongestSign rest (Some sign) = (length (sign_bytes sign) ≤ length rest)
     × (take (length (sign_bytes sign)) rest ≡ sign_bytes sign)
-    × ((other : Symbol) (len : ℕ) → length (sign_bytes sign) < len → len ≤ length rest → take len rest ≡ sign_bytes other → ⊥)
+    × ((other : Symbol) (len : ℕ) → length (sign_bytes sign) < len → len ≤ length rest
+    → take len rest ≡ sign_bytes other → ⊥)

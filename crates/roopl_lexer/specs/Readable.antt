@@ -29,4 +29,5 @@ pub record AreReadable (tokens : List Token) : Type 0 where
 -- each token has bytes and stands behind the one before, between two places
 abbrev pub AreInOrder : ℕ → List Token → ℕ → Type 0
 AreInOrder start [] end = start ≤ end
-AreInOrder start (token ∷ tokens) end = (start ≤ token.at) × (0 < token.len) × AreInOrder (token.at + token.len) tokens end
+AreInOrder start (token ∷ tokens) end = (start ≤ token.at) × (0 < token.len)
+    × AreInOrder (token.at + token.len) tokens end

@@ -42,7 +42,8 @@ Spells (Sign sign) bytes = bytes ≡ sign_bytes sign
 pub record IsLongest (kind : TokenKind) (len : ℕ) (rest : List ℕ) : Type 0 where
   pub within : len ≤ length rest
   pub spelled : Spells kind (take len rest)
-  pub longest : (other : TokenKind) (more : ℕ) → len < more → more ≤ length rest → Spells other (take more rest) → ⊥
+  pub longest : (other : TokenKind) (more : ℕ) → len < more → more ≤ length rest
+      → Spells other (take more rest) → ⊥
 
 abbrev pub is_too_large : TokenKind → Bool
 is_too_large (Word keyword) = false
@@ -68,7 +69,8 @@ pub data Cut : (at : ℕ) (rest : List ℕ) (tokens : List Token) (refusal : Opt
       → begins_comment rest ≡ true
       → Cut (at + comment_length rest) (drop (comment_length rest) rest) tokens refusal
       → Cut at rest tokens refusal
-  token : (at : ℕ) (rest : List ℕ) (kind : TokenKind) (len : ℕ) (tokens : List Token) (refusal : Option LexError)
+  token : (at : ℕ) (rest : List ℕ) (kind : TokenKind) (len : ℕ) (tokens : List Token)
+      (refusal : Option LexError)
       → begins_comment rest ≡ false
       → IsLongest kind len rest
       → is_too_large kind ≡ false

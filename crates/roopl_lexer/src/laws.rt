@@ -6,5 +6,6 @@ ghost use Rattle.roopl_lexer.specs.Tokens.{Cut};
 
 /// A text is cut into one list of tokens, or refused for one reason, and never both.
 pub fn one_cutting()
-    ensures { (text : List ℕ) (a b : List Token) (x y : Option LexError) → Cut 0 text a x → Cut 0 text b y → (a ≡ b) × (x ≡ y) }
+    ensures { (text : List ℕ) (a b : List Token) (x y : Option LexError) → Cut 0 text a x
+        → Cut 0 text b y → (a ≡ b) × (x ≡ y) }
 {}

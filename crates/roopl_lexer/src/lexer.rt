@@ -22,7 +22,8 @@ pub fn lex(alloc: Global, text: &[u8]) -> Result<Vec<Token>, LexError>
 
     // The tokens stand one behind the other, each within the text.
     ensures order { IfOk result (λ tokens. AreInOrder 0 tokens.items (length text.now)) }
-    ensures within { IfOk result (λ tokens. All (λ token. token.at + token.len ≤ length text.now) tokens.items) }
+    ensures within { IfOk result (λ tokens. All (λ token. token.at + token.len ≤ length text.now)
+        tokens.items) }
     ensures readable { IfOk result (λ tokens. AreReadable tokens.items) }
 
     // Where memory does not run out, a refusal is the first one of the text.

@@ -9,7 +9,8 @@ use rpp_tree::MOST_NUMBER;
 /// The number that these digits write, where it is at most the greatest one.
 pub fn number_of(digits: &[u8]) -> Option<u32>
     requires { AllPass is_ascii_digit digits.now }
-    ensures { MatchOption result (MOST_NUMBER < decimal_from 0 digits.now) (λ n. (n ≡ decimal_from 0 digits.now) × (n ≤ MOST_NUMBER)) }
+    ensures { MatchOption result (MOST_NUMBER < decimal_from 0 digits.now)
+        (λ n. (n ≡ decimal_from 0 digits.now) × (n ≤ MOST_NUMBER)) }
 {
     let mut number: u64 = 0;
     for digit in digits {

@@ -66,7 +66,8 @@ fn bytes_of(keyword: Keyword) -> &'static [u8]
 
 /// The keyword that a word is, if it is one.
 pub fn keyword_of(word: &[u8]) -> Option<Keyword>
-    ensures { MatchOption result (is_keyword word.now ≡ false) (λ keyword. word.now ≡ keyword_bytes keyword) }
+    ensures { MatchOption result (is_keyword word.now ≡ false)
+        (λ keyword. word.now ≡ keyword_bytes keyword) }
 {
     for keyword in &KEYWORDS {
         if word == bytes_of(*keyword) {

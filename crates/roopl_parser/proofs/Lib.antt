@@ -6,7 +6,6 @@ pub mod Complete
 pub mod Fault
 pub mod Exact
 pub mod MoreMoves
-pub mod Stmts
 pub mod MoveSets
 pub mod Parts
 pub mod Answered

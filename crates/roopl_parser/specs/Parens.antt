@@ -23,7 +23,8 @@ abbrev mutual
 abbrev pub place_parens : {ts rest : List Token} {l : Lvalue} → IsPlace ts rest l → ℕ
 place_parens (place i) = index_parens i
 
-abbrev pub sized_parens : {name : Ident} {ts rest : List Token} {c : Creation} → IsSized name ts rest c → ℕ
+abbrev pub sized_parens : {name : Ident} {ts rest : List Token} {c : Creation}
+    → IsSized name ts rest c → ℕ
 sized_parens one = 0
 sized_parens (sized d) = parens_of d
 
@@ -31,11 +32,13 @@ abbrev pub made_parens : {ts rest : List Token} {c : Creation} → IsMade ts res
 made_parens (words d) = parens_of d
 made_parens (named z) = sized_parens z
 
-abbrev pub target_parens : {at : ℕ} {back : _} {name : Ident} {ts rest : List Token} {x : Statement} → IsTarget at back name ts rest x → ℕ
+abbrev pub target_parens : {at : ℕ} {back : _} {name : Ident} {ts rest : List Token} {x : Statement}
+    → IsTarget at back name ts rest x → ℕ
 target_parens (own r) = 0
 target_parens (on i r) = index_parens i
 
-abbrev pub assigned_parens : {at : ℕ} {p : Lvalue} {ts rest : List Token} {x : Statement} → IsAssigned at p ts rest x → ℕ
+abbrev pub assigned_parens : {at : ℕ} {p : Lvalue} {ts rest : List Token} {x : Statement}
+    → IsAssigned at p ts rest x → ℕ
 assigned_parens (update h d) = parens_of d
 assigned_parens (swap q) = place_parens q
 
@@ -54,10 +57,12 @@ abbrev mutual
   statement_parens (uncall r) = target_parens r
   statement_parens skip = 0
 
-  pub branch_parens : {first second third : Keyword} {ts rest : List Token} {a b : Statements} {e : Expression} → IsBranches first second third ts rest a b e → ℕ
+  pub branch_parens : {first second third : Keyword} {ts rest : List Token} {a b : Statements}
+      {e : Expression} → IsBranches first second third ts rest a b e → ℕ
   branch_parens (branches a b d) = max (block_parens a) (max (block_parens b) (parens_of d))
 
-  pub scope_parens : {ts rest : List Token} {b : Statements} {w : Var} {e : Expression} → IsScope ts rest b w e → ℕ
+  pub scope_parens : {ts rest : List Token} {b : Statements} {w : Var} {e : Expression}
+      → IsScope ts rest b w e → ℕ
   scope_parens (scope b v d) = max (block_parens b) (parens_of d)
 
   pub block_parens : {ts rest : List Token} {b : Statements} → IsBlock ts rest b → ℕ

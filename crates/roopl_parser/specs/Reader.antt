@@ -202,33 +202,65 @@ abbrev pub build : Rule → List Value → List Value
 build MakeRead vs = AnExpr (read_place (as_place (top vs))) ∷ under vs
 build MakeWhole vs = APlace (Whole (as_name (top vs))) ∷ under vs
 build MakeElement vs = APlace (Item (as_name (second vs)) (as_expr (top vs))) ∷ under (under vs)
-build (MakeBinary at op) vs = AnExpr (Binary at op (as_expr (second vs)) (as_expr (top vs))) ∷ under (under vs)
+build (MakeBinary at op) vs = AnExpr (Binary at op (as_expr (second vs)) (as_expr (top vs)))
+    ∷ under (under vs)
 build MakeArray vs = AType (array_of (as_type (top vs))) ∷ under vs
-build MakeVar vs = AVar (record { kind = as_type (second vs); name = as_name (top vs) }) ∷ under (under vs)
+build MakeVar vs = AVar (record { kind = as_type (second vs); name = as_name (top vs) })
+    ∷ under (under vs)
 build AddVar vs = Vars (as_vars (second vs) ++ as_var (top vs) ∷ []) ∷ under (under vs)
 build NoVars vs = Vars [] ∷ vs
 build MakeObject vs = ACreation (Object (as_name (top vs))) ∷ under vs
 build MakeInts vs = ACreation (Ints (as_expr (top vs))) ∷ under vs
 build MakeObjects vs = ACreation (Objects (as_name (second vs)) (as_expr (top vs))) ∷ under (under vs)
-build (MakeUpdate at op) vs = AStatement (Update at op (as_place (second vs)) (as_expr (top vs))) ∷ under (under vs)
-build (MakeSwap at) vs = AStatement (Swap at (as_place (second vs)) (as_place (top vs))) ∷ under (under vs)
-build (MakeIf at) vs = AStatement (If at (as_expr (fourth vs)) (as_block (third vs)) (as_block (second vs)) (as_expr (top vs))) ∷ under (under (under (under vs)))
-build (MakeFrom at) vs = AStatement (From at (as_expr (fourth vs)) (as_block (third vs)) (as_block (second vs)) (as_expr (top vs))) ∷ under (under (under (under vs)))
-build (MakeConstruct at) vs = AStatement (Construct at (as_name (fourth vs)) (as_name (third vs)) (as_block (second vs)) (as_name (top vs))) ∷ under (under (under (under vs)))
-build (MakeLocal at) vs = AStatement (Local at (as_var (fifth vs)) (as_expr (fourth vs)) (as_block (third vs)) (as_var (second vs)) (as_expr (top vs))) ∷ under (under (under (under (under vs))))
-build (MakeNew at) vs = AStatement (New at (as_creation (second vs)) (as_place (top vs))) ∷ under (under vs)
-build (MakeDelete at) vs = AStatement (Delete at (as_creation (second vs)) (as_place (top vs))) ∷ under (under vs)
-build (MakeCopy at) vs = AStatement (Copy at (as_type (third vs)) (as_place (second vs)) (as_place (top vs))) ∷ under (under (under vs))
-build (MakeUncopy at) vs = AStatement (Uncopy at (as_type (third vs)) (as_place (second vs)) (as_place (top vs))) ∷ under (under (under vs))
-build (MakeCall at back) vs = AStatement (Call at back None (as_name (second vs)) (as_names (top vs))) ∷ under (under vs)
-build (MakeSend at back) vs = AStatement (Call at back (Some (as_place (third vs))) (as_name (second vs)) (as_names (top vs))) ∷ under (under (under vs))
+build (MakeUpdate at op) vs = AStatement (Update at op (as_place (second vs)) (as_expr (top vs)))
+    ∷ under (under vs)
+build (MakeSwap at) vs = AStatement (Swap at (as_place (second vs)) (as_place (top vs)))
+    ∷ under (under vs)
+build (MakeIf at) vs =
+    AStatement (If at (as_expr (fourth vs)) (as_block (third vs)) (as_block (second vs))
+    (as_expr (top vs))) ∷ under (under (under (under vs)))
+build (MakeFrom at) vs =
+    AStatement (From at (as_expr (fourth vs)) (as_block (third vs)) (as_block (second vs))
+    (as_expr (top vs))) ∷ under (under (under (under vs)))
+build (MakeConstruct at) vs =
+    AStatement (Construct at (as_name (fourth vs)) (as_name (third vs)) (as_block (second vs))
+    (as_name (top vs))) ∷ under (under (under (under vs)))
+build (MakeLocal at) vs =
+    AStatement (Local at (as_var (fifth vs)) (as_expr (fourth vs)) (as_block (third vs))
+    (as_var (second vs)) (as_expr (top vs))) ∷ under (under (under (under (under vs))))
+build (MakeNew at) vs = AStatement (New at (as_creation (second vs)) (as_place (top vs)))
+    ∷ under (under vs)
+build (MakeDelete at) vs = AStatement (Delete at (as_creation (second vs)) (as_place (top vs)))
+    ∷ under (under vs)
+build (MakeCopy at) vs =
+    AStatement (Copy at (as_type (third vs)) (as_place (second vs)) (as_place (top vs)))
+    ∷ under (under (under vs))
+build (MakeUncopy at) vs =
+    AStatement (Uncopy at (as_type (third vs)) (as_place (second vs)) (as_place (top vs)))
+    ∷ under (under (under vs))
+build (MakeCall at back) vs =
+    AStatement (Call at back None (as_name (second vs)) (as_names (top vs))) ∷ under (under vs)
+build (MakeSend at back) vs =
+    AStatement (Call at back (Some (as_place (third vs))) (as_name (second vs)) (as_names (top vs)))
+    ∷ under (under (under vs))
 build AddName vs = Idents (as_names (second vs) ++ as_name (top vs) ∷ []) ∷ under (under vs)
 build AddStatement vs = Many (as_many (second vs) ++ as_statement (top vs) ∷ []) ∷ under (under vs)
 build MakeBlock vs = ABlock (statements_of (as_many (top vs))) ∷ under vs
 build NoMethods vs = Methods [] ∷ vs
 build MakeParent vs = AParent (Some (as_name (top vs))) ∷ under vs
-build MakeMethod vs = Methods (as_methods (fourth vs) ++ record { name = as_name (third vs); params = as_vars (second vs); body = as_block (top vs) } ∷ []) ∷ under (under (under (under vs)))
-build MakeClass vs = Classes (as_classes (fifth vs) ++ record { name = as_name (fourth vs); parent = as_parent (third vs); fields = as_vars (second vs); methods = as_methods (top vs) } ∷ []) ∷ under (under (under (under (under vs))))
+build MakeMethod vs =
+    Methods (as_methods (fourth vs)
+    ++ record { name = as_name (third vs); params = as_vars (second vs); body = as_block (top vs) }
+    ∷ []) ∷ under (under (under (under vs)))
+build MakeClass vs =
+    Classes (as_classes (fifth vs)
+    ++ record {
+      name = as_name (fourth vs);
+      parent = as_parent (third vs);
+      fields = as_vars (second vs);
+      methods = as_methods (top vs);
+    } ∷ [])
+    ∷ under (under (under (under (under vs))))
 
 -- the limits: a count passes its limit where it stands at it already
 abbrev pub at_most : ℕ → ℕ → LimitKind → Mark → Mark
@@ -266,19 +298,26 @@ mores zero p i s = s
 mores (suc k) p i s = mores k p i (More (suc k) p i ∷ s)
 
 abbrev pub operand : (k p i : ℕ) → List Part → ℕ → List Value → ℕ → TokenKind → Step
-operand k p i s n vs at (token.Number w) = Next (node_mark n) (suc n) (mores k p i s) (AnExpr (Number at w) ∷ vs)
-operand k p i s n vs at (token.Word word.Nil) = Next (node_mark n) (suc n) (mores k p i s) (AnExpr (Null at) ∷ vs)
-operand k p i s n vs at (token.Name x) = Next (name_mark n i) (suc n) (Index p i ∷ Build MakeRead ∷ mores k p i s) (AnIdent (record { at = at; text = x }) ∷ vs)
-operand k p i s n vs at (token.Sign sign.LeftParen) = Next (parens_mark p) n (Level 9 (suc p) i ∷ ASign sign.RightParen ∷ mores k p i s) vs
+operand k p i s n vs at (token.Number w) =
+    Next (node_mark n) (suc n) (mores k p i s) (AnExpr (Number at w) ∷ vs)
+operand k p i s n vs at (token.Word word.Nil) =
+    Next (node_mark n) (suc n) (mores k p i s) (AnExpr (Null at) ∷ vs)
+operand k p i s n vs at (token.Name x) =
+    Next (name_mark n i) (suc n) (Index p i ∷ Build MakeRead ∷ mores k p i s)
+    (AnIdent (record { at = at; text = x }) ∷ vs)
+operand k p i s n vs at (token.Sign sign.LeftParen) =
+    Next (parens_mark p) n (Level 9 (suc p) i ∷ ASign sign.RightParen ∷ mores k p i s) vs
 operand k p i s n vs at _ = Wrong
 
 abbrev pub more : (k p i : ℕ) → List Part → ℕ → List Value → ℕ → Step → Option BinOp → Step
 more k p i s n vs at other None = other
-more k p i s n vs at other (Some op) = Next (node_mark n) (suc n) (Level (pred k) p i ∷ Build (MakeBinary at op) ∷ More k p i ∷ s) vs
+more k p i s n vs at other (Some op) =
+    Next (node_mark n) (suc n) (Level (pred k) p i ∷ Build (MakeBinary at op) ∷ More k p i ∷ s) vs
 
 -- an index, or nothing: other goes on behind nothing
 abbrev pub index : (p i : ℕ) → List Part → ℕ → List Value → Step → TokenKind → Step
-index p i s n vs other (token.Sign sign.LeftBracket) = Next Within n (Level 9 p (suc i) ∷ ASign sign.RightBracket ∷ Build MakeElement ∷ s) vs
+index p i s n vs other (token.Sign sign.LeftBracket) =
+    Next Within n (Level 9 p (suc i) ∷ ASign sign.RightBracket ∷ Build MakeElement ∷ s) vs
 index p i s n vs other _ = other
 
 abbrev pub name : List Part → ℕ → List Value → ℕ → TokenKind → Step
@@ -293,21 +332,25 @@ types _ = false
 
 -- the first token of a type, or other
 abbrev pub a_type : List Part → ℕ → List Value → ℕ → Mark → Step → TokenKind → Step
-a_type s n vs at mark other (token.Name x) = Next mark n (Brackets ∷ s) (AType (kind.Class (record { at = at; text = x })) ∷ vs)
+a_type s n vs at mark other (token.Name x) =
+    Next mark n (Brackets ∷ s) (AType (kind.Class (record { at = at; text = x })) ∷ vs)
 a_type s n vs at mark other (token.Word word.Int) = Next mark n (Brackets ∷ s) (AType kind.Int ∷ vs)
 a_type s n vs at mark other _ = other
 
 abbrev pub brackets : List Part → ℕ → List Value → Step → TokenKind → Step
-brackets s n vs other (token.Sign sign.LeftBracket) = Next Within n (ASign sign.RightBracket ∷ Build MakeArray ∷ s) vs
+brackets s n vs other (token.Sign sign.LeftBracket) =
+    Next Within n (ASign sign.RightBracket ∷ Build MakeArray ∷ s) vs
 brackets s n vs other _ = other
 
 abbrev pub made : List Part → ℕ → List Value → ℕ → TokenKind → Step
 made s n vs at (token.Name x) = Next Within n (Sized ∷ s) (AnIdent (record { at = at; text = x }) ∷ vs)
-made s n vs at (token.Word word.Int) = Next Within n (ASign sign.LeftBracket ∷ Level 9 0 0 ∷ ASign sign.RightBracket ∷ Build MakeInts ∷ s) vs
+made s n vs at (token.Word word.Int) =
+    Next Within n (ASign sign.LeftBracket ∷ Level 9 0 0 ∷ ASign sign.RightBracket ∷ Build MakeInts ∷ s) vs
 made s n vs at _ = Wrong
 
 abbrev pub sized : List Part → ℕ → List Value → Step → TokenKind → Step
-sized s n vs other (token.Sign sign.LeftBracket) = Next Within n (Level 9 0 0 ∷ ASign sign.RightBracket ∷ Build MakeObjects ∷ s) vs
+sized s n vs other (token.Sign sign.LeftBracket) =
+    Next Within n (Level 9 0 0 ∷ ASign sign.RightBracket ∷ Build MakeObjects ∷ s) vs
 sized s n vs other _ = other
 
 -- whether a statement begins with a token
@@ -332,17 +375,33 @@ var_parts s = AName ∷ Build MakeVar ∷ s
 
 -- the first token of a statement with d statements and l locals round it, or other
 abbrev pub statement : (d l : ℕ) → List Part → List Value → ℕ → Step → TokenKind → Step
-statement d l s vs at other (token.Name x) = Next (nesting_mark d) 0 (Index 0 0 ∷ Assign at ∷ Count 0 ∷ s) (AnIdent (record { at = at; text = x }) ∷ vs)
-statement d l s vs at other (token.Word word.If) = Next (nesting_mark d) 0 (Level 9 0 0 ∷ Branches word.Then word.Else word.Fi d l ∷ Build (MakeIf at) ∷ Count 0 ∷ s) vs
-statement d l s vs at other (token.Word word.From) = Next (nesting_mark d) 0 (Level 9 0 0 ∷ Branches word.Do word.Loop word.Until d l ∷ Build (MakeFrom at) ∷ Count 0 ∷ s) vs
-statement d l s vs at other (token.Word word.Construct) = Next (scope_mark d l) 0 (AName ∷ AName ∷ Block (suc d) (suc l) ∷ AWord word.Destruct ∷ AName ∷ Build (MakeConstruct at) ∷ s) vs
-statement d l s vs at other (token.Word word.Local) = Next (scope_mark d l) 0 (Kind ∷ var_parts (ASign sign.Equal ∷ Level 9 0 0 ∷ Scope d l ∷ Build (MakeLocal at) ∷ Count 0 ∷ s)) vs
-statement d l s vs at other (token.Word word.New) = Next (nesting_mark d) 0 (Made ∷ Spot ∷ Build (MakeNew at) ∷ Count 0 ∷ s) vs
-statement d l s vs at other (token.Word word.Delete) = Next (nesting_mark d) 0 (Made ∷ Spot ∷ Build (MakeDelete at) ∷ Count 0 ∷ s) vs
-statement d l s vs at other (token.Word word.Copy) = Next (nesting_mark d) 0 (Kind ∷ Spot ∷ Spot ∷ Build (MakeCopy at) ∷ Count 0 ∷ s) vs
-statement d l s vs at other (token.Word word.Uncopy) = Next (nesting_mark d) 0 (Kind ∷ Spot ∷ Spot ∷ Build (MakeUncopy at) ∷ Count 0 ∷ s) vs
-statement d l s vs at other (token.Word word.Call) = Next (nesting_mark d) 0 (AName ∷ Receiver at false l ∷ Count 0 ∷ s) vs
-statement d l s vs at other (token.Word word.Uncall) = Next (nesting_mark d) 0 (AName ∷ Receiver at true l ∷ Count 0 ∷ s) vs
+statement d l s vs at other (token.Name x) =
+    Next (nesting_mark d) 0 (Index 0 0 ∷ Assign at ∷ Count 0 ∷ s)
+    (AnIdent (record { at = at; text = x }) ∷ vs)
+statement d l s vs at other (token.Word word.If) =
+    Next (nesting_mark d) 0 (Level 9 0 0 ∷ Branches word.Then word.Else word.Fi d l
+    ∷ Build (MakeIf at) ∷ Count 0 ∷ s) vs
+statement d l s vs at other (token.Word word.From) =
+    Next (nesting_mark d) 0 (Level 9 0 0 ∷ Branches word.Do word.Loop word.Until d l
+    ∷ Build (MakeFrom at) ∷ Count 0 ∷ s) vs
+statement d l s vs at other (token.Word word.Construct) =
+    Next (scope_mark d l) 0 (AName ∷ AName ∷ Block (suc d) (suc l) ∷ AWord word.Destruct ∷ AName
+    ∷ Build (MakeConstruct at) ∷ s) vs
+statement d l s vs at other (token.Word word.Local) =
+    Next (scope_mark d l) 0 (Kind ∷ var_parts
+    (ASign sign.Equal ∷ Level 9 0 0 ∷ Scope d l ∷ Build (MakeLocal at) ∷ Count 0 ∷ s)) vs
+statement d l s vs at other (token.Word word.New) =
+    Next (nesting_mark d) 0 (Made ∷ Spot ∷ Build (MakeNew at) ∷ Count 0 ∷ s) vs
+statement d l s vs at other (token.Word word.Delete) =
+    Next (nesting_mark d) 0 (Made ∷ Spot ∷ Build (MakeDelete at) ∷ Count 0 ∷ s) vs
+statement d l s vs at other (token.Word word.Copy) =
+    Next (nesting_mark d) 0 (Kind ∷ Spot ∷ Spot ∷ Build (MakeCopy at) ∷ Count 0 ∷ s) vs
+statement d l s vs at other (token.Word word.Uncopy) =
+    Next (nesting_mark d) 0 (Kind ∷ Spot ∷ Spot ∷ Build (MakeUncopy at) ∷ Count 0 ∷ s) vs
+statement d l s vs at other (token.Word word.Call) =
+    Next (nesting_mark d) 0 (AName ∷ Receiver at false l ∷ Count 0 ∷ s) vs
+statement d l s vs at other (token.Word word.Uncall) =
+    Next (nesting_mark d) 0 (AName ∷ Receiver at true l ∷ Count 0 ∷ s) vs
 statement d l s vs at other (token.Word word.Skip) = Next (nesting_mark d) 0 s (AStatement (Skip at) ∷ vs)
 statement d l s vs at other _ = other
 
@@ -368,21 +427,27 @@ swapped at s n vs _ = Wrong
 
 -- two blocks and an expression, each behind its keyword
 abbrev pub branch_parts : (second third : Keyword) (d l n : ℕ) → List Part → List Part
-branch_parts second third d l n s = Block (suc d) l ∷ AWord second ∷ Block (suc d) l ∷ AWord third ∷ Count n ∷ Level 9 0 0 ∷ s
+branch_parts second third d l n s =
+    Block (suc d) l ∷ AWord second ∷ Block (suc d) l ∷ AWord third ∷ Count n ∷ Level 9 0 0 ∷ s
 
 -- the method and the arguments of a call on a receiver
 abbrev pub send_parts : (at : ℕ) (back : Bool) → List Part → List Part
 send_parts at back s = AName ∷ ASign sign.LeftParen ∷ Args ∷ Build (MakeSend at back) ∷ s
 
 abbrev pub receiver : (at : ℕ) (back : Bool) (l : ℕ) → List Part → ℕ → List Value → TokenKind → Step
-receiver at back l s n vs (token.Sign sign.LeftParen) = Next Within n (Args ∷ Build (MakeCall at back) ∷ s) vs
-receiver at back l s n vs (token.Sign sign.DoubleColon) = Next Within n (send_parts at back s) (build MakeWhole vs)
-receiver at back l s n vs (token.Sign sign.LeftBracket) = Next (locals_mark l) n (Level 9 0 1 ∷ ASign sign.RightBracket ∷ Build MakeElement ∷ ASign sign.DoubleColon ∷ send_parts at back s) vs
+receiver at back l s n vs (token.Sign sign.LeftParen) =
+    Next Within n (Args ∷ Build (MakeCall at back) ∷ s) vs
+receiver at back l s n vs (token.Sign sign.DoubleColon) =
+    Next Within n (send_parts at back s) (build MakeWhole vs)
+receiver at back l s n vs (token.Sign sign.LeftBracket) =
+    Next (locals_mark l) n (Level 9 0 1 ∷ ASign sign.RightBracket ∷ Build MakeElement
+    ∷ ASign sign.DoubleColon ∷ send_parts at back s) vs
 receiver at back l s n vs _ = Wrong
 
 abbrev pub args : List Part → ℕ → List Value → ℕ → TokenKind → Step
 args s n vs at (token.Sign sign.RightParen) = Next Within n s (Idents [] ∷ vs)
-args s n vs at (token.Name x) = Next Within n (MoreArgs ∷ s) (Idents (record { at = at; text = x } ∷ []) ∷ vs)
+args s n vs at (token.Name x) =
+    Next Within n (MoreArgs ∷ s) (Idents (record { at = at; text = x } ∷ []) ∷ vs)
 args s n vs at _ = Wrong
 
 abbrev pub more_args : List Part → ℕ → List Value → TokenKind → Step
@@ -415,10 +480,12 @@ procedures s n vs other (token.Word word.Method) = Next Within n (method_parts (
 procedures s n vs other _ = other
 
 abbrev pub class_parts : List Part → List Part
-class_parts s = AName ∷ Parent ∷ Build NoVars ∷ Fields ∷ Build NoMethods ∷ Procedures ∷ Build MakeClass ∷ s
+class_parts s = AName ∷ Parent ∷ Build NoVars ∷ Fields ∷ Build NoMethods ∷ Procedures
+    ∷ Build MakeClass ∷ s
 
 abbrev pub program : (c : ℕ) → List Part → ℕ → List Value → Step → TokenKind → Step
-program c s n vs other (token.Word word.Class) = Next (class_mark c) n (class_parts (Program (suc c) ∷ s)) vs
+program c s n vs other (token.Word word.Class) =
+    Next (class_mark c) n (class_parts (Program (suc c) ∷ s)) vs
 program c s n vs other _ = other
 
 -- whether a token is this keyword
@@ -505,12 +572,17 @@ walk (Single d l ∷ s) n vs t = statement d l s vs t.at Wrong t.kind
 walk (Block d l ∷ s) n vs t = statement d l (block_parts d l s) (Many [] ∷ vs) t.at Wrong t.kind
 walk (Stmts d l ∷ s) n vs t = statement d l (more_statements d l s) vs t.at (walk s n vs t) t.kind
 walk (Assign at ∷ s) n vs t = assigned at s n vs (update_operator t.kind) (swapped at s n vs t.kind)
-walk (Branches first second third d l ∷ s) n vs t = cond (is_word first t.kind) (Next Within n (branch_parts second third d l n s) vs) Wrong
-walk (Scope d l ∷ s) n vs t = statement (suc d) (suc l) (block_parts (suc d) (suc l) (scope_end n s)) (Many [] ∷ vs) t.at Wrong t.kind
+walk (Branches first second third d l ∷ s) n vs t =
+    cond (is_word first t.kind) (Next Within n (branch_parts second third d l n s) vs) Wrong
+walk (Scope d l ∷ s) n vs t =
+    statement (suc d) (suc l) (block_parts (suc d) (suc l) (scope_end n s)) (Many [] ∷ vs) t.at
+    Wrong t.kind
 walk (Receiver at back l ∷ s) n vs t = receiver at back l s n vs t.kind
 walk (Args ∷ s) n vs t = args s n vs t.at t.kind
 walk (MoreArgs ∷ s) n vs t = more_args s n vs t.kind
-walk (Params ∷ s) n vs t = params s n vs (a_type (field_parts (MoreParams 1 ∷ s)) n (Vars [] ∷ vs) t.at (param_mark 0) Wrong t.kind) t.kind
+walk (Params ∷ s) n vs t =
+    params s n vs (a_type (field_parts (MoreParams 1 ∷ s)) n (Vars [] ∷ vs) t.at (param_mark 0)
+    Wrong t.kind) t.kind
 walk (Param c ∷ s) n vs t = a_type (field_parts s) n vs t.at (param_mark c) Wrong t.kind
 walk (MoreParams c ∷ s) n vs t = more_params c s n vs t.kind
 walk (Count m ∷ s) n vs t = walk s m vs t
@@ -547,16 +619,21 @@ stopped at None next = next
 stopped at (Some which) next = Err (Limit which at)
 
 -- what a step leads to: with the limits, or without
-abbrev pub led : Bool → ℕ → Bool → (ℕ → List Part → List Value → Result Value ParseError) → Step → Result Value ParseError
+abbrev pub led : Bool → ℕ → Bool → (ℕ → List Part → List Value → Result Value ParseError) → Step
+    → Result Value ParseError
 led strict at bracket next Wrong = Err (Syntax at)
-led strict at bracket next (Next mark n s vs) = cond strict (stopped at (passed mark bracket) (next n s vs)) (next n s vs)
+led strict at bracket next (Next mark n s vs) =
+    cond strict (stopped at (passed mark bracket) (next n s vs)) (next n s vs)
 
 -- what reading gives: the value, or the first token that is wrong or, where the limits count, passes one
 unfoldable pub scan : Bool → ℕ → List Token → ℕ → List Part → List Value → Result Value ParseError
 scan strict end [] = λ n s vs. ends end s vs
-scan strict end (t ∷ ts) = λ n s vs. led strict t.at (here (is_sign sign.LeftBracket) ts) (scan strict end ts) (walk s n vs t)
+scan strict end (t ∷ ts) = λ n s vs. led strict t.at (here (is_sign sign.LeftBracket) ts)
+    (scan strict end ts) (walk s n vs t)
 
 -- a function that returned this has read what stood at the top of the stack
-abbrev pub Gives : {X : Type 0} → Result X ParseError → (List Part → List Value → Result Value ParseError) → (X → List Part → List Value → Result Value ParseError) → Type 0
+abbrev pub Gives : {X : Type 0} → Result X ParseError
+    → (List Part → List Value → Result Value ParseError)
+    → (X → List Part → List Value → Result Value ParseError) → Type 0
 Gives (Ok x) before after = (s : List Part) (vs : List Value) → before s vs ≡ after x s vs
 Gives (Err e) before after = e ≢ NoMemory → (s : List Part) (vs : List Value) → before s vs ≡ Err e

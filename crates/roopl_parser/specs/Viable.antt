@@ -33,7 +33,8 @@ pub record IsWrongAt (end : ℕ) (tokens : List Token) (at : ℕ) : Type 0 where
   pub all : tokens ≡ front ++ rest
   pub place : at ≡ place_of end rest
   pub viable : IsViable front
-  pub wrong : (more : List Token) (source : Source) → Behind rest more → Derives (front ++ more) source → ⊥
+  pub wrong : (more : List Token) (source : Source) → Behind rest more
+      → Derives (front ++ more) source → ⊥
 
 -- a program's tokens begin with those up to the one at this place
 pub record IsReached (tokens : List Token) (at : ℕ) : Type 0 where
@@ -54,7 +55,8 @@ abbrev pub passing_by : ℕ → Option LimitKind → Option ParseError → Optio
 passing_by at None next = next
 passing_by at (Some which) next = Some (Limit which at)
 
-abbrev pub passing : ℕ → Bool → (ℕ → List Part → List Value → Option ParseError) → Step → Option ParseError
+abbrev pub passing : ℕ → Bool → (ℕ → List Part → List Value → Option ParseError) → Step
+    → Option ParseError
 passing at bracket next Wrong = None
 passing at bracket next (Next mark n s vs) = passing_by at (passed mark bracket) (next n s vs)
 
@@ -64,7 +66,8 @@ passes (t ∷ ts) = λ n s vs. passing t.at (here (is_sign sign.LeftBracket) ts)
 
 -- the limit of tokens
 abbrev pub too_many : List Token → Option ParseError
-too_many tokens = cond (nat_lt MOST_TOKENS (length tokens)) (Some (Limit limit.Tokens (place_of 0 (drop MOST_TOKENS tokens)))) None
+too_many tokens = cond (nat_lt MOST_TOKENS (length tokens))
+    (Some (Limit limit.Tokens (place_of 0 (drop MOST_TOKENS tokens)))) None
 
 abbrev pub or_else : Option ParseError → Option ParseError → Option ParseError
 or_else None other = other

@@ -15,7 +15,8 @@ pub fn args<'a>(
     end: u32,
     tokens: &'a [Token],
 ) -> Result<(Vec<Ident>, &'a [Token]), ParseError>
-    ensures gives { (n : ℕ) → Gives result (λ s vs. scan true end tokens.now n (Args ∷ s) vs) (λ x s vs. scan true end x.1.now n s (Idents x.0.items ∷ vs)) }
+    ensures gives { (n : ℕ) → Gives result (λ s vs. scan true end tokens.now n (Args ∷ s) vs)
+        (λ x s vs. scan true end x.1.now n s (Idents x.0.items ∷ vs)) }
     ensures shorter { IfOk result (λ x. length x.1.now < length tokens.now) }
 {
     match next(tokens) {
@@ -43,7 +44,9 @@ fn more_args<'a>(
     tokens: &'a [Token],
     first: Vec<Ident>,
 ) -> Result<(Vec<Ident>, &'a [Token]), ParseError>
-    ensures gives { (n : ℕ) → Gives result (λ s vs. scan true end tokens.now n (MoreArgs ∷ s) (Idents first.items ∷ vs)) (λ x s vs. scan true end x.1.now n s (Idents x.0.items ∷ vs)) }
+    ensures gives { (n : ℕ) → Gives result
+        (λ s vs. scan true end tokens.now n (MoreArgs ∷ s) (Idents first.items ∷ vs))
+        (λ x s vs. scan true end x.1.now n s (Idents x.0.items ∷ vs)) }
     ensures shorter { IfOk result (λ x. length x.1.now < length tokens.now) }
 {
     let mut names = first;

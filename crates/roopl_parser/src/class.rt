@@ -22,7 +22,8 @@ fn parent<'a>(
     end: u32,
     tokens: &'a [Token],
 ) -> Result<(Option<Ident>, &'a [Token]), ParseError>
-    ensures gives { Gives result (λ s vs. scan true end tokens.now 0 (Parent ∷ s) vs) (λ x s vs. scan true end x.1.now 0 s (AParent x.0 ∷ vs)) }
+    ensures gives { Gives result (λ s vs. scan true end tokens.now 0 (Parent ∷ s) vs)
+        (λ x s vs. scan true end x.1.now 0 s (AParent x.0 ∷ vs)) }
     ensures shorter { IfOk result (λ x. length x.1.now ≤ length tokens.now) }
 {
     if word_here(tokens, Keyword::Inherits) {
@@ -41,7 +42,8 @@ fn fields<'a>(
     end: u32,
     tokens: &'a [Token],
 ) -> Result<(Vec<Var>, &'a [Token]), ParseError>
-    ensures gives { Gives result (λ s vs. scan true end tokens.now 0 (Fields ∷ s) (Vars [] ∷ vs)) (λ x s vs. scan true end x.1.now 0 s (Vars x.0.items ∷ vs)) }
+    ensures gives { Gives result (λ s vs. scan true end tokens.now 0 (Fields ∷ s) (Vars [] ∷ vs))
+        (λ x s vs. scan true end x.1.now 0 s (Vars x.0.items ∷ vs)) }
     ensures shorter { IfOk result (λ x. length x.1.now ≤ length tokens.now) }
 {
     let mut fields = Vec::new(alloc);
@@ -61,7 +63,10 @@ fn method<'a>(
     end: u32,
     tokens: &'a [Token],
 ) -> Result<(Method, &'a [Token]), ParseError>
-    ensures gives { (xs : List Procedure) → Gives result (λ s vs. scan true end tokens.now 0 (AWord word.Method ∷ method_parts s) (Methods xs ∷ vs)) (λ x s vs. scan true end x.1.now 0 s (Methods (xs ++ procedure_of x.0 ∷ []) ∷ vs)) }
+    ensures gives { (xs : List Procedure)
+        → Gives result (λ s vs. scan true end tokens.now 0 (AWord word.Method ∷ method_parts s)
+        (Methods xs ∷ vs)) (λ x s vs. scan true end x.1.now 0 s
+        (Methods (xs ++ procedure_of x.0 ∷ []) ∷ vs)) }
     ensures shorter { IfOk result (λ x. length x.1.now < length tokens.now) }
 {
     let rest = word(end, tokens, Keyword::Method)?;
@@ -79,7 +84,9 @@ fn methods<'a>(
     end: u32,
     tokens: &'a [Token],
 ) -> Result<(Vec<Method>, &'a [Token]), ParseError>
-    ensures gives { Gives result (λ s vs. scan true end tokens.now 0 (Procedures ∷ s) (Methods [] ∷ vs)) (λ x s vs. scan true end x.1.now 0 s (Methods (map procedure_of x.0.items) ∷ vs)) }
+    ensures gives { Gives result (λ s vs. scan true end tokens.now 0 (Procedures ∷ s)
+        (Methods [] ∷ vs)) (λ x s vs. scan true end x.1.now 0 s
+        (Methods (map procedure_of x.0.items) ∷ vs)) }
     ensures shorter { IfOk result (λ x. length x.1.now ≤ length tokens.now) }
 {
     let mut methods = Vec::new(alloc);
@@ -99,7 +106,10 @@ fn class<'a>(
     end: u32,
     tokens: &'a [Token],
 ) -> Result<(Class, &'a [Token]), ParseError>
-    ensures gives { (xs : List ClassText) → Gives result (λ s vs. scan true end tokens.now 0 (AWord word.Class ∷ class_parts s) (Classes xs ∷ vs)) (λ x s vs. scan true end x.1.now 0 s (Classes (xs ++ class_text_of x.0 ∷ []) ∷ vs)) }
+    ensures gives { (xs : List ClassText)
+        → Gives result (λ s vs. scan true end tokens.now 0 (AWord word.Class ∷ class_parts s)
+        (Classes xs ∷ vs)) (λ x s vs. scan true end x.1.now 0 s
+        (Classes (xs ++ class_text_of x.0 ∷ []) ∷ vs)) }
     ensures shorter { IfOk result (λ x. length x.1.now < length tokens.now) }
 {
     let rest = word(end, tokens, Keyword::Class)?;
@@ -123,7 +133,9 @@ pub fn classes<'a>(
     end: u32,
     tokens: &'a [Token],
 ) -> Result<(Vec<Class>, &'a [Token]), ParseError>
-    ensures gives { Gives result (λ s vs. scan true end tokens.now 0 (Program 0 ∷ s) (Classes [] ∷ vs)) (λ x s vs. scan true end x.1.now 0 s (Classes (map class_text_of x.0.items) ∷ vs)) }
+    ensures gives { Gives result (λ s vs. scan true end tokens.now 0 (Program 0 ∷ s)
+        (Classes [] ∷ vs)) (λ x s vs. scan true end x.1.now 0 s
+        (Classes (map class_text_of x.0.items) ∷ vs)) }
 {
     let mut classes = Vec::new(alloc);
     let mut rest = tokens;

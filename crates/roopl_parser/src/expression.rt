@@ -15,7 +15,8 @@ use std::alloc::Global;
 
 /// One node more. The error is that the statement has no room for it.
 fn counted(nodes: u32, at: u32) -> Result<u32, ParseError>
-    ensures { MatchResult result (λ more. (nodes < MOST_NODES) × (more ≡ suc nodes)) (λ e. (MOST_NODES ≤ nodes) × (e ≡ Limit limit.Nodes at)) }
+    ensures { MatchResult result (λ more. (nodes < MOST_NODES) × (more ≡ suc nodes))
+        (λ e. (MOST_NODES ≤ nodes) × (e ≡ Limit limit.Nodes at)) }
 {
     if nodes < MOST_NODES {
         Ok(nodes + 1)
@@ -38,7 +39,9 @@ fn operand<'a>(
     parens: u32,
     indexes: u32,
 ) -> Result<(Expr, u32, &'a [Token]), ParseError>
-    ensures gives { Gives result (λ s vs. scan true end tokens.now nodes (Level 0 parens indexes ∷ s) vs) (λ x s vs. scan true end x.2.now x.1 s (AnExpr (expression_of x.0) ∷ vs)) }
+    ensures gives { Gives result (λ s vs. scan true end tokens.now nodes
+        (Level 0 parens indexes ∷ s) vs)
+        (λ x s vs. scan true end x.2.now x.1 s (AnExpr (expression_of x.0) ∷ vs)) }
     ensures shorter { IfOk result (λ x. length x.2.now < length tokens.now) }
 {
     match next(tokens) {
@@ -83,7 +86,12 @@ fn read<'a>(
     indexes: u32,
     name: Ident,
 ) -> Result<(Expr, u32, &'a [Token]), ParseError>
-    ensures gives { Gives result (λ s vs. stopped name.at (passed (name_mark nodes indexes) (here (is_sign sign.LeftBracket) tokens.now)) (scan true end tokens.now (suc nodes) (Index parens indexes ∷ Build MakeRead ∷ s) (AnIdent name ∷ vs))) (λ x s vs. scan true end x.2.now x.1 s (AnExpr (expression_of x.0) ∷ vs)) }
+    ensures gives { Gives result
+        (λ s vs. stopped name.at (passed (name_mark nodes indexes)
+        (here (is_sign sign.LeftBracket) tokens.now))
+        (scan true end tokens.now (suc nodes) (Index parens indexes ∷ Build MakeRead ∷ s)
+        (AnIdent name ∷ vs))) (λ x s vs. scan true end x.2.now x.1 s
+        (AnExpr (expression_of x.0) ∷ vs)) }
     ensures shorter { IfOk result (λ x. length x.2.now ≤ length tokens.now) }
 {
     let more = counted(nodes, name.at)?;
@@ -109,7 +117,11 @@ fn grouped<'a>(
     indexes: u32,
     at: u32,
 ) -> Result<(Expr, u32, &'a [Token]), ParseError>
-    ensures gives { Gives result (λ s vs. stopped at (passed (parens_mark parens) (here (is_sign sign.LeftBracket) tokens.now)) (scan true end tokens.now nodes (Level 9 (suc parens) indexes ∷ ASign sign.RightParen ∷ s) vs)) (λ x s vs. scan true end x.2.now x.1 s (AnExpr (expression_of x.0) ∷ vs)) }
+    ensures gives { Gives result
+        (λ s vs. stopped at (passed (parens_mark parens)
+        (here (is_sign sign.LeftBracket) tokens.now))
+        (scan true end tokens.now nodes (Level 9 (suc parens) indexes ∷ ASign sign.RightParen ∷ s)
+        vs)) (λ x s vs. scan true end x.2.now x.1 s (AnExpr (expression_of x.0) ∷ vs)) }
     ensures shorter { IfOk result (λ x. length x.2.now ≤ length tokens.now) }
 {
     if parens >= MOST_PARENS {
@@ -136,7 +148,8 @@ pub fn indexed<'a>(
     name: Ident,
 ) -> Result<(Place, u32, &'a [Token]), ParseError>
     requires { here (is_sign sign.LeftBracket) tokens.now ≡ true → indexes < MOST_INDEX_DEPTH }
-    ensures gives { Gives result (λ s vs. scan true end tokens.now nodes (Index parens indexes ∷ s) (AnIdent name ∷ vs)) (λ x s vs. scan true end x.2.now x.1 s (APlace (lvalue_of x.0) ∷ vs)) }
+    ensures gives { Gives result (λ s vs. scan true end tokens.now nodes (Index parens indexes ∷ s)
+        (AnIdent name ∷ vs)) (λ x s vs. scan true end x.2.now x.1 s (APlace (lvalue_of x.0) ∷ vs)) }
     ensures shorter { IfOk result (λ x. length x.2.now ≤ length tokens.now) }
 {
     match next(tokens) {
@@ -165,7 +178,9 @@ pub fn binary<'a>(
     indexes: u32,
     level: u32,
 ) -> Result<(Expr, u32, &'a [Token]), ParseError>
-    ensures gives { Gives result (λ s vs. scan true end tokens.now nodes (Level level parens indexes ∷ s) vs) (λ x s vs. scan true end x.2.now x.1 s (AnExpr (expression_of x.0) ∷ vs)) }
+    ensures gives { Gives result (λ s vs. scan true end tokens.now nodes
+        (Level level parens indexes ∷ s) vs)
+        (λ x s vs. scan true end x.2.now x.1 s (AnExpr (expression_of x.0) ∷ vs)) }
     ensures shorter { IfOk result (λ x. length x.2.now < length tokens.now) }
 {
     if level == 0 {
@@ -190,7 +205,9 @@ fn more<'a>(
     left: Expr,
 ) -> Result<(Expr, u32, &'a [Token]), ParseError>
     requires { 0 < level }
-    ensures gives { Gives result (λ s vs. scan true end tokens.now nodes (More level parens indexes ∷ s) (AnExpr (expression_of left) ∷ vs)) (λ x s vs. scan true end x.2.now x.1 s (AnExpr (expression_of x.0) ∷ vs)) }
+    ensures gives { Gives result (λ s vs. scan true end tokens.now nodes
+        (More level parens indexes ∷ s) (AnExpr (expression_of left) ∷ vs))
+        (λ x s vs. scan true end x.2.now x.1 s (AnExpr (expression_of x.0) ∷ vs)) }
     ensures shorter { IfOk result (λ x. length x.2.now ≤ length tokens.now) }
 {
     match next(tokens) {

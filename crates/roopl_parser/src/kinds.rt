@@ -16,7 +16,9 @@ use std::alloc::Global;
 /// Reads the brackets of an array's type, or nothing: whether they stand here.
 #[tactic(auto, unfolding(crate::specs::Reader::scan, crate::specs::Reader::walk, crate::specs::Reader::ends), using(crate::proofs::MoveSets::kind_moves))]
 fn brackets<'a>(end: u32, tokens: &'a [Token]) -> Result<(bool, &'a [Token]), ParseError>
-    ensures gives { (n : ℕ) (k : VarType) → Gives result (λ s vs. scan true end tokens.now n (Brackets ∷ s) (AType k ∷ vs)) (λ x s vs. scan true end x.1.now n s (AType (cond x.0 (array_of k) k) ∷ vs)) }
+    ensures gives { (n : ℕ) (k : VarType)
+        → Gives result (λ s vs. scan true end tokens.now n (Brackets ∷ s) (AType k ∷ vs))
+        (λ x s vs. scan true end x.1.now n s (AType (cond x.0 (array_of k) k) ∷ vs)) }
     ensures shorter { IfOk result (λ x. length x.1.now ≤ length tokens.now) }
 {
     if bracket_here(tokens) {
@@ -35,7 +37,8 @@ pub fn kind<'a>(
     end: u32,
     tokens: &'a [Token],
 ) -> Result<(VarType, &'a [Token]), ParseError>
-    ensures gives { (n : ℕ) → Gives result (λ s vs. scan true end tokens.now n (Kind ∷ s) vs) (λ x s vs. scan true end x.1.now n s (AType x.0 ∷ vs)) }
+    ensures gives { (n : ℕ) → Gives result (λ s vs. scan true end tokens.now n (Kind ∷ s) vs)
+        (λ x s vs. scan true end x.1.now n s (AType x.0 ∷ vs)) }
     ensures shorter { IfOk result (λ x. length x.1.now < length tokens.now) }
 {
     match next(tokens) {
@@ -67,7 +70,9 @@ pub fn variable<'a>(
     end: u32,
     tokens: &'a [Token],
 ) -> Result<(Var, &'a [Token]), ParseError>
-    ensures gives { (n : ℕ) → Gives result (λ s vs. scan true end tokens.now n (Kind ∷ var_parts s) vs) (λ x s vs. scan true end x.1.now n s (AVar x.0 ∷ vs)) }
+    ensures gives { (n : ℕ) → Gives result
+        (λ s vs. scan true end tokens.now n (Kind ∷ var_parts s) vs)
+        (λ x s vs. scan true end x.1.now n s (AVar x.0 ∷ vs)) }
     ensures shorter { IfOk result (λ x. length x.1.now < length tokens.now) }
 {
     let (kind, rest) = kind(alloc, end, tokens)?;
@@ -83,7 +88,8 @@ pub fn place<'a>(
     tokens: &'a [Token],
     nodes: u32,
 ) -> Result<(Place, u32, &'a [Token]), ParseError>
-    ensures gives { Gives result (λ s vs. scan true end tokens.now nodes (Spot ∷ s) vs) (λ x s vs. scan true end x.2.now x.1 s (APlace (lvalue_of x.0) ∷ vs)) }
+    ensures gives { Gives result (λ s vs. scan true end tokens.now nodes (Spot ∷ s) vs)
+        (λ x s vs. scan true end x.2.now x.1 s (APlace (lvalue_of x.0) ∷ vs)) }
     ensures shorter { IfOk result (λ x. length x.2.now < length tokens.now) }
 {
     let (name, rest) = name(alloc, end, tokens)?;
@@ -97,7 +103,9 @@ fn array_length<'a>(
     end: u32,
     tokens: &'a [Token],
 ) -> Result<(Expr, u32, &'a [Token]), ParseError>
-    ensures gives { Gives result (λ s vs. scan true end tokens.now 0 (ASign sign.LeftBracket ∷ Level 9 0 0 ∷ ASign sign.RightBracket ∷ s) vs) (λ x s vs. scan true end x.2.now x.1 s (AnExpr (expression_of x.0) ∷ vs)) }
+    ensures gives { Gives result (λ s vs. scan true end tokens.now 0
+        (ASign sign.LeftBracket ∷ Level 9 0 0 ∷ ASign sign.RightBracket ∷ s) vs)
+        (λ x s vs. scan true end x.2.now x.1 s (AnExpr (expression_of x.0) ∷ vs)) }
     ensures shorter { IfOk result (λ x. length x.2.now < length tokens.now) }
 {
     let rest = sign(end, tokens, Symbol::LeftBracket)?;
@@ -113,7 +121,8 @@ pub fn made<'a>(
     end: u32,
     tokens: &'a [Token],
 ) -> Result<(Made, u32, &'a [Token]), ParseError>
-    ensures gives { Gives result (λ s vs. scan true end tokens.now 0 (MadePart ∷ s) vs) (λ x s vs. scan true end x.2.now x.1 s (ACreation (creation_of x.0) ∷ vs)) }
+    ensures gives { Gives result (λ s vs. scan true end tokens.now 0 (MadePart ∷ s) vs)
+        (λ x s vs. scan true end x.2.now x.1 s (ACreation (creation_of x.0) ∷ vs)) }
     ensures shorter { IfOk result (λ x. length x.2.now < length tokens.now) }
 {
     match next(tokens) {

@@ -14,5 +14,7 @@ pub fn one_tree()
 
 /// No token passes a limit exactly where the tree, its tokens and their parentheses keep the limits.
 pub fn no_limit_passed()
-    ensures { (tokens : List Token) (x : Source) (derived : Derives tokens x) → (first_limit tokens ≡ None) ↔ ((length tokens ≤ MOST_TOKENS) × IsSmall x × (classes_parens derived ≤ MOST_PARENS)) }
+    ensures { (tokens : List Token) (x : Source) (derived : Derives tokens x)
+        → (first_limit tokens ≡ None) ↔ ((length tokens ≤ MOST_TOKENS) × IsSmall x
+        × (classes_parens derived ≤ MOST_PARENS)) }
 {}

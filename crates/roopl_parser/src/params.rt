@@ -18,7 +18,9 @@ fn param<'a>(
     tokens: &'a [Token],
     count: usize,
 ) -> Result<(Var, &'a [Token]), ParseError>
-    ensures gives { (n : ℕ) (xs : List Var) → Gives result (λ s vs. scan true end tokens.now n (Param count ∷ s) (Vars xs ∷ vs)) (λ x s vs. scan true end x.1.now n s (Vars (xs ++ x.0 ∷ []) ∷ vs)) }
+    ensures gives { (n : ℕ) (xs : List Var)
+        → Gives result (λ s vs. scan true end tokens.now n (Param count ∷ s) (Vars xs ∷ vs))
+        (λ x s vs. scan true end x.1.now n s (Vars (xs ++ x.0 ∷ []) ∷ vs)) }
     ensures shorter { IfOk result (λ x. length x.1.now < length tokens.now) }
 {
     if !type_here(tokens) {
@@ -42,7 +44,8 @@ pub fn params<'a>(
     end: u32,
     tokens: &'a [Token],
 ) -> Result<(Vec<Var>, &'a [Token]), ParseError>
-    ensures gives { (n : ℕ) → Gives result (λ s vs. scan true end tokens.now n (Params ∷ s) vs) (λ x s vs. scan true end x.1.now n s (Vars x.0.items ∷ vs)) }
+    ensures gives { (n : ℕ) → Gives result (λ s vs. scan true end tokens.now n (Params ∷ s) vs)
+        (λ x s vs. scan true end x.1.now n s (Vars x.0.items ∷ vs)) }
     ensures shorter { IfOk result (λ x. length x.1.now < length tokens.now) }
 {
     let mut params = Vec::new(alloc);
@@ -64,7 +67,9 @@ fn more_params<'a>(
     tokens: &'a [Token],
     first: Vec<Var>,
 ) -> Result<(Vec<Var>, &'a [Token]), ParseError>
-    ensures gives { (n : ℕ) → Gives result (λ s vs. scan true end tokens.now n (MoreParams (length first.items) ∷ s) (Vars first.items ∷ vs)) (λ x s vs. scan true end x.1.now n s (Vars x.0.items ∷ vs)) }
+    ensures gives { (n : ℕ) → Gives result
+        (λ s vs. scan true end tokens.now n (MoreParams (length first.items) ∷ s)
+        (Vars first.items ∷ vs)) (λ x s vs. scan true end x.1.now n s (Vars x.0.items ∷ vs)) }
     ensures shorter { IfOk result (λ x. length x.1.now < length tokens.now) }
 {
     let mut params = first;

@@ -21,7 +21,9 @@ use std::alloc::Global;
 /// The tree of the tokens, read by the machine.
 #[tactic(auto, unfolding(crate::specs::Reader::scan, crate::specs::Reader::walk, crate::specs::Reader::ends))]
 fn whole(alloc: Global, tokens: &[Token], end: u32) -> Result<Program, ParseError>
-    ensures reads { MatchResult result (λ b. reading end tokens.now ≡ Ok (Classes (source_of b).classes)) (λ e. e ≢ ParseError.NoMemory → reading end tokens.now ≡ Err e) }
+    ensures reads { MatchResult result (λ b. reading end tokens.now
+        ≡ Ok (Classes (source_of b).classes)) (λ e. e ≢ ParseError.NoMemory
+        → reading end tokens.now ≡ Err e) }
 {
     if tokens.len() > MOST_TOKENS as usize {
         return Err(ParseError::Limit {
@@ -44,15 +46,21 @@ pub fn parse(alloc: Global, tokens: &[Token], end: u32) -> Result<Program, Parse
     // The tree keeps the limits that a tree shows, where the lexer lets the numbers of the tokens through.
     ensures limits { AreSmall tokens.now → IfOk result (λ b. IsWithinLimits (source_of b)) }
     // What the grammar derives and passes no limit is read, unless memory runs out, and as this tree alone.
-    ensures only { (x : Source) → Derives tokens.now x → first_limit tokens.now ≡ None → MatchResult result (λ b. source_of b ≡ x) (λ e. e ≡ ParseError.NoMemory) }
+    ensures only { (x : Source) → Derives tokens.now x → first_limit tokens.now ≡ None
+        → MatchResult result (λ b. source_of b ≡ x) (λ e. e ≡ ParseError.NoMemory) }
     // A syntax error is at the first token with which no program's tokens begin so, and no token before it passes a limit;
-    ensures syntax { (at : ℕ) → result ≡ Err (ParseError.Syntax at) → IsWrongAt end tokens.now at × (first_limit tokens.now ≡ None) }
+    ensures syntax { (at : ℕ) → result ≡ Err (ParseError.Syntax at) → IsWrongAt end tokens.now at
+        × (first_limit tokens.now ≡ None) }
     // and it comes wherever that is so, unless memory runs out.
-    ensures wrong { (at : ℕ) → IsWrongAt end tokens.now at → first_limit tokens.now ≡ None → MatchResult result (λ b. ⊥) (λ e. e ≢ ParseError.NoMemory → e ≡ ParseError.Syntax at) }
+    ensures wrong { (at : ℕ) → IsWrongAt end tokens.now at → first_limit tokens.now ≡ None
+        → MatchResult result (λ b. ⊥) (λ e. e ≢ ParseError.NoMemory → e ≡ ParseError.Syntax at) }
     // A limit is that of tokens, or at the first token that passes one, and then a program's tokens begin so;
-    ensures limit { (which : LimitKind) (at : ℕ) → result ≡ Err (ParseError.Limit which at) → (first_limit tokens.now ≡ Some (ParseError.Limit which at)) × (which ≢ Tokens → IsReached tokens.now at) }
+    ensures limit { (which : LimitKind) (at : ℕ) → result ≡ Err (ParseError.Limit which at)
+        → (first_limit tokens.now ≡ Some (ParseError.Limit which at))
+        × (which ≢ Tokens → IsReached tokens.now at) }
     // and it comes wherever one is passed, unless memory runs out.
-    ensures passed { (limit : ParseError) → first_limit tokens.now ≡ Some limit → MatchResult result (λ b. ⊥) (λ e. e ≢ ParseError.NoMemory → e ≡ limit) }
+    ensures passed { (limit : ParseError) → first_limit tokens.now ≡ Some limit
+        → MatchResult result (λ b. ⊥) (λ e. e ≢ ParseError.NoMemory → e ≡ limit) }
 {
     whole(alloc, tokens, end)
 }

@@ -21,7 +21,9 @@ pub fn assignment<'a>(
     tokens: &'a [Token],
     first: Ident,
 ) -> Result<(Stmt, &'a [Token]), ParseError>
-    ensures gives { Gives result (λ s vs. scan true end tokens.now 0 (Index 0 0 ∷ Assign first.at ∷ Count 0 ∷ s) (AnIdent first ∷ vs)) (λ x s vs. scan true end x.1.now 0 s (AStatement (statement_of x.0) ∷ vs)) }
+    ensures gives { Gives result (λ s vs. scan true end tokens.now 0
+        (Index 0 0 ∷ Assign first.at ∷ Count 0 ∷ s) (AnIdent first ∷ vs))
+        (λ x s vs. scan true end x.1.now 0 s (AStatement (statement_of x.0) ∷ vs)) }
     ensures shorter { IfOk result (λ x. length x.1.now < length tokens.now) }
 {
     let at = first.at;
@@ -39,7 +41,9 @@ fn assigned<'a>(
     at: u32,
     left: Place,
 ) -> Result<(Stmt, &'a [Token]), ParseError>
-    ensures gives { Gives result (λ s vs. scan true end tokens.now nodes (Assign at ∷ Count 0 ∷ s) (APlace (lvalue_of left) ∷ vs)) (λ x s vs. scan true end x.1.now 0 s (AStatement (statement_of x.0) ∷ vs)) }
+    ensures gives { Gives result (λ s vs. scan true end tokens.now nodes (Assign at ∷ Count 0 ∷ s)
+        (APlace (lvalue_of left) ∷ vs))
+        (λ x s vs. scan true end x.1.now 0 s (AStatement (statement_of x.0) ∷ vs)) }
     ensures shorter { IfOk result (λ x. length x.1.now < length tokens.now) }
 {
     match next(tokens) {
@@ -73,7 +77,9 @@ fn creation<'a>(
     end: u32,
     tokens: &'a [Token],
 ) -> Result<(Made, Place, u32, &'a [Token]), ParseError>
-    ensures gives { Gives result (λ s vs. scan true end tokens.now 0 (MadePart ∷ Spot ∷ s) vs) (λ x s vs. scan true end x.3.now x.2 s (APlace (lvalue_of x.1) ∷ ACreation (creation_of x.0) ∷ vs)) }
+    ensures gives { Gives result (λ s vs. scan true end tokens.now 0 (MadePart ∷ Spot ∷ s) vs)
+        (λ x s vs. scan true end x.3.now x.2 s
+        (APlace (lvalue_of x.1) ∷ ACreation (creation_of x.0) ∷ vs)) }
     ensures shorter { IfOk result (λ x. length x.3.now < length tokens.now) }
 {
     let (made, nodes, rest) = made(alloc, end, tokens)?;
@@ -89,7 +95,9 @@ pub fn make<'a>(
     tokens: &'a [Token],
     at: u32,
 ) -> Result<(Stmt, &'a [Token]), ParseError>
-    ensures gives { Gives result (λ s vs. scan true end tokens.now 0 (MadePart ∷ Spot ∷ Build (MakeNew at) ∷ Count 0 ∷ s) vs) (λ x s vs. scan true end x.1.now 0 s (AStatement (statement_of x.0) ∷ vs)) }
+    ensures gives { Gives result (λ s vs. scan true end tokens.now 0
+        (MadePart ∷ Spot ∷ Build (MakeNew at) ∷ Count 0 ∷ s) vs)
+        (λ x s vs. scan true end x.1.now 0 s (AStatement (statement_of x.0) ∷ vs)) }
     ensures shorter { IfOk result (λ x. length x.1.now < length tokens.now) }
 {
     let (made, place, _, rest) = creation(alloc, end, tokens)?;
@@ -104,7 +112,9 @@ pub fn delete<'a>(
     tokens: &'a [Token],
     at: u32,
 ) -> Result<(Stmt, &'a [Token]), ParseError>
-    ensures gives { Gives result (λ s vs. scan true end tokens.now 0 (MadePart ∷ Spot ∷ Build (MakeDelete at) ∷ Count 0 ∷ s) vs) (λ x s vs. scan true end x.1.now 0 s (AStatement (statement_of x.0) ∷ vs)) }
+    ensures gives { Gives result (λ s vs. scan true end tokens.now 0
+        (MadePart ∷ Spot ∷ Build (MakeDelete at) ∷ Count 0 ∷ s) vs)
+        (λ x s vs. scan true end x.1.now 0 s (AStatement (statement_of x.0) ∷ vs)) }
     ensures shorter { IfOk result (λ x. length x.1.now < length tokens.now) }
 {
     let (made, place, _, rest) = creation(alloc, end, tokens)?;
@@ -118,7 +128,9 @@ fn copying<'a>(
     end: u32,
     tokens: &'a [Token],
 ) -> Result<(VarType, Place, Place, u32, &'a [Token]), ParseError>
-    ensures gives { Gives result (λ s vs. scan true end tokens.now 0 (Kind ∷ Spot ∷ Spot ∷ s) vs) (λ x s vs. scan true end x.4.now x.3 s (APlace (lvalue_of x.2) ∷ APlace (lvalue_of x.1) ∷ AType x.0 ∷ vs)) }
+    ensures gives { Gives result (λ s vs. scan true end tokens.now 0 (Kind ∷ Spot ∷ Spot ∷ s) vs)
+        (λ x s vs. scan true end x.4.now x.3 s
+        (APlace (lvalue_of x.2) ∷ APlace (lvalue_of x.1) ∷ AType x.0 ∷ vs)) }
     ensures shorter { IfOk result (λ x. length x.4.now < length tokens.now) }
 {
     let (kind, rest) = kind(alloc, end, tokens)?;
@@ -135,7 +147,9 @@ pub fn copy<'a>(
     tokens: &'a [Token],
     at: u32,
 ) -> Result<(Stmt, &'a [Token]), ParseError>
-    ensures gives { Gives result (λ s vs. scan true end tokens.now 0 (Kind ∷ Spot ∷ Spot ∷ Build (MakeCopy at) ∷ Count 0 ∷ s) vs) (λ x s vs. scan true end x.1.now 0 s (AStatement (statement_of x.0) ∷ vs)) }
+    ensures gives { Gives result (λ s vs. scan true end tokens.now 0
+        (Kind ∷ Spot ∷ Spot ∷ Build (MakeCopy at) ∷ Count 0 ∷ s) vs)
+        (λ x s vs. scan true end x.1.now 0 s (AStatement (statement_of x.0) ∷ vs)) }
     ensures shorter { IfOk result (λ x. length x.1.now < length tokens.now) }
 {
     let (kind, source, target, _, rest) = copying(alloc, end, tokens)?;
@@ -156,7 +170,9 @@ pub fn uncopy<'a>(
     tokens: &'a [Token],
     at: u32,
 ) -> Result<(Stmt, &'a [Token]), ParseError>
-    ensures gives { Gives result (λ s vs. scan true end tokens.now 0 (Kind ∷ Spot ∷ Spot ∷ Build (MakeUncopy at) ∷ Count 0 ∷ s) vs) (λ x s vs. scan true end x.1.now 0 s (AStatement (statement_of x.0) ∷ vs)) }
+    ensures gives { Gives result (λ s vs. scan true end tokens.now 0
+        (Kind ∷ Spot ∷ Spot ∷ Build (MakeUncopy at) ∷ Count 0 ∷ s) vs)
+        (λ x s vs. scan true end x.1.now 0 s (AStatement (statement_of x.0) ∷ vs)) }
     ensures shorter { IfOk result (λ x. length x.1.now < length tokens.now) }
 {
     let (kind, source, target, _, rest) = copying(alloc, end, tokens)?;
@@ -179,7 +195,10 @@ fn send<'a>(
     back: bool,
     first: Ident,
 ) -> Result<(Stmt, &'a [Token]), ParseError>
-    ensures gives { Gives result (λ s vs. scan true end tokens.now 0 (Index 0 0 ∷ ASign sign.DoubleColon ∷ send_parts at back (Count 0 ∷ s)) (AnIdent first ∷ vs)) (λ x s vs. scan true end x.1.now 0 s (AStatement (statement_of x.0) ∷ vs)) }
+    ensures gives { Gives result (λ s vs. scan true end tokens.now 0
+        (Index 0 0 ∷ ASign sign.DoubleColon ∷ send_parts at back (Count 0 ∷ s))
+        (AnIdent first ∷ vs)) (λ x s vs. scan true end x.1.now 0 s
+        (AStatement (statement_of x.0) ∷ vs)) }
     ensures shorter { IfOk result (λ x. length x.1.now < length tokens.now) }
 {
     let (receiver, _, rest) = indexed(alloc, end, tokens, 0, 0, 0, first)?;
@@ -207,7 +226,9 @@ pub fn call<'a>(
     back: bool,
     locals: u32,
 ) -> Result<(Stmt, &'a [Token]), ParseError>
-    ensures gives { Gives result (λ s vs. scan true end tokens.now 0 (AName ∷ Receiver at back locals ∷ Count 0 ∷ s) vs) (λ x s vs. scan true end x.1.now 0 s (AStatement (statement_of x.0) ∷ vs)) }
+    ensures gives { Gives result (λ s vs. scan true end tokens.now 0
+        (AName ∷ Receiver at back locals ∷ Count 0 ∷ s) vs)
+        (λ x s vs. scan true end x.1.now 0 s (AStatement (statement_of x.0) ∷ vs)) }
     ensures shorter { IfOk result (λ x. length x.1.now < length tokens.now) }
 {
     let (first, rest) = name(alloc, end, tokens)?;
@@ -225,7 +246,9 @@ fn target<'a>(
     locals: u32,
     first: Ident,
 ) -> Result<(Stmt, &'a [Token]), ParseError>
-    ensures gives { Gives result (λ s vs. scan true end tokens.now 0 (Receiver at back locals ∷ Count 0 ∷ s) (AnIdent first ∷ vs)) (λ x s vs. scan true end x.1.now 0 s (AStatement (statement_of x.0) ∷ vs)) }
+    ensures gives { Gives result (λ s vs. scan true end tokens.now 0
+        (Receiver at back locals ∷ Count 0 ∷ s) (AnIdent first ∷ vs))
+        (λ x s vs. scan true end x.1.now 0 s (AStatement (statement_of x.0) ∷ vs)) }
     ensures shorter { IfOk result (λ x. length x.1.now < length tokens.now) }
 {
     match next(tokens) {
@@ -258,7 +281,9 @@ fn own_call<'a>(
     back: bool,
     method: Ident,
 ) -> Result<(Stmt, &'a [Token]), ParseError>
-    ensures gives { Gives result (λ s vs. scan true end tokens.now 0 (Args ∷ Build (MakeCall at back) ∷ Count 0 ∷ s) (AnIdent method ∷ vs)) (λ x s vs. scan true end x.1.now 0 s (AStatement (statement_of x.0) ∷ vs)) }
+    ensures gives { Gives result (λ s vs. scan true end tokens.now 0
+        (Args ∷ Build (MakeCall at back) ∷ Count 0 ∷ s) (AnIdent method ∷ vs))
+        (λ x s vs. scan true end x.1.now 0 s (AStatement (statement_of x.0) ∷ vs)) }
     ensures shorter { IfOk result (λ x. length x.1.now < length tokens.now) }
 {
     let (args, rest) = args(alloc, end, tokens)?;

@@ -24,7 +24,9 @@ pub fn next(tokens: &[Token]) -> Option<(&Token, &[Token])>
 /// Reads a sign.
 #[tactic(auto, unfolding(crate::specs::Reader::scan, crate::specs::Reader::walk, crate::specs::Reader::ends))]
 pub fn sign<'a>(end: u32, tokens: &'a [Token], wanted: Symbol) -> Result<&'a [Token], ParseError>
-    ensures gives { (n : ℕ) → Gives result (λ s vs. scan true end tokens.now n (ASign wanted ∷ s) vs) (λ rest s vs. scan true end rest.now n s vs) }
+    ensures gives { (n : ℕ) → Gives result
+        (λ s vs. scan true end tokens.now n (ASign wanted ∷ s) vs)
+        (λ rest s vs. scan true end rest.now n s vs) }
     ensures shorter { IfOk result (λ rest. length rest.now < length tokens.now) }
 {
     match next(tokens) {
@@ -51,7 +53,9 @@ fn is_sign(kind: &TokenKind, wanted: Symbol) -> bool
 /// Reads a keyword.
 #[tactic(auto, unfolding(crate::specs::Reader::scan, crate::specs::Reader::walk, crate::specs::Reader::ends))]
 pub fn word<'a>(end: u32, tokens: &'a [Token], wanted: Keyword) -> Result<&'a [Token], ParseError>
-    ensures gives { (n : ℕ) → Gives result (λ s vs. scan true end tokens.now n (AWord wanted ∷ s) vs) (λ rest s vs. scan true end rest.now n s vs) }
+    ensures gives { (n : ℕ) → Gives result
+        (λ s vs. scan true end tokens.now n (AWord wanted ∷ s) vs)
+        (λ rest s vs. scan true end rest.now n s vs) }
     ensures shorter { IfOk result (λ rest. length rest.now < length tokens.now) }
 {
     match next(tokens) {
@@ -82,7 +86,8 @@ pub fn name<'a>(
     end: u32,
     tokens: &'a [Token],
 ) -> Result<(Ident, &'a [Token]), ParseError>
-    ensures gives { (n : ℕ) → Gives result (λ s vs. scan true end tokens.now n (AName ∷ s) vs) (λ x s vs. scan true end x.1.now n s (AnIdent x.0 ∷ vs)) }
+    ensures gives { (n : ℕ) → Gives result (λ s vs. scan true end tokens.now n (AName ∷ s) vs)
+        (λ x s vs. scan true end x.1.now n s (AnIdent x.0 ∷ vs)) }
     ensures shorter { IfOk result (λ x. length x.1.now < length tokens.now) }
 {
     match next(tokens) {

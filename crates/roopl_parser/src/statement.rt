@@ -23,10 +23,13 @@ fn beginning<'a>(
     depth: u32,
     locals: u32,
 ) -> Result<(&'a Token, &'a [Token]), ParseError>
-    ensures gives { MatchResult result (λ x. tokens.now ≡ x.0.now ∷ x.1.now) (λ e. (n : ℕ) (s : List Part) (vs : List Value) → scan true end tokens.now n (Single depth locals ∷ s) vs ≡ Err e) }
+    ensures gives { MatchResult result (λ x. tokens.now ≡ x.0.now ∷ x.1.now)
+        (λ e. (n : ℕ) (s : List Part) (vs : List Value)
+        → scan true end tokens.now n (Single depth locals ∷ s) vs ≡ Err e) }
     ensures nested { IfOk result (λ x. depth < MOST_NESTING) }
     ensures held { IfOk result (λ x. is_word word.Local x.0.now.kind ≡ true → locals < MOST_LOCALS) }
-    ensures constructed { IfOk result (λ x. is_word word.Construct x.0.now.kind ≡ true → locals < MOST_LOCALS) }
+    ensures constructed { IfOk result (λ x. is_word word.Construct x.0.now.kind ≡ true
+        → locals < MOST_LOCALS) }
 {
     match next(tokens) {
         None => Err(ParseError::Syntax { at: end }),
@@ -62,7 +65,9 @@ fn single<'a>(
     depth: u32,
     locals: u32,
 ) -> Result<(Stmt, &'a [Token]), ParseError>
-    ensures gives { (n : ℕ) → Gives result (λ s vs. scan true end tokens.now n (Single depth locals ∷ s) vs) (λ x s vs. scan true end x.1.now 0 s (AStatement (statement_of x.0) ∷ vs)) }
+    ensures gives { (n : ℕ) → Gives result
+        (λ s vs. scan true end tokens.now n (Single depth locals ∷ s) vs)
+        (λ x s vs. scan true end x.1.now 0 s (AStatement (statement_of x.0) ∷ vs)) }
     ensures shorter { IfOk result (λ x. length x.1.now < length tokens.now) }
 {
     let (first, rest) = beginning(end, tokens, depth, locals)?;
@@ -102,7 +107,10 @@ fn branches<'a>(
     locals: u32,
 ) -> Result<(Block, Block, Expr, u32, &'a [Token]), ParseError>
     requires { depth < MOST_NESTING }
-    ensures gives { Gives result (λ s vs. scan true end tokens.now nodes (Branches first second third depth locals ∷ s) vs) (λ x s vs. scan true end x.4.now x.3 s (AnExpr (expression_of x.2) ∷ ABlock (block_of x.1) ∷ ABlock (block_of x.0) ∷ vs)) }
+    ensures gives { Gives result (λ s vs. scan true end tokens.now nodes
+        (Branches first second third depth locals ∷ s) vs)
+        (λ x s vs. scan true end x.4.now x.3 s
+        (AnExpr (expression_of x.2) ∷ ABlock (block_of x.1) ∷ ABlock (block_of x.0) ∷ vs)) }
     ensures shorter { IfOk result (λ x. length x.4.now < length tokens.now) }
 {
     let rest = word(end, tokens, first)?;
@@ -126,7 +134,10 @@ fn conditional<'a>(
     locals: u32,
 ) -> Result<(Stmt, &'a [Token]), ParseError>
     requires { depth < MOST_NESTING }
-    ensures gives { Gives result (λ s vs. scan true end tokens.now 0 (Level 9 0 0 ∷ Branches word.Then word.Else word.Fi depth locals ∷ Build (MakeIf at) ∷ Count 0 ∷ s) vs) (λ x s vs. scan true end x.1.now 0 s (AStatement (statement_of x.0) ∷ vs)) }
+    ensures gives { Gives result (λ s vs. scan true end tokens.now 0
+        (Level 9 0 0 ∷ Branches word.Then word.Else word.Fi depth locals ∷ Build (MakeIf at)
+        ∷ Count 0 ∷ s) vs) (λ x s vs. scan true end x.1.now 0 s
+        (AStatement (statement_of x.0) ∷ vs)) }
     ensures shorter { IfOk result (λ x. length x.1.now < length tokens.now) }
 {
     let (test, nodes, rest) = binary(alloc, end, tokens, 0, 0, 0, 9)?;
@@ -163,7 +174,10 @@ fn repeated<'a>(
     locals: u32,
 ) -> Result<(Stmt, &'a [Token]), ParseError>
     requires { depth < MOST_NESTING }
-    ensures gives { Gives result (λ s vs. scan true end tokens.now 0 (Level 9 0 0 ∷ Branches word.Do word.Loop word.Until depth locals ∷ Build (MakeFrom at) ∷ Count 0 ∷ s) vs) (λ x s vs. scan true end x.1.now 0 s (AStatement (statement_of x.0) ∷ vs)) }
+    ensures gives { Gives result (λ s vs. scan true end tokens.now 0
+        (Level 9 0 0 ∷ Branches word.Do word.Loop word.Until depth locals ∷ Build (MakeFrom at)
+        ∷ Count 0 ∷ s) vs) (λ x s vs. scan true end x.1.now 0 s
+        (AStatement (statement_of x.0) ∷ vs)) }
     ensures shorter { IfOk result (λ x. length x.1.now < length tokens.now) }
 {
     let (entry, nodes, rest) = binary(alloc, end, tokens, 0, 0, 0, 9)?;
@@ -201,7 +215,10 @@ fn construct<'a>(
 ) -> Result<(Stmt, &'a [Token]), ParseError>
     requires nested { depth < MOST_NESTING }
     requires held { locals < MOST_LOCALS }
-    ensures gives { Gives result (λ s vs. scan true end tokens.now 0 (AName ∷ AName ∷ BlockPart (suc depth) (suc locals) ∷ AWord word.Destruct ∷ AName ∷ Build (MakeConstruct at) ∷ s) vs) (λ x s vs. scan true end x.1.now 0 s (AStatement (statement_of x.0) ∷ vs)) }
+    ensures gives { Gives result (λ s vs. scan true end tokens.now 0
+        (AName ∷ AName ∷ BlockPart (suc depth) (suc locals) ∷ AWord word.Destruct ∷ AName
+        ∷ Build (MakeConstruct at) ∷ s) vs)
+        (λ x s vs. scan true end x.1.now 0 s (AStatement (statement_of x.0) ∷ vs)) }
     ensures shorter { IfOk result (λ x. length x.1.now < length tokens.now) }
 {
     let (class, rest) = name(alloc, end, tokens)?;
@@ -232,7 +249,9 @@ fn scope<'a>(
 ) -> Result<(Block, Var, Expr, u32, &'a [Token]), ParseError>
     requires nested { depth < MOST_NESTING }
     requires held { locals < MOST_LOCALS }
-    ensures gives { Gives result (λ s vs. scan true end tokens.now nodes (Scope depth locals ∷ s) vs) (λ x s vs. scan true end x.4.now x.3 s (AnExpr (expression_of x.2) ∷ AVar x.1 ∷ ABlock (block_of x.0) ∷ vs)) }
+    ensures gives { Gives result (λ s vs. scan true end tokens.now nodes (Scope depth locals ∷ s)
+        vs) (λ x s vs. scan true end x.4.now x.3 s
+        (AnExpr (expression_of x.2) ∷ AVar x.1 ∷ ABlock (block_of x.0) ∷ vs)) }
     ensures shorter { IfOk result (λ x. length x.4.now < length tokens.now) }
 {
     let (body, rest) = block(alloc, end, tokens, depth + 1, locals + 1)?;
@@ -256,7 +275,10 @@ fn local<'a>(
 ) -> Result<(Stmt, &'a [Token]), ParseError>
     requires nested { depth < MOST_NESTING }
     requires held { locals < MOST_LOCALS }
-    ensures gives { Gives result (λ s vs. scan true end tokens.now 0 (Kind ∷ var_parts (ASign sign.Equal ∷ Level 9 0 0 ∷ Scope depth locals ∷ Build (MakeLocal at) ∷ Count 0 ∷ s)) vs) (λ x s vs. scan true end x.1.now 0 s (AStatement (statement_of x.0) ∷ vs)) }
+    ensures gives { Gives result (λ s vs. scan true end tokens.now 0
+        (Kind ∷ var_parts (ASign sign.Equal ∷ Level 9 0 0 ∷ Scope depth locals
+        ∷ Build (MakeLocal at) ∷ Count 0 ∷ s)) vs)
+        (λ x s vs. scan true end x.1.now 0 s (AStatement (statement_of x.0) ∷ vs)) }
     ensures shorter { IfOk result (λ x. length x.1.now < length tokens.now) }
 {
     let (var, rest) = variable(alloc, end, tokens)?;
@@ -284,7 +306,9 @@ pub fn block<'a>(
     depth: u32,
     locals: u32,
 ) -> Result<(Block, &'a [Token]), ParseError>
-    ensures gives { (n : ℕ) → Gives result (λ s vs. scan true end tokens.now n (BlockPart depth locals ∷ s) vs) (λ x s vs. scan true end x.1.now 0 s (ABlock (block_of x.0) ∷ vs)) }
+    ensures gives { (n : ℕ) → Gives result
+        (λ s vs. scan true end tokens.now n (BlockPart depth locals ∷ s) vs)
+        (λ x s vs. scan true end x.1.now 0 s (ABlock (block_of x.0) ∷ vs)) }
     ensures shorter { IfOk result (λ x. length x.1.now < length tokens.now) }
 {
     let mut list = Vec::new(alloc);

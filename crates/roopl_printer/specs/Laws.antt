@@ -18,7 +18,8 @@ pub record IsCutAgain (program : Source) : Type 0 where
   pub same_kinds : map (λ token. token.kind) tokens ≡ map (λ token. token.kind) (spelled program)
 
 abbrev pub CutsAgain : Type 0
-CutsAgain = (program : Source) → All (λ token. IsPrintable token.kind) (spelled program) → IsCutAgain program
+CutsAgain = (program : Source) → All (λ token. IsPrintable token.kind) (spelled program)
+    → IsCutAgain program
 
 -- the tokens of a printed text are those of a tree that is equal but for places, and pass no limit
 pub record IsReadBack (program : Source) : Type 0 where
@@ -30,4 +31,5 @@ pub record IsReadBack (program : Source) : Type 0 where
   pub alike : bare_source tree ≡ bare_source program
 
 abbrev pub ReadsBack : Type 0
-ReadsBack = (program : Source) → IsOfGrammar program → IsWithinLimits program → length (spelled program) ≤ MOST_TOKENS → IsReadBack program
+ReadsBack = (program : Source) → IsOfGrammar program → IsWithinLimits program
+    → length (spelled program) ≤ MOST_TOKENS → IsReadBack program

@@ -31,8 +31,10 @@ abbrev mutual
   pub HasFullBlocks : Statement → Type 0
   HasFullBlocks (Update at op target value) = Unit {0}
   HasFullBlocks (Swap at left right) = Unit {0}
-  HasFullBlocks (If at test taken other after) = HasStatement taken × AreFull taken × HasStatement other × AreFull other
-  HasFullBlocks (From at entry first again exit) = HasStatement first × AreFull first × HasStatement again × AreFull again
+  HasFullBlocks (If at test taken other after) = HasStatement taken × AreFull taken
+      × HasStatement other × AreFull other
+  HasFullBlocks (From at entry first again exit) = HasStatement first × AreFull first
+      × HasStatement again × AreFull again
   HasFullBlocks (Construct at class name body end) = HasStatement body × AreFull body
   HasFullBlocks (Local at var value body end_var end_value) = HasStatement body × AreFull body
   HasFullBlocks (New at made target) = Unit {0}
@@ -49,5 +51,6 @@ abbrev mutual
 
 -- a tree of the grammar: each block has a statement, and each number is one that a source may hold
 pub record IsOfGrammar (program : Source) : Type 0 where
-  pub blocks : All (λ class. All (λ method. HasStatement method.body × AreFull method.body) class.methods) program.classes
+  pub blocks : All (λ class. All (λ method. HasStatement method.body × AreFull method.body)
+      class.methods) program.classes
   pub numbers : All (λ token. IsSmallNumber token.kind) (spelled program)

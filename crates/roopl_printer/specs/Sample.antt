@@ -10,7 +10,8 @@ abbrev pub ident_of : List ℕ → Ident
 ident_of text = record { at = 0; text = text }
 
 abbrev pub sample_update : Statement
-sample_update = Update 0 update.Add (Whole (ident_of (codes "x"))) (Binary 0 op.Mul (Binary 0 op.Add (Number 0 1) (Number 0 2)) (Number 0 3))
+sample_update = Update 0 update.Add (Whole (ident_of (codes "x")))
+    (Binary 0 op.Mul (Binary 0 op.Add (Number 0 1) (Number 0 2)) (Number 0 3))
 
 abbrev pub sample_method : Procedure
 sample_method = record { name = ident_of (codes "main"); params = []; body = Then sample_update End }

@@ -72,7 +72,9 @@ spelled_expression (Number at n) = behind (token.Number n) ∷ []
 spelled_expression (Null at) = a_word word.Nil ∷ []
 spelled_expression (Variable name) = a_name name ∷ []
 spelled_expression (Element name index) = a_name name ∷ in_brackets (spelled_expression index)
-spelled_expression (Binary at op left right) = operand left (spelled_expression left) ++ a_sign (operator op) ∷ operand right (spelled_expression right)
+spelled_expression (Binary at op left right) =
+    operand left (spelled_expression left) ++ a_sign (operator op)
+    ∷ operand right (spelled_expression right)
 
 -- what stands behind the name of a place
 abbrev pub spelled_index : Lvalue → List Printed
@@ -132,7 +134,8 @@ first_word keyword = first (token.Word keyword)
 
 -- what a call calls, with the arguments
 abbrev pub spelled_target : Option Lvalue → Ident → List Ident → List Printed
-spelled_target receiver method args = spelled_receiver receiver ++ a_name method ∷ in_parentheses (spelled_names args)
+spelled_target receiver method args =
+    spelled_receiver receiver ++ a_name method ∷ in_parentheses (spelled_names args)
 
 -- a variable with its type, and the value that it is said to have
 abbrev pub spelled_binding : Var → Expression → List Printed
@@ -140,17 +143,31 @@ spelled_binding var value = spelled_var var ++ a_sign sign.Equal ∷ spelled_exp
 
 abbrev mutual
   pub spelled_statement : Statement → List Printed
-  spelled_statement (Update at op target value) = first_place target ++ a_sign (update_sign op) ∷ spelled_expression value
+  spelled_statement (Update at op target value) =
+      first_place target ++ a_sign (update_sign op) ∷ spelled_expression value
   spelled_statement (Swap at left right) = first_place left ++ a_sign sign.Swap ∷ spelled_place right
-  spelled_statement (If at test taken other after) = first_word word.If ∷ spelled_expression test ++ a_word word.Then ∷ spelled_block taken ++ a_word word.Else ∷ spelled_block other ++ a_word word.Fi ∷ spelled_expression after
-  spelled_statement (From at entry first again exit) = first_word word.From ∷ spelled_expression entry ++ a_word word.Do ∷ spelled_block first ++ a_word word.Loop ∷ spelled_block again ++ a_word word.Until ∷ spelled_expression exit
-  spelled_statement (Construct at class name body end) = first_word word.Construct ∷ a_name class ∷ a_name name ∷ spelled_block body ++ a_word word.Destruct ∷ a_name end ∷ []
-  spelled_statement (Local at var value body end_var end_value) = first_word word.Local ∷ spelled_binding var value ++ spelled_block body ++ a_word word.Delocal ∷ spelled_binding end_var end_value
-  spelled_statement (New at made target) = first_word word.New ∷ spelled_creation made ++ spelled_place target
-  spelled_statement (Delete at made target) = first_word word.Delete ∷ spelled_creation made ++ spelled_place target
-  spelled_statement (Copy at kind source target) = first_word word.Copy ∷ spelled_type kind ++ spelled_place source ++ spelled_place target
-  spelled_statement (Uncopy at kind source target) = first_word word.Uncopy ∷ spelled_type kind ++ spelled_place source ++ spelled_place target
-  spelled_statement (Call at back receiver method args) = first_word (call_word back) ∷ spelled_target receiver method args
+  spelled_statement (If at test taken other after) =
+      first_word word.If ∷ spelled_expression test ++ a_word word.Then ∷ spelled_block taken
+      ++ a_word word.Else ∷ spelled_block other ++ a_word word.Fi ∷ spelled_expression after
+  spelled_statement (From at entry first again exit) =
+      first_word word.From ∷ spelled_expression entry ++ a_word word.Do ∷ spelled_block first
+      ++ a_word word.Loop ∷ spelled_block again ++ a_word word.Until ∷ spelled_expression exit
+  spelled_statement (Construct at class name body end) =
+      first_word word.Construct ∷ a_name class ∷ a_name name ∷ spelled_block body
+      ++ a_word word.Destruct ∷ a_name end ∷ []
+  spelled_statement (Local at var value body end_var end_value) =
+      first_word word.Local ∷ spelled_binding var value ++ spelled_block body ++ a_word word.Delocal
+      ∷ spelled_binding end_var end_value
+  spelled_statement (New at made target) =
+      first_word word.New ∷ spelled_creation made ++ spelled_place target
+  spelled_statement (Delete at made target) =
+      first_word word.Delete ∷ spelled_creation made ++ spelled_place target
+  spelled_statement (Copy at kind source target) =
+      first_word word.Copy ∷ spelled_type kind ++ spelled_place source ++ spelled_place target
+  spelled_statement (Uncopy at kind source target) =
+      first_word word.Uncopy ∷ spelled_type kind ++ spelled_place source ++ spelled_place target
+  spelled_statement (Call at back receiver method args) =
+      first_word (call_word back) ∷ spelled_target receiver method args
   spelled_statement (Skip at) = first_word word.Skip ∷ []
 
   pub spelled_block : Statements → List Printed
@@ -158,14 +175,16 @@ abbrev mutual
   spelled_block (Then one more) = spelled_statement one ++ spelled_block more
 
 abbrev pub spelled_method : Procedure → List Printed
-spelled_method method = first_word word.Method ∷ a_name method.name ∷ in_parentheses (spelled_vars method.params) ++ spelled_block method.body
+spelled_method method = first_word word.Method ∷ a_name method.name
+    ∷ in_parentheses (spelled_vars method.params) ++ spelled_block method.body
 
 abbrev pub spelled_parent : Option Ident → List Printed
 spelled_parent None = []
 spelled_parent (Some parent) = a_word word.Inherits ∷ a_name parent ∷ []
 
 abbrev pub spelled_class : ClassText → List Printed
-spelled_class class = first_word word.Class ∷ a_name class.name ∷ spelled_parent class.parent ++ flat_map spelled_var class.fields ++ flat_map spelled_method class.methods
+spelled_class class = first_word word.Class ∷ a_name class.name ∷ spelled_parent class.parent
+    ++ flat_map spelled_var class.fields ++ flat_map spelled_method class.methods
 
 -- the tokens of a program
 abbrev pub spelled : Source → List Printed

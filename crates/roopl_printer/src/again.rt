@@ -20,7 +20,8 @@ pub fn reread(alloc: Global, program: &Program) -> Result<Program, NoMemory>
     requires limits { IsWithinLimits (source_of program.now) }
     requires bytes { length (printed (source_of program.now)) ≤ MOST_BYTES }
     requires tokens { length (spelled (source_of program.now)) ≤ MOST_TOKENS }
-    ensures alike { IfOk result (λ again. bare_source (source_of again) ≡ bare_source (source_of program.now)) }
+    ensures alike { IfOk result (λ again. bare_source (source_of again)
+        ≡ bare_source (source_of program.now)) }
 {
     let text = print(alloc, program)?;
     let bytes = text.as_bytes();

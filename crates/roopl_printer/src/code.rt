@@ -15,7 +15,8 @@ use rpp_words::NoMemory;
 /// Adds the statements of a block.
 #[cycle(put_code)]
 pub(crate) fn put_block(out: &mut Vec<u8>, block: &Block) -> Result<(), NoMemory>
-    ensures { OnOk result (out.new.items ≡ out.old.items ++ with_gaps (spelled_block (block_of block.now))) }
+    ensures { OnOk result (out.new.items ≡ out.old.items
+        ++ with_gaps (spelled_block (block_of block.now))) }
 {
     for stmt in &block.list {
         put_stmt(out, stmt)?;
@@ -26,7 +27,8 @@ pub(crate) fn put_block(out: &mut Vec<u8>, block: &Block) -> Result<(), NoMemory
 /// Adds a statement.
 #[cycle(put_code)]
 fn put_stmt(out: &mut Vec<u8>, s: &Stmt) -> Result<(), NoMemory>
-    ensures { OnOk result (out.new.items ≡ out.old.items ++ with_gaps (spelled_statement (statement_of s.now))) }
+    ensures { OnOk result (out.new.items ≡ out.old.items
+        ++ with_gaps (spelled_statement (statement_of s.now))) }
 {
     match s {
         Stmt::If {
@@ -146,7 +148,8 @@ fn put_stmt(out: &mut Vec<u8>, s: &Stmt) -> Result<(), NoMemory>
 
 /// Adds a variable with its type, and the value that it is said to have.
 fn put_binding(out: &mut Vec<u8>, var: &Var, value: &Expr) -> Result<(), NoMemory>
-    ensures { OnOk result (out.new.items ≡ out.old.items ++ with_gaps (spelled_binding var.now (expression_of value.now))) }
+    ensures { OnOk result (out.new.items ≡ out.old.items
+        ++ with_gaps (spelled_binding var.now (expression_of value.now))) }
 {
     put_var(out, var)?;
     put(out, b" =")?;
@@ -155,7 +158,9 @@ fn put_binding(out: &mut Vec<u8>, var: &Var, value: &Expr) -> Result<(), NoMemor
 
 /// Adds what is made or deleted, and the place of its reference.
 fn put_made_at(out: &mut Vec<u8>, made: &Made, place: &Place) -> Result<(), NoMemory>
-    ensures { OnOk result (out.new.items ≡ out.old.items ++ with_gaps (spelled_creation (creation_of made.now) ++ spelled_place (lvalue_of place.now))) }
+    ensures { OnOk result (out.new.items ≡ out.old.items
+        ++ with_gaps (spelled_creation (creation_of made.now)
+        ++ spelled_place (lvalue_of place.now))) }
 {
     put_made(out, made)?;
     put_place(out, place)
@@ -168,7 +173,9 @@ fn put_copied(
     source: &Place,
     target: &Place,
 ) -> Result<(), NoMemory>
-    ensures { OnOk result (out.new.items ≡ out.old.items ++ with_gaps (spelled_type kind.now ++ spelled_place (lvalue_of source.now) ++ spelled_place (lvalue_of target.now))) }
+    ensures { OnOk result (out.new.items ≡ out.old.items
+        ++ with_gaps (spelled_type kind.now ++ spelled_place (lvalue_of source.now)
+        ++ spelled_place (lvalue_of target.now))) }
 {
     put_type(out, kind)?;
     put_place(out, source)?;
@@ -189,7 +196,8 @@ fn put_target(
     method: &Ident,
     args: &[Ident],
 ) -> Result<(), NoMemory>
-    ensures { OnOk result (out.new.items ≡ out.old.items ++ with_gaps (spelled_target (optional_lvalue_of receiver.now) method.now args.now)) }
+    ensures { OnOk result (out.new.items ≡ out.old.items
+        ++ with_gaps (spelled_target (optional_lvalue_of receiver.now) method.now args.now)) }
 {
     put_receiver(out, receiver)?;
     put_name(out, method)?;

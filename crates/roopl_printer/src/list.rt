@@ -24,7 +24,8 @@ pub(crate) fn put_names(out: &mut Vec<u8>, names: &[Ident]) -> Result<(), NoMemo
 
 /// Adds names, each behind a comma.
 fn put_more_names(out: &mut Vec<u8>, names: &[Ident]) -> Result<(), NoMemory>
-    ensures { OnOk result (out.new.items ≡ out.old.items ++ with_gaps (flat_map (after_comma name_alone) names.now)) }
+    ensures { OnOk result (out.new.items ≡ out.old.items
+        ++ with_gaps (flat_map (after_comma name_alone) names.now)) }
 {
     for name in names {
         put(out, b" ,")?;
@@ -48,7 +49,8 @@ pub(crate) fn put_vars(out: &mut Vec<u8>, vars: &[Var]) -> Result<(), NoMemory>
 
 /// Adds variables with their types, each behind a comma.
 fn put_more_vars(out: &mut Vec<u8>, vars: &[Var]) -> Result<(), NoMemory>
-    ensures { OnOk result (out.new.items ≡ out.old.items ++ with_gaps (flat_map (after_comma spelled_var) vars.now)) }
+    ensures { OnOk result (out.new.items ≡ out.old.items
+        ++ with_gaps (flat_map (after_comma spelled_var) vars.now)) }
 {
     for var in vars {
         put(out, b" ,")?;

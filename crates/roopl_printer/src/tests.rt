@@ -25,7 +25,8 @@ fn ident(alloc: Global, text: &str) -> Result<Ident, AllocError>
 
 /// `left op right`
 fn binary(alloc: Global, op: BinOp, left: Expr, right: Expr) -> Result<Expr, AllocError>
-    ensures { IfOk result (λ e. expression_of e ≡ Binary 0 op (expression_of left) (expression_of right)) }
+    ensures { IfOk result (λ e. expression_of e
+        ≡ Binary 0 op (expression_of left) (expression_of right)) }
 {
     Ok(Expr::Binary {
         at: 0,

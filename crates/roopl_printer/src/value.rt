@@ -11,7 +11,8 @@ use rpp_words::NoMemory;
 /// Adds an expression.
 #[cycle(put_values)]
 pub(crate) fn put_expr(out: &mut Vec<u8>, e: &Expr) -> Result<(), NoMemory>
-    ensures { OnOk result (out.new.items ≡ out.old.items ++ with_gaps (spelled_expression (expression_of e.now))) }
+    ensures { OnOk result (out.new.items ≡ out.old.items
+        ++ with_gaps (spelled_expression (expression_of e.now))) }
 {
     match e {
         Expr::Number { word, .. } => put_number(out, *word),
@@ -37,7 +38,8 @@ pub(crate) fn put_expr(out: &mut Vec<u8>, e: &Expr) -> Result<(), NoMemory>
 /// Adds a place behind other tokens on its line.
 #[cycle(put_values)]
 pub(crate) fn put_place(out: &mut Vec<u8>, place: &Place) -> Result<(), NoMemory>
-    ensures { OnOk result (out.new.items ≡ out.old.items ++ with_gaps (spelled_place (lvalue_of place.now))) }
+    ensures { OnOk result (out.new.items ≡ out.old.items
+        ++ with_gaps (spelled_place (lvalue_of place.now))) }
 {
     put_name(out, &place.name)?;
     match &place.index {
@@ -52,7 +54,8 @@ pub(crate) fn put_place(out: &mut Vec<u8>, place: &Place) -> Result<(), NoMemory
 
 /// Adds a place that begins a line.
 pub(crate) fn put_first_place(out: &mut Vec<u8>, place: &Place) -> Result<(), NoMemory>
-    ensures { OnOk result (out.new.items ≡ out.old.items ++ with_gaps (first_place (lvalue_of place.now))) }
+    ensures { OnOk result (out.new.items ≡ out.old.items
+        ++ with_gaps (first_place (lvalue_of place.now))) }
 {
     put_first_name(out, &place.name)?;
     match &place.index {
@@ -87,7 +90,8 @@ fn put_closing(out: &mut Vec<u8>, e: &Expr) -> Result<(), NoMemory>
 
 /// Adds what is made or deleted.
 pub(crate) fn put_made(out: &mut Vec<u8>, made: &Made) -> Result<(), NoMemory>
-    ensures { OnOk result (out.new.items ≡ out.old.items ++ with_gaps (spelled_creation (creation_of made.now))) }
+    ensures { OnOk result (out.new.items ≡ out.old.items
+        ++ with_gaps (spelled_creation (creation_of made.now))) }
 {
     match made {
         Made::Object(class) => put_name(out, class),
@@ -107,7 +111,8 @@ pub(crate) fn put_made(out: &mut Vec<u8>, made: &Made) -> Result<(), NoMemory>
 
 /// Adds the receiver of a call, where it has one.
 pub(crate) fn put_receiver(out: &mut Vec<u8>, receiver: &Option<Place>) -> Result<(), NoMemory>
-    ensures { OnOk result (out.new.items ≡ out.old.items ++ with_gaps (spelled_receiver (optional_lvalue_of receiver.now))) }
+    ensures { OnOk result (out.new.items ≡ out.old.items
+        ++ with_gaps (spelled_receiver (optional_lvalue_of receiver.now))) }
 {
     match receiver {
         None => Ok(()),

@@ -31,7 +31,8 @@ pub fn print(alloc: Global, program: &Program) -> Result<String, NoMemory>
 
 /// The bytes of the text of classes.
 fn print_bytes(alloc: Global, classes: &[Class]) -> Result<Vec<u8>, NoMemory>
-    ensures { IfOk result (λ bytes. bytes.items ≡ text_of (flat_map spelled_class (map class_text_of classes.now))) }
+    ensures { IfOk result (λ bytes. bytes.items
+        ≡ text_of (flat_map spelled_class (map class_text_of classes.now))) }
 {
     let mut out = Vec::new(alloc);
     for class in classes {
@@ -42,7 +43,8 @@ fn print_bytes(alloc: Global, classes: &[Class]) -> Result<Vec<u8>, NoMemory>
 
 /// Adds the lines of a class.
 fn put_class(out: &mut Vec<u8>, class: &Class) -> Result<(), NoMemory>
-    ensures { OnOk result (out.new.items ≡ out.old.items ++ text_of (spelled_class (class_text_of class.now))) }
+    ensures { OnOk result (out.new.items ≡ out.old.items
+        ++ text_of (spelled_class (class_text_of class.now))) }
 {
     put(out, b"class")?;
     put_name(out, &class.name)?;
@@ -67,7 +69,8 @@ fn put_parent(out: &mut Vec<u8>, parent: &Option<Ident>) -> Result<(), NoMemory>
 
 /// Adds methods.
 fn put_methods(out: &mut Vec<u8>, methods: &[Method]) -> Result<(), NoMemory>
-    ensures { OnOk result (out.new.items ≡ out.old.items ++ with_gaps (flat_map spelled_method (map procedure_of methods.now))) }
+    ensures { OnOk result (out.new.items ≡ out.old.items
+        ++ with_gaps (flat_map spelled_method (map procedure_of methods.now))) }
 {
     for method in methods {
         put_method(out, method)?;
@@ -77,7 +80,8 @@ fn put_methods(out: &mut Vec<u8>, methods: &[Method]) -> Result<(), NoMemory>
 
 /// Adds a method.
 fn put_method(out: &mut Vec<u8>, method: &Method) -> Result<(), NoMemory>
-    ensures { OnOk result (out.new.items ≡ out.old.items ++ with_gaps (spelled_method (procedure_of method.now))) }
+    ensures { OnOk result (out.new.items ≡ out.old.items
+        ++ with_gaps (spelled_method (procedure_of method.now))) }
 {
     put(out, b"\nmethod")?;
     put_name(out, &method.name)?;

@@ -19,4 +19,5 @@ pub record Agree (first second : Store) : Type 0 where
   pub there_and_back : (name : ℕ) → back (there name) ≡ name
   pub back_and_there : (name : ℕ) → there (back name) ≡ name
   pub main_object : there main_name ≡ main_name
-  pub objects : (name : ℕ) → object_named second (there name) ≡ option_map (renamed_object there) (object_named first name)
+  pub objects : (name : ℕ) → object_named second (there name)
+      ≡ option_map (renamed_object there) (object_named first name)

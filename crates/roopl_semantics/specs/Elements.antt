@@ -29,17 +29,20 @@ own_element (Item name index) = name ∷ []
 
 -- whether two names mean the same array
 abbrev pub same_array : Source → State → Ident → Ident → Bool
-same_array program st name other = same_value (variable_value program st name.text) (variable_value program st other.text)
+same_array program st name other =
+    same_value (variable_value program st name.text) (variable_value program st other.text)
 
 -- whether one of the elements is of an array
 abbrev pub is_among : Source → State → Ident → List Ident → Bool
 is_among program st name [] = false
-is_among program st name (other ∷ others) = same_array program st name other || is_among program st name others
+is_among program st name (other ∷ others) =
+    same_array program st name other || is_among program st name others
 
 -- whether a changed element and a read element are of the same array
 abbrev pub share_array : Source → State → List Ident → List Ident → Bool
 share_array program st [] reads = false
-share_array program st (name ∷ changed) reads = is_among program st name reads || share_array program st changed reads
+share_array program st (name ∷ changed) reads =
+    is_among program st name reads || share_array program st changed reads
 
 -- each read element counts 1 where an element is changed
 abbrev pub read_cost : List Ident → List Ident → ℕ

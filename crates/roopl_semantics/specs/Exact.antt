@@ -15,7 +15,8 @@ use Rattle.roopl_semantics.specs.StandsFor.{run_of, StandsFor, IsFinalState}
 pub record FinishesWith (program : Source) (image : Segments) (limits : Limits) (input : List FieldWord) (end : State) : Type 0 where
   pub steps : ℕ
   pub finishes : (run_of image limits input steps).why ≡ Finished
-  pub cells : (run_of image limits input steps).last.cells ≡ layout program limits image.statics end.store end.log
+  pub cells : (run_of image limits input steps).last.cells
+      ≡ layout program limits image.statics end.store end.log
 
 -- in some number of steps the image stops with this fault
 pub record TrapsWith (image : Segments) (limits : Limits) (input : List FieldWord) (code : ℕ) : Type 0 where
@@ -24,11 +25,16 @@ pub record TrapsWith (image : Segments) (limits : Limits) (input : List FieldWor
 
 -- it finishes with a store exactly if the source gives that store, and stops with a fault exactly if the source does
 pub record EndsExactly (program : Source) (image : Segments) (limits : Limits) (input : List FieldWord) : Type 0 where
-  pub finishes : (end : State) → GivesDone program limits input end → FinishesWith program image limits input end
-  pub finished : (m : ℕ) → (run_of image limits input m).why ≡ Finished → IsFinalState program image limits input (run_of image limits input m).last
+  pub finishes : (end : State) → GivesDone program limits input end
+      → FinishesWith program image limits input end
+  pub finished : (m : ℕ) → (run_of image limits input m).why ≡ Finished
+      → IsFinalState program image limits input (run_of image limits input m).last
   pub traps : (code : ℕ) → GivesFault program limits input code → TrapsWith image limits input code
-  pub trapped : (m code : ℕ) → (run_of image limits input m).why ≡ Trap code → GivesFault program limits input code
+  pub trapped : (m code : ℕ) → (run_of image limits input m).why ≡ Trap code
+      → GivesFault program limits input code
 
 abbrev pub ImagesAreExact : Type 0
 ImagesAreExact =
-    (program : Source) (image : Segments) → StandsFor program image → (limits : Limits) (input : List FieldWord) → IsLimits limits → IsValid program input → EndsExactly program image limits input
+    (program : Source) (image : Segments) → StandsFor program image
+    → (limits : Limits) (input : List FieldWord) → IsLimits limits → IsValid program input
+    → EndsExactly program image limits input

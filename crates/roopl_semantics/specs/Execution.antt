@@ -130,7 +130,11 @@ order_of_cells cells = order_for (2 + cells)
 
 -- the count of an object changes
 abbrev pub counted : (ℕ → ℕ) → State → ℕ → State
-counted change st name = record st { store = changed_at st.store name (λ object. record object { count = change object.count }) }
+counted change st name =
+    record st {
+      store = changed_at st.store name
+          (λ object. record object { count = change object.count });
+    }
 
 abbrev pub one_less : ℕ → ℕ
 one_less count = count - 1
@@ -142,7 +146,8 @@ element_name at = record { at = at; text = [] }
 -- what `construct` means inside its local variable
 abbrev pub constructed : ℕ → Ident → Ident → Statements → Statements
 constructed at class name body =
-    Then (New at (AnObject class) (Whole name)) (joined body (Then (Delete at (AnObject class) (Whole name)) End))
+    Then (New at (AnObject class) (Whole name))
+    (joined body (Then (Delete at (AnObject class) (Whole name)) End))
 
 -- what a call on an element means inside the local variable that holds the element
 abbrev pub element_call : ℕ → Bool → Ident → Expression → Ident → List Ident → Statements
@@ -167,8 +172,17 @@ module _ (setting : Setting) where
   invoked run back method self receiver args st =
       let caller = moved_out (receiver ++ args) st in
       do
-        end ← run (in_direction back method.body) (record { frame = bound method.params (map (read st) args); self = self; depth = 1 + st.depth; store = caller.store; log = caller.log })
-        moved_back (receiver ++ args) (map (read st) receiver ++ map (λ binding. binding.value) end.frame) (record caller { store = end.store; log = end.log })
+        end ← run (in_direction back method.body)
+            (record {
+              frame = bound method.params (map (read st) args);
+              self = self;
+              depth = 1 + st.depth;
+              store = caller.store;
+              log = caller.log;
+            })
+        moved_back (receiver ++ args) (map (read st) receiver
+            ++ map (λ binding. binding.value) end.frame)
+            (record caller { store = end.store; log = end.log })
 
   -- a new object or array of so many cells in the place, where the heap has a block for it
   abbrev pub allocated : ℕ → Cell → Head → List Value → State → Run State
@@ -176,8 +190,10 @@ module _ (setting : Setting) where
       let name = 2 + count_taken st.log in
       let log = Taken name (order_of_cells size) ∷ st.log in
       do
-        _ ← fault_if heap_full_fault (nat_lt setting.limits.heap (order_of_cells size) || is_none (place setting.limits.heap log))
-        give (written (record st { store = (name, new_object head cells) ∷ st.store; log = log }) cell (Name name))
+        _ ← fault_if heap_full_fault (nat_lt setting.limits.heap (order_of_cells size)
+            || is_none (place setting.limits.heap log))
+        give (written (record st { store = (name, new_object head cells) ∷ st.store; log = log })
+            cell (Name name))
 
   -- the block of what the place names goes back to the heap
   abbrev pub freed : Cell → ℕ → State → State
@@ -248,7 +264,8 @@ module _ (setting : Setting) where
   statement n run (Swap at left right) st = do
     a ← found setting.program left st
     b ← found setting.program right st
-    _ ← kept_apart setting.program (own_element left ++ own_element right) (index_elements left ++ index_elements right) st
+    _ ← kept_apart setting.program (own_element left ++ own_element right)
+        (index_elements left ++ index_elements right) st
     give (written (written st a (read st b)) b (read st a))
   statement n run (If at test taken other after) st = do
     v ← evaluated setting.program test st
@@ -262,7 +279,8 @@ module _ (setting : Setting) where
     turns n run entry first again exit st
   statement n run (Construct at class name body end) st =
       with_local run name.text (Null at) (constructed at class name body) (Null at) st
-  statement n run (Local at var value body end_var end_value) st = with_local run var.name.text value body end_value st
+  statement n run (Local at var value body end_var end_value) st =
+      with_local run var.name.text value body end_value st
   statement n run (New at (AnObject class) target) st = do
     cell ← found setting.program target st
     _ ← kept_apart setting.program (own_element target) (index_elements target) st
@@ -280,7 +298,8 @@ module _ (setting : Setting) where
     let object = object_at st.store name
     _ ← kept_apart setting.program (own_element target) (index_elements target) st
     _ ← fault_if nil_fault (is_nil (read st cell))
-    _ ← fault_if class_differs_fault (not (is_of_class object.head (class_number setting.program class.text)))
+    _ ← fault_if class_differs_fault
+        (not (is_of_class object.head (class_number setting.program class.text)))
     _ ← fault_if count_fault (not (nat_eq object.count 1))
     _ ← spend (setting.limits.heap + 1)
     _ ← fault_if not_empty_fault (not (all_zero object.cells))
@@ -290,30 +309,35 @@ module _ (setting : Setting) where
   statement n run (Copy at kind source target) st = do
     a ← found setting.program source st
     b ← found setting.program target st
-    _ ← kept_apart setting.program (own_element target) (index_elements source ++ index_elements target) st
+    _ ← kept_apart setting.program (own_element target)
+        (index_elements source ++ index_elements target) st
     _ ← fault_if nil_fault (is_nil (read st a))
     _ ← fault_if not_nil_fault (not (is_nil (read st b)))
     give (counted suc (written st b (read st a)) (number_of (read st a)))
   statement n run (Uncopy at kind source target) st = do
     a ← found setting.program source st
     b ← found setting.program target st
-    _ ← kept_apart setting.program (own_element target) (index_elements source ++ index_elements target) st
+    _ ← kept_apart setting.program (own_element target)
+        (index_elements source ++ index_elements target) st
     _ ← fault_if nil_fault (is_nil (read st a))
     _ ← fault_if not_same_fault (not (same_value (read st a) (read st b)) || same_cell a b)
     give (counted one_less (written st b Nil) (number_of (read st a)))
   statement n run (Call at back None method args) st = do
     _ ← spend (length args)
     _ ← fault_if too_deep_fault (is_too_deep st)
-    invoked run back (method_named setting.program (own_class st) method.text) st.self [] (cells_named st args) st
+    invoked run back (method_named setting.program (own_class st) method.text) st.self []
+        (cells_named st args) st
   statement n run (Call at back (Some (Whole name)) method args) st = do
     _ ← spend (length args)
     let cell = cell_named setting.program st name.text
     let self = number_of (read st cell)
     _ ← fault_if nil_fault (is_nil (read st cell))
     _ ← fault_if too_deep_fault (is_too_deep st)
-    invoked run back (method_named setting.program (class_of st self) method.text) self (cell ∷ []) (cells_named st args) st
+    invoked run back (method_named setting.program (class_of st self) method.text) self (cell ∷ [])
+        (cells_named st args) st
   statement n run (Call at back (Some (Item name index)) method args) st =
-      with_local run (element_name at).text (Null at) (element_call at back name index method args) (Null at) st
+      with_local run (element_name at).text (Null at) (element_call at back name index method args)
+      (Null at) st
   statement n run (Skip at) st = give st
 
   -- a block, at most n statements deep and long; each statement counts 1

@@ -19,17 +19,21 @@ use Rattle.roopl_semantics.specs.Layout.{HasStatics, layout}
 
 -- a program that ends with some fuel ends the same with more
 pub record MoreFuelKeeps : Type 0 where
-  pub done : (program : Source) (limits : Limits) (input : List FieldWord) (n m : ℕ) (end : State) (cost : ℕ)
-      → n ≤ m → source program limits input n ≡ Done end cost → source program limits input m ≡ Done end cost
+  pub done : (program : Source) (limits : Limits) (input : List FieldWord) (n m : ℕ) (end : State)
+      (cost : ℕ)
+      → n ≤ m → source program limits input n ≡ Done end cost
+      → source program limits input m ≡ Done end cost
   pub fault : (program : Source) (limits : Limits) (input : List FieldWord) (n m code cost : ℕ)
-      → n ≤ m → source program limits input n ≡ Fault code cost → source program limits input m ≡ Fault code cost
+      → n ≤ m → source program limits input n ≡ Fault code cost
+      → source program limits input m ≡ Fault code cost
 
 -- the cost is fuel enough: a block that ends ends the same with any fuel from its cost on
 pub record CostIsEnough : Type 0 where
   pub done : (setting : Setting) (n m : ℕ) (body : Statements) (start end : State) (cost : ℕ)
       → cost ≤ m → exec setting n body start ≡ Done end cost → exec setting m body start ≡ Done end cost
   pub fault : (setting : Setting) (n m : ℕ) (body : Statements) (start : State) (code cost : ℕ)
-      → cost ≤ m → exec setting n body start ≡ Fault code cost → exec setting m body start ≡ Fault code cost
+      → cost ≤ m → exec setting n body start ≡ Fault code cost
+      → exec setting m body start ≡ Fault code cost
 
 -- the lists of free blocks after some requests
 abbrev pub book_of : Option Placing → Option Book
@@ -78,11 +82,13 @@ HasNamesOnce ((name, object) ∷ store) = (object_named store name ≡ None) × 
 abbrev pub SameReports : Type 0
 SameReports =
     (program : Source) (first second : Store)
-    → HasNamesOnce first → HasNamesOnce second → Agree first second → report program first ≡ report program second
+    → HasNamesOnce first → HasNamesOnce second → Agree first second
+    → report program first ≡ report program second
 
 -- the memory of the starting store is the loaded memory
 abbrev pub StartsLoaded : Type 0
 StartsLoaded =
     (program : Source) (image : Segments) (limits : Limits) (input : List FieldWord)
     → HasStatics program image → IsLimits limits → IsValid program input
-    → layout program limits image.statics (starting program input).store [] ≡ loaded image.statics limits input
+    → layout program limits image.statics (starting program input).store []
+    ≡ loaded image.statics limits input

@@ -32,7 +32,8 @@ table_addresses program = each_below (table_at program) (length program.classes)
 
 -- the main object in an image: its table's address, its count and fields of 0
 abbrev pub main_statics : Source → List ℕ
-main_statics program = table_at program (main_of program).class ∷ 1 ∷ replicate (length (main_fields program)) 0
+main_statics program = table_at program (main_of program).class ∷ 1
+    ∷ replicate (length (main_fields program)) 0
 
 -- the tables of the classes from this number on: the number, and the code places
 abbrev pub tables : ℕ → List (List ℕ) → List ℕ
@@ -42,7 +43,8 @@ tables number (places ∷ rest) = number ∷ (places ++ tables (number + 1) rest
 -- the static cells of an image of the program, with these code places for the slots of each class
 pub record HasStatics (program : Source) (image : Segments) : Type 0 where
   pub places : List (List ℕ)
-  pub slots : map length places ≡ each_below (λ class. length (class_slots program class)) (length program.classes)
+  pub slots : map length places ≡ each_below (λ class. length (class_slots program class))
+      (length program.classes)
   pub in_code : All (λ of_class. All (λ at. at < length image.code) of_class) places
   pub words : image.statics ≡ main_statics program ++ tables 1 places
 
@@ -64,12 +66,14 @@ head_word program (OfObjects class length) = length
 
 -- the words of an object or array: its head, its count and its cells
 abbrev pub object_words : Source → ℕ → List (ℕ × ℕ) → Object → List ℕ
-object_words program base blocks object = head_word program object.head ∷ object.count ∷ map (word_of base blocks) object.cells
+object_words program base blocks object =
+    head_word program object.head ∷ object.count ∷ map (word_of base blocks) object.cells
 
 -- the first word of each free block of a list is the address of the next
 abbrev pub with_links : ℕ → List ℕ → List ℕ → List ℕ
 with_links base [] words = words
-with_links base (block ∷ free) words = with_links base free (overlaid words block (first_address base free ∷ []))
+with_links base (block ∷ free) words =
+    with_links base free (overlaid words block (first_address base free ∷ []))
 
 -- the links of all lists
 abbrev pub with_book : ℕ → Book → List ℕ → List ℕ
@@ -80,12 +84,14 @@ with_book base (free ∷ higher) words = with_book base higher (with_links base 
 abbrev pub with_objects : Source → ℕ → Store → List (ℕ × ℕ) → List (ℕ × ℕ) → List ℕ → List ℕ
 with_objects program base store blocks [] words = words
 with_objects program base store blocks ((name, block) ∷ rest) words =
-    with_objects program base store blocks rest (overlaid words block (object_words program base blocks (object_at store name)))
+    with_objects program base store blocks rest
+    (overlaid words block (object_words program base blocks (object_at store name)))
 
 -- the words of the heap
 abbrev pub heap_words : Source → ℕ → ℕ → Store → Placing → List ℕ
 heap_words program size base store placing =
-    with_objects program base store placing.blocks placing.blocks (with_book base placing.book (replicate size 0))
+    with_objects program base store placing.blocks placing.blocks
+    (with_book base placing.book (replicate size 0))
 
 -- the static cells, where the main object changes and the tables stay
 abbrev pub static_words : Source → ℕ → List (ℕ × ℕ) → List ℕ → Store → List ℕ
@@ -113,7 +119,8 @@ no_placing = record { book = []; blocks = [] }
 
 -- the memory that stands for a store after these requests, over the static cells of an image of the program
 abbrev pub layout : Source → Limits → List ℕ → Store → Log → List ℕ
-layout program limits statics store log = placed_layout program limits statics store (unwrap_or (place limits.heap log) no_placing)
+layout program limits statics store log =
+    placed_layout program limits statics store (unwrap_or (place limits.heap log) no_placing)
 
 -- whether a class's table stands at this address
 abbrev pub is_table : Source → ℕ → Bool
@@ -128,7 +135,8 @@ has_plain_head program (OfObjects class length) = not (is_table program length)
 abbrev pub is_plain_among : Source → List ℕ → Store → Bool
 is_plain_among program reached [] = true
 is_plain_among program reached ((name, object) ∷ store) =
-    (list_any (nat_eq name) reached || has_plain_head program object.head) && is_plain_among program reached store
+    (list_any (nat_eq name) reached || has_plain_head program object.head)
+    && is_plain_among program reached store
 
 -- whether no array that is not reached from the main object has a table's address as its length
 abbrev pub is_plain : Source → Store → Bool

@@ -23,7 +23,8 @@ abbrev pub newly_met : List ℕ → List Value → List ℕ
 newly_met met [] = []
 newly_met met (Word w ∷ cells) = newly_met met cells
 newly_met met (Nil ∷ cells) = newly_met met cells
-newly_met met (Name n ∷ cells) = if list_any (nat_eq n) met then newly_met met cells else n ∷ newly_met (n ∷ met) cells
+newly_met met (Name n ∷ cells) = if list_any (nat_eq n) met then newly_met met cells
+    else n ∷ newly_met (n ∷ met) cells
 
 -- the names met by walking the cells of the pending names in turn, in at most so many steps
 abbrev pub walked : ℕ → Store → List ℕ → List ℕ → List ℕ
@@ -51,23 +52,27 @@ abbrev pub field_lines : Text → List ℕ → List Var → List Value → Text
 field_lines indent names [] cells = []
 field_lines indent names (var ∷ vars) [] = []
 field_lines indent names (var ∷ vars) (v ∷ cells) =
-    indent ++ var.name.text ++ codes " = " ++ value_shown names v ++ line_end ++ field_lines indent names vars cells
+    indent ++ var.name.text ++ codes " = " ++ value_shown names v ++ line_end
+    ++ field_lines indent names vars cells
 
 -- [I] = V for each element, after two spaces
 abbrev pub element_lines : List ℕ → ℕ → List Value → Text
 element_lines names index [] = []
 element_lines names index (v ∷ cells) =
-    codes "  [" ++ decimal index ++ codes "] = " ++ value_shown names v ++ line_end ++ element_lines names (index + 1) cells
+    codes "  [" ++ decimal index ++ codes "] = " ++ value_shown names v ++ line_end
+    ++ element_lines names (index + 1) cells
 
 -- CLASS, int[L] or CLASS[L]
 abbrev pub head_shown : Source → Head → Text
 head_shown program (OfClass class) = (class_at program class).name.text
 head_shown program (OfInts length) = codes "int[" ++ decimal length ++ codes "]"
-head_shown program (OfObjects class length) = (class_at program class).name.text ++ codes "[" ++ decimal length ++ codes "]"
+head_shown program (OfObjects class length) =
+    (class_at program class).name.text ++ codes "[" ++ decimal length ++ codes "]"
 
 -- the lines of an object's cells
 abbrev pub cell_lines : Source → List ℕ → Head → List Value → Text
-cell_lines program names (OfClass class) cells = field_lines (codes "  ") names (class_fields program class) cells
+cell_lines program names (OfClass class) cells =
+    field_lines (codes "  ") names (class_fields program class) cells
 cell_lines program names (OfInts length) cells = element_lines names 0 cells
 cell_lines program names (OfObjects class length) cells = element_lines names 0 cells
 
@@ -76,7 +81,8 @@ abbrev pub object_lines : Source → Store → List ℕ → List ℕ → Text
 object_lines program store names [] = []
 object_lines program store names (name ∷ rest) =
     let object = object_at store name in
-    number_shown names name ++ codes " " ++ head_shown program object.head ++ codes " count " ++ decimal object.count ++ line_end
+    number_shown names name ++ codes " " ++ head_shown program object.head ++ codes " count "
+    ++ decimal object.count ++ line_end
     ++ cell_lines program names object.head object.cells
     ++ object_lines program store names rest
 
@@ -87,7 +93,8 @@ live_line live = codes "live " ++ decimal live ++ line_end
 abbrev pub objects_shown : Source → Store → Text
 objects_shown program store =
     let names = numbered store in
-    field_lines [] names (main_fields program) (object_at store main_name).cells ++ object_lines program store names names
+    field_lines [] names (main_fields program) (object_at store main_name).cells
+    ++ object_lines program store names names
 
 -- how many objects and arrays are live but for the main object
 abbrev pub live_count : Store → ℕ

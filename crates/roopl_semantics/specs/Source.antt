@@ -50,12 +50,23 @@ pub record IsValid (program : Source) (input : List FieldWord) : Type 0 where
 -- the main object before a run
 abbrev pub main_object : Source → List FieldWord → Object
 main_object program input =
-    record { head = OfClass (main_of program).class; count = 1; cells = with_input input (zero_values (main_fields program)) }
+    record {
+      head = OfClass (main_of program).class;
+      count = 1;
+      cells = with_input input (zero_values (main_fields program));
+    }
 
 -- the main object alone
 abbrev pub starting : Source → List FieldWord → State
 starting program input =
-    record { frame = []; self = main_name; depth = 1; store = (main_name, main_object program input) ∷ []; log = [] }
+    record {
+      frame = [];
+      self = main_name;
+      depth = 1;
+      store = (main_name, main_object program input)
+          ∷ [];
+      log = [];
+    }
 
 -- a run that is not over where its cost passes the fuel
 abbrev pub within : {A : Type 0} → ℕ → Run A → Run A
@@ -66,7 +77,8 @@ within fuel More = More
 -- the program's run with this fuel
 abbrev pub source : Source → Limits → List FieldWord → ℕ → Run State
 source program limits input fuel =
-    within fuel (exec (record { program = program; limits = limits }) fuel (main_body program) (starting program input))
+    within fuel (exec (record { program = program; limits = limits }) fuel (main_body program)
+    (starting program input))
 
 -- the source gives this state: the run is done with it for some fuel
 pub record GivesDone (program : Source) (limits : Limits) (input : List FieldWord) (end : State) : Type 0 where

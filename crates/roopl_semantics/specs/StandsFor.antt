@@ -48,16 +48,21 @@ enough_steps cost = 1000 * cost + 1000
 
 -- the runs of an image on an input do what the source does on it
 pub record Follows (program : Source) (image : Segments) (limits : Limits) (input : List FieldWord) : Type 0 where
-  pub finished : (m : ℕ) → (run_of image limits input m).why ≡ Finished → IsFinalState program image limits input (run_of image limits input m).last
-  pub clean : (m : ℕ) → (run_of image limits input m).why ≡ Finished → IsCleanFinish image.code m (loaded_state image limits input)
-  pub trapped : (m code : ℕ) → (run_of image limits input m).why ≡ Trap code → GivesFault program limits input code
+  pub finished : (m : ℕ) → (run_of image limits input m).why ≡ Finished
+      → IsFinalState program image limits input (run_of image limits input m).last
+  pub clean : (m : ℕ) → (run_of image limits input m).why ≡ Finished
+      → IsCleanFinish image.code m (loaded_state image limits input)
+  pub trapped : (m code : ℕ) → (run_of image limits input m).why ≡ Trap code
+      → GivesFault program limits input code
   pub not_returned : (m : ℕ) → (run_of image limits input m).why ≢ Returned
   pub in_code : (m : ℕ) (at : ℤ) → (run_of image limits input m).why ≢ OffCode at
   pub in_memory : (m address : ℕ) → (run_of image limits input m).why ≢ BadAddress address
-  pub in_time : (cost : ℕ) → EndsAt program limits input cost → IsEnough image limits input (enough_steps cost)
+  pub in_time : (cost : ℕ) → EndsAt program limits input cost
+      → IsEnough image limits input (enough_steps cost)
   pub meets_ends_once : (m : ℕ) → MeetsEndsOnce image.code m (loaded_state image limits input)
 
 -- an image stands for a program: its static cells are the program's, and it follows it on every input, heap and depth
 pub record StandsFor (program : Source) (image : Segments) : Type 0 where
   pub statics : HasStatics program image
-  pub follows : (limits : Limits) (input : List FieldWord) → IsLimits limits → IsValid program input → Follows program image limits input
+  pub follows : (limits : Limits) (input : List FieldWord) → IsLimits limits → IsValid program input
+      → Follows program image limits input

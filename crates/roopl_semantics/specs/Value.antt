@@ -27,7 +27,8 @@ own_class st = class_of_head (object_at st.store st.self).head
 -- the variable at this place of the frame, or else the field
 abbrev pub slot_or_field : Source → State → List ℕ → Option ℕ → Cell
 slot_or_field program st name (Some index) = Slot index
-slot_or_field program st name None = Part st.self (unwrap_or (field_of (class_fields program (own_class st)) name) 0)
+slot_or_field program st name None =
+    Part st.self (unwrap_or (field_of (class_fields program (own_class st)) name) 0)
 
 -- what a name means: the innermost variable of that name, else a field
 abbrev pub cell_named : Source → State → List ℕ → Cell
@@ -55,7 +56,10 @@ read st (Part name index) = unwrap_or (slice_get (object_at st.store name).cells
 abbrev pub written : State → Cell → Value → State
 written st (Slot index) value = record st { frame = with_value st.frame index value }
 written st (Part name index) value =
-    record st { store = changed_at st.store name (λ object. record object { cells = slice_set object.cells index value }) }
+    record st {
+      store = changed_at st.store name
+          (λ object. record object { cells = slice_set object.cells index value });
+    }
 
 abbrev pub variable_value : Source → State → List ℕ → Value
 variable_value program st name = read st (cell_named program st name)
@@ -70,7 +74,8 @@ index_fault = 9
 -- the element of an array at an index, a word without sign
 abbrev pub element_cell : State → Value → ℕ → Result Cell ℕ
 element_cell st (Name array) index =
-    if nat_lt index (length (object_at st.store array).cells) then Ok (Part array index) else Err index_fault
+    if nat_lt index (length (object_at st.store array).cells) then Ok (Part array index)
+    else Err index_fault
 element_cell st _ index = Err nil_fault
 
 -- the element of the array of a name, once the index has its value
@@ -93,7 +98,8 @@ abbrev pub value : Source → State → Expression → Result Value ℕ
 value program st (Number at word) = Ok (Word word)
 value program st (Null at) = Ok Nil
 value program st (Variable name) = Ok (variable_value program st name.text)
-value program st (Element name index) = read_cell st (element_of program st name.text (value program st index))
+value program st (Element name index) =
+    read_cell st (element_of program st name.text (value program st index))
 value program st (Binary at op left right) = combined op (value program st left) (value program st right)
 
 -- the cell that a place means, or the fault that is met

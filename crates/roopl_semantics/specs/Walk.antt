@@ -35,7 +35,8 @@ head_cell order = 8 + order
 -- the addresses in a free list from this one on, at most so many
 abbrev pub list_from : ℕ → List ℕ → ℕ → List ℕ
 list_from zero cells address = []
-list_from (suc steps) cells address = if nat_eq address 0 then [] else address ∷ list_from steps cells (word_at cells address)
+list_from (suc steps) cells address =
+    if nat_eq address 0 then [] else address ∷ list_from steps cells (word_at cells address)
 
 -- the order of the list in which a block is free, among so many orders from this one on
 abbrev pub free_order_from : ℕ → ℕ → List ℕ → ℕ → Option ℕ
@@ -64,7 +65,8 @@ types_of vars = map (λ var. var.kind) vars
 -- the types of the cells of what a reference of this type leads to, by its head word
 abbrev pub cell_types : Source → VarType → ℕ → List VarType
 cell_types program kind.Int head = []
-cell_types program (kind.Class class) head = types_of (class_fields program (unwrap_or (class_with_table program head) 0))
+cell_types program (kind.Class class) head =
+    types_of (class_fields program (unwrap_or (class_with_table program head) 0))
 cell_types program kind.IntArray head = replicate head kind.Int
 cell_types program (kind.ClassArray class) head = replicate head (kind.Class class)
 
@@ -77,7 +79,8 @@ is_reference_type _ = true
 
 -- whether a cell of this type holds a reference to a block that is not yet met
 abbrev pub is_new : List Reference → VarType → ℕ → Bool
-is_new met type word = is_reference_type type && not (nat_eq word 0) && not (list_any (λ reference. nat_eq reference.at word) met)
+is_new met type word = is_reference_type type && not (nat_eq word 0)
+    && not (list_any (λ reference. nat_eq reference.at word) met)
 
 -- the references in cells of these types from an address on to blocks that are not yet met, each once
 abbrev pub newly_reached : List ℕ → List Reference → ℕ → List VarType → List Reference
@@ -131,17 +134,21 @@ block_by address None other = record { at = address; order = other; is_free = fa
 -- the block at an address: free, or of the order that its type needs, or that its head word needs
 abbrev pub block_at : Source → List ℕ → ℕ → Block
 block_at program cells address =
-    block_by address (free_order cells address) (unwrap_or (reached_order program cells (reached program cells) address) (head_order program (word_at cells address)))
+    block_by address (free_order cells address)
+    (unwrap_or (reached_order program cells (reached program cells) address)
+    (head_order program (word_at cells address)))
 
 -- goes on behind a block, unless its order is above the heap's
 abbrev pub meets : List ℕ → Block → (ℕ → List Block) → List Block
-meets cells block next = if nat_lt (highest_order cells) block.order then [] else block ∷ next (block.at + 2 ^ block.order)
+meets cells block next = if nat_lt (highest_order cells) block.order then []
+    else block ∷ next (block.at + 2 ^ block.order)
 
 -- the blocks that the walk meets from an address on, at most so many
 abbrev pub met_from : ℕ → Source → List ℕ → ℕ → List Block
 met_from zero program cells address = []
 met_from (suc steps) program cells address =
-    if nat_le (heap_end cells) address then [] else meets cells (block_at program cells address) (met_from steps program cells)
+    if nat_le (heap_end cells) address then []
+    else meets cells (block_at program cells address) (met_from steps program cells)
 
 -- the blocks that the walk meets: it goes over the heap from its base, block by block
 abbrev pub met_blocks : Source → List ℕ → List Block
@@ -157,7 +164,8 @@ counted program cells = count_taken (met_blocks program cells)
 
 -- the number in the last line of a run's report: of live objects, or of what the cells let tell where they hide an array
 abbrev pub live_shown : Source → Store → List ℕ → ℕ
-live_shown program store cells = if is_plain program store then live_count store else counted program cells
+live_shown program store cells = if is_plain program store then live_count store
+    else counted program cells
 
 -- the report of a run that ended with this store and these cells
 abbrev pub run_report : Source → Store → List ℕ → Text

@@ -34,15 +34,23 @@ asked (line.List image text) = ListImage (string_bytes image) (string_bytes text
 asked (line.Flip image flipped) = Flip (string_bytes image) (string_bytes flipped)
 asked (line.ShowInverse file out) = ShowInverse (string_bytes file) (string_bytes out)
 asked (line.Generate seed size out) = Generate seed size (string_bytes out)
-asked (line.Cluster script cells images) = Cluster (string_bytes script) cells (map string_bytes images.items)
-asked (line.Run image heap deep steps names) = RunImage (string_bytes image) heap deep steps (state_of_names names) (save_of_names names)
+asked (line.Cluster script cells images) =
+    Cluster (string_bytes script) cells (map string_bytes images.items)
+asked (line.Run image heap deep steps names) =
+    RunImage (string_bytes image) heap deep steps (state_of_names names) (save_of_names names)
 asked (line.Debug image heap deep script) = Debug (string_bytes image) heap deep (string_bytes script)
-asked (line.Trace file heap deep script input) = Trace (string_bytes file) heap deep (string_bytes script) (option_map string_bytes input)
-asked (line.Go file heap deep steps input) = Go (string_bytes file) heap deep steps (option_map string_bytes input)
-asked (line.Turn file heap deep steps input) = Turn (string_bytes file) heap deep steps (option_map string_bytes input)
+asked (line.Trace file heap deep script input) =
+    Trace (string_bytes file) heap deep (string_bytes script) (option_map string_bytes input)
+asked (line.Go file heap deep steps input) =
+    Go (string_bytes file) heap deep steps (option_map string_bytes input)
+asked (line.Turn file heap deep steps input) =
+    Turn (string_bytes file) heap deep steps (option_map string_bytes input)
 asked (line.Profile file heap deep steps) = Profile (string_bytes file) heap deep steps
-asked (line.Wrap file heap deep steps wanted) = Wrap (string_bytes file) heap deep steps (string_bytes wanted.names) (option_map string_bytes wanted.input)
-asked (line.Explain file heap deep fuel input) = Explain (string_bytes file) heap deep fuel (option_map string_bytes input)
+asked (line.Wrap file heap deep steps wanted) =
+    Wrap (string_bytes file) heap deep steps (string_bytes wanted.names)
+    (option_map string_bytes wanted.input)
+asked (line.Explain file heap deep fuel input) =
+    Explain (string_bytes file) heap deep fuel (option_map string_bytes input)
 
 -- the number after the digits so far, if the rest are digits
 abbrev pub digits_after : ℕ → List ℕ → Option ℕ
@@ -54,18 +62,23 @@ abbrev pub number_of : List ℕ → Option ℕ
 number_of word = if nat_lt 0 (length word) && nat_le (length word) 18 then digits_after 0 word else None
 
 -- a run of a program, and whether it turns back after a finish
-abbrev pub go_or_turn : (turns : Bool) → (file : List ℕ) (heap deep steps : ℕ) (input : Option (List ℕ)) → Asked
+abbrev pub go_or_turn : (turns : Bool)
+    → (file : List ℕ) (heap deep steps : ℕ) (input : Option (List ℕ)) → Asked
 go_or_turn false = Go
 go_or_turn true = Turn
 
 -- a file, an order of the heap, a depth, a number of steps, and the file of an input, if there is one
-abbrev pub go_with : (turns : Bool) → List ℕ → Option ℕ → Option ℕ → Option ℕ → Option (List ℕ) → Option Asked
-go_with turns file (Some heap) (Some deep) (Some steps) input = Some (go_or_turn turns file heap deep steps input)
+abbrev pub go_with : (turns : Bool) → List ℕ → Option ℕ → Option ℕ → Option ℕ → Option (List ℕ)
+    → Option Asked
+go_with turns file (Some heap) (Some deep) (Some steps) input =
+    Some (go_or_turn turns file heap deep steps input)
 go_with turns file _ _ _ input = None
 
 abbrev pub go_line_of : (turns : Bool) → List (List ℕ) → Option Asked
-go_line_of turns (file ∷ heap ∷ deep ∷ steps ∷ []) = go_with turns file (number_of heap) (number_of deep) (number_of steps) None
-go_line_of turns (file ∷ heap ∷ deep ∷ steps ∷ input ∷ []) = go_with turns file (number_of heap) (number_of deep) (number_of steps) (Some input)
+go_line_of turns (file ∷ heap ∷ deep ∷ steps ∷ []) =
+    go_with turns file (number_of heap) (number_of deep) (number_of steps) None
+go_line_of turns (file ∷ heap ∷ deep ∷ steps ∷ input ∷ []) =
+    go_with turns file (number_of heap) (number_of deep) (number_of steps) (Some input)
 go_line_of turns _ = None
 
 -- a file, an order of the heap, a depth, and a number of steps
@@ -74,16 +87,20 @@ profile_with file (Some heap) (Some deep) (Some steps) = Some (Profile file heap
 profile_with file _ _ _ = None
 
 abbrev pub profile_line_of : List (List ℕ) → Option Asked
-profile_line_of (file ∷ heap ∷ deep ∷ steps ∷ []) = profile_with file (number_of heap) (number_of deep) (number_of steps)
+profile_line_of (file ∷ heap ∷ deep ∷ steps ∷ []) =
+    profile_with file (number_of heap) (number_of deep) (number_of steps)
 profile_line_of _ = None
 
 -- a file, an order of the heap, a depth, a number of steps, the names of results, and the file of an input, if there is one
-abbrev pub wrap_with : List ℕ → Option ℕ → Option ℕ → Option ℕ → (names : List ℕ) → Option (List ℕ) → Option Asked
-wrap_with file (Some heap) (Some deep) (Some steps) names input = Some (Wrap file heap deep steps names input)
+abbrev pub wrap_with : List ℕ → Option ℕ → Option ℕ → Option ℕ → (names : List ℕ) → Option (List ℕ)
+    → Option Asked
+wrap_with file (Some heap) (Some deep) (Some steps) names input =
+    Some (Wrap file heap deep steps names input)
 wrap_with file _ _ _ names input = None
 
 abbrev pub wrap_line_of : List (List ℕ) → Option Asked
-wrap_line_of (file ∷ heap ∷ deep ∷ steps ∷ names ∷ []) = wrap_with file (number_of heap) (number_of deep) (number_of steps) names None
+wrap_line_of (file ∷ heap ∷ deep ∷ steps ∷ names ∷ []) =
+    wrap_with file (number_of heap) (number_of deep) (number_of steps) names None
 wrap_line_of (file ∷ heap ∷ deep ∷ steps ∷ names ∷ input ∷ []) =
     wrap_with file (number_of heap) (number_of deep) (number_of steps) names (Some input)
 wrap_line_of _ = None
@@ -94,17 +111,22 @@ explain_with file (Some heap) (Some deep) (Some fuel) input = Some (Explain file
 explain_with file _ _ _ input = None
 
 abbrev pub explain_line_of : List (List ℕ) → Option Asked
-explain_line_of (file ∷ heap ∷ deep ∷ fuel ∷ []) = explain_with file (number_of heap) (number_of deep) (number_of fuel) None
-explain_line_of (file ∷ heap ∷ deep ∷ fuel ∷ input ∷ []) = explain_with file (number_of heap) (number_of deep) (number_of fuel) (Some input)
+explain_line_of (file ∷ heap ∷ deep ∷ fuel ∷ []) =
+    explain_with file (number_of heap) (number_of deep) (number_of fuel) None
+explain_line_of (file ∷ heap ∷ deep ∷ fuel ∷ input ∷ []) =
+    explain_with file (number_of heap) (number_of deep) (number_of fuel) (Some input)
 explain_line_of _ = None
 
 -- an image, an order of the heap, a depth, a number of steps, and the files of two states, if there are such
-abbrev pub run_with : List ℕ → Option ℕ → Option ℕ → Option ℕ → (state save : Option (List ℕ)) → Option Asked
-run_with image (Some heap) (Some deep) (Some steps) state save = Some (RunImage image heap deep steps state save)
+abbrev pub run_with : List ℕ → Option ℕ → Option ℕ → Option ℕ → (state save : Option (List ℕ))
+    → Option Asked
+run_with image (Some heap) (Some deep) (Some steps) state save =
+    Some (RunImage image heap deep steps state save)
 run_with image _ _ _ state save = None
 
 abbrev pub run_line_of : List (List ℕ) → Option Asked
-run_line_of (image ∷ heap ∷ deep ∷ steps ∷ []) = run_with image (number_of heap) (number_of deep) (number_of steps) None None
+run_line_of (image ∷ heap ∷ deep ∷ steps ∷ []) =
+    run_with image (number_of heap) (number_of deep) (number_of steps) None None
 run_line_of (image ∷ heap ∷ deep ∷ steps ∷ state ∷ save ∷ []) =
     run_with image (number_of heap) (number_of deep) (number_of steps) (state_named state) (Some save)
 run_line_of _ = None
@@ -130,7 +152,8 @@ common_of (Some n) = if nat_lt 0 n && nat_le n 65536 then Some n else None
 
 -- a script, a number of cells, and images, of which there are one to eight
 abbrev pub cluster_with : List ℕ → Option ℕ → List (List ℕ) → Option Asked
-cluster_with script (Some cells) images = if nat_lt 0 (length images) && nat_le (length images) 8 then Some (Cluster script cells images) else None
+cluster_with script (Some cells) images = if nat_lt 0 (length images) && nat_le (length images) 8
+    then Some (Cluster script cells images) else None
 cluster_with script None images = None
 
 abbrev pub cluster_line_of : List (List ℕ) → Option Asked
@@ -143,7 +166,8 @@ debug_with image (Some heap) (Some deep) script = Some (Debug image heap deep sc
 debug_with image _ _ script = None
 
 abbrev pub debug_line_of : List (List ℕ) → Option Asked
-debug_line_of (image ∷ heap ∷ deep ∷ script ∷ []) = debug_with image (number_of heap) (number_of deep) script
+debug_line_of (image ∷ heap ∷ deep ∷ script ∷ []) =
+    debug_with image (number_of heap) (number_of deep) script
 debug_line_of _ = None
 
 -- a program, an order of the heap, a depth, the file of a script, and that of an input, if there is one
@@ -152,8 +176,10 @@ trace_with file (Some heap) (Some deep) script input = Some (Trace file heap dee
 trace_with file _ _ script input = None
 
 abbrev pub trace_line_of : List (List ℕ) → Option Asked
-trace_line_of (file ∷ heap ∷ deep ∷ script ∷ []) = trace_with file (number_of heap) (number_of deep) script None
-trace_line_of (file ∷ heap ∷ deep ∷ script ∷ input ∷ []) = trace_with file (number_of heap) (number_of deep) script (Some input)
+trace_line_of (file ∷ heap ∷ deep ∷ script ∷ []) =
+    trace_with file (number_of heap) (number_of deep) script None
+trace_line_of (file ∷ heap ∷ deep ∷ script ∷ input ∷ []) =
+    trace_with file (number_of heap) (number_of deep) script (Some input)
 trace_line_of _ = None
 
 abbrev pub check_line_of : List (List ℕ) → Option Asked
@@ -201,12 +227,17 @@ HasShortNumbers (ListImage image text) = Unit {0}
 HasShortNumbers (Flip image flipped) = Unit {0}
 HasShortNumbers (ShowInverse file out) = Unit {0}
 HasShortNumbers (Generate seed size out) = Unit {0}
-HasShortNumbers (Cluster script cells images) = (1 ≤ length images) × (length images ≤ 8) × (1 ≤ cells) × (cells ≤ 65536)
-HasShortNumbers (RunImage image heap deep steps state save) = (heap < 10 ^ 18) × (deep < 10 ^ 18) × (steps < 10 ^ 18)
+HasShortNumbers (Cluster script cells images) = (1 ≤ length images) × (length images ≤ 8)
+    × (1 ≤ cells) × (cells ≤ 65536)
+HasShortNumbers (RunImage image heap deep steps state save) = (heap < 10 ^ 18) × (deep < 10 ^ 18)
+    × (steps < 10 ^ 18)
 HasShortNumbers (Debug image heap deep script) = (heap < 10 ^ 18) × (deep < 10 ^ 18)
 HasShortNumbers (Trace file heap deep script input) = (heap < 10 ^ 18) × (deep < 10 ^ 18)
 HasShortNumbers (Go file heap deep steps input) = (heap < 10 ^ 18) × (deep < 10 ^ 18) × (steps < 10 ^ 18)
-HasShortNumbers (Turn file heap deep steps input) = (heap < 10 ^ 18) × (deep < 10 ^ 18) × (steps < 10 ^ 18)
+HasShortNumbers (Turn file heap deep steps input) = (heap < 10 ^ 18) × (deep < 10 ^ 18)
+    × (steps < 10 ^ 18)
 HasShortNumbers (Profile file heap deep steps) = (heap < 10 ^ 18) × (deep < 10 ^ 18) × (steps < 10 ^ 18)
-HasShortNumbers (Wrap file heap deep steps names input) = (heap < 10 ^ 18) × (deep < 10 ^ 18) × (steps < 10 ^ 18)
-HasShortNumbers (Explain file heap deep fuel input) = (heap < 10 ^ 18) × (deep < 10 ^ 18) × (fuel < 10 ^ 18)
+HasShortNumbers (Wrap file heap deep steps names input) = (heap < 10 ^ 18) × (deep < 10 ^ 18)
+    × (steps < 10 ^ 18)
+HasShortNumbers (Explain file heap deep fuel input) = (heap < 10 ^ 18) × (deep < 10 ^ 18)
+    × (fuel < 10 ^ 18)

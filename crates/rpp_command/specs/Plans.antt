@@ -24,7 +24,8 @@ IsPlan (Flip image flipped) before after = FlipsFile image flipped
 IsPlan (ShowInverse file out) before after = ShowsInverse file out
 IsPlan (Generate seed size out) before after = Generates seed size out
 IsPlan (Cluster script cells images) before after = ClustersFiles script cells images
-IsPlan (RunImage image heap deep steps state save) before after = RunsFile image heap deep steps state save
+IsPlan (RunImage image heap deep steps state save) before after =
+    RunsFile image heap deep steps state save
 IsPlan (Debug image heap deep script) before after = DebugsFile image heap deep script
 IsPlan (Trace file heap deep script input) before after = Traces file script input heap deep
 IsPlan (Go file heap deep steps input) before after = GoesOn file input heap deep steps

@@ -59,10 +59,10 @@ fn several_processors(rt: HostRuntime) -> Result<(), Fail> {
         ];
         let mut shelf = shelf_of(rt.alloc(), &files, &[])?;
         for assembled in ["asm T A", "asm U B"] {
-            let (code, _) = answer_on(rt.alloc(), &mut shelf, assembled, &[])?;
+            let (code, _) = answer_on(rt.alloc(), &mut shelf, assembled)?;
             assert_eq!(rt; code, 0, "{assembled}");
         }
-        let (code, told) = answer_on(rt.alloc(), &mut shelf, words, &[])?;
+        let (code, told) = answer_on(rt.alloc(), &mut shelf, words)?;
         assert_eq!(rt; code, status, "{words} {script}");
         assert_eq!(rt; told.as_slice(), said.as_bytes(), "{words} {script}");
     }

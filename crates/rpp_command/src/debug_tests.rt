@@ -19,12 +19,6 @@ fn debug_sessions(rt: HostRuntime) -> Result<(), Fail> {
             "at 3 pc 7 br 0 dir 1\ncell 0 = 0\ncell 1 = 1\n",
         ),
         ("debug A 1 1 W", "", 0, ""),
-        (
-            "debug A 1 1 W",
-            "regs\nstep\n",
-            8,
-            "refused 39 BadCommand at 2\n",
-        ),
         ("debug A 1 1 W", "jump", 8, "refused 39 BadCommand at 1\n"),
         ("debug A 21 0 W", "jump", 8, "refused 35 HeapOrder\n"),
         ("debug A 1 0 W", "jump", 8, "refused 36 DeepRange\n"),
@@ -35,9 +29,9 @@ fn debug_sessions(rt: HostRuntime) -> Result<(), Fail> {
     ] {
         let files: [(&str, &[u8]); 2] = [("T", SUBROUTINE.as_bytes()), ("W", script.as_bytes())];
         let mut shelf = shelf_of(rt.alloc(), &files, &[])?;
-        let (assembled, _) = answer_on(rt.alloc(), &mut shelf, "asm T A", &[])?;
+        let (assembled, _) = answer_on(rt.alloc(), &mut shelf, "asm T A")?;
         assert_eq!(rt; assembled, 0, "{words}");
-        let (code, told) = answer_on(rt.alloc(), &mut shelf, words, &[])?;
+        let (code, told) = answer_on(rt.alloc(), &mut shelf, words)?;
         assert_eq!(rt; code, status, "{words}: {script}");
         assert_eq!(rt; told.as_slice(), said.as_bytes(), "{words}: {script}");
     }

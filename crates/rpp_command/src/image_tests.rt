@@ -38,13 +38,12 @@ pub fn answer_on(
     alloc: Global,
     shelf: &mut MemoryShelf,
     words: &str,
-    failing_puts: &[u64],
 ) -> Result<(u8, Vec<u8>), AllocError> {
     let mut owned = Vec::new(alloc);
     for word in words.split(' ') {
         owned.push(String::from_str(alloc, word)?)?;
     }
-    let mut out = MemorySink::new(alloc, failing_puts.to_vec(alloc)?);
+    let mut out = MemorySink::new(alloc, Vec::new(alloc));
     let mut probes: Vec<Box<dyn Probe>> = Vec::new(alloc);
     let status = rooplpp(alloc, &owned, shelf, &mut out, &mut probes);
     Ok((status, out.bytes().to_vec(alloc)?))
@@ -74,7 +73,7 @@ fn from_file_to_file(rt: HostRuntime) -> Result<(), Fail> {
         ("asm U S", "assembled 2 cells\n"),
         ("list S V", "listed 2 cells\n"),
     ] {
-        let (status, said) = answer_on(rt.alloc(), &mut shelf, words, &[])?;
+        let (status, said) = answer_on(rt.alloc(), &mut shelf, words)?;
         assert_eq!(rt; status, 0, "{words}");
         assert_eq!(rt; said.as_slice(), text.as_bytes(), "{words}");
     }
@@ -97,7 +96,7 @@ fn from_source_to_listing(rt: HostRuntime) -> Result<(), Fail> {
         ("list I L", "listed "),
         ("asm L M", "assembled "),
     ] {
-        let (status, said) = answer_on(rt.alloc(), &mut shelf, words, &[])?;
+        let (status, said) = answer_on(rt.alloc(), &mut shelf, words)?;
         assert_eq!(rt; status, 0, "{words}");
         assert!(rt; said.as_slice().starts_with(text.as_bytes()), "{words}");
         assert!(rt; said.as_slice().ends_with(b" cells\n"), "{words}");
@@ -122,7 +121,7 @@ fn the_version_before_is_read(rt: HostRuntime) -> Result<(), Fail> {
         ("list I T", "listed 2 cells\n"),
         ("asm T J", "assembled 2 cells\n"),
     ] {
-        let (status, said) = answer_on(rt.alloc(), &mut shelf, words, &[])?;
+        let (status, said) = answer_on(rt.alloc(), &mut shelf, words)?;
         assert_eq!(rt; status, 0, "{words}");
         assert_eq!(rt; said.as_slice(), text.as_bytes(), "{words}");
     }
@@ -156,7 +155,7 @@ fn notes_of_images(rt: HostRuntime) -> Result<(), Fail> {
         ),
         ("asm U K", 4, "refused 43 BadNote at 5\n"),
     ] {
-        let (answer, said) = answer_on(rt.alloc(), &mut shelf, words, &[])?;
+        let (answer, said) = answer_on(rt.alloc(), &mut shelf, words)?;
         assert_eq!(rt; answer, status, "{words}");
         assert_eq!(rt; said.as_slice(), text.as_bytes(), "{words}");
     }
@@ -212,56 +211,10 @@ fn refused_texts(rt: HostRuntime) -> Result<(), Fail> {
         ("flip F O P", "", 1, "words refused\n"),
     ] {
         let mut shelf = shelf_of(rt.alloc(), &[("F", text.as_bytes())], &[])?;
-        let (code, said) = answer_on(rt.alloc(), &mut shelf, words, &[])?;
+        let (code, said) = answer_on(rt.alloc(), &mut shelf, words)?;
         assert_eq!(rt; code, status, "{words} on {text}");
         assert_eq!(rt; said.as_slice(), line.as_bytes(), "{words} on {text}");
         assert!(rt; shelf.text("O") == None);
-    }
-    Ok(())
-}
-
-#[test]
-fn refused_images(rt: HostRuntime) -> Result<(), Fail> {
-    for (len, at, byte, line) in [
-        (0, 40, 0, "refused 31 ImageTruncated at 0\n"),
-        (15, 40, 0, "refused 31 ImageTruncated at 15\n"),
-        (31, 40, 0, "refused 31 ImageTruncated at 31\n"),
-        (39, 40, 0, "refused 31 ImageTruncated at 39\n"),
-        (41, 40, 0, "refused 34 ImageTrailing at 40\n"),
-        (40, 0, 0, "refused 32 ImageMagic at 0\n"),
-        (40, 4, 9, "refused 33 ImageField at 4\n"),
-        (40, 8, 1, "refused 33 ImageField at 8\n"),
-        (40, 16, 36, "refused 33 ImageField at 16\n"),
-        (40, 24, 33, "refused 29 NoStart\n"),
-        (40, 16, 34, "refused 29 NoStart\n"),
-        (40, 35, 1, "refused 33 ImageField at 32\n"),
-    ] {
-        let mut bytes = smallest(rt.alloc(), at, byte)?;
-        bytes.resize(len, 0)?;
-        let mut shelf = shelf_of(rt.alloc(), &[("I", bytes.as_slice())], &[])?;
-        for words in ["list I O", "flip I O"] {
-            let (status, said) = answer_on(rt.alloc(), &mut shelf, words, &[])?;
-            assert_eq!(rt; status, 4, "{words}: {line}");
-            assert_eq!(rt; said.as_slice(), line.as_bytes(), "{words}: {line}");
-            assert!(rt; shelf.text("O") == None);
-        }
-    }
-    Ok(())
-}
-
-#[test]
-fn failing_calls_of_compile(rt: HostRuntime) -> Result<(), Fail> {
-    let calls: [(&[u64], &[u64], &str, bool); 3] = [
-        (&[1], &[], "cannot read F: failed\n", false),
-        (&[2], &[], "cannot write I: failed\n", false),
-        (&[], &[1], "", true),
-    ];
-    for (failing, failing_puts, line, is_written) in calls {
-        let mut shelf = shelf_of(rt.alloc(), &[("F", FIRST.as_bytes())], failing)?;
-        let (status, said) = answer_on(rt.alloc(), &mut shelf, "compile F I", failing_puts)?;
-        assert_eq!(rt; status, 2);
-        assert_eq!(rt; said.as_slice(), line.as_bytes());
-        assert!(rt; shelf.text("I").is_some() == is_written);
     }
     Ok(())
 }
@@ -273,7 +226,7 @@ fn one_static_word_too_many(rt: HostRuntime) -> Result<(), Fail> {
         text.push_str("STATIC 1\n")?;
     }
     let mut shelf = shelf_of(rt.alloc(), &[("T", text.as_bytes())], &[])?;
-    let (status, said) = answer_on(rt.alloc(), &mut shelf, "asm T I", &[])?;
+    let (status, said) = answer_on(rt.alloc(), &mut shelf, "asm T I")?;
     assert_eq!(rt; status, 4);
     assert_eq!(rt;
         said.as_slice(),

@@ -144,7 +144,8 @@ pub fn read_words(alloc: Global, words: &[String]) -> Result<Option<Line>, NoMem
 // The line of a command on sources.
 #[tactic(auto, unfolding(crate::specs::Lines::source_line_of))]
 fn source_line(name: &str, args: &[String]) -> Result<Option<Line>, NoMemory>
-    ensures line { IfOk result (λ line. option_map asked line ≡ source_line_of name.now (map string_bytes args.now)) }
+    ensures line { IfOk result (λ line. option_map asked line
+        ≡ source_line_of name.now (map string_bytes args.now)) }
     ensures numbers { IfOk result (λ line. IfSome line (λ line. HasShortNumbers (asked line))) }
 {
     match name {
@@ -163,7 +164,8 @@ fn source_line(name: &str, args: &[String]) -> Result<Option<Line>, NoMemory>
 }
 
 fn check_line(args: &[String]) -> Result<Option<Line>, NoMemory>
-    ensures line { IfOk result (λ line. option_map asked line ≡ check_line_of (map string_bytes args.now)) }
+    ensures line { IfOk result (λ line. option_map asked line
+        ≡ check_line_of (map string_bytes args.now)) }
     ensures numbers { IfOk result (λ line. IfSome line (λ line. HasShortNumbers (asked line))) }
 {
     let [file] = args else {
@@ -175,7 +177,8 @@ fn check_line(args: &[String]) -> Result<Option<Line>, NoMemory>
 }
 
 fn compile_line(args: &[String]) -> Result<Option<Line>, NoMemory>
-    ensures line { IfOk result (λ line. option_map asked line ≡ files_line_of Compile (map string_bytes args.now)) }
+    ensures line { IfOk result (λ line. option_map asked line
+        ≡ files_line_of Compile (map string_bytes args.now)) }
     ensures numbers { IfOk result (λ line. IfSome line (λ line. HasShortNumbers (asked line))) }
 {
     let [file, image] = args else {
@@ -188,7 +191,8 @@ fn compile_line(args: &[String]) -> Result<Option<Line>, NoMemory>
 }
 
 fn asm_line(args: &[String]) -> Result<Option<Line>, NoMemory>
-    ensures line { IfOk result (λ line. option_map asked line ≡ files_line_of Asm (map string_bytes args.now)) }
+    ensures line { IfOk result (λ line. option_map asked line
+        ≡ files_line_of Asm (map string_bytes args.now)) }
     ensures numbers { IfOk result (λ line. IfSome line (λ line. HasShortNumbers (asked line))) }
 {
     let [text, image] = args else {
@@ -201,7 +205,8 @@ fn asm_line(args: &[String]) -> Result<Option<Line>, NoMemory>
 }
 
 fn list_line(args: &[String]) -> Result<Option<Line>, NoMemory>
-    ensures line { IfOk result (λ line. option_map asked line ≡ files_line_of ListImage (map string_bytes args.now)) }
+    ensures line { IfOk result (λ line. option_map asked line
+        ≡ files_line_of ListImage (map string_bytes args.now)) }
     ensures numbers { IfOk result (λ line. IfSome line (λ line. HasShortNumbers (asked line))) }
 {
     let [image, text] = args else {
@@ -214,7 +219,8 @@ fn list_line(args: &[String]) -> Result<Option<Line>, NoMemory>
 }
 
 fn flip_line(args: &[String]) -> Result<Option<Line>, NoMemory>
-    ensures line { IfOk result (λ line. option_map asked line ≡ files_line_of Flip (map string_bytes args.now)) }
+    ensures line { IfOk result (λ line. option_map asked line
+        ≡ files_line_of Flip (map string_bytes args.now)) }
     ensures numbers { IfOk result (λ line. IfSome line (λ line. HasShortNumbers (asked line))) }
 {
     let [image, flipped] = args else {
@@ -227,7 +233,8 @@ fn flip_line(args: &[String]) -> Result<Option<Line>, NoMemory>
 }
 
 fn show_inverse_line(args: &[String]) -> Result<Option<Line>, NoMemory>
-    ensures line { IfOk result (λ line. option_map asked line ≡ files_line_of ShowInverse (map string_bytes args.now)) }
+    ensures line { IfOk result (λ line. option_map asked line
+        ≡ files_line_of ShowInverse (map string_bytes args.now)) }
     ensures numbers { IfOk result (λ line. IfSome line (λ line. HasShortNumbers (asked line))) }
 {
     let [file, out] = args else {
@@ -240,7 +247,8 @@ fn show_inverse_line(args: &[String]) -> Result<Option<Line>, NoMemory>
 }
 
 fn generate_line(args: &[String]) -> Result<Option<Line>, NoMemory>
-    ensures line { IfOk result (λ line. option_map asked line ≡ generate_line_of (map string_bytes args.now)) }
+    ensures line { IfOk result (λ line. option_map asked line
+        ≡ generate_line_of (map string_bytes args.now)) }
     ensures numbers { IfOk result (λ line. IfSome line (λ line. HasShortNumbers (asked line))) }
 {
     match args {
@@ -250,7 +258,9 @@ fn generate_line(args: &[String]) -> Result<Option<Line>, NoMemory>
 }
 
 fn generate_with(seed: &String, size: &String, out: &String) -> Result<Option<Line>, NoMemory>
-    ensures line { IfOk result (λ line. option_map asked line ≡ generate_asked (number_of (string_bytes seed.now)) (items_of (number_of (string_bytes size.now))) (string_bytes out.now)) }
+    ensures line { IfOk result (λ line. option_map asked line
+        ≡ generate_asked (number_of (string_bytes seed.now))
+        (items_of (number_of (string_bytes size.now))) (string_bytes out.now)) }
     ensures numbers { IfOk result (λ line. IfSome line (λ line. HasShortNumbers (asked line))) }
 {
     let Some(seed) = read_number(seed.as_str()) else {
@@ -267,7 +277,8 @@ fn generate_with(seed: &String, size: &String, out: &String) -> Result<Option<Li
 }
 
 fn cluster_line(alloc: Global, args: &[String]) -> Result<Option<Line>, NoMemory>
-    ensures line { IfOk result (λ line. option_map asked line ≡ cluster_line_of (map string_bytes args.now)) }
+    ensures line { IfOk result (λ line. option_map asked line
+        ≡ cluster_line_of (map string_bytes args.now)) }
     ensures numbers { IfOk result (λ line. IfSome line (λ line. HasShortNumbers (asked line))) }
 {
     let [script, cells, images @ ..] = args else {
@@ -282,7 +293,9 @@ fn cluster_with(
     cells: &String,
     images: &[String],
 ) -> Result<Option<Line>, NoMemory>
-    ensures line { IfOk result (λ line. option_map asked line ≡ cluster_asked (string_bytes script.now) (common_of (number_of (string_bytes cells.now))) (map string_bytes images.now)) }
+    ensures line { IfOk result (λ line. option_map asked line
+        ≡ cluster_asked (string_bytes script.now) (common_of (number_of (string_bytes cells.now)))
+        (map string_bytes images.now)) }
     ensures numbers { IfOk result (λ line. IfSome line (λ line. HasShortNumbers (asked line))) }
 {
     let Some(cells) = read_common(cells.as_str()) else {
@@ -333,7 +346,10 @@ fn run_with(
     steps: &String,
     states: Option<StateNames>,
 ) -> Result<Option<Line>, NoMemory>
-    ensures line { IfOk result (λ line. option_map asked line ≡ run_asked (string_bytes image.now) (number_of (string_bytes heap.now)) (number_of (string_bytes deep.now)) (number_of (string_bytes steps.now)) (state_of_names states) (save_of_names states)) }
+    ensures line { IfOk result (λ line. option_map asked line
+        ≡ run_asked (string_bytes image.now) (number_of (string_bytes heap.now))
+        (number_of (string_bytes deep.now)) (number_of (string_bytes steps.now))
+        (state_of_names states) (save_of_names states)) }
     ensures numbers { IfOk result (λ line. IfSome line (λ line. HasShortNumbers (asked line))) }
 {
     let Some(heap) = read_number(heap.as_str()) else {
@@ -355,7 +371,8 @@ fn run_with(
 }
 
 fn debug_line(args: &[String]) -> Result<Option<Line>, NoMemory>
-    ensures line { IfOk result (λ line. option_map asked line ≡ debug_line_of (map string_bytes args.now)) }
+    ensures line { IfOk result (λ line. option_map asked line
+        ≡ debug_line_of (map string_bytes args.now)) }
     ensures numbers { IfOk result (λ line. IfSome line (λ line. HasShortNumbers (asked line))) }
 {
     match args {
@@ -370,7 +387,9 @@ fn debug_with(
     deep: &String,
     script: &String,
 ) -> Result<Option<Line>, NoMemory>
-    ensures line { IfOk result (λ line. option_map asked line ≡ debug_asked (string_bytes image.now) (number_of (string_bytes heap.now)) (number_of (string_bytes deep.now)) (string_bytes script.now)) }
+    ensures line { IfOk result (λ line. option_map asked line
+        ≡ debug_asked (string_bytes image.now) (number_of (string_bytes heap.now))
+        (number_of (string_bytes deep.now)) (string_bytes script.now)) }
     ensures numbers { IfOk result (λ line. IfSome line (λ line. HasShortNumbers (asked line))) }
 {
     let Some(heap) = read_number(heap.as_str()) else {
@@ -388,7 +407,8 @@ fn debug_with(
 }
 
 fn go_line(args: &[String], turns: bool) -> Result<Option<Line>, NoMemory>
-    ensures line { IfOk result (λ line. option_map asked line ≡ go_line_of turns (map string_bytes args.now)) }
+    ensures line { IfOk result (λ line. option_map asked line
+        ≡ go_line_of turns (map string_bytes args.now)) }
     ensures numbers { IfOk result (λ line. IfSome line (λ line. HasShortNumbers (asked line))) }
 {
     match args {
@@ -408,7 +428,10 @@ fn go_with(
     steps: &String,
     input: Option<String>,
 ) -> Result<Option<Line>, NoMemory>
-    ensures line { IfOk result (λ line. option_map asked line ≡ go_asked turns (string_bytes file.now) (number_of (string_bytes heap.now)) (number_of (string_bytes deep.now)) (number_of (string_bytes steps.now)) (option_map string_bytes input)) }
+    ensures line { IfOk result (λ line. option_map asked line
+        ≡ go_asked turns (string_bytes file.now) (number_of (string_bytes heap.now))
+        (number_of (string_bytes deep.now)) (number_of (string_bytes steps.now))
+        (option_map string_bytes input)) }
     ensures numbers { IfOk result (λ line. IfSome line (λ line. HasShortNumbers (asked line))) }
 {
     let Some(heap) = read_number(heap.as_str()) else {
@@ -440,7 +463,8 @@ fn go_with(
 }
 
 fn profile_line(args: &[String]) -> Result<Option<Line>, NoMemory>
-    ensures line { IfOk result (λ line. option_map asked line ≡ profile_line_of (map string_bytes args.now)) }
+    ensures line { IfOk result (λ line. option_map asked line
+        ≡ profile_line_of (map string_bytes args.now)) }
     ensures numbers { IfOk result (λ line. IfSome line (λ line. HasShortNumbers (asked line))) }
 {
     match args {
@@ -455,7 +479,9 @@ fn profile_with(
     deep: &String,
     steps: &String,
 ) -> Result<Option<Line>, NoMemory>
-    ensures line { IfOk result (λ line. option_map asked line ≡ profile_asked (string_bytes file.now) (number_of (string_bytes heap.now)) (number_of (string_bytes deep.now)) (number_of (string_bytes steps.now))) }
+    ensures line { IfOk result (λ line. option_map asked line
+        ≡ profile_asked (string_bytes file.now) (number_of (string_bytes heap.now))
+        (number_of (string_bytes deep.now)) (number_of (string_bytes steps.now))) }
     ensures numbers { IfOk result (λ line. IfSome line (λ line. HasShortNumbers (asked line))) }
 {
     let Some(heap) = read_number(heap.as_str()) else {
@@ -476,7 +502,8 @@ fn profile_with(
 }
 
 fn wrap_line(args: &[String]) -> Result<Option<Line>, NoMemory>
-    ensures line { IfOk result (λ line. option_map asked line ≡ wrap_line_of (map string_bytes args.now)) }
+    ensures line { IfOk result (λ line. option_map asked line
+        ≡ wrap_line_of (map string_bytes args.now)) }
     ensures numbers { IfOk result (λ line. IfSome line (λ line. HasShortNumbers (asked line))) }
 {
     match args {
@@ -511,7 +538,10 @@ fn wrap_with(
     steps: &String,
     wanted: Wanted,
 ) -> Result<Option<Line>, NoMemory>
-    ensures line { IfOk result (λ line. option_map asked line ≡ wrap_asked (string_bytes file.now) (number_of (string_bytes heap.now)) (number_of (string_bytes deep.now)) (number_of (string_bytes steps.now)) (string_bytes wanted.names) (option_map string_bytes wanted.input)) }
+    ensures line { IfOk result (λ line. option_map asked line
+        ≡ wrap_asked (string_bytes file.now) (number_of (string_bytes heap.now))
+        (number_of (string_bytes deep.now)) (number_of (string_bytes steps.now))
+        (string_bytes wanted.names) (option_map string_bytes wanted.input)) }
     ensures numbers { IfOk result (λ line. IfSome line (λ line. HasShortNumbers (asked line))) }
 {
     let Some(heap) = read_number(heap.as_str()) else {
@@ -533,7 +563,8 @@ fn wrap_with(
 }
 
 fn explain_line(args: &[String]) -> Result<Option<Line>, NoMemory>
-    ensures line { IfOk result (λ line. option_map asked line ≡ explain_line_of (map string_bytes args.now)) }
+    ensures line { IfOk result (λ line. option_map asked line
+        ≡ explain_line_of (map string_bytes args.now)) }
     ensures numbers { IfOk result (λ line. IfSome line (λ line. HasShortNumbers (asked line))) }
 {
     match args {
@@ -552,7 +583,10 @@ fn explain_with(
     fuel: &String,
     input: Option<String>,
 ) -> Result<Option<Line>, NoMemory>
-    ensures line { IfOk result (λ line. option_map asked line ≡ explain_asked (string_bytes file.now) (number_of (string_bytes heap.now)) (number_of (string_bytes deep.now)) (number_of (string_bytes fuel.now)) (option_map string_bytes input)) }
+    ensures line { IfOk result (λ line. option_map asked line
+        ≡ explain_asked (string_bytes file.now) (number_of (string_bytes heap.now))
+        (number_of (string_bytes deep.now)) (number_of (string_bytes fuel.now))
+        (option_map string_bytes input)) }
     ensures numbers { IfOk result (λ line. IfSome line (λ line. HasShortNumbers (asked line))) }
 {
     let Some(heap) = read_number(heap.as_str()) else {
@@ -574,7 +608,8 @@ fn explain_with(
 }
 
 fn trace_line(args: &[String]) -> Result<Option<Line>, NoMemory>
-    ensures line { IfOk result (λ line. option_map asked line ≡ trace_line_of (map string_bytes args.now)) }
+    ensures line { IfOk result (λ line. option_map asked line
+        ≡ trace_line_of (map string_bytes args.now)) }
     ensures numbers { IfOk result (λ line. IfSome line (λ line. HasShortNumbers (asked line))) }
 {
     match args {
@@ -593,7 +628,10 @@ fn trace_with(
     script: &String,
     input: Option<String>,
 ) -> Result<Option<Line>, NoMemory>
-    ensures line { IfOk result (λ line. option_map asked line ≡ trace_asked (string_bytes file.now) (number_of (string_bytes heap.now)) (number_of (string_bytes deep.now)) (string_bytes script.now) (option_map string_bytes input)) }
+    ensures line { IfOk result (λ line. option_map asked line
+        ≡ trace_asked (string_bytes file.now) (number_of (string_bytes heap.now))
+        (number_of (string_bytes deep.now)) (string_bytes script.now)
+        (option_map string_bytes input)) }
     ensures numbers { IfOk result (λ line. IfSome line (λ line. HasShortNumbers (asked line))) }
 {
     let Some(heap) = read_number(heap.as_str()) else {

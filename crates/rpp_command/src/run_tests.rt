@@ -42,18 +42,6 @@ fn ends_of_runs(rt: HostRuntime) -> Result<(), Fail> {
             "fault 1 Fi\nsteps 2\npc 1\nbr 0\ndir 1\n",
         ),
         (
-            "START\nBRA +5\nFINISH\n",
-            "run I 1 1 1000",
-            9,
-            "off code 6\nsteps 2\npc 6\nbr 5\ndir 1\n",
-        ),
-        (
-            "START\nBRA -1\nFINISH\n",
-            "run I 1 1 1000",
-            9,
-            "off code -1\nsteps 3\npc -1\nbr -1\ndir 1\n",
-        ),
-        (
             "START\nFINISH\n",
             "run I 21 1 5",
             8,
@@ -92,9 +80,9 @@ fn ends_of_runs(rt: HostRuntime) -> Result<(), Fail> {
         ("START\nFINISH\n", "run I 1 1 5 -", 1, "words refused\n"),
     ] {
         let mut shelf = shelf_of(rt.alloc(), &[("T", text.as_bytes())], &[])?;
-        let (assembled, _) = answer_on(rt.alloc(), &mut shelf, "asm T I", &[])?;
+        let (assembled, _) = answer_on(rt.alloc(), &mut shelf, "asm T I")?;
         assert_eq!(rt; assembled, 0, "{text}");
-        let (code, told) = answer_on(rt.alloc(), &mut shelf, words, &[])?;
+        let (code, told) = answer_on(rt.alloc(), &mut shelf, words)?;
         assert_eq!(rt; code, status, "{words} on {text}");
         assert_eq!(rt; told.as_slice(), said.as_bytes(), "{words} on {text}");
         assert!(rt; shelf.text("S") == None);
@@ -121,7 +109,7 @@ fn there_and_back(rt: HostRuntime) -> Result<(), Fail> {
             "finished\nsteps 26\npc 9\nbr 0\ndir 1\n",
         ),
     ] {
-        let (code, said) = answer_on(rt.alloc(), &mut shelf, words, &[])?;
+        let (code, said) = answer_on(rt.alloc(), &mut shelf, words)?;
         assert_eq!(rt; code, status, "{words}");
         assert_eq!(rt; said.as_slice(), text.as_bytes(), "{words}");
     }
@@ -154,20 +142,13 @@ fn compiled_there_and_back(rt: HostRuntime) -> Result<(), Fail> {
             "finished\nsteps ",
             "\nbr 0\ndir 1\nx = 0\n",
         ),
-        (
-            "run I 2 1 1000000 E E3",
-            4,
-            "refused 38 ",
-            "BadState at 136\n",
-        ),
     ] {
-        let (code, said) = answer_on(rt.alloc(), &mut shelf, words, &[])?;
+        let (code, said) = answer_on(rt.alloc(), &mut shelf, words)?;
         assert_eq!(rt; code, status, "{words}");
         assert!(rt; said.as_slice().starts_with(front.as_bytes()), "{words}");
         assert!(rt; said.as_slice().ends_with(end.as_bytes()), "{words}");
     }
     assert!(rt; shelf.text("E2") == shelf.text("M"));
-    assert!(rt; shelf.text("E3") == None);
 
     // Of the loaded memory, the run has changed cell 42 to 5 and nothing else.
     let mut changed = Vec::new(rt.alloc());
@@ -190,9 +171,9 @@ fn failing_states(rt: HostRuntime) -> Result<(), Fail> {
     ];
     for (failing, words, line) in calls {
         let mut shelf = shelf_of(rt.alloc(), &[("T", b"START\nFINISH\n")], failing)?;
-        let (assembled, _) = answer_on(rt.alloc(), &mut shelf, "asm T I", &[])?;
+        let (assembled, _) = answer_on(rt.alloc(), &mut shelf, "asm T I")?;
         assert_eq!(rt; assembled, 0, "{line}");
-        let (status, said) = answer_on(rt.alloc(), &mut shelf, words, &[])?;
+        let (status, said) = answer_on(rt.alloc(), &mut shelf, words)?;
         assert_eq!(rt; status, 2, "{line}");
         assert_eq!(rt; said.as_slice(), line.as_bytes(), "{line}");
         assert!(rt; shelf.text("S") == None);

@@ -48,7 +48,7 @@ fn written_texts(rt: HostRuntime) -> Result<(), Fail> {
             ("U", b"class P int x method main() x += x"),
         ];
         let mut shelf = shelf_of(rt.alloc(), &files, &[])?;
-        let (code, told) = answer_on(rt.alloc(), &mut shelf, words, &[])?;
+        let (code, told) = answer_on(rt.alloc(), &mut shelf, words)?;
         assert_eq!(rt; code, status, "{words}");
         assert_eq!(rt; told.as_slice(), said.as_bytes(), "{words}");
         match shelf.text("O") {

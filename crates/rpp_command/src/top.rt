@@ -46,7 +46,9 @@ pub fn rooplpp<S: Shelf, K: Sink, P: Probes>(
         (Rose (S.faults shelf.old) (S.faults shelf.new) ⊎ Rose (K.faults out.old) (K.faults out.new)) }
 
     // Where a told map lacks a file that is to be read, nothing else comes but want of memory.
-    ensures lacking { IfSome (S.texts shelf.old) (λ texts. LacksOne texts (needed (line_of (map string_bytes words.now))) → result ≢ 7 → result ≡ 2) }
+    ensures lacking { IfSome (S.texts shelf.old)
+        (λ texts. LacksOne texts (needed (line_of (map string_bytes words.now))) → result ≢ 7
+        → result ≡ 2) }
 
     // What 2 and 7 leave.
     ensures fault { result ≡ 2 → IfSome (S.texts shelf.old) (λ texts.
@@ -59,7 +61,8 @@ pub fn rooplpp<S: Shelf, K: Sink, P: Probes>(
         (S.texts shelf.new) (K.written out.old) (K.written out.new) Broken.NoMemory) }
 
     // Whatever the status, each name keeps its text but the one that the line writes.
-    ensures kept { KeepsButTarget (S.texts shelf.old) (S.texts shelf.new) (target (line_of (map string_bytes words.now))) }
+    ensures kept { KeepsButTarget (S.texts shelf.old) (S.texts shelf.new)
+        (target (line_of (map string_bytes words.now))) }
     ensures later { S.faults shelf.old ≤ S.faults shelf.new }
     ensures later_sink { K.faults out.old ≤ K.faults out.new }
 
@@ -109,7 +112,8 @@ fn serve<S: Shelf, K: Sink, P: Probes, L: Ledger>(
         EndsEarly (Some (asked line.now)) (P.watches probes.old) (P.watches probes.new) texts
         (Rose (S.faults shelf.old) (S.faults shelf.new)) (Rose (K.faults out.old) (K.faults out.new)) (IsTrue (K.needs_memory out.old))
         (S.texts shelf.new) (K.written out.old) (K.written out.new) broken)) }
-    ensures whole { OnOk result (IfSome (S.texts shelf.old) (λ texts. ¬ LacksOne texts (files_of (asked line.now)))) }
+    ensures whole { OnOk result (IfSome (S.texts shelf.old)
+        (λ texts. ¬ LacksOne texts (files_of (asked line.now)))) }
     ensures kept { KeepsButTarget (S.texts shelf.old) (S.texts shelf.new) (target_of (asked line.now)) }
     ensures later { S.faults shelf.old ≤ S.faults shelf.new }
     ensures later_sink { K.faults out.old ≤ K.faults out.new }
@@ -140,8 +144,10 @@ fn plan_line<S: Shelf, P: Probes, L: Ledger>(
     counter: &mut Steps<L>,
 ) -> Result<Plan, NoPlan>
     requires { HasShortNumbers (asked line.now) }
-    ensures plan { GivesPlan (S.texts shelf.old) (IsPlan (asked line.now) (P.watches probes.old) (P.watches probes.new)) result }
-    ensures reads { OnlyReads (S.texts shelf.old) (S.texts shelf.new) (S.faults shelf.old) (S.faults shelf.new) (files_of (asked line.now)) result }
+    ensures plan { GivesPlan (S.texts shelf.old)
+        (IsPlan (asked line.now) (P.watches probes.old) (P.watches probes.new)) result }
+    ensures reads { OnlyReads (S.texts shelf.old) (S.texts shelf.new) (S.faults shelf.old)
+        (S.faults shelf.new) (files_of (asked line.now)) result }
     ensures untold { IfErr result (UnreadCause (P.watches probes.new ≡ P.watches probes.old)) }
     ensures probes { tells (asked line.now) ≡ false → probes.new ≡ probes.old }
 {

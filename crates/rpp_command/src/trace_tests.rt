@@ -70,7 +70,7 @@ fn trace_sessions(rt: HostRuntime) -> Result<(), Fail> {
         let mut shelf = shelf_of(rt.alloc(), &files, &[])?;
         let mut line = String::from_str(rt.alloc(), "trace F ")?;
         line.push_str(words)?;
-        let (code, told) = answer_on(rt.alloc(), &mut shelf, line.as_str(), &[])?;
+        let (code, told) = answer_on(rt.alloc(), &mut shelf, line.as_str())?;
         assert_eq!(rt; code, status, "{words}: {script}");
         assert_eq!(rt; told.as_slice(), said.as_bytes(), "{words}: {script}");
     }

@@ -41,7 +41,7 @@ fn turns(rt: HostRuntime) -> Result<(), Fail> {
     ] {
         let files: [(&str, &[u8]); 2] = [("F", source.as_bytes()), ("I", b"x = 37\n")];
         let mut shelf = shelf_of(rt.alloc(), &files, &[])?;
-        let (code, said) = answer_on(rt.alloc(), &mut shelf, words, &[])?;
+        let (code, said) = answer_on(rt.alloc(), &mut shelf, words)?;
         assert_eq!(rt; code, status, "{words}");
         assert!(rt; said.as_slice().starts_with(front.as_bytes()), "{words}");
         assert!(rt; said.as_slice().ends_with(end.as_bytes()), "{words}");

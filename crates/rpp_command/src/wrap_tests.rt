@@ -97,7 +97,7 @@ fn wraps(rt: HostRuntime) -> Result<(), Fail> {
         let mut shelf = shelf_of(rt.alloc(), &files, &[])?;
         let mut line = String::from_str(rt.alloc(), "wrap F ")?;
         line.push_str(words)?;
-        let (code, said) = answer_on(rt.alloc(), &mut shelf, line.as_str(), &[])?;
+        let (code, said) = answer_on(rt.alloc(), &mut shelf, line.as_str())?;
         assert_eq!(rt; code, status, "{words} on {source}");
         assert!(rt;
             said.as_slice().starts_with(text.as_bytes()),

@@ -46,7 +46,8 @@ state_files (Some name) = state_file name ∷ []
 -- one of the files is missing or too long
 abbrev pub LacksOne : Texts → List Needed → Type 0
 LacksOne texts [] = ⊥
-LacksOne texts (file ∷ files) = (IsMissing texts file.name ⊎ IsTooLong texts file.name file.limit) ⊎ LacksOne texts files
+LacksOne texts (file ∷ files) = (IsMissing texts file.name ⊎ IsTooLong texts file.name file.limit)
+    ⊎ LacksOne texts files
 
 -- the count rose, or a told map lacks one of the files
 abbrev pub Unreadable : Option Texts → List Needed → Type 0 → Type 0
@@ -74,7 +75,8 @@ pub record IsUnread (told : Option Texts) (file : Needed) (rose : Type 0) (line 
 abbrev pub FirstUnread : Option Texts → List Needed → Type 0 → List ℕ → Type 0
 FirstUnread told [] rose line = ⊥
 FirstUnread told (file ∷ files) rose line =
-    IsUnread told file rose line ⊎ (IfSome told (λ texts. ¬ LacksOne texts (file ∷ [])) × FirstUnread told files rose line)
+    IsUnread told file rose line ⊎ (IfSome told (λ texts. ¬ LacksOne texts (file ∷ []))
+    × FirstUnread told files rose line)
 
 abbrev pub UnreadLine : (List ℕ → Type 0) → NoPlan → Type 0
 UnreadLine P NoMemory = ⊤

@@ -34,7 +34,11 @@ abbrev pub written : Writing → Written
 written w = record { name = string_bytes w.name; bytes = w.bytes.items }
 
 abbrev pub planned : Plan → Planned
-planned p = record { verdict = p.verdict; text = string_bytes p.text; writing = option_map written p.writing }
+planned p = record {
+  verdict = p.verdict;
+  text = string_bytes p.text;
+  writing = option_map written p.writing;
+}
 
 -- a plan that prints a text and writes nothing
 abbrev pub prints : Verdict → List ℕ → Planned
@@ -42,7 +46,8 @@ prints verdict text = record { verdict = verdict; text = text; writing = None }
 
 -- a plan that writes a file, and prints a text
 abbrev pub writes : (name bytes text : List ℕ) → Planned
-writes name bytes text = record { verdict = Done; text = text; writing = Some (record { name = name; bytes = bytes }) }
+writes name bytes text =
+    record { verdict = Done; text = text; writing = Some (record { name = name; bytes = bytes }) }
 
 -- the name has a text of at most so many bytes, and P holds of it
 abbrev pub WithText : Texts → List ℕ → ℕ → (List ℕ → Type 0) → Type 0
@@ -63,5 +68,6 @@ abbrev pub WritesOnly : Planned → Option (List ℕ) → Type 0
 WritesOnly p name = (p.writing ≡ None) ⊎ (option_map (λ w. w.name) p.writing ≡ name)
 
 -- where there is a plan, and the shelf tells its texts, P holds of them
-abbrev pub GivesPlan : (told : Option Texts) → (P : Texts → Planned → Type 0) → Result Plan NoPlan → Type 0
+abbrev pub GivesPlan : (told : Option Texts) → (P : Texts → Planned → Type 0) → Result Plan NoPlan
+    → Type 0
 GivesPlan told P result = IfOk result (λ plan. IfSome told (λ texts. P texts (planned plan)))

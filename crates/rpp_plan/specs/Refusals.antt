@@ -38,4 +38,5 @@ refusal_name number =
 -- refused N NAME at P
 abbrev pub refused_line : Refusal → List ℕ
 refused_line r =
-    codes "refused " ++ (decimal r.number ++ (codes " " ++ (refusal_name r.number ++ (codes " at " ++ (decimal r.at ++ line_end)))))
+    codes "refused " ++ (decimal r.number
+    ++ (codes " " ++ (refusal_name r.number ++ (codes " at " ++ (decimal r.at ++ line_end)))))

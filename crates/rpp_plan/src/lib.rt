@@ -10,7 +10,7 @@ mod writing;
 pub use plan::{NoPlan, Plan, Sizes, Verdict, Writing};
 pub use reading::{
     Both, Given, Images, MOST_IMAGE, MOST_STATE, StateNames, read_both, read_file, read_given,
-    read_images,
+    read_images, read_input_file,
 };
 pub use texts::{
     asm_line, bad_command_line, fault_line, image_line, load_line, refuse_source, with_steps,

@@ -32,7 +32,8 @@ pub fn read_file<S: Shelf>(
     name: &str,
     limit: u64,
 ) -> Result<Vec<u8>, NoPlan>
-    ensures text { IfOk result (λ bytes. IfSome (S.texts shelf.old) (λ texts. WithText texts name.now limit (λ text. bytes.items ≡ text))) }
+    ensures text { IfOk result (λ bytes. IfSome (S.texts shelf.old)
+        (λ texts. WithText texts name.now limit (λ text. bytes.items ≡ text))) }
     ensures within { IfOk result (λ bytes. length bytes.items ≤ limit) }
     ensures reads { OnlyReads (S.texts shelf.old) (S.texts shelf.new) (S.faults shelf.old) (S.faults shelf.new)
         (record { name = name.now; limit = limit } ∷ []) result }
@@ -62,7 +63,10 @@ pub fn read_both<S: Shelf>(
     second: &str,
     most_second: u64,
 ) -> Result<Both, NoPlan>
-    ensures text { IfOk result (λ both. IfSome (S.texts shelf.old) (λ texts. WithText texts first.now most (λ text. WithText texts second.now most_second (λ other. (both.first.items ≡ text) × (both.second.items ≡ other))))) }
+    ensures text { IfOk result (λ both. IfSome (S.texts shelf.old)
+        (λ texts. WithText texts first.now most
+        (λ text. WithText texts second.now most_second (λ other. (both.first.items ≡ text)
+        × (both.second.items ≡ other))))) }
     ensures within { IfOk result (λ both. length both.first.items ≤ most) }
     ensures within_second { IfOk result (λ both. length both.second.items ≤ most_second) }
     ensures reads { OnlyReads (S.texts shelf.old) (S.texts shelf.new) (S.faults shelf.old) (S.faults shelf.new)
@@ -87,25 +91,33 @@ pub fn read_given<S: Shelf>(
     file: &str,
     input: &Option<String>,
 ) -> Result<Given, NoPlan>
-    ensures text { IfOk result (λ given. IfSome (S.texts shelf.old) (λ texts. WithText texts file.now MOST_BYTES (λ text. WithInput texts (option_map string_bytes input.now) (λ bytes. (given.text.items ≡ text) × (given.input.items ≡ bytes))))) }
+    ensures text { IfOk result (λ given. IfSome (S.texts shelf.old)
+        (λ texts. WithText texts file.now MOST_BYTES
+        (λ text. WithInput texts (option_map string_bytes input.now)
+        (λ bytes. (given.text.items ≡ text) × (given.input.items ≡ bytes))))) }
     ensures within { IfOk result (λ given. length given.text.items ≤ MOST_BYTES) }
     ensures within_input { IfOk result (λ given. length given.input.items ≤ MOST_INPUT) }
-    ensures reads { OnlyReads (S.texts shelf.old) (S.texts shelf.new) (S.faults shelf.old) (S.faults shelf.new) (source file.now ∷ input_files (option_map string_bytes input.now)) result }
+    ensures reads { OnlyReads (S.texts shelf.old) (S.texts shelf.new) (S.faults shelf.old)
+        (S.faults shelf.new) (source file.now ∷ input_files (option_map string_bytes input.now))
+        result }
 {
     let text = read_file(alloc, shelf, file, MOST_BYTES as u64)?;
-    let input = read_input(alloc, shelf, input)?;
+    let input = read_input_file(alloc, shelf, input)?;
     Ok(Given { text, input })
 }
 
-// The text of an input, where there is one.
-fn read_input<S: Shelf>(
+/// The text of an input where there is one; else it is empty.
+pub fn read_input_file<S: Shelf>(
     alloc: Global,
     shelf: &mut S,
     input: &Option<String>,
 ) -> Result<Vec<u8>, NoPlan>
-    ensures text { IfOk result (λ bytes. IfSome (S.texts shelf.old) (λ texts. WithInput texts (option_map string_bytes input.now) (λ text. bytes.items ≡ text))) }
+    ensures text { IfOk result (λ bytes. IfSome (S.texts shelf.old)
+        (λ texts. WithInput texts (option_map string_bytes input.now)
+        (λ text. bytes.items ≡ text))) }
     ensures within { IfOk result (λ bytes. length bytes.items ≤ MOST_INPUT) }
-    ensures reads { OnlyReads (S.texts shelf.old) (S.texts shelf.new) (S.faults shelf.old) (S.faults shelf.new) (input_files (option_map string_bytes input.now)) result }
+    ensures reads { OnlyReads (S.texts shelf.old) (S.texts shelf.new) (S.faults shelf.old)
+        (S.faults shelf.new) (input_files (option_map string_bytes input.now)) result }
 {
     match input {
         None => Ok(Vec::new(alloc)),
@@ -127,8 +139,13 @@ pub fn read_images<S: Shelf>(
     image: &str,
     states: &Option<StateNames>,
 ) -> Result<Images, NoPlan>
-    ensures text { IfOk result (λ read. IfSome (S.texts shelf.old) (λ texts. WithText texts image.now MOST_IMAGE (λ bytes. WithState texts (state_of_names states.now) (λ given. (read.image.items ≡ bytes) × (option_map (λ v. v.items) read.state ≡ given))))) }
-    ensures reads { OnlyReads (S.texts shelf.old) (S.texts shelf.new) (S.faults shelf.old) (S.faults shelf.new) (image_file image.now ∷ state_files (state_of_names states.now)) result }
+    ensures text { IfOk result (λ read. IfSome (S.texts shelf.old)
+        (λ texts. WithText texts image.now MOST_IMAGE
+        (λ bytes. WithState texts (state_of_names states.now) (λ given. (read.image.items ≡ bytes)
+        × (option_map (λ v. v.items) read.state ≡ given))))) }
+    ensures reads { OnlyReads (S.texts shelf.old) (S.texts shelf.new) (S.faults shelf.old)
+        (S.faults shelf.new) (image_file image.now ∷ state_files (state_of_names states.now))
+        result }
 {
     let image = read_file(alloc, shelf, image, MOST_IMAGE as u64)?;
     let state = read_state(alloc, shelf, states)?;
@@ -141,8 +158,11 @@ fn read_state<S: Shelf>(
     shelf: &mut S,
     states: &Option<StateNames>,
 ) -> Result<Option<Vec<u8>>, NoPlan>
-    ensures text { IfOk result (λ read. IfSome (S.texts shelf.old) (λ texts. WithState texts (state_of_names states.now) (λ given. option_map (λ v. v.items) read ≡ given))) }
-    ensures reads { OnlyReads (S.texts shelf.old) (S.texts shelf.new) (S.faults shelf.old) (S.faults shelf.new) (state_files (state_of_names states.now)) result }
+    ensures text { IfOk result (λ read. IfSome (S.texts shelf.old)
+        (λ texts. WithState texts (state_of_names states.now)
+        (λ given. option_map (λ v. v.items) read ≡ given))) }
+    ensures reads { OnlyReads (S.texts shelf.old) (S.texts shelf.new) (S.faults shelf.old)
+        (S.faults shelf.new) (state_files (state_of_names states.now)) result }
 {
     let Some(names) = states else {
         return Ok(None);

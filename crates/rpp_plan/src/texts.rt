@@ -15,7 +15,8 @@ use std::alloc::{AllocError, Global};
 
 /// The plan that prints a refusal of a source.
 pub fn refuse_source(alloc: Global, number: u32, at: u32) -> Result<Plan, AllocError>
-    ensures { IfOk result (λ plan. planned plan ≡ prints Verdict.SourceRefused (line_of_refusal (refusal number at))) }
+    ensures { IfOk result (λ plan. planned plan
+        ≡ prints Verdict.SourceRefused (line_of_refusal (refusal number at))) }
 {
     Ok(Plan::prints(Verdict::SourceRefused, refused_line(alloc, number, at)?))
 }

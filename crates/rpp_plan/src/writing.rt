@@ -13,7 +13,8 @@ use std::alloc::{AllocError, Global};
 
 /// The plan that writes an image with its notes, and prints what was done with its cells.
 pub fn write_as(alloc: Global, what: &str, name: &str, noted: &Noted) -> Result<Plan, NoMemory>
-    ensures { IfOk result (λ plan. planned plan ≡ writes name.now (image_bytes noted.now) (line_of_cells what.now noted.now.image.code)) }
+    ensures { IfOk result (λ plan. planned plan
+        ≡ writes name.now (image_bytes noted.now) (line_of_cells what.now noted.now.image.code)) }
 {
     let bytes = write_image(alloc, noted)?;
     let text = cells_line(alloc, what, noted.image().code())?;

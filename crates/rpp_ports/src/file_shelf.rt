@@ -64,7 +64,8 @@ impl<'a, R: Files + AllocGlobal> Shelf for FileShelf<'a, R> {
     fn read(&mut self, name: &str, limit: u64) -> Result<Vec<u8>, ShelfFault>
         ensures within { IfOk result (λ bytes. length bytes.items ≤ limit) }
         ensures text { IfOk result (λ bytes. IsTextOf None name.now bytes.items) }
-        ensures cause { IfErr result (ReadCause None name.now limit (Rose self.old.faults self.new.faults)) }
+        ensures cause { IfErr result
+            (ReadCause None name.now limit (Rose self.old.faults self.new.faults)) }
         ensures counts { OnErr result (self.new.faults ≡ risen self.old.faults) }
         ensures calm { OnOk result (self.new.faults ≡ self.old.faults) }
         ensures later { self.old.faults ≤ self.new.faults }

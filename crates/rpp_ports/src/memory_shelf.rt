@@ -64,7 +64,8 @@ impl Shelf for MemoryShelf {
     fn read(&mut self, name: &str, limit: u64) -> Result<Vec<u8>, ShelfFault>
         ensures within { IfOk result (λ bytes. length bytes.items ≤ limit) }
         ensures text { IfOk result (λ bytes. shelf_texts self.old name.now ≡ Some bytes.items) }
-        ensures cause { IfErr result (ReadCause (Some (shelf_texts self.old)) name.now limit (Rose (shelf_faults self.old) (shelf_faults self.new))) }
+        ensures cause { IfErr result (ReadCause (Some (shelf_texts self.old)) name.now limit
+            (Rose (shelf_faults self.old) (shelf_faults self.new))) }
         ensures kept { shelf_texts self.new ≡ shelf_texts self.old }
         ensures later { shelf_faults self.old ≤ shelf_faults self.new }
         ensures due { IsErrOf result ShelfFault.Failed ↔ IsTrue (is_due (shelf_failing self.new)) }
@@ -85,10 +86,14 @@ impl Shelf for MemoryShelf {
 
     // The first text with a name counts, so a new one stands in front.
     fn write(&mut self, name: &str, bytes: &[u8]) -> Result<(), ShelfFault>
-        ensures written { OnOk result (SetsText (Some (shelf_texts self.old)) (Some (shelf_texts self.new)) name.now bytes.now) }
-        ensures left { IfErr result (LeavesAfter (Some (shelf_texts self.old)) (Some (shelf_texts self.new)) name.now) }
+        ensures written { OnOk result
+            (SetsText (Some (shelf_texts self.old)) (Some (shelf_texts self.new)) name.now
+            bytes.now) }
+        ensures left { IfErr result (LeavesAfter (Some (shelf_texts self.old))
+            (Some (shelf_texts self.new)) name.now) }
         ensures cause { IfErr result (WriteCause (Rose (shelf_faults self.old) (shelf_faults self.new))) }
-        ensures memory { IsErrOf result ShelfFault.NoMemory → shelf_faults self.new ≡ shelf_faults self.old }
+        ensures memory { IsErrOf result ShelfFault.NoMemory
+            → shelf_faults self.new ≡ shelf_faults self.old }
         ensures later { shelf_faults self.old ≤ shelf_faults self.new }
         ensures due { IsErrOf result ShelfFault.Failed ↔ IsTrue (is_due (shelf_failing self.new)) }
         ensures counts { CountsCall (shelf_failing self.old) (shelf_failing self.new) }

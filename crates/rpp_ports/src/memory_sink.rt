@@ -52,8 +52,10 @@ impl Sink for MemorySink {
     fn put(&mut self, bytes: &[u8]) -> Result<(), SinkFault>
         ensures appended { OnOk result (sink_bytes self.new ≡ sink_bytes self.old ++ bytes.now) }
         ensures nothing { OnErr result (sink_bytes self.new ≡ sink_bytes self.old) }
-        ensures failed { IsErrOf result SinkFault.Failed → AppendsPrefix (Some (sink_bytes self.old)) (Some (sink_bytes self.new)) bytes.now }
-        ensures cause { IsErrOf result SinkFault.Failed → Rose (sink_faults self.old) (sink_faults self.new) }
+        ensures failed { IsErrOf result SinkFault.Failed
+            → AppendsPrefix (Some (sink_bytes self.old)) (Some (sink_bytes self.new)) bytes.now }
+        ensures cause { IsErrOf result SinkFault.Failed
+            → Rose (sink_faults self.old) (sink_faults self.new) }
         ensures later { sink_faults self.old ≤ sink_faults self.new }
         ensures due { IsErrOf result SinkFault.Failed ↔ IsTrue (is_due (sink_failing self.new)) }
         ensures counts { CountsCall (sink_failing self.old) (sink_failing self.new) }

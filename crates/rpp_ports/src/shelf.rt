@@ -51,7 +51,8 @@ pub trait Shelf {
     fn read(&mut self, name: &str, limit: u64) -> Result<Vec<u8>, ShelfFault>
         ensures within { IfOk result (λ bytes. length bytes.items ≤ limit) }
         ensures text { IfOk result (λ bytes. IsTextOf (texts self.old) name.now bytes.items) }
-        ensures cause { IfErr result (ReadCause (texts self.old) name.now limit (Rose (faults self.old) (faults self.new))) }
+        ensures cause { IfErr result (ReadCause (texts self.old) name.now limit
+            (Rose (faults self.old) (faults self.new))) }
         ensures kept { texts self.new ≡ texts self.old }
         ensures later { faults self.old ≤ faults self.new };
 

@@ -41,7 +41,8 @@ pub trait Sink {
     /// or none, were appended. `NoMemory` comes only of a sink that needs memory, and then nothing was.
     fn put(&mut self, bytes: &[u8]) -> Result<(), SinkFault>
         ensures appended { OnOk result (Appends (written self.old) (written self.new) bytes.now) }
-        ensures failed { IsErrOf result SinkFault.Failed → AppendsPrefix (written self.old) (written self.new) bytes.now }
+        ensures failed { IsErrOf result SinkFault.Failed
+            → AppendsPrefix (written self.old) (written self.new) bytes.now }
         ensures memory { IsErrOf result SinkFault.NoMemory → Keeps (written self.old) (written self.new) }
         ensures cause { IsErrOf result SinkFault.Failed → Rose (faults self.old) (faults self.new) }
         ensures wanting { IsErrOf result SinkFault.NoMemory → IsTrue (needs_memory self.old) }

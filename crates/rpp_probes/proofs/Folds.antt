@@ -35,3 +35,16 @@ lines_more [] step ws = lines_one step ws ∙ ap (lines_at step) (sym (left_none
 lines_more (first ∷ steps) step ws =
     ap (λ l. lines_at first ws ++ l) (lines_more steps step (going first ws) ∙ ap (λ l. lines_after steps (going first ws) ++ lines_at step l) (going_left first steps ws))
     ∙ sym (append_assoc (lines_at first ws) (lines_after steps (going first ws)) (lines_at step (left_after (first ∷ steps) ws)))
+
+-- ---- steps behind others
+
+pub left_append : (first more : List StepAt) (ws : List Watch) → left_after (first ++ more) ws ≡ left_after more (left_after first ws)
+left_append [] more ws = ap (left_after more) (sym (left_none ws))
+left_append (step ∷ first) more ws =
+    sym (going_left step (first ++ more) ws) ∙ left_append first more (going step ws) ∙ ap (left_after more) (going_left step first ws)
+
+pub lines_append : (first more : List StepAt) (ws : List Watch) → lines_after (first ++ more) ws ≡ lines_after first ws ++ lines_after more (left_after first ws)
+lines_append [] more ws = ap (lines_after more) (sym (left_none ws))
+lines_append (step ∷ first) more ws =
+    ap (λ l. lines_at step ws ++ l) (lines_append first more (going step ws) ∙ ap (λ l. lines_after first (going step ws) ++ lines_after more l) (going_left step first ws))
+    ∙ sym (append_assoc (lines_at step ws) (lines_after first (going step ws)) (lines_after more (left_after (step ∷ first) ws)))

@@ -1,3 +1,4 @@
 pub mod Told
 pub mod Marking
 pub mod Folds
+pub mod Sure

@@ -13,7 +13,7 @@ pub record SameParts {A : Type 0} (front front' behind behind' : List A) : Type 
   pub fronts : front ≡ front'
   pub behinds : behind ≡ behind'
 
-tail_same : {A : Type 0} (x y : A) (xs ys : List A) → x ∷ xs ≡ y ∷ ys → xs ≡ ys
+pub tail_same : {A : Type 0} (x y : A) (xs ys : List A) → x ∷ xs ≡ y ∷ ys → xs ≡ ys
 tail_same x y xs ys e = cc
 
 head_same : {A : Type 0} (x y : A) (xs ys : List A) → x ∷ xs ≡ y ∷ ys → x ≡ y
@@ -39,7 +39,7 @@ set_parted [] i y h = absurd (omega (h, arith))
 set_parted (x ∷ xs) zero y h = refl
 set_parted (x ∷ xs) (suc i) y h = ap (λ l. x ∷ l) (set_parted xs i y (omega (h, arith)))
 
-count_front : {A B : Type 0} (f : A → B) (xs : List A) (i : ℕ) → i < length xs → length (map f (take i xs)) ≡ i
+pub count_front : {A B : Type 0} (f : A → B) (xs : List A) (i : ℕ) → i < length xs → length (map f (take i xs)) ≡ i
 count_front f [] i h = absurd (omega (h, arith))
 count_front f (x ∷ xs) zero h = refl
 count_front f (x ∷ xs) (suc i) h = ap (λ n. suc n) (count_front f xs i (omega (h, arith)))
@@ -165,7 +165,7 @@ cut_short step at ws now next last before after later goes h t off kept kept_lin
     not_false true e = refl
     not_false false e = absurd (cc)
 
-none_left : {A : Type 0} (xs : List A) → length xs ≡ 0 → xs ≡ []
+pub none_left : {A : Type 0} (xs : List A) → length xs ≡ 0 → xs ≡ []
 none_left [] e = refl
 none_left (x ∷ xs) e = absurd (omega (e, arith))
 

@@ -24,10 +24,14 @@ steps_line tally = []
 abbrev pub step_tally : (forward back : ℕ) → Watch
 step_tally forward back = record { tally = forward ∷ back ∷ []; rule = steps_rule; is_end = never; shown = steps_line }
 
+-- the greatest place with one more
+abbrev pub deepened : ℕ → List ℕ → List ℕ
+deepened place [] = place ∷ []
+deepened place (deepest ∷ rest) = max deepest place ∷ []
+
 -- the greatest place, where there was a step
 abbrev pub deepest_rule : List ℕ → StepAt → List ℕ
-deepest_rule [] step = step.place ∷ []
-deepest_rule (deepest ∷ rest) step = max deepest step.place ∷ []
+deepest_rule tally step = deepened step.place tally
 
 abbrev pub deepest_line : List ℕ → List ℕ
 deepest_line [] = codes "deepest none"
@@ -36,9 +40,18 @@ deepest_line (deepest ∷ rest) = codes "deepest " ++ decimal deepest
 abbrev pub deepest_place : List ℕ → Watch
 deepest_place places = record { tally = places; rule = deepest_rule; is_end = never; shown = deepest_line }
 
+-- the marks with a place marked, where the table has it
+abbrev pub marked : ℕ → List ℕ → List ℕ
+marked place marks = if nat_lt place MOST_PLACES then slice_set marks place 1 else marks
+
+-- the marks with the places of steps marked
+abbrev pub marked_all : List StepAt → List ℕ → List ℕ
+marked_all [] marks = marks
+marked_all (step ∷ steps) marks = marked_all steps (marked step.place marks)
+
 -- the limit, how many steps were told, and a mark for each place of the table
 abbrev pub coverage_rule : List ℕ → StepAt → List ℕ
-coverage_rule (limit ∷ steps ∷ marks) step = limit ∷ risen steps ∷ (if nat_lt step.place MOST_PLACES then slice_set marks step.place 1 else marks)
+coverage_rule (limit ∷ steps ∷ marks) step = limit ∷ risen steps ∷ marked step.place marks
 coverage_rule tally step = tally
 
 -- the step was told with which there are as many as the limit

@@ -1,6 +1,6 @@
 -- What a probe is, and what becomes of probes that are told the counted steps of a run.
-use Rattle.std.specs.Prelude.{◌≡◌, ℕ, Bool, false, not, ◌||◌, List, [], ◌∷◌, ◌++◌, length, map, filter, IsTrue, if◌then◌else◌}
-use Rattle.std.specs.List.{flat_map}
+use Rattle.std.specs.Prelude.{◌≡◌, ◌≤◌, ℕ, Bool, false, not, ◌||◌, List, [], ◌∷◌, ◌++◌, length, map, filter, IsTrue, if◌then◌else◌}
+use Rattle.std.specs.List.{flat_map, All}
 use Rattle.rpp_probes.specs.declared.probe.StepAt.{StepAt}
 
 -- a tally, and what never changes: the rule from a tally and a step to the next tally, the end test of a tally, and its line
@@ -31,6 +31,18 @@ told_all (step ∷ steps) w = if has_ended (told step w) then told step w else t
 abbrev pub ends_in : List StepAt → Watch → Bool
 ends_in [] w = false
 ends_in (step ∷ steps) w = has_ended (told step w) || ends_in steps (told step w)
+
+-- so many steps do not end it, whatever they are
+abbrev pub IsSureFor : ℕ → Watch → Type 0
+IsSureFor count w = (steps : List StepAt) → length steps ≤ count → ends_in steps w ≡ false
+
+-- nor any probe of a list
+abbrev pub AreSureFor : ℕ → List Watch → Type 0
+AreSureFor count ws = All (IsSureFor count) ws
+
+-- these steps end no probe of a list
+abbrev pub EndNone : List StepAt → List Watch → Type 0
+EndNone steps ws = All (λ w. ends_in steps w ≡ false) ws
 
 -- the probes of a list that no step of a run has ended, in their order
 abbrev pub left_after : List StepAt → List Watch → List Watch

@@ -2,9 +2,9 @@
 ghost use Rattle.std.specs.Prelude.{◌≡◌, ◌+◌, ◌<◌, ◌≤◌, ◌^◌, IfOk, length, slice_set, sum, vec_len};
 ghost use Rattle.rpp_probes.specs.declared.coverage.TheConstants.{MOST_PLACES};
 ghost use Rattle.rpp_probes.specs.Marks.{AreMarks};
-ghost use Rattle.rpp_probes.specs.Rules.{coverage, CoversNothing};
+ghost use Rattle.rpp_probes.specs.Rules.{coverage, marked, marked_all, CoversNothing};
 
-use crate::Probe;
+use crate::{Probe, StepAt};
 use rpp_words::NoMemory;
 use std::alloc::{AllocError, Global};
 
@@ -49,6 +49,40 @@ fn mark(marks: &mut Vec<u8>, place: usize) -> u64
     u64::from(1 - old)
 }
 
+// Marks a place where the table has it, and answers how many places more are marked.
+fn mark_place(marks: &mut Vec<u8>, place: u32) -> u64
+    requires whole { length marks.old.items ≡ MOST_PLACES }
+    requires marks { AreMarks marks.old.items }
+    ensures marked { marks.new.items ≡ marked place marks.old.items }
+    ensures whole { length marks.new.items ≡ MOST_PLACES }
+    ensures more { sum marks.new.items ≡ sum marks.old.items + result }
+    ensures marks { AreMarks marks.new.items }
+    ensures few { sum marks.new.items ≤ MOST_PLACES }
+{
+    if place < MOST_PLACES {
+        mark(marks, place as usize)
+    } else {
+        0
+    }
+}
+
+// Marks the places of steps, and answers how many places more are marked.
+fn mark_each(marks: &mut Vec<u8>, steps: &[StepAt]) -> u64
+    requires whole { length marks.old.items ≡ MOST_PLACES }
+    requires marks { AreMarks marks.old.items }
+    ensures marked { marks.new.items ≡ marked_all steps.now marks.old.items }
+    ensures whole { length marks.new.items ≡ MOST_PLACES }
+    ensures more { sum marks.new.items ≡ sum marks.old.items + result }
+    ensures marks { AreMarks marks.new.items }
+    ensures few { sum marks.new.items ≤ MOST_PLACES }
+{
+    let mut more = 0;
+    for step in steps {
+        more += mark_place(marks, step.place);
+    }
+    more
+}
+
 impl Coverage {
     /// No place so far, with the number of the step at which it ends.
     pub fn new(alloc: Global, limit: u64) -> Result<Coverage, NoMemory>
@@ -68,11 +102,24 @@ impl Probe for Coverage {
     ghost watch = { λ p. coverage p.limit p.steps p.marks.items };
 
     fn told(&mut self, pc: u32, _back: bool) -> bool {
-        if pc < MOST_PLACES {
-            self.places += mark(&mut self.marks, pc as usize);
-        }
+        self.places += mark_place(&mut self.marks, pc);
         self.steps = self.steps.saturating_add(1);
         self.steps != self.limit
+    }
+
+    fn sure_steps(&self) -> u64 {
+        if self.steps < self.limit {
+            self.limit - self.steps - 1
+        } else if self.limit < u64::MAX {
+            u64::MAX
+        } else {
+            0
+        }
+    }
+
+    fn told_each(&mut self, steps: &[StepAt]) {
+        self.places += mark_each(&mut self.marks, steps);
+        self.steps = self.steps.saturating_add(steps.len() as u64);
     }
 
     fn line(&self, out: &mut String) -> Result<(), NoMemory> {

@@ -1,15 +1,25 @@
 // The greatest place of a run.
-ghost use Rattle.std.specs.Prelude.{◌≡◌, []};
+ghost use Rattle.std.specs.Prelude.{◌≡◌, [], ◌∷◌};
 ghost use Rattle.std.specs.Option.{option_to_list};
-ghost use Rattle.rpp_probes.specs.Rules.{deepest_place};
+ghost use Rattle.rpp_probes.specs.Rules.{deepest_place, deepened};
 
-use crate::Probe;
+use crate::{Probe, StepAt};
 use rpp_words::NoMemory;
 
 /// Keeps the greatest place of the steps.
 #[derive(Drop)]
 pub struct DeepestPlace {
     deepest: Option<u32>,
+}
+
+// The greatest place with one more.
+fn deeper(deepest: Option<u32>, place: u32) -> u32
+    ensures { result ∷ [] ≡ deepened place (option_to_list deepest) }
+{
+    match deepest {
+        Some(deepest) => deepest.max(place),
+        None => place,
+    }
 }
 
 impl DeepestPlace {
@@ -26,11 +36,20 @@ impl Probe for DeepestPlace {
     ghost watch = { λ p. deepest_place (option_to_list p.deepest) };
 
     fn told(&mut self, pc: u32, _back: bool) -> bool {
-        self.deepest = match self.deepest {
-            Some(deepest) => Some(deepest.max(pc)),
-            None => Some(pc),
-        };
+        self.deepest = Some(deeper(self.deepest, pc));
         true
+    }
+
+    fn sure_steps(&self) -> u64 {
+        u64::MAX
+    }
+
+    fn told_each(&mut self, steps: &[StepAt]) {
+        let mut deepest = self.deepest;
+        for step in steps {
+            deepest = Some(deeper(deepest, step.place));
+        }
+        self.deepest = deepest;
     }
 
     fn line(&self, out: &mut String) -> Result<(), NoMemory> {

@@ -1,6 +1,6 @@
 // What watches a run.
-ghost use Rattle.std.specs.Prelude.{◌≡◌, ◌++◌, not, OnOk, OnErr, string_bytes};
-ghost use Rattle.rpp_probes.specs.Tally.{Watch, told, has_ended, line_of};
+ghost use Rattle.std.specs.Prelude.{◌≡◌, ◌++◌, not, false, OnOk, OnErr, string_bytes};
+ghost use Rattle.rpp_probes.specs.Tally.{Watch, told, told_all, has_ended, ends_in, line_of, IsSureFor};
 
 use rpp_words::NoMemory;
 
@@ -29,4 +29,21 @@ pub trait Probe: Drop {
     fn line(&self, out: &mut String) -> Result<(), NoMemory>
         ensures ok { OnOk result (string_bytes out.new ≡ string_bytes out.old ++ line_of (watch self.now)) }
         ensures err { OnErr result (string_bytes out.new ≡ string_bytes out.old) };
+
+    /// How many steps surely do not end it, whatever they are. A probe of which nothing is known says 0.
+    fn sure_steps(&self) -> u64
+        ensures { IsSureFor result (watch self.now) }
+    {
+        0
+    }
+
+    /// Applies the rule for steps that do not end it.
+    fn told_each(&mut self, steps: &[StepAt])
+        requires { ends_in steps.now (watch self.old) ≡ false }
+        ensures { watch self.new ≡ told_all steps.now (watch self.old) }
+    {
+        for step in steps {
+            let _goes_on = self.told(step.place, step.back);
+        }
+    }
 }

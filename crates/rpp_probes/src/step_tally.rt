@@ -2,7 +2,7 @@
 ghost use Rattle.std.specs.Prelude.{◌≡◌};
 ghost use Rattle.rpp_probes.specs.Rules.{step_tally};
 
-use crate::Probe;
+use crate::{Probe, StepAt};
 use rpp_words::NoMemory;
 
 /// Counts forward and backward steps. A count that stands at its last value stays there.
@@ -35,6 +35,24 @@ impl Probe for StepTally {
             self.forward = self.forward.saturating_add(1);
         }
         true
+    }
+
+    fn sure_steps(&self) -> u64 {
+        u64::MAX
+    }
+
+    fn told_each(&mut self, steps: &[StepAt]) {
+        let mut forward = self.forward;
+        let mut back = self.back;
+        for step in steps {
+            if step.back {
+                back = back.saturating_add(1);
+            } else {
+                forward = forward.saturating_add(1);
+            }
+        }
+        self.forward = forward;
+        self.back = back;
     }
 
     fn line(&self, out: &mut String) -> Result<(), NoMemory> {

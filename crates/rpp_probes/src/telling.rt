@@ -1,6 +1,6 @@
 // Telling a list of probes.
-ghost use Rattle.std.specs.Prelude.{◌≡◌, ◌+◌, ◌<◌, ◌++◌, List, not, map, vec_len, IfOk, IfErr, OnOk, OnErr, string_bytes};
-ghost use Rattle.rpp_probes.specs.Tally.{Watch, told, has_ended, line_of as line_shown, going, lines_at, IsCutShort, TellsAt, DropsAt, lines_shown};
+ghost use Rattle.std.specs.Prelude.{◌≡◌, ◌+◌, ◌<◌, ◌++◌, List, not, false, length, map, vec_len, IfOk, IfErr, OnOk, OnErr, string_bytes};
+ghost use Rattle.rpp_probes.specs.Tally.{Watch, told, told_all, has_ended, ends_in, EndNone, left_after, IsSureFor, AreSureFor, line_of as line_shown, going, lines_at, IsCutShort, TellsAt, DropsAt, lines_shown};
 
 use crate::{Probe, StepAt};
 use rpp_words::NoMemory;
@@ -94,6 +94,42 @@ fn tell_all(
     Ok(())
 }
 
+// How many steps surely do not end a probe.
+fn sure_of(probe: &Box<dyn Probe>) -> u64
+    ensures { IsSureFor result (watch probe.now) }
+{
+    probe.sure_steps()
+}
+
+// How many steps surely end no probe of a list.
+fn sure_of_all(probes: &[Box<dyn Probe>]) -> u64
+    ensures { AreSureFor result (map watch probes.now) }
+{
+    let mut sure = u64::MAX;
+    for probe in probes {
+        sure = sure.min(sure_of(probe));
+    }
+    sure
+}
+
+// Tells a probe steps that do not end it.
+fn tell_each(probe: &mut Box<dyn Probe>, steps: &[StepAt])
+    requires { ends_in steps.now (watch probe.old) ≡ false }
+    ensures { watch probe.new ≡ told_all steps.now (watch probe.old) }
+{
+    probe.told_each(steps);
+}
+
+// Tells each probe of a list steps that end none of them.
+fn tell_each_of(probes: &mut [Box<dyn Probe>], steps: &[StepAt])
+    requires { EndNone steps.now (map watch probes.old) }
+    ensures { map watch probes.new ≡ left_after steps.now (map watch probes.old) }
+{
+    for probe in probes.iter_mut() {
+        tell_each(probe, steps);
+    }
+}
+
 // Appends the lines of the probes of a list, in its order, each with a line feed.
 fn add_lines(probes: &[Box<dyn Probe>], out: &mut String) -> Result<(), NoMemory>
     ensures { OnOk result (string_bytes out.new ≡ string_bytes out.old ++ lines_shown (map line_shown (map watch probes.now))) }
@@ -119,6 +155,15 @@ pub trait Probes {
         ensures cut_short { IfErr result (λ _. IsCutShort step (watches self.old) (watches self.new)
             (map string_bytes lines.old.items) (map string_bytes lines.new.items)) };
 
+    /// How many steps surely end none of the probes, whatever they are.
+    fn sure_steps(&self) -> u64
+        ensures { AreSureFor result (watches self.now) };
+
+    /// Tells each probe steps that end none of them. It takes no memory.
+    fn tell_each(&mut self, steps: &[StepAt])
+        requires { EndNone steps.now (watches self.old) }
+        ensures { watches self.new ≡ left_after steps.now (watches self.old) };
+
     /// Appends the lines of the probes, each with a line feed.
     fn show(&self, out: &mut String) -> Result<(), NoMemory>
         ensures { OnOk result (string_bytes out.new ≡ string_bytes out.old ++ lines_shown (map line_shown (watches self.now))) };
@@ -135,6 +180,14 @@ impl Probes for Vec<Box<dyn Probe>> {
         step: StepAt,
     ) -> Result<(), NoMemory> {
         tell_all(alloc, self, lines, step)
+    }
+
+    fn sure_steps(&self) -> u64 {
+        sure_of_all(self)
+    }
+
+    fn tell_each(&mut self, steps: &[StepAt]) {
+        tell_each_of(self, steps);
     }
 
     fn show(&self, out: &mut String) -> Result<(), NoMemory> {

@@ -42,15 +42,23 @@ abbrev mutual
   pub bare_statement : Statement → Statement
   bare_statement (Update at op target value) = Update 0 op (bare_lvalue target) (bare_expression value)
   bare_statement (Swap at left right) = Swap 0 (bare_lvalue left) (bare_lvalue right)
-  bare_statement (If at test taken other after) = If 0 (bare_expression test) (bare taken) (bare other) (bare_expression after)
-  bare_statement (From at entry first again exit) = From 0 (bare_expression entry) (bare first) (bare again) (bare_expression exit)
-  bare_statement (Construct at class name body end) = Construct 0 (bare_name class) (bare_name name) (bare body) (bare_name end)
-  bare_statement (Local at var value body end_var end_value) = Local 0 (bare_var var) (bare_expression value) (bare body) (bare_var end_var) (bare_expression end_value)
+  bare_statement (If at test taken other after) =
+      If 0 (bare_expression test) (bare taken) (bare other) (bare_expression after)
+  bare_statement (From at entry first again exit) =
+      From 0 (bare_expression entry) (bare first) (bare again) (bare_expression exit)
+  bare_statement (Construct at class name body end) =
+      Construct 0 (bare_name class) (bare_name name) (bare body) (bare_name end)
+  bare_statement (Local at var value body end_var end_value) =
+      Local 0 (bare_var var) (bare_expression value) (bare body) (bare_var end_var)
+      (bare_expression end_value)
   bare_statement (New at made target) = New 0 (bare_creation made) (bare_lvalue target)
   bare_statement (Delete at made target) = Delete 0 (bare_creation made) (bare_lvalue target)
-  bare_statement (Copy at kind source target) = Copy 0 (bare_type kind) (bare_lvalue source) (bare_lvalue target)
-  bare_statement (Uncopy at kind source target) = Uncopy 0 (bare_type kind) (bare_lvalue source) (bare_lvalue target)
-  bare_statement (Call at back receiver method args) = Call 0 back (bare_receiver receiver) (bare_name method) (map bare_name args)
+  bare_statement (Copy at kind source target) =
+      Copy 0 (bare_type kind) (bare_lvalue source) (bare_lvalue target)
+  bare_statement (Uncopy at kind source target) =
+      Uncopy 0 (bare_type kind) (bare_lvalue source) (bare_lvalue target)
+  bare_statement (Call at back receiver method args) =
+      Call 0 back (bare_receiver receiver) (bare_name method) (map bare_name args)
   bare_statement (Skip at) = Skip 0
 
   pub bare : Statements → Statements
@@ -58,14 +66,23 @@ abbrev mutual
   bare (Then first rest) = Then (bare_statement first) (bare rest)
 
 abbrev pub bare_procedure : Procedure → Procedure
-bare_procedure method = record { name = bare_name method.name; params = map bare_var method.params; body = bare method.body }
+bare_procedure method = record {
+  name = bare_name method.name;
+  params = map bare_var method.params;
+  body = bare method.body;
+}
 
 abbrev pub bare_parent : Option Ident → Option Ident
 bare_parent None = None
 bare_parent (Some parent) = Some (bare_name parent)
 
 abbrev pub bare_class : ClassText → ClassText
-bare_class class = record { name = bare_name class.name; parent = bare_parent class.parent; fields = map bare_var class.fields; methods = map bare_procedure class.methods }
+bare_class class = record {
+  name = bare_name class.name;
+  parent = bare_parent class.parent;
+  fields = map bare_var class.fields;
+  methods = map bare_procedure class.methods;
+}
 
 abbrev pub bare_source : Source → Source
 bare_source source = record { classes = map bare_class source.classes }

@@ -35,11 +35,15 @@ statement_index_depth (Swap at left right) = max (lvalue_index_depth left) (lval
 statement_index_depth (If at test taken other after) = max (index_depth test) (index_depth after)
 statement_index_depth (From at entry first again exit) = max (index_depth entry) (index_depth exit)
 statement_index_depth (Construct at class name body end) = 0
-statement_index_depth (Local at var value body end_var end_value) = max (index_depth value) (index_depth end_value)
+statement_index_depth (Local at var value body end_var end_value) =
+    max (index_depth value) (index_depth end_value)
 statement_index_depth (New at made target) = max (creation_index_depth made) (lvalue_index_depth target)
-statement_index_depth (Delete at made target) = max (creation_index_depth made) (lvalue_index_depth target)
-statement_index_depth (Copy at kind source target) = max (lvalue_index_depth source) (lvalue_index_depth target)
-statement_index_depth (Uncopy at kind source target) = max (lvalue_index_depth source) (lvalue_index_depth target)
+statement_index_depth (Delete at made target) =
+    max (creation_index_depth made) (lvalue_index_depth target)
+statement_index_depth (Copy at kind source target) =
+    max (lvalue_index_depth source) (lvalue_index_depth target)
+statement_index_depth (Uncopy at kind source target) =
+    max (lvalue_index_depth source) (lvalue_index_depth target)
 statement_index_depth (Call at back receiver method args) = receiver_index_depth receiver
 statement_index_depth (Skip at) = 0
 

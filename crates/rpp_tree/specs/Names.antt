@@ -11,8 +11,10 @@ is_name_byte b = is_ascii_alphabetic b || is_ascii_digit b || b == 95 || b == 39
 -- the words that are no names
 unfoldable pub keywords : List (List ℕ)
 keywords = codes "class" ∷ codes "inherits" ∷ codes "method" ∷ codes "int" ∷ codes "nil" ∷ codes "skip"
-    ∷ codes "if" ∷ codes "then" ∷ codes "else" ∷ codes "fi" ∷ codes "from" ∷ codes "do" ∷ codes "loop" ∷ codes "until"
-    ∷ codes "local" ∷ codes "delocal" ∷ codes "construct" ∷ codes "destruct" ∷ codes "new" ∷ codes "delete"
+    ∷ codes "if" ∷ codes "then" ∷ codes "else" ∷ codes "fi" ∷ codes "from" ∷ codes "do"
+    ∷ codes "loop" ∷ codes "until"
+    ∷ codes "local" ∷ codes "delocal" ∷ codes "construct" ∷ codes "destruct" ∷ codes "new"
+    ∷ codes "delete"
     ∷ codes "copy" ∷ codes "uncopy" ∷ codes "call" ∷ codes "uncall" ∷ []
 
 unfoldable pub is_keyword : List ℕ → Bool

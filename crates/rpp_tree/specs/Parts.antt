@@ -42,14 +42,20 @@ abbrev mutual
   pub statement_names : Statement → List Ident
   statement_names (Update at op target value) = lvalue_names target ++ expression_names value
   statement_names (Swap at left right) = lvalue_names left ++ lvalue_names right
-  statement_names (If at test taken other after) = expression_names test ++ block_names taken ++ block_names other ++ expression_names after
-  statement_names (From at entry first again exit) = expression_names entry ++ block_names first ++ block_names again ++ expression_names exit
+  statement_names (If at test taken other after) =
+      expression_names test ++ block_names taken ++ block_names other ++ expression_names after
+  statement_names (From at entry first again exit) =
+      expression_names entry ++ block_names first ++ block_names again ++ expression_names exit
   statement_names (Construct at class name body end) = class ∷ name ∷ block_names body ++ end ∷ []
-  statement_names (Local at var value body end_var end_value) = var_names var ++ expression_names value ++ block_names body ++ var_names end_var ++ expression_names end_value
+  statement_names (Local at var value body end_var end_value) =
+      var_names var ++ expression_names value ++ block_names body ++ var_names end_var
+      ++ expression_names end_value
   statement_names (New at made target) = creation_names made ++ lvalue_names target
   statement_names (Delete at made target) = creation_names made ++ lvalue_names target
-  statement_names (Copy at kind source target) = type_names kind ++ lvalue_names source ++ lvalue_names target
-  statement_names (Uncopy at kind source target) = type_names kind ++ lvalue_names source ++ lvalue_names target
+  statement_names (Copy at kind source target) =
+      type_names kind ++ lvalue_names source ++ lvalue_names target
+  statement_names (Uncopy at kind source target) =
+      type_names kind ++ lvalue_names source ++ lvalue_names target
   statement_names (Call at back receiver method args) = receiver_names receiver ++ method ∷ args
   statement_names (Skip at) = []
 
@@ -65,7 +71,8 @@ parent_names None = []
 parent_names (Some parent) = parent ∷ []
 
 abbrev pub class_names : ClassText → List Ident
-class_names class = class.name ∷ parent_names class.parent ++ flat_map var_names class.fields ++ flat_map procedure_names class.methods
+class_names class = class.name ∷ parent_names class.parent ++ flat_map var_names class.fields
+    ++ flat_map procedure_names class.methods
 
 abbrev pub source_names : Source → List Ident
 source_names source = flat_map class_names source.classes
@@ -102,15 +109,25 @@ abbrev mutual
   pub statement_places : Statement → List ℕ
   statement_places (Update at op target value) = at ∷ lvalue_places target ++ expression_places value
   statement_places (Swap at left right) = at ∷ lvalue_places left ++ lvalue_places right
-  statement_places (If at test taken other after) = at ∷ expression_places test ++ block_places taken ++ block_places other ++ expression_places after
-  statement_places (From at entry first again exit) = at ∷ expression_places entry ++ block_places first ++ block_places again ++ expression_places exit
-  statement_places (Construct at class name body end) = at ∷ class.at ∷ name.at ∷ block_places body ++ end.at ∷ []
-  statement_places (Local at var value body end_var end_value) = at ∷ var_places var ++ expression_places value ++ block_places body ++ var_places end_var ++ expression_places end_value
+  statement_places (If at test taken other after) =
+      at ∷ expression_places test ++ block_places taken ++ block_places other
+      ++ expression_places after
+  statement_places (From at entry first again exit) =
+      at ∷ expression_places entry ++ block_places first ++ block_places again
+      ++ expression_places exit
+  statement_places (Construct at class name body end) =
+      at ∷ class.at ∷ name.at ∷ block_places body ++ end.at ∷ []
+  statement_places (Local at var value body end_var end_value) =
+      at ∷ var_places var ++ expression_places value ++ block_places body ++ var_places end_var
+      ++ expression_places end_value
   statement_places (New at made target) = at ∷ creation_places made ++ lvalue_places target
   statement_places (Delete at made target) = at ∷ creation_places made ++ lvalue_places target
-  statement_places (Copy at kind source target) = at ∷ name_places (type_names kind) ++ lvalue_places source ++ lvalue_places target
-  statement_places (Uncopy at kind source target) = at ∷ name_places (type_names kind) ++ lvalue_places source ++ lvalue_places target
-  statement_places (Call at back receiver method args) = at ∷ receiver_places receiver ++ method.at ∷ name_places args
+  statement_places (Copy at kind source target) =
+      at ∷ name_places (type_names kind) ++ lvalue_places source ++ lvalue_places target
+  statement_places (Uncopy at kind source target) =
+      at ∷ name_places (type_names kind) ++ lvalue_places source ++ lvalue_places target
+  statement_places (Call at back receiver method args) =
+      at ∷ receiver_places receiver ++ method.at ∷ name_places args
   statement_places (Skip at) = at ∷ []
 
   pub block_places : Statements → List ℕ
@@ -121,7 +138,8 @@ abbrev pub procedure_places : Procedure → List ℕ
 procedure_places method = method.name.at ∷ flat_map var_places method.params ++ block_places method.body
 
 abbrev pub class_places : ClassText → List ℕ
-class_places class = class.name.at ∷ name_places (parent_names class.parent) ++ flat_map var_places class.fields ++ flat_map procedure_places class.methods
+class_places class = class.name.at ∷ name_places (parent_names class.parent)
+    ++ flat_map var_places class.fields ++ flat_map procedure_places class.methods
 
 abbrev pub source_places : Source → List ℕ
 source_places source = flat_map class_places source.classes
@@ -168,15 +186,22 @@ abbrev mutual
   pub statement_tokens : Statement → ℕ
   statement_tokens (Update at op target value) = lvalue_tokens target + 1 + expression_tokens value
   statement_tokens (Swap at left right) = lvalue_tokens left + 1 + lvalue_tokens right
-  statement_tokens (If at test taken other after) = 4 + expression_tokens test + block_tokens taken + block_tokens other + expression_tokens after
-  statement_tokens (From at entry first again exit) = 4 + expression_tokens entry + block_tokens first + block_tokens again + expression_tokens exit
+  statement_tokens (If at test taken other after) =
+      4 + expression_tokens test + block_tokens taken + block_tokens other + expression_tokens after
+  statement_tokens (From at entry first again exit) =
+      4 + expression_tokens entry + block_tokens first + block_tokens again + expression_tokens exit
   statement_tokens (Construct at class name body end) = 5 + block_tokens body
-  statement_tokens (Local at var value body end_var end_value) = 4 + var_tokens var + expression_tokens value + block_tokens body + var_tokens end_var + expression_tokens end_value
+  statement_tokens (Local at var value body end_var end_value) =
+      4 + var_tokens var + expression_tokens value + block_tokens body + var_tokens end_var +
+      expression_tokens end_value
   statement_tokens (New at made target) = 1 + creation_tokens made + lvalue_tokens target
   statement_tokens (Delete at made target) = 1 + creation_tokens made + lvalue_tokens target
-  statement_tokens (Copy at kind source target) = 1 + type_tokens kind + lvalue_tokens source + lvalue_tokens target
-  statement_tokens (Uncopy at kind source target) = 1 + type_tokens kind + lvalue_tokens source + lvalue_tokens target
-  statement_tokens (Call at back receiver method args) = 4 + receiver_tokens receiver + list_tokens (λ name. 1) args
+  statement_tokens (Copy at kind source target) =
+      1 + type_tokens kind + lvalue_tokens source + lvalue_tokens target
+  statement_tokens (Uncopy at kind source target) =
+      1 + type_tokens kind + lvalue_tokens source + lvalue_tokens target
+  statement_tokens (Call at back receiver method args) =
+      4 + receiver_tokens receiver + list_tokens (λ name. 1) args
   statement_tokens (Skip at) = 1
 
   pub block_tokens : Statements → ℕ
@@ -191,7 +216,8 @@ parent_tokens None = 0
 parent_tokens (Some parent) = 2
 
 abbrev pub class_tokens : ClassText → ℕ
-class_tokens class = 2 + parent_tokens class.parent + sum_by var_tokens class.fields + sum_by procedure_tokens class.methods
+class_tokens class = 2 + parent_tokens class.parent + sum_by var_tokens class.fields + sum_by
+    procedure_tokens class.methods
 
 abbrev pub source_tokens : Source → ℕ
 source_tokens source = sum_by class_tokens source.classes

@@ -35,7 +35,8 @@ fn alike_made(a: &Made, b: &Made) -> bool
 
 /// The same of receivers.
 fn alike_receivers(a: &Option<Place>, b: &Option<Place>) -> bool
-    ensures { IsTrue result ↔ (bare_receiver (optional_lvalue_of a.now) ≡ bare_receiver (optional_lvalue_of b.now)) }
+    ensures { IsTrue result ↔ (bare_receiver (optional_lvalue_of a.now)
+        ≡ bare_receiver (optional_lvalue_of b.now)) }
 {
     match (a, b) {
         (None, None) => true,
@@ -104,7 +105,8 @@ fn alike_blocks(a: &Block, b: &Block) -> bool
 /// The same of statements.
 #[cycle(alike_code)]
 fn alike_stmts(a: &Stmt, b: &Stmt) -> bool
-    ensures { IsTrue result ↔ (bare_statement (statement_of a.now) ≡ bare_statement (statement_of b.now)) }
+    ensures { IsTrue result ↔ (bare_statement (statement_of a.now)
+        ≡ bare_statement (statement_of b.now)) }
 {
     match (a, b) {
         (
@@ -292,7 +294,8 @@ fn alike_stmts(a: &Stmt, b: &Stmt) -> bool
 
 /// The same of methods.
 fn alike_methods(a: &Method, b: &Method) -> bool
-    ensures { IsTrue result ↔ (bare_procedure (procedure_of a.now) ≡ bare_procedure (procedure_of b.now)) }
+    ensures { IsTrue result ↔ (bare_procedure (procedure_of a.now)
+        ≡ bare_procedure (procedure_of b.now)) }
 {
     alike_names(&a.name, &b.name)
         && alike_var_lists(&a.params, &b.params)
@@ -311,7 +314,8 @@ fn alike_classes(a: &Class, b: &Class) -> bool
 
 /// The same of lists of methods.
 fn alike_method_lists(a: &[Method], b: &[Method]) -> bool
-    ensures { IsTrue result ↔ (map bare_procedure (map procedure_of a.now) ≡ map bare_procedure (map procedure_of b.now)) }
+    ensures { IsTrue result ↔ (map bare_procedure (map procedure_of a.now)
+        ≡ map bare_procedure (map procedure_of b.now)) }
 {
     if a.len() != b.len() {
         return false;

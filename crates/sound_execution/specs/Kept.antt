@@ -27,8 +27,10 @@ AcceptedIsPlain = (program : Source) → IsAccepted program → ProgramIsPlain p
 -- the start of a run is sound
 abbrev pub StartIsSound : Type 0
 StartIsSound =
-    (program : Source) (limits : Limits) (input : List FieldWord) → IsLimits limits → IsValid program input
-    → Sound (record { program = program; limits = limits }) main_alone [] (main_of program).class (starting program input)
+    (program : Source) (limits : Limits) (input : List FieldWord) → IsLimits limits
+    → IsValid program input
+    → Sound (record { program = program; limits = limits }) main_alone [] (main_of program).class
+    (starting program input)
 
 -- what is done by a checked block of an accepted program keeps a sound state sound, and what is held besides
 abbrev pub ExecutionKeeps : Type 0

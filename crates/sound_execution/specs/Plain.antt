@@ -41,16 +41,20 @@ AreNamed (name ∷ names) = IsNamed name × AreNamed names
 abbrev pub ReceiverIsPlain : Option Lvalue → List Ident → Type 0
 ReceiverIsPlain None args = Unit {0}
 ReceiverIsPlain (Some (Whole name)) args = Unit {0}
-ReceiverIsPlain (Some (Item name index)) args = HasWords index × IsNamed name × HasNames index × AreNamed args
+ReceiverIsPlain (Some (Item name index)) args = HasWords index × IsNamed name × HasNames index
+    × AreNamed args
 
 abbrev mutual
   pub StatementIsPlain : Statement → Type 0
   StatementIsPlain (Update at op target value) = PlaceHasWords target × HasWords value
   StatementIsPlain (Swap at left right) = PlaceHasWords left × PlaceHasWords right
-  StatementIsPlain (If at test taken other after) = HasWords test × IsPlain taken × IsPlain other × HasWords after
-  StatementIsPlain (From at entry first again exit) = HasWords entry × IsPlain first × IsPlain again × HasWords exit
+  StatementIsPlain (If at test taken other after) = HasWords test × IsPlain taken × IsPlain other
+      × HasWords after
+  StatementIsPlain (From at entry first again exit) = HasWords entry × IsPlain first × IsPlain again
+      × HasWords exit
   StatementIsPlain (Construct at class name body end) = IsPlain body
-  StatementIsPlain (Local at var value body end_var end_value) = HasWords value × IsPlain body × HasWords end_value
+  StatementIsPlain (Local at var value body end_var end_value) =
+      HasWords value × IsPlain body × HasWords end_value
   StatementIsPlain (New at made target) = CreationHasWords made × PlaceHasWords target
   StatementIsPlain (Delete at made target) = CreationHasWords made × PlaceHasWords target
   StatementIsPlain (Copy at kind source target) = PlaceHasWords source × PlaceHasWords target
@@ -65,7 +69,8 @@ abbrev mutual
 -- every method of the program
 abbrev pub ProgramIsPlain : Source → Type 0
 ProgramIsPlain program =
-    All (λ (class : ClassText). All (λ (method : Procedure). IsPlain method.body) class.methods) program.classes
+    All (λ (class : ClassText). All (λ (method : Procedure). IsPlain method.body) class.methods)
+    program.classes
 
 abbrev pub ReceiverHasWords : Option Lvalue → Type 0
 ReceiverHasWords None = Unit {0}
@@ -76,10 +81,13 @@ abbrev mutual
   pub StatementHasWords : Statement → Type 0
   StatementHasWords (Update at op target value) = PlaceHasWords target × HasWords value
   StatementHasWords (Swap at left right) = PlaceHasWords left × PlaceHasWords right
-  StatementHasWords (If at test taken other after) = HasWords test × BlockHasWords taken × BlockHasWords other × HasWords after
-  StatementHasWords (From at entry first again exit) = HasWords entry × BlockHasWords first × BlockHasWords again × HasWords exit
+  StatementHasWords (If at test taken other after) = HasWords test × BlockHasWords taken
+      × BlockHasWords other × HasWords after
+  StatementHasWords (From at entry first again exit) = HasWords entry × BlockHasWords first
+      × BlockHasWords again × HasWords exit
   StatementHasWords (Construct at class name body end) = BlockHasWords body
-  StatementHasWords (Local at var value body end_var end_value) = HasWords value × BlockHasWords body × HasWords end_value
+  StatementHasWords (Local at var value body end_var end_value) =
+      HasWords value × BlockHasWords body × HasWords end_value
   StatementHasWords (New at made target) = CreationHasWords made × PlaceHasWords target
   StatementHasWords (Delete at made target) = CreationHasWords made × PlaceHasWords target
   StatementHasWords (Copy at kind source target) = PlaceHasWords source × PlaceHasWords target
@@ -94,4 +102,5 @@ abbrev mutual
 -- the literals of a program are words
 abbrev pub ProgramHasWords : Source → Type 0
 ProgramHasWords program =
-    All (λ (class : ClassText). All (λ (method : Procedure). BlockHasWords method.body) class.methods) program.classes
+    All (λ (class : ClassText). All (λ (method : Procedure). BlockHasWords method.body)
+    class.methods) program.classes

@@ -143,7 +143,8 @@ pub record Stays (setting : Setting) (extra : ℕ → ℕ) (st end : State) : Ty
   pub depth_same : end.depth ≡ st.depth
   pub heads_same : (name : ℕ) → 0 < extra name → head_named end.store name ≡ head_named st.store name
   pub blocks_same : (name : ℕ) → 0 < extra name
-      → block_in (place setting.limits.heap end.log) name ≡ block_in (place setting.limits.heap st.log) name
+      → block_in (place setting.limits.heap end.log) name
+      ≡ block_in (place setting.limits.heap st.log) name
 
 -- a run leads to a state that is sound too
 pub record Keeps (setting : Setting) (extra : ℕ → ℕ) (shape : Locals) (class : ℕ) (st end : State) : Type 0 where

@@ -35,7 +35,8 @@ abbrev pub passed : Watching → ℕ → Watching
 passed watch.Nothing place = watch.Nothing
 passed (watch.First wanted skip left) place = watch.First wanted (skip - 1) (left - 1)
 passed (watch.Latest wanted skip left latest) place =
-    watch.Latest wanted (skip - 1) (left - 1) (if nat_eq skip 0 && int_eq (pos place) wanted then Some left else latest)
+    watch.Latest wanted (skip - 1) (left - 1) (if nat_eq skip 0 && int_eq (pos place) wanted
+    then Some left else latest)
 
 -- a watch has passed points, or it has met the one that it wants
 pub data Watched : Type 0 where
@@ -55,7 +56,13 @@ abbrev pub point_of : Arrival → Kept → Point
 point_of a heap = record {
   place = a.place;
   params = a.params;
-  state = record { frame = map binding_of a.variables.items; self = a.object; depth = a.depth; store = heap.store; log = heap.log };
+  state = record {
+    frame = map binding_of a.variables.items;
+    self = a.object;
+    depth = a.depth;
+    store = heap.store;
+    log = heap.log;
+  };
 }
 
 -- what was met
@@ -89,4 +96,6 @@ IsFree (Err why) = IsBreak why
 
 -- what a watch comes to along the points of the blocks in a statement, with blocks bounded by n
 unfoldable pub seen_inside : Here → Chain → ℕ → Watching → Statement → State → Watched
-seen_inside here scope n w s st = watched w (inner_points (setting_of here) n (exec (setting_of here) n) (points (setting_of here) n) (params_of scope) s st)
+seen_inside here scope n w s st =
+    watched w (inner_points (setting_of here) n (exec (setting_of here) n)
+    (points (setting_of here) n) (params_of scope) s st)

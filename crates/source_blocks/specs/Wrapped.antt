@@ -11,4 +11,5 @@ constructed_in at class place body =
 -- what a call on an element does inside the variable that holds the element
 abbrev pub exchanged : ℕ → Bool → Lvalue → Ident → Lvalue → Ident → List Ident → Statements
 exchanged at back held name element method args =
-    Then (Swap at held element) (Then (Call at back (Some (Whole name)) method args) (Then (Swap at held element) End))
+    Then (Swap at held element) (Then (Call at back (Some (Whole name)) method args)
+    (Then (Swap at held element) End))

@@ -19,7 +19,7 @@ use crate::methods::{
     begin, called, cell_for, cost_of, held_in, invoke_nothing, is_deep, method_of, no_receiver,
     receiver_in, stack_room,
 };
-use crate::watch::{Watch, begin_statement, meet};
+use crate::watch::{Watch, begin_statement, close_block, meet, open_block};
 use rpp_tree::text::Text;
 use rpp_tree::tree::{Block, Expr, Ident, Method, Place, Stmt};
 use source_steps::{
@@ -46,8 +46,45 @@ pub fn exec_block(
     requires framed { IsFramed setting.now scope.now heap.old values.old.items }
     requires bounded { fuel.old ≤ bound }
     requires waits { watch.old.arrival ≡ None }
-    ensures ends { Ends setting.now scope.now result heap.new values.new.items fuel.new (runs setting.now bound fuel.old (in_direction back (block_of body.now)) (state_of setting.now scope.now heap.old values.old.items)) }
-    ensures tells { Tells result watch.new heap.new (watched watch.old.watching (points (setting_of setting.now) bound (params_of scope.now) (in_direction back (block_of body.now)) (state_of setting.now scope.now heap.old values.old.items))) }
+    ensures ends { Ends setting.now scope.now result heap.new values.new.items fuel.new
+        (runs setting.now bound fuel.old (in_direction back (block_of body.now))
+        (state_of setting.now scope.now heap.old values.old.items)) }
+    ensures tells { Tells result watch.new heap.new
+        (watched watch.old.watching (points (setting_of setting.now) bound (params_of scope.now)
+        (in_direction back (block_of body.now))
+        (state_of setting.now scope.now heap.old values.old.items))) }
+    ensures framed { OnOk result (IsFramed setting.now scope.now heap.new values.new.items) }
+    ensures less { fuel.new ≤ fuel.old }
+{
+    open_block(watch)?;
+    run_list(setting, scope, heap, values, fuel, watch, bound, back, body)?;
+    close_block(watch);
+    Ok(())
+}
+
+/// The statements of a block, as they stand or undone.
+#[cycle(run)]
+fn run_list(
+    setting: &Setting,
+    scope: &Scope,
+    heap: &mut Heap,
+    values: &mut Vec<Value>,
+    fuel: &mut u64,
+    watch: &mut Watch,
+    bound: u64,
+    back: bool,
+    body: &Block,
+) -> Result<(), Stop>
+    requires framed { IsFramed setting.now scope.now heap.old values.old.items }
+    requires bounded { fuel.old ≤ bound }
+    requires waits { watch.old.arrival ≡ None }
+    ensures ends { Ends setting.now scope.now result heap.new values.new.items fuel.new
+        (runs setting.now bound fuel.old (in_direction back (block_of body.now))
+        (state_of setting.now scope.now heap.old values.old.items)) }
+    ensures tells { Tells result watch.new heap.new
+        (watched watch.old.watching (points (setting_of setting.now) bound (params_of scope.now)
+        (in_direction back (block_of body.now))
+        (state_of setting.now scope.now heap.old values.old.items))) }
     ensures framed { OnOk result (IsFramed setting.now scope.now heap.new values.new.items) }
     ensures less { fuel.new ≤ fuel.old }
 {
@@ -94,8 +131,17 @@ fn conditional(
     requires framed { IsFramed setting.now scope.now heap.old values.old.items }
     requires bounded { fuel.old ≤ bound }
     requires waits { watch.old.arrival ≡ None }
-    ensures ends { Ends setting.now scope.now result heap.new values.new.items fuel.new (does setting.now bound fuel.old (If at (expression_of test.now) (in_direction back (block_of yes.now)) (in_direction back (block_of no.now)) (expression_of after.now)) (state_of setting.now scope.now heap.old values.old.items)) }
-    ensures tells { Tells result watch.new heap.new (watched watch.old.watching (inner_points (setting_of setting.now) bound (exec (setting_of setting.now) bound) (points (setting_of setting.now) bound) (params_of scope.now) (If at (expression_of test.now) (in_direction back (block_of yes.now)) (in_direction back (block_of no.now)) (expression_of after.now)) (state_of setting.now scope.now heap.old values.old.items))) }
+    ensures ends { Ends setting.now scope.now result heap.new values.new.items fuel.new
+        (does setting.now bound fuel.old
+        (If at (expression_of test.now) (in_direction back (block_of yes.now))
+        (in_direction back (block_of no.now)) (expression_of after.now))
+        (state_of setting.now scope.now heap.old values.old.items)) }
+    ensures tells { Tells result watch.new heap.new
+        (watched watch.old.watching (inner_points (setting_of setting.now) bound
+        (exec (setting_of setting.now) bound) (points (setting_of setting.now) bound)
+        (params_of scope.now) (If at (expression_of test.now) (in_direction back (block_of yes.now))
+        (in_direction back (block_of no.now)) (expression_of after.now))
+        (state_of setting.now scope.now heap.old values.old.items))) }
     ensures framed { OnOk result (IsFramed setting.now scope.now heap.new values.new.items) }
     ensures less { fuel.new ≤ fuel.old }
 {
@@ -130,8 +176,16 @@ fn with_local(
     requires framed { IsFramed setting.now scope.now heap.old values.old.items }
     requires bounded { fuel.old ≤ bound }
     requires waits { watch.old.arrival ≡ None }
-    ensures ends { Ends setting.now scope.now result heap.new values.new.items fuel.new (metered fuel.old (with_local_in (setting_of setting.now) (exec (setting_of setting.now) bound) name.now (expression_of value.now) (in_direction back (block_of body.now)) (expression_of end_value.now) (state_of setting.now scope.now heap.old values.old.items))) }
-    ensures tells { Tells result watch.new heap.new (watched watch.old.watching (local_points (setting_of setting.now) (points (setting_of setting.now) bound) (params_of scope.now) name.now (expression_of value.now) (in_direction back (block_of body.now)) (state_of setting.now scope.now heap.old values.old.items))) }
+    ensures ends { Ends setting.now scope.now result heap.new values.new.items fuel.new
+        (metered fuel.old (with_local_in (setting_of setting.now)
+        (exec (setting_of setting.now) bound) name.now (expression_of value.now)
+        (in_direction back (block_of body.now)) (expression_of end_value.now)
+        (state_of setting.now scope.now heap.old values.old.items))) }
+    ensures tells { Tells result watch.new heap.new
+        (watched watch.old.watching (local_points (setting_of setting.now)
+        (points (setting_of setting.now) bound) (params_of scope.now) name.now
+        (expression_of value.now) (in_direction back (block_of body.now))
+        (state_of setting.now scope.now heap.old values.old.items))) }
     ensures framed { OnOk result (IsFramed setting.now scope.now heap.new values.new.items) }
     ensures less { fuel.new ≤ fuel.old }
 {
@@ -163,8 +217,17 @@ fn repeat(
     requires framed { IsFramed setting.now scope.now heap.old values.old.items }
     requires bounded { fuel.old < bound }
     requires waits { watch.old.arrival ≡ None }
-    ensures ends { Ends setting.now scope.now result heap.new values.new.items fuel.new (metered fuel.old (turns (setting_of setting.now) bound (exec (setting_of setting.now) bound) (expression_of entry.now) (in_direction back (block_of first.now)) (in_direction back (block_of again.now)) (expression_of until.now) (state_of setting.now scope.now heap.old values.old.items))) }
-    ensures tells { Tells result watch.new heap.new (watched watch.old.watching (turn_points (setting_of setting.now) bound (exec (setting_of setting.now) bound) (points (setting_of setting.now) bound) (params_of scope.now) (expression_of entry.now) (in_direction back (block_of first.now)) (in_direction back (block_of again.now)) (expression_of until.now) (state_of setting.now scope.now heap.old values.old.items))) }
+    ensures ends { Ends setting.now scope.now result heap.new values.new.items fuel.new
+        (metered fuel.old (turns (setting_of setting.now) bound
+        (exec (setting_of setting.now) bound) (expression_of entry.now)
+        (in_direction back (block_of first.now)) (in_direction back (block_of again.now))
+        (expression_of until.now) (state_of setting.now scope.now heap.old values.old.items))) }
+    ensures tells { Tells result watch.new heap.new
+        (watched watch.old.watching (turn_points (setting_of setting.now) bound
+        (exec (setting_of setting.now) bound) (points (setting_of setting.now) bound)
+        (params_of scope.now) (expression_of entry.now) (in_direction back (block_of first.now))
+        (in_direction back (block_of again.now)) (expression_of until.now)
+        (state_of setting.now scope.now heap.old values.old.items))) }
     ensures framed { OnOk result (IsFramed setting.now scope.now heap.new values.new.items) }
     ensures less { fuel.new ≤ fuel.old }
 {
@@ -206,8 +269,17 @@ fn repeated(
     requires framed { IsFramed setting.now scope.now heap.old values.old.items }
     requires bounded { fuel.old ≤ bound }
     requires waits { watch.old.arrival ≡ None }
-    ensures ends { Ends setting.now scope.now result heap.new values.new.items fuel.new (does setting.now bound fuel.old (FromLoop at (expression_of entry.now) (in_direction back (block_of first.now)) (in_direction back (block_of again.now)) (expression_of until.now)) (state_of setting.now scope.now heap.old values.old.items)) }
-    ensures tells { Tells result watch.new heap.new (watched watch.old.watching (inner_points (setting_of setting.now) bound (exec (setting_of setting.now) bound) (points (setting_of setting.now) bound) (params_of scope.now) (FromLoop at (expression_of entry.now) (in_direction back (block_of first.now)) (in_direction back (block_of again.now)) (expression_of until.now)) (state_of setting.now scope.now heap.old values.old.items))) }
+    ensures ends { Ends setting.now scope.now result heap.new values.new.items fuel.new
+        (does setting.now bound fuel.old
+        (FromLoop at (expression_of entry.now) (in_direction back (block_of first.now))
+        (in_direction back (block_of again.now)) (expression_of until.now))
+        (state_of setting.now scope.now heap.old values.old.items)) }
+    ensures tells { Tells result watch.new heap.new
+        (watched watch.old.watching (inner_points (setting_of setting.now) bound
+        (exec (setting_of setting.now) bound) (points (setting_of setting.now) bound)
+        (params_of scope.now) (FromLoop at (expression_of entry.now)
+        (in_direction back (block_of first.now)) (in_direction back (block_of again.now))
+        (expression_of until.now)) (state_of setting.now scope.now heap.old values.old.items))) }
     ensures framed { OnOk result (IsFramed setting.now scope.now heap.new values.new.items) }
     ensures less { fuel.new ≤ fuel.old }
 {
@@ -235,8 +307,15 @@ fn run_method(
     requires shallow { setting.now.depth < (setting_of setting.now).limits.deep }
     requires bounded { fuel.old ≤ bound }
     requires waits { watch.old.arrival ≡ None }
-    ensures gives { Gives (λ u. entered setting.now (procedure_of method.now).params object heap.new inside.new.items) result fuel.new (runs setting.now bound fuel.old (in_direction back (procedure_of method.now).body) (entered setting.now (procedure_of method.now).params object heap.old inside.old.items)) }
-    ensures tells { Tells result watch.new heap.new (watched watch.old.watching (points (setting_of setting.now) bound (length (bound_to (procedure_of method.now).params (values_of inside.old.items))) (in_direction back (procedure_of method.now).body) (entered setting.now (procedure_of method.now).params object heap.old inside.old.items))) }
+    ensures gives { Gives (λ u. entered setting.now (procedure_of method.now).params object heap.new
+        inside.new.items) result fuel.new
+        (runs setting.now bound fuel.old (in_direction back (procedure_of method.now).body)
+        (entered setting.now (procedure_of method.now).params object heap.old inside.old.items)) }
+    ensures tells { Tells result watch.new heap.new
+        (watched watch.old.watching (points (setting_of setting.now) bound
+        (length (bound_to (procedure_of method.now).params (values_of inside.old.items)))
+        (in_direction back (procedure_of method.now).body)
+        (entered setting.now (procedure_of method.now).params object heap.old inside.old.items))) }
     ensures values { OnOk result (OwnValues (procedure_of method.now).params inside.new.items) }
     ensures order { OnOk result (heap.new.order ≡ (setting_of setting.now).limits.heap) }
     ensures less { fuel.new ≤ fuel.old }
@@ -276,8 +355,15 @@ fn invoke(
     requires shallow { setting.now.depth < (setting_of setting.now).limits.deep }
     requires bounded { fuel.old ≤ bound }
     requires waits { watch.old.arrival ≡ None }
-    ensures ends { Ends setting.now scope.now result heap.new values.new.items fuel.new (metered fuel.old (invoked (setting_of setting.now) (exec (setting_of setting.now) bound) back (procedure_of method.now) object (map cell_of receiver.now) (map cell_of args.now) (state_of setting.now scope.now heap.old values.old.items))) }
-    ensures tells { Tells result watch.new heap.new (watched watch.old.watching (called_points (setting_of setting.now) (points (setting_of setting.now) bound) back (procedure_of method.now) object (map cell_of receiver.now) (map cell_of args.now) (state_of setting.now scope.now heap.old values.old.items))) }
+    ensures ends { Ends setting.now scope.now result heap.new values.new.items fuel.new
+        (metered fuel.old (invoked (setting_of setting.now) (exec (setting_of setting.now) bound)
+        back (procedure_of method.now) object (map cell_of receiver.now) (map cell_of args.now)
+        (state_of setting.now scope.now heap.old values.old.items))) }
+    ensures tells { Tells result watch.new heap.new
+        (watched watch.old.watching (called_points (setting_of setting.now)
+        (points (setting_of setting.now) bound) back (procedure_of method.now) object
+        (map cell_of receiver.now) (map cell_of args.now)
+        (state_of setting.now scope.now heap.old values.old.items))) }
     ensures framed { OnOk result (IsFramed setting.now scope.now heap.new values.new.items) }
     ensures less { fuel.new ≤ fuel.old }
 {
@@ -322,8 +408,17 @@ fn enter(
     requires shallow { setting.now.depth < (setting_of setting.now).limits.deep }
     requires bounded { fuel.old ≤ bound }
     requires waits { watch.old.arrival ≡ None }
-    ensures ends { Ends setting.now scope.now result heap.new values.new.items fuel.new (metered fuel.old (invoked (setting_of setting.now) (exec (setting_of setting.now) bound) back (method_named (setting_of setting.now).program class method.now) object (map cell_of receiver.now) (map cell_of args.now) (state_of setting.now scope.now heap.old values.old.items))) }
-    ensures tells { Tells result watch.new heap.new (watched watch.old.watching (called_points (setting_of setting.now) (points (setting_of setting.now) bound) back (method_named (setting_of setting.now).program class method.now) object (map cell_of receiver.now) (map cell_of args.now) (state_of setting.now scope.now heap.old values.old.items))) }
+    ensures ends { Ends setting.now scope.now result heap.new values.new.items fuel.new
+        (metered fuel.old (invoked (setting_of setting.now) (exec (setting_of setting.now) bound)
+        back (method_named (setting_of setting.now).program class method.now) object
+        (map cell_of receiver.now) (map cell_of args.now)
+        (state_of setting.now scope.now heap.old values.old.items))) }
+    ensures tells { Tells result watch.new heap.new
+        (watched watch.old.watching (called_points (setting_of setting.now)
+        (points (setting_of setting.now) bound) back
+        (method_named (setting_of setting.now).program class method.now) object
+        (map cell_of receiver.now) (map cell_of args.now)
+        (state_of setting.now scope.now heap.old values.old.items))) }
     ensures framed { OnOk result (IsFramed setting.now scope.now heap.new values.new.items) }
     ensures less { fuel.new ≤ fuel.old }
 {
@@ -355,8 +450,21 @@ fn call_with(
     requires shallow { setting.now.depth < (setting_of setting.now).limits.deep }
     requires bounded { fuel.old ≤ bound }
     requires waits { watch.old.arrival ≡ None }
-    ensures ends { Ends setting.now scope.now result heap.new values.new.items fuel.new (metered fuel.old (invoked (setting_of setting.now) (exec (setting_of setting.now) bound) back (method_named (setting_of setting.now).program (class_of_head (object_at heap.old.store object).head) method.now) object (map cell_of receiver.now) (cells_named (setting_of setting.now) (state_of setting.now scope.now heap.old values.old.items) args.now) (state_of setting.now scope.now heap.old values.old.items))) }
-    ensures tells { Tells result watch.new heap.new (watched watch.old.watching (called_points (setting_of setting.now) (points (setting_of setting.now) bound) back (method_named (setting_of setting.now).program (class_of_head (object_at heap.old.store object).head) method.now) object (map cell_of receiver.now) (cells_named (setting_of setting.now) (state_of setting.now scope.now heap.old values.old.items) args.now) (state_of setting.now scope.now heap.old values.old.items))) }
+    ensures ends { Ends setting.now scope.now result heap.new values.new.items fuel.new
+        (metered fuel.old (invoked (setting_of setting.now) (exec (setting_of setting.now) bound)
+        back (method_named (setting_of setting.now).program
+        (class_of_head (object_at heap.old.store object).head) method.now) object
+        (map cell_of receiver.now) (cells_named (setting_of setting.now)
+        (state_of setting.now scope.now heap.old values.old.items) args.now)
+        (state_of setting.now scope.now heap.old values.old.items))) }
+    ensures tells { Tells result watch.new heap.new
+        (watched watch.old.watching (called_points (setting_of setting.now)
+        (points (setting_of setting.now) bound) back
+        (method_named (setting_of setting.now).program
+        (class_of_head (object_at heap.old.store object).head) method.now) object
+        (map cell_of receiver.now) (cells_named (setting_of setting.now)
+        (state_of setting.now scope.now heap.old values.old.items) args.now)
+        (state_of setting.now scope.now heap.old values.old.items))) }
     ensures framed { OnOk result (IsFramed setting.now scope.now heap.new values.new.items) }
     ensures less { fuel.new ≤ fuel.old }
 {
@@ -387,8 +495,13 @@ fn call_own(
     requires framed { IsFramed setting.now scope.now heap.old values.old.items }
     requires bounded { fuel.old ≤ bound }
     requires waits { watch.old.arrival ≡ None }
-    ensures ends { Ends setting.now scope.now result heap.new values.new.items fuel.new (does setting.now bound fuel.old (CallOf at back None method.now args.now) (state_of setting.now scope.now heap.old values.old.items)) }
-    ensures tells { Tells result watch.new heap.new (watched watch.old.watching (call_points (setting_of setting.now) (points (setting_of setting.now) bound) (params_of scope.now) at back None method.now args.now (state_of setting.now scope.now heap.old values.old.items))) }
+    ensures ends { Ends setting.now scope.now result heap.new values.new.items fuel.new
+        (does setting.now bound fuel.old (CallOf at back None method.now args.now)
+        (state_of setting.now scope.now heap.old values.old.items)) }
+    ensures tells { Tells result watch.new heap.new
+        (watched watch.old.watching (call_points (setting_of setting.now)
+        (points (setting_of setting.now) bound) (params_of scope.now) at back None method.now
+        args.now (state_of setting.now scope.now heap.old values.old.items))) }
     ensures framed { OnOk result (IsFramed setting.now scope.now heap.new values.new.items) }
     ensures less { fuel.new ≤ fuel.old }
 {
@@ -432,8 +545,15 @@ fn call_on(
     requires framed { IsFramed setting.now scope.now heap.old values.old.items }
     requires bounded { fuel.old ≤ bound }
     requires waits { watch.old.arrival ≡ None }
-    ensures ends { Ends setting.now scope.now result heap.new values.new.items fuel.new (does setting.now bound fuel.old (CallOf at back (Some (Whole name.now)) method.now args.now) (state_of setting.now scope.now heap.old values.old.items)) }
-    ensures tells { Tells result watch.new heap.new (watched watch.old.watching (call_points (setting_of setting.now) (points (setting_of setting.now) bound) (params_of scope.now) at back (Some (Whole name.now)) method.now args.now (state_of setting.now scope.now heap.old values.old.items))) }
+    ensures ends { Ends setting.now scope.now result heap.new values.new.items fuel.new
+        (does setting.now bound fuel.old
+        (CallOf at back (Some (Whole name.now)) method.now args.now)
+        (state_of setting.now scope.now heap.old values.old.items)) }
+    ensures tells { Tells result watch.new heap.new
+        (watched watch.old.watching (call_points (setting_of setting.now)
+        (points (setting_of setting.now) bound) (params_of scope.now) at back
+        (Some (Whole name.now)) method.now args.now
+        (state_of setting.now scope.now heap.old values.old.items))) }
     ensures framed { OnOk result (IsFramed setting.now scope.now heap.new values.new.items) }
     ensures less { fuel.new ≤ fuel.old }
 {
@@ -483,8 +603,14 @@ fn call_element(
     requires framed { IsFramed setting.now scope.now heap.old values.old.items }
     requires bounded { fuel.old ≤ bound }
     requires waits { watch.old.arrival ≡ None }
-    ensures ends { Ends setting.now scope.now result heap.new values.new.items fuel.new (runs setting.now bound fuel.old (exchanged at back (lvalue_of held.now) held.now.name (lvalue_of element.now) method.now args.now) (state_of setting.now scope.now heap.old values.old.items)) }
-    ensures tells { Tells result watch.new heap.new (watched watch.old.watching (points (setting_of setting.now) bound (params_of scope.now) (exchanged at back (lvalue_of held.now) held.now.name (lvalue_of element.now) method.now args.now) (state_of setting.now scope.now heap.old values.old.items))) }
+    ensures ends { Ends setting.now scope.now result heap.new values.new.items fuel.new
+        (runs setting.now bound fuel.old
+        (exchanged at back (lvalue_of held.now) held.now.name (lvalue_of element.now) method.now
+        args.now) (state_of setting.now scope.now heap.old values.old.items)) }
+    ensures tells { Tells result watch.new heap.new
+        (watched watch.old.watching (points (setting_of setting.now) bound (params_of scope.now)
+        (exchanged at back (lvalue_of held.now) held.now.name (lvalue_of element.now) method.now
+        args.now) (state_of setting.now scope.now heap.old values.old.items))) }
     ensures framed { OnOk result (IsFramed setting.now scope.now heap.new values.new.items) }
     ensures less { fuel.new ≤ fuel.old }
 {
@@ -532,8 +658,16 @@ fn with_element(
     requires framed { IsFramed setting.now scope.now heap.old values.old.items }
     requires bounded { fuel.old ≤ bound }
     requires waits { watch.old.arrival ≡ None }
-    ensures ends { Ends setting.now scope.now result heap.new values.new.items fuel.new (metered fuel.old (with_local_in (setting_of setting.now) (exec (setting_of setting.now) bound) held.now.name.text (Null at) (exchanged at back (lvalue_of held.now) held.now.name (lvalue_of element.now) method.now args.now) (Null at) (state_of setting.now scope.now heap.old values.old.items))) }
-    ensures tells { Tells result watch.new heap.new (watched watch.old.watching (local_points (setting_of setting.now) (points (setting_of setting.now) bound) (params_of scope.now) held.now.name.text (Null at) (exchanged at back (lvalue_of held.now) held.now.name (lvalue_of element.now) method.now args.now) (state_of setting.now scope.now heap.old values.old.items))) }
+    ensures ends { Ends setting.now scope.now result heap.new values.new.items fuel.new
+        (metered fuel.old (with_local_in (setting_of setting.now)
+        (exec (setting_of setting.now) bound) held.now.name.text (Null at)
+        (exchanged at back (lvalue_of held.now) held.now.name (lvalue_of element.now) method.now
+        args.now) (Null at) (state_of setting.now scope.now heap.old values.old.items))) }
+    ensures tells { Tells result watch.new heap.new
+        (watched watch.old.watching (local_points (setting_of setting.now)
+        (points (setting_of setting.now) bound) (params_of scope.now) held.now.name.text (Null at)
+        (exchanged at back (lvalue_of held.now) held.now.name (lvalue_of element.now) method.now
+        args.now) (state_of setting.now scope.now heap.old values.old.items))) }
     ensures framed { OnOk result (IsFramed setting.now scope.now heap.new values.new.items) }
     ensures less { fuel.new ≤ fuel.old }
 {
@@ -574,8 +708,15 @@ fn call(
     requires framed { IsFramed setting.now scope.now heap.old values.old.items }
     requires bounded { fuel.old ≤ bound }
     requires waits { watch.old.arrival ≡ None }
-    ensures ends { Ends setting.now scope.now result heap.new values.new.items fuel.new (does setting.now bound fuel.old (CallOf at back (optional_lvalue_of receiver.now) method.now args.now) (state_of setting.now scope.now heap.old values.old.items)) }
-    ensures tells { Tells result watch.new heap.new (watched watch.old.watching (call_points (setting_of setting.now) (points (setting_of setting.now) bound) (params_of scope.now) at back (optional_lvalue_of receiver.now) method.now args.now (state_of setting.now scope.now heap.old values.old.items))) }
+    ensures ends { Ends setting.now scope.now result heap.new values.new.items fuel.new
+        (does setting.now bound fuel.old
+        (CallOf at back (optional_lvalue_of receiver.now) method.now args.now)
+        (state_of setting.now scope.now heap.old values.old.items)) }
+    ensures tells { Tells result watch.new heap.new
+        (watched watch.old.watching (call_points (setting_of setting.now)
+        (points (setting_of setting.now) bound) (params_of scope.now) at back
+        (optional_lvalue_of receiver.now) method.now args.now
+        (state_of setting.now scope.now heap.old values.old.items))) }
     ensures framed { OnOk result (IsFramed setting.now scope.now heap.new values.new.items) }
     ensures less { fuel.new ≤ fuel.old }
 {
@@ -628,8 +769,14 @@ fn construct_inside(
     requires framed { IsFramed setting.now scope.now heap.old values.old.items }
     requires bounded { fuel.old ≤ bound }
     requires waits { watch.old.arrival ≡ None }
-    ensures ends { Ends setting.now scope.now result heap.new values.new.items fuel.new (runs setting.now bound fuel.old (constructed_in at class.now (lvalue_of place.now) (in_direction back (block_of body.now))) (state_of setting.now scope.now heap.old values.old.items)) }
-    ensures tells { Tells result watch.new heap.new (watched watch.old.watching (points (setting_of setting.now) bound (params_of scope.now) (constructed_in at class.now (lvalue_of place.now) (in_direction back (block_of body.now))) (state_of setting.now scope.now heap.old values.old.items))) }
+    ensures ends { Ends setting.now scope.now result heap.new values.new.items fuel.new
+        (runs setting.now bound fuel.old
+        (constructed_in at class.now (lvalue_of place.now) (in_direction back (block_of body.now)))
+        (state_of setting.now scope.now heap.old values.old.items)) }
+    ensures tells { Tells result watch.new heap.new
+        (watched watch.old.watching (points (setting_of setting.now) bound (params_of scope.now)
+        (constructed_in at class.now (lvalue_of place.now) (in_direction back (block_of body.now)))
+        (state_of setting.now scope.now heap.old values.old.items))) }
     ensures framed { OnOk result (IsFramed setting.now scope.now heap.new values.new.items) }
     ensures less { fuel.new ≤ fuel.old }
 {
@@ -671,8 +818,16 @@ fn construct(
     requires framed { IsFramed setting.now scope.now heap.old values.old.items }
     requires bounded { fuel.old ≤ bound }
     requires waits { watch.old.arrival ≡ None }
-    ensures ends { Ends setting.now scope.now result heap.new values.new.items fuel.new (metered fuel.old (with_local_in (setting_of setting.now) (exec (setting_of setting.now) bound) place.now.name.text (Null at) (constructed_in at class.now (lvalue_of place.now) (in_direction back (block_of body.now))) (Null at) (state_of setting.now scope.now heap.old values.old.items))) }
-    ensures tells { Tells result watch.new heap.new (watched watch.old.watching (local_points (setting_of setting.now) (points (setting_of setting.now) bound) (params_of scope.now) place.now.name.text (Null at) (constructed_in at class.now (lvalue_of place.now) (in_direction back (block_of body.now))) (state_of setting.now scope.now heap.old values.old.items))) }
+    ensures ends { Ends setting.now scope.now result heap.new values.new.items fuel.new
+        (metered fuel.old (with_local_in (setting_of setting.now)
+        (exec (setting_of setting.now) bound) place.now.name.text (Null at)
+        (constructed_in at class.now (lvalue_of place.now) (in_direction back (block_of body.now)))
+        (Null at) (state_of setting.now scope.now heap.old values.old.items))) }
+    ensures tells { Tells result watch.new heap.new
+        (watched watch.old.watching (local_points (setting_of setting.now)
+        (points (setting_of setting.now) bound) (params_of scope.now) place.now.name.text (Null at)
+        (constructed_in at class.now (lvalue_of place.now) (in_direction back (block_of body.now)))
+        (state_of setting.now scope.now heap.old values.old.items))) }
     ensures framed { OnOk result (IsFramed setting.now scope.now heap.new values.new.items) }
     ensures less { fuel.new ≤ fuel.old }
 {
@@ -711,8 +866,13 @@ pub fn exec_stmt(
     requires framed { IsFramed setting.now scope.now heap.old values.old.items }
     requires bounded { fuel.old ≤ bound }
     requires waits { watch.old.arrival ≡ None }
-    ensures ends { Ends setting.now scope.now result heap.new values.new.items fuel.new (does setting.now bound fuel.old (turned back (statement_of s.now)) (state_of setting.now scope.now heap.old values.old.items)) }
-    ensures tells { Tells result watch.new heap.new (seen_inside setting.now scope.now bound watch.old.watching (turned back (statement_of s.now)) (state_of setting.now scope.now heap.old values.old.items)) }
+    ensures ends { Ends setting.now scope.now result heap.new values.new.items fuel.new
+        (does setting.now bound fuel.old (turned back (statement_of s.now))
+        (state_of setting.now scope.now heap.old values.old.items)) }
+    ensures tells { Tells result watch.new heap.new
+        (seen_inside setting.now scope.now bound watch.old.watching
+        (turned back (statement_of s.now))
+        (state_of setting.now scope.now heap.old values.old.items)) }
     ensures framed { OnOk result (IsFramed setting.now scope.now heap.new values.new.items) }
     ensures less { fuel.new ≤ fuel.old }
 {

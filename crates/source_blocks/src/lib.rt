@@ -9,5 +9,5 @@ mod methods;
 mod watch;
 
 pub use blocks::exec_block;
-pub use methods::method_at;
-pub use watch::{Arrival, Variable, Watch, Watching};
+pub use methods::{MOST_CALLS, method_at};
+pub use watch::{Arrival, MOST_BLOCKS, Variable, Watch, Watching};

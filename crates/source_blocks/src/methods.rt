@@ -1,5 +1,5 @@
 // Methods and their calls.
-ghost use Rattle.std.specs.Prelude.{◌≡◌, ◌∷◌, [], ◌+◌, ◌<◌, ◌≤◌, OnOk, IfErr, map, min, length, take, slice_get, not, nat_lt};
+ghost use Rattle.std.specs.Prelude.{◌≡◌, ◌∷◌, [], ◌+◌, ◌<◌, ◌≤◌, OnOk, OnErr, IfErr, map, min, length, take, slice_get, not, nat_lt};
 ghost use Rattle.std.specs.Option.{unwrap_or, option_map};
 ghost use Rattle.rpp_tree.specs.Views.{source_of, procedure_of};
 ghost use Rattle.class_table.specs.Members.{class_at, no_procedure};
@@ -23,7 +23,8 @@ use store_table::{Heap, Value};
 
 /// The text of a method.
 pub fn method_at(program: &Program, id: MethodId) -> Option<&Method>
-    ensures { option_map (λ method. procedure_of method.now) result ≡ slice_get (class_at (source_of program.now) id.class).methods id.method }
+    ensures { option_map (λ method. procedure_of method.now) result
+        ≡ slice_get (class_at (source_of program.now) id.class).methods id.method }
 {
     match methods_at(program, id.class).get(id.method as usize) {
         None => None,
@@ -43,7 +44,8 @@ fn slot_of(setting: &Setting, class: u32, name: &Text) -> u32
 
 /// The method of a name for an object of the class.
 pub fn method_of<'a>(setting: &Setting<'a>, class: u32, name: &Text) -> Option<&'a Method>
-    ensures { unwrap_or (option_map (λ method. procedure_of method.now) result) no_procedure ≡ method_named (source_of setting.now.checked.now) class name.now }
+    ensures { unwrap_or (option_map (λ method. procedure_of method.now) result) no_procedure
+        ≡ method_named (source_of setting.now.checked.now) class name.now }
 {
     let id = setting
         .checked
@@ -63,7 +65,9 @@ pub fn invoke_nothing(
     args: &[Cell],
 ) -> Result<(), Stop>
     requires framed { IsFramed setting.now scope.now heap.old values.old.items }
-    ensures ends { Ends setting.now scope.now result heap.new values.new.items fuel.new (metered fuel.old (invoked_nothing (map cell_of receiver.now) (map cell_of args.now) (state_of setting.now scope.now heap.old values.old.items))) }
+    ensures ends { Ends setting.now scope.now result heap.new values.new.items fuel.new
+        (metered fuel.old (invoked_nothing (map cell_of receiver.now) (map cell_of args.now)
+        (state_of setting.now scope.now heap.old values.old.items))) }
     ensures framed { OnOk result (IsFramed setting.now scope.now heap.new values.new.items) }
     ensures less { fuel.new ≤ fuel.old }
 {
@@ -91,9 +95,14 @@ fn params_scope(params: &[Var], count: usize) -> Scope
 
 /// The variables of a method that begins with these values: as many as both have.
 pub fn begin<'a>(inside: &mut Vec<Value>, method: &'a Method) -> Scope<'a>
-    ensures names { names_of result ≡ map (λ var. var.name.text) (take (min (length (procedure_of method.now).params) (length inside.old.items)) (procedure_of method.now).params) }
-    ensures params { params_of result ≡ min (length (procedure_of method.now).params) (length inside.old.items) }
-    ensures values { inside.new.items ≡ take (min (length (procedure_of method.now).params) (length inside.old.items)) inside.old.items }
+    ensures names { names_of result ≡ map (λ var. var.name.text)
+        (take (min (length (procedure_of method.now).params) (length inside.old.items))
+        (procedure_of method.now).params) }
+    ensures params { params_of result ≡ min (length (procedure_of method.now).params)
+        (length inside.old.items) }
+    ensures values { inside.new.items
+        ≡ take (min (length (procedure_of method.now).params) (length inside.old.items))
+        inside.old.items }
 {
     let count = shorter(method.params.len(), inside.len());
     inside.truncate(count);
@@ -111,7 +120,13 @@ fn deeper(depth: u32, deep: u32) -> u32
 /// What a called method stands in.
 pub fn called<'a>(setting: &Setting<'a>, object: u32) -> Setting<'a>
     requires { setting.now.depth < (setting_of setting.now).limits.deep }
-    ensures { result ≡ record { alloc = setting.now.alloc; checked = setting.now.checked; limits = setting.now.limits; object = object; depth = 1 + setting.now.depth } }
+    ensures { result ≡ record {
+      alloc = setting.now.alloc;
+      checked = setting.now.checked;
+      limits = setting.now.limits;
+      object = object;
+      depth = 1 + setting.now.depth;
+    } }
 {
     Setting {
         alloc: setting.alloc,
@@ -138,7 +153,8 @@ pub fn cell_for(
     name: &Text,
 ) -> Cell
     requires { IsFramed setting.now scope.now heap.now values.now.items }
-    ensures { cell_of result ≡ cell_named (setting_of setting.now).program (state_of setting.now scope.now heap.now values.now.items) name.now }
+    ensures { cell_of result ≡ cell_named (setting_of setting.now).program
+        (state_of setting.now scope.now heap.now values.now.items) name.now }
 {
     cell_of_name(setting, scope, heap, values, name)
 }
@@ -152,7 +168,8 @@ pub fn held_in(
     cell: Cell,
 ) -> Value
     requires { IsFramed setting.now scope.now heap.now values.now.items }
-    ensures { value_of result ≡ read (state_of setting.now scope.now heap.now values.now.items) (cell_of cell) }
+    ensures { value_of result ≡ read (state_of setting.now scope.now heap.now values.now.items)
+        (cell_of cell) }
 {
     read_cell(setting, scope, heap, values, cell)
 }
@@ -172,11 +189,13 @@ pub fn no_receiver() -> &'static [Cell]
 }
 
 /// How many calls may be open, so that the machine's own stack is deep enough: one more counts as want of memory.
-pub const MOST_CALLS: u32 = 32;
+pub const MOST_CALLS: u32 = 100;
 
 /// Answers where the machine's own stack has room for one more open call.
 pub fn stack_room(setting: &Setting) -> Result<(), Stop>
-    ensures { IfErr result (λ why. why ≡ Stop.NoMemory) }
+    ensures room { OnOk result (setting.now.depth < MOST_CALLS) }
+    ensures none { OnErr result (MOST_CALLS ≤ setting.now.depth) }
+    ensures memory { IfErr result (λ why. why ≡ Stop.NoMemory) }
 {
     if setting.depth < MOST_CALLS {
         Ok(())

@@ -1,5 +1,5 @@
 // What watches the points of a run.
-ghost use Rattle.std.specs.Prelude.{◌≡◌, ◌++◌, ◌&&◌, nat_eq, pos, if◌then◌else◌, map, IfOk, OnOk, Some, None};
+ghost use Rattle.std.specs.Prelude.{◌≡◌, ◌+◌, ◌-◌, ◌<◌, ◌≤◌, ◌++◌, ◌&&◌, nat_eq, pos, if◌then◌else◌, map, IfOk, IfErr, OnOk, OnErr, Some, None};
 ghost use Rattle.std.specs.Ordering.{int_eq};
 ghost use Rattle.store_table.specs.ValueView.{values_of};
 ghost use Rattle.rpp_tree.specs.Views.{statement_of};
@@ -53,11 +53,16 @@ pub struct Arrival {
     pub variables: Vec<Variable>,
 }
 
+/// How many blocks may be open at once, so that the machine's own stack is deep enough: one more counts as want of memory.
+pub const MOST_BLOCKS: u32 = 600;
+
 /// A watch along the points of a run, which ends the run at the point that it wants.
 #[derive(Drop)]
 pub struct Watch {
     pub watching: Watching,
     pub arrival: Option<Arrival>,
+    /// How many blocks are open.
+    pub blocks: u32,
 }
 
 impl Watch {
@@ -65,12 +70,37 @@ impl Watch {
     pub fn on(watching: Watching) -> Watch
         ensures watching { result.watching ≡ watching }
         ensures waits { result.arrival ≡ None }
+        ensures none_open { result.blocks ≡ 0 }
     {
         Watch {
             watching,
             arrival: None,
+            blocks: 0,
         }
     }
+}
+
+/// One more block is open, where the machine's own stack has room for it.
+pub fn open_block(watch: &mut Watch) -> Result<(), Stop>
+    ensures watching { watch.new.watching ≡ watch.old.watching }
+    ensures arrival { watch.new.arrival ≡ watch.old.arrival }
+    ensures opened { OnOk result ((watch.old.blocks < MOST_BLOCKS) × (watch.new.blocks ≡ watch.old.blocks + 1)) }
+    ensures full { OnErr result (MOST_BLOCKS ≤ watch.old.blocks) }
+    ensures memory { IfErr result (λ why. why ≡ Stop.NoMemory) }
+{
+    if watch.blocks < MOST_BLOCKS {
+        watch.blocks += 1;
+        Ok(())
+    } else {
+        Err(Stop::NoMemory)
+    }
+}
+
+/// The block that was opened last is over.
+pub fn close_block(watch: &mut Watch)
+    ensures { watch.new ≡ record watch.old { blocks = watch.old.blocks - 1 } }
+{
+    watch.blocks = watch.blocks.saturating_sub(1);
 }
 
 // Whether a place is the given one.
@@ -137,7 +167,8 @@ fn add_params(
     values: &[Value],
     variables: &mut Vec<Variable>,
 ) -> Result<(), NoMemory>
-    ensures { OnOk result (map binding_of variables.new.items ≡ map binding_of variables.old.items ++ bindings (map (λ var. var.name.text) params.now) (values_of values.now)) }
+    ensures { OnOk result (map binding_of variables.new.items ≡ map binding_of variables.old.items
+        ++ bindings (map (λ var. var.name.text) params.now) (values_of values.now)) }
 {
     match params {
         [] => Ok(()),
@@ -162,7 +193,8 @@ fn add_variables(
     values: &[Value],
     variables: &mut Vec<Variable>,
 ) -> Result<(), NoMemory>
-    ensures { OnOk result (map binding_of variables.new.items ≡ map binding_of variables.old.items ++ frame_of scope.now values.now) }
+    ensures { OnOk result (map binding_of variables.new.items ≡ map binding_of variables.old.items
+        ++ frame_of scope.now values.now) }
 {
     match scope {
         Scope::Params(params) => add_params(alloc, params, values, variables),
@@ -214,7 +246,9 @@ pub fn meet(
     at: u32,
 ) -> Result<(), Stop>
     requires waits { watch.old.arrival ≡ None }
-    ensures tells { Tells result watch.new heap.now (watched watch.old.watching (point_at at (params_of scope.now) (state_of setting.now scope.now heap.now values.now.items))) }
+    ensures tells { Tells result watch.new heap.now
+        (watched watch.old.watching (point_at at (params_of scope.now)
+        (state_of setting.now scope.now heap.now values.now.items))) }
     ensures free { IsFree result }
 {
     if wants(watch.watching, at) {
@@ -236,7 +270,9 @@ pub fn begin_statement(
     s: &Stmt,
 ) -> Result<(), Stop>
     requires waits { watch.old.arrival ≡ None }
-    ensures tells { Tells result watch.new heap.now (watched watch.old.watching (begins (params_of scope.now) (statement_of s.now) (state_of setting.now scope.now heap.now values.now.items))) }
+    ensures tells { Tells result watch.new heap.now
+        (watched watch.old.watching (begins (params_of scope.now) (statement_of s.now)
+        (state_of setting.now scope.now heap.now values.now.items))) }
     ensures free { IsFree result }
 {
     match s {

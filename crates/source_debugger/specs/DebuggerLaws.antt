@@ -13,8 +13,10 @@ use Rattle.source_debugger.specs.Shown.{Told, told}
 -- what commands tell from the start of a run on, they tell with more fuel too
 abbrev pub MoreFuelTells : Type 0
 MoreFuelTells =
-    (program : Source) (limits : Limits) (input : List FieldWord) (commands : List Command) (n m : ℕ) (t : Told) → n ≤ m
-    → told program (trail program limits input n) commands 0 ≡ Some t → told program (trail program limits input m) commands 0 ≡ Some t
+    (program : Source) (limits : Limits) (input : List FieldWord) (commands : List Command)
+    (n m : ℕ) (t : Told) → n ≤ m
+    → told program (trail program limits input n) commands 0 ≡ Some t
+    → told program (trail program limits input m) commands 0 ≡ Some t
 
 -- the state at the end point is the one that the source gives
 abbrev pub EndIsTheSources : Type 0

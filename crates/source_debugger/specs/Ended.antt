@@ -32,7 +32,8 @@ pub record IsFaulted (code : ℕ) (first last : Watching) (trail : Trail) : Type
   pub fault : trail.end ≡ Fault code cost
 
 abbrev pub IsEnded : Ended → Watching → Trail → Type 0
-IsEnded (ended.At arrival heap last) first trail = watched first trail.points ≡ Met last (point_of arrival heap)
+IsEnded (ended.At arrival heap last) first trail =
+    watched first trail.points ≡ Met last (point_of arrival heap)
 IsEnded (ended.Over heap last) first trail = IsOver heap first last trail
 IsEnded (ended.Fault code last) first trail = IsFaulted code first last trail
 
@@ -67,8 +68,10 @@ latest_of (watch.Latest place skip left latest) = latest
 
 -- where moves from a position towards a goal lead, by how the run to it ended
 abbrev pub reached_by : Ended → (from goal : ℕ) → Walk
-reached_by (ended.At arrival heap last) from goal = record { position = goal - left_of last; ending = Made }
-reached_by (ended.Over heap last) from goal = record { position = max from (goal - left_of last); ending = Made }
+reached_by (ended.At arrival heap last) from goal =
+    record { position = goal - left_of last; ending = Made }
+reached_by (ended.Over heap last) from goal =
+    record { position = max from (goal - left_of last); ending = Made }
 reached_by (ended.Fault code last) from goal =
     if nat_eq goal from then record { position = from; ending = Made }
     else record { position = max from (goal - left_of last - 1); ending = Faulted code }

@@ -22,12 +22,14 @@ name_line name v = name ++ codes " = " ++ value_named v ++ line_end
 abbrev pub fields_named : Text → List Var → List Value → Text
 fields_named indent [] cells = []
 fields_named indent (var ∷ vars) [] = []
-fields_named indent (var ∷ vars) (v ∷ cells) = indent ++ name_line var.name.text v ++ fields_named indent vars cells
+fields_named indent (var ∷ vars) (v ∷ cells) =
+    indent ++ name_line var.name.text v ++ fields_named indent vars cells
 
 -- [I] = V for each element, after two spaces
 abbrev pub elements_named : ℕ → List Value → Text
 elements_named index [] = []
-elements_named index (v ∷ cells) = codes "  [" ++ decimal index ++ codes "] = " ++ value_named v ++ line_end ++ elements_named (index + 1) cells
+elements_named index (v ∷ cells) = codes "  [" ++ decimal index ++ codes "] = " ++ value_named v
+    ++ line_end ++ elements_named (index + 1) cells
 
 abbrev pub cells_named : Source → Head → List Value → Text
 cells_named program (OfClass class) cells = fields_named (codes "  ") (class_fields program class) cells
@@ -38,13 +40,16 @@ cells_named program (OfObjects class length) cells = elements_named 0 cells
 abbrev pub object_lines : Source → ℕ → Option Object → Text
 object_lines program name None = []
 object_lines program name (Some object) =
-    codes "#" ++ decimal name ++ codes " " ++ head_shown program object.head ++ codes " count " ++ decimal object.count ++ line_end
+    codes "#" ++ decimal name ++ codes " " ++ head_shown program object.head ++ codes " count "
+    ++ decimal object.count ++ line_end
     ++ cells_named program object.head object.cells
 
 -- those of so many names from one on
 abbrev pub objects_from : Source → Store → (from count : ℕ) → Text
 objects_from program store from zero = []
-objects_from program store from (suc count) = object_lines program from (object_named store from) ++ objects_from program store (suc from) count
+objects_from program store from (suc count) =
+    object_lines program from (object_named store from)
+    ++ objects_from program store (suc from) count
 
 -- a variable; the one that a call on an element means has no name, and no line
 abbrev pub variable_line : Binding → Text
@@ -59,4 +64,5 @@ params_named (binding ∷ frame) = variable_line binding ++ params_named frame
 abbrev pub frame_named : ℕ → List Binding → Text
 frame_named params [] = []
 frame_named params (binding ∷ frame) =
-    if nat_lt params (length (binding ∷ frame)) then frame_named params frame ++ variable_line binding else params_named (binding ∷ frame)
+    if nat_lt params (length (binding ∷ frame))
+    then frame_named params frame ++ variable_line binding else params_named (binding ∷ frame)

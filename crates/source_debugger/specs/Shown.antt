@@ -26,13 +26,16 @@ ending_shown (Faulted code) = codes " " ++ fault_line code
 -- the position, where it is, and how moves ended there
 abbrev pub line_at : ℕ → Stand → Ending → Option Text
 line_at j (AtPoint point) ending =
-    Some (codes "at " ++ decimal j ++ codes " place " ++ decimal point.place ++ codes " depth " ++ decimal point.state.depth ++ ending_shown ending)
+    Some (codes "at " ++ decimal j ++ codes " place " ++ decimal point.place ++ codes " depth "
+    ++ decimal point.state.depth ++ ending_shown ending)
 line_at j (AtEnd end) ending = Some (codes "at " ++ decimal j ++ codes " end" ++ ending_shown ending)
 line_at j Unknown ending = None
 
 -- the fields of the object on which the point's method runs, and the method's variables; at the end the main object's fields
 abbrev pub state_named : Source → ℕ → State → Text
-state_named program params st = fields_named [] (class_fields program (own_class st)) (object_at st.store st.self).cells ++ frame_named params st.frame
+state_named program params st =
+    fields_named [] (class_fields program (own_class st)) (object_at st.store st.self).cells
+    ++ frame_named params st.frame
 
 abbrev pub regs_at : Source → Stand → Option Text
 regs_at program (AtPoint point) = Some (state_named program point.params point.state)
@@ -56,7 +59,8 @@ tells j (Some text) = Some (record { position = j; text = text })
 
 abbrev pub walked : Trail → Option Walk → Option Told
 walked trail None = None
-walked trail (Some walk) = tells walk.position (line_at walk.position (stand_at trail walk.position) walk.ending)
+walked trail (Some walk) =
+    tells walk.position (line_at walk.position (stand_at trail walk.position) walk.ending)
 
 -- a command that is given at a position
 abbrev pub told_by : Source → Trail → Command → ℕ → Option Told
@@ -79,4 +83,5 @@ and_told (Some told) next = behind_text told.text (next told.position)
 
 abbrev pub told : Source → Trail → List Command → ℕ → Option Told
 told program trail [] j = Some (record { position = j; text = [] })
-told program trail (command ∷ commands) j = and_told (told_by program trail command j) (told program trail commands)
+told program trail (command ∷ commands) j =
+    and_told (told_by program trail command j) (told program trail commands)

@@ -26,7 +26,8 @@ point_stand None other = other
 
 -- position j is the j-th point from 0, and behind the last one the end of a run that is done
 abbrev pub stand_at : Trail → ℕ → Stand
-stand_at trail j = point_stand (slice_get trail.points j) (if nat_eq j (length trail.points) then end_stand trail.end else Unknown)
+stand_at trail j = point_stand (slice_get trail.points j) (if nat_eq j (length trail.points)
+    then end_stand trail.end else Unknown)
 
 -- what one more move forward meets
 pub data Onward : Type 0 where
@@ -42,7 +43,8 @@ beyond at_point More = Hidden
 
 abbrev pub onward : Trail → ℕ → Onward
 onward trail j =
-    if nat_lt j LAST_POSITION then (if nat_lt (j + 1) (length trail.points) then Moves else beyond (nat_lt j (length trail.points)) trail.end)
+    if nat_lt j LAST_POSITION then (if nat_lt (j + 1) (length trail.points) then Moves
+    else beyond (nat_lt j (length trail.points)) trail.end)
     else Stays Made
 
 -- how moves end: where, and why
@@ -67,10 +69,12 @@ move_on Hidden j next = None
 abbrev pub forward : Trail → Option ℤ → ℕ → ℕ → Option Walk
 forward trail place zero j = Some (ends j Made)
 forward trail place (suc n) j =
-    move_on (onward trail j) j (if is_at trail place (j + 1) then Some (ends (j + 1) Made) else forward trail place n (j + 1))
+    move_on (onward trail j) j (if is_at trail place (j + 1) then Some (ends (j + 1) Made)
+    else forward trail place n (j + 1))
 
 -- at most n moves back, up to the first position at the place
 abbrev pub backward : Trail → Option ℤ → ℕ → ℕ → Walk
 backward trail place zero j = ends j Made
 backward trail place (suc n) zero = ends 0 Start
-backward trail place (suc n) (suc j) = if is_at trail place j then ends j Made else backward trail place n j
+backward trail place (suc n) (suc j) =
+    if is_at trail place j then ends j Made else backward trail place n j

@@ -52,8 +52,12 @@ struct Answer {
 
 // The answer of moves.
 fn walk_answer(run: &Run, walk: Walk) -> Result<Answer, NoMemory>
-    requires run { IsValidRun (source_of run.now.checked.now) run.now.limits run.now.input.now.words.items }
-    ensures told { IfOk result (λ answer. walked (trail (source_of run.now.checked.now) run.now.limits run.now.input.now.words.items MOST_COST) (Some walk) ≡ Some (record { position = answer.position; text = string_bytes answer.text })) }
+    requires run { IsValidRun (source_of run.now.checked.now) run.now.limits
+        run.now.input.now.words.items }
+    ensures told { IfOk result (λ answer.
+        walked (trail (source_of run.now.checked.now) run.now.limits run.now.input.now.words.items
+        MOST_COST) (Some walk)
+        ≡ Some (record { position = answer.position; text = string_bytes answer.text })) }
     ensures within { IfOk result (λ answer. answer.position ≡ walk.position) }
 {
     let text = walk_text(run, walk)?;
@@ -65,9 +69,13 @@ fn walk_answer(run: &Run, walk: Walk) -> Result<Answer, NoMemory>
 
 // Carries out a command at a position.
 fn carry_out(run: &Run, command: Command, position: u64) -> Result<Answer, NoMemory>
-    requires run { IsValidRun (source_of run.now.checked.now) run.now.limits run.now.input.now.words.items }
+    requires run { IsValidRun (source_of run.now.checked.now) run.now.limits
+        run.now.input.now.words.items }
     requires within { position ≤ LAST_POSITION }
-    ensures told { IfOk result (λ answer. told_by (source_of run.now.checked.now) (trail (source_of run.now.checked.now) run.now.limits run.now.input.now.words.items MOST_COST) command position ≡ Some (record { position = answer.position; text = string_bytes answer.text })) }
+    ensures told { IfOk result (λ answer. told_by (source_of run.now.checked.now)
+        (trail (source_of run.now.checked.now) run.now.limits run.now.input.now.words.items
+        MOST_COST) command position
+        ≡ Some (record { position = answer.position; text = string_bytes answer.text })) }
     ensures within { IfOk result (λ answer. answer.position ≤ LAST_POSITION) }
 {
     match command {
@@ -107,7 +115,13 @@ impl SourceDebugger {
         limits: Limits,
     ) -> Result<SourceDebugger, NoMemory>
         requires { IsValidRun (source_of checked) limits input.now.words.items }
-        ensures { IfOk result (λ debugger. debugger ≡ record { program = checked; limits = limits; input = input.now.words.items; position = 0 }) }
+        ensures { IfOk result (λ debugger. debugger
+            ≡ record {
+              program = checked;
+              limits = limits;
+              input = input.now.words.items;
+              position = 0;
+            }) }
     {
         Ok(SourceDebugger {
             checked,
@@ -124,7 +138,9 @@ impl SourceDebugger {
         command: &Command,
         out: &mut String,
     ) -> Result<(), NoMemory>
-        ensures told { OnOk result ((text : List ℕ) × Leads self.old (command.now ∷ []) self.new text × (string_bytes out.new ≡ string_bytes out.old ++ text)) }
+        ensures told { OnOk result ((text : List ℕ)
+            × Leads self.old (command.now ∷ []) self.new text
+            × (string_bytes out.new ≡ string_bytes out.old ++ text)) }
         ensures kept { OnErr result (string_bytes out.new ≡ string_bytes out.old) }
         ensures stays { OnErr result (self.new ≡ self.old) }
     {
@@ -147,7 +163,8 @@ impl SourceDebugger {
         script: &[Command],
         out: &mut String,
     ) -> Result<(), NoMemory>
-        ensures told { OnOk result ((text : List ℕ) × Leads self.old script.now self.new text × (string_bytes out.new ≡ string_bytes out.old ++ text)) }
+        ensures told { OnOk result ((text : List ℕ) × Leads self.old script.now self.new text
+            × (string_bytes out.new ≡ string_bytes out.old ++ text)) }
         ensures kept { OnErr result (string_bytes out.new ≡ string_bytes out.old) }
     {
         let mut text = String::new(alloc);

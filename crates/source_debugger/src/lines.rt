@@ -53,7 +53,8 @@ fn add_bytes(out: &mut String, bytes: &[u8]) -> Result<(), NoMemory>
 
 // The line of a name with a value.
 fn add_name_line(out: &mut String, name: &[u8], value: Value) -> Result<(), NoMemory>
-    ensures { OnOk result (string_bytes out.new ≡ string_bytes out.old ++ name_line name.now (value_of value)) }
+    ensures { OnOk result (string_bytes out.new
+        ≡ string_bytes out.old ++ name_line name.now (value_of value)) }
 {
     add_bytes(out, name)?;
     out.push_str(" = ")?;
@@ -69,7 +70,8 @@ fn add_fields(
     fields: &[Var],
     values: &[Value],
 ) -> Result<(), NoMemory>
-    ensures { OnOk result (string_bytes out.new ≡ string_bytes out.old ++ fields_named indent.now fields.now (values_of values.now)) }
+    ensures { OnOk result (string_bytes out.new
+        ≡ string_bytes out.old ++ fields_named indent.now fields.now (values_of values.now)) }
 {
     match fields {
         [] => Ok(()),
@@ -92,7 +94,9 @@ pub(crate) fn add_class_fields(
     class: u32,
     values: &[Value],
 ) -> Result<(), NoMemory>
-    ensures { OnOk result (string_bytes out.new ≡ string_bytes out.old ++ fields_named indent.now (class_fields (source_of checked.now) class) (values_of values.now)) }
+    ensures { OnOk result (string_bytes out.new
+        ≡ string_bytes out.old ++ fields_named indent.now
+        (class_fields (source_of checked.now) class) (values_of values.now)) }
 {
     let table = checked.table();
     let fields = table.fields(class);
@@ -101,7 +105,8 @@ pub(crate) fn add_class_fields(
 
 // The line of an element.
 fn add_element(out: &mut String, index: usize, value: Value) -> Result<(), AllocError>
-    ensures { OnOk result (string_bytes out.new ≡ string_bytes out.old ++ elements_named index (value_of value ∷ [])) }
+    ensures { OnOk result (string_bytes out.new
+        ≡ string_bytes out.old ++ elements_named index (value_of value ∷ [])) }
 {
     write!(out, "  [{index}] = ")?;
     add_value(out, value)?;
@@ -110,7 +115,8 @@ fn add_element(out: &mut String, index: usize, value: Value) -> Result<(), Alloc
 
 // The lines of elements.
 fn add_elements(out: &mut String, values: &[Value]) -> Result<(), AllocError>
-    ensures { OnOk result (string_bytes out.new ≡ string_bytes out.old ++ elements_named 0 (values_of values.now)) }
+    ensures { OnOk result (string_bytes out.new
+        ≡ string_bytes out.old ++ elements_named 0 (values_of values.now)) }
 {
     for (index, value) in values.iter().enumerate() {
         add_element(out, index, *value)?;
@@ -125,7 +131,9 @@ fn add_cells(
     head: Head,
     values: &[Value],
 ) -> Result<(), NoMemory>
-    ensures { OnOk result (string_bytes out.new ≡ string_bytes out.old ++ cells_named (source_of checked.now) (head_of head) (values_of values.now)) }
+    ensures { OnOk result (string_bytes out.new
+        ≡ string_bytes out.old ++ cells_named (source_of checked.now) (head_of head)
+        (values_of values.now)) }
 {
     match head {
         Head::Class(class) => add_class_fields(out, "  ", checked, class, values),
@@ -145,7 +153,8 @@ fn class_name(program: &Program, class: u32) -> &[u8]
 }
 
 fn add_head(out: &mut String, program: &Program, head: Head) -> Result<(), NoMemory>
-    ensures { OnOk result (string_bytes out.new ≡ string_bytes out.old ++ head_shown (source_of program.now) (head_of head)) }
+    ensures { OnOk result (string_bytes out.new
+        ≡ string_bytes out.old ++ head_shown (source_of program.now) (head_of head)) }
 {
     match head {
         Head::Class(class) => add_bytes(out, class_name(program, class)),
@@ -165,7 +174,10 @@ fn add_first(
     head: Head,
     count: u64,
 ) -> Result<(), NoMemory>
-    ensures { OnOk result (string_bytes out.new ≡ string_bytes out.old ++ (codes "#" ++ decimal name ++ codes " " ++ head_shown (source_of checked.now) (head_of head) ++ codes " count " ++ decimal count ++ line_end)) }
+    ensures { OnOk result (string_bytes out.new
+        ≡ string_bytes out.old ++ (codes "#" ++ decimal name ++ codes " "
+        ++ head_shown (source_of checked.now) (head_of head) ++ codes " count " ++ decimal count
+        ++ line_end)) }
 {
     let program = checked.program();
     write!(out, "#{name} ")?;
@@ -179,7 +191,9 @@ fn add_object(
     name: u32,
     object: &Object,
 ) -> Result<(), NoMemory>
-    ensures { OnOk result (string_bytes out.new ≡ string_bytes out.old ++ object_lines (source_of checked.now) name (Some (object_of object.now))) }
+    ensures { OnOk result (string_bytes out.new
+        ≡ string_bytes out.old ++ object_lines (source_of checked.now) name
+        (Some (object_of object.now))) }
 {
     add_first(out, checked, name, object.head, object.count)?;
     add_cells(out, checked, object.head, &object.cells)
@@ -187,7 +201,9 @@ fn add_object(
 
 // The lines of what lives at a name, if it does.
 fn add_named(out: &mut String, checked: &Checked, heap: &Heap, name: u64) -> Result<(), NoMemory>
-    ensures { OnOk result (string_bytes out.new ≡ string_bytes out.old ++ object_lines (source_of checked.now) name (object_named heap.now.store name)) }
+    ensures { OnOk result (string_bytes out.new
+        ≡ string_bytes out.old ++ object_lines (source_of checked.now) name
+        (object_named heap.now.store name)) }
 {
     if name >= heap.names() as u64 {
         return Ok(());
@@ -209,7 +225,8 @@ pub(crate) fn add_objects(
     from: u32,
     count: u32,
 ) -> Result<(), NoMemory>
-    ensures { OnOk result (string_bytes out.new ≡ string_bytes out.old ++ objects_from (source_of checked.now) heap.now.store from count) }
+    ensures { OnOk result (string_bytes out.new
+        ≡ string_bytes out.old ++ objects_from (source_of checked.now) heap.now.store from count) }
 {
     for at in 0..count {
         add_named(out, checked, heap, u64::from(from) + u64::from(at))?;
@@ -219,7 +236,8 @@ pub(crate) fn add_objects(
 
 // The line of a variable; one with no name has none.
 fn add_variable(out: &mut String, variable: &Variable) -> Result<(), NoMemory>
-    ensures { OnOk result (string_bytes out.new ≡ string_bytes out.old ++ variable_line (binding_of variable.now)) }
+    ensures { OnOk result (string_bytes out.new
+        ≡ string_bytes out.old ++ variable_line (binding_of variable.now)) }
 {
     let name = variable.name.bytes();
     if name.is_empty() {
@@ -230,7 +248,8 @@ fn add_variable(out: &mut String, variable: &Variable) -> Result<(), NoMemory>
 
 // The lines of parameters.
 fn add_params(out: &mut String, variables: &[Variable]) -> Result<(), NoMemory>
-    ensures { OnOk result (string_bytes out.new ≡ string_bytes out.old ++ params_named (map binding_of variables.now)) }
+    ensures { OnOk result (string_bytes out.new
+        ≡ string_bytes out.old ++ params_named (map binding_of variables.now)) }
 {
     match variables {
         [] => Ok(()),
@@ -247,7 +266,8 @@ pub(crate) fn add_frame(
     params: usize,
     variables: &[Variable],
 ) -> Result<(), NoMemory>
-    ensures { OnOk result (string_bytes out.new ≡ string_bytes out.old ++ frame_named params (map binding_of variables.now)) }
+    ensures { OnOk result (string_bytes out.new
+        ≡ string_bytes out.old ++ frame_named params (map binding_of variables.now)) }
 {
     match variables {
         [] => Ok(()),

@@ -103,9 +103,12 @@ fn reached(ended: &Ended, from: u64, goal: u64) -> Walk
 
 /// Where at most so many moves forward lead, up to the place.
 pub(crate) fn forward(run: &Run, place: Option<i64>, most: u64, from: u64) -> Result<Walk, NoMemory>
-    requires run { IsValidRun (source_of run.now.checked.now) run.now.limits run.now.input.now.words.items }
+    requires run { IsValidRun (source_of run.now.checked.now) run.now.limits
+        run.now.input.now.words.items }
     requires within { from ≤ LAST_POSITION }
-    ensures walk { IfOk result (λ walk. forward_in (trail (source_of run.now.checked.now) run.now.limits run.now.input.now.words.items MOST_COST) place most from ≡ Some walk) }
+    ensures walk { IfOk result (λ walk. forward_in
+        (trail (source_of run.now.checked.now) run.now.limits run.now.input.now.words.items
+        MOST_COST) place most from ≡ Some walk) }
     ensures within { IfOk result (λ walk. walk.position ≤ LAST_POSITION) }
 {
     let goal = goal_of(from, most);
@@ -154,9 +157,12 @@ pub(crate) fn backward(
     most: u64,
     from: u64,
 ) -> Result<Walk, NoMemory>
-    requires run { IsValidRun (source_of run.now.checked.now) run.now.limits run.now.input.now.words.items }
+    requires run { IsValidRun (source_of run.now.checked.now) run.now.limits
+        run.now.input.now.words.items }
     requires within { from ≤ LAST_POSITION }
-    ensures walk { IfOk result (λ walk. backward_in (trail (source_of run.now.checked.now) run.now.limits run.now.input.now.words.items MOST_COST) place most from ≡ walk) }
+    ensures walk { IfOk result (λ walk. backward_in
+        (trail (source_of run.now.checked.now) run.now.limits run.now.input.now.words.items
+        MOST_COST) place most from ≡ walk) }
     ensures within { IfOk result (λ walk. walk.position ≤ LAST_POSITION) }
 {
     match place {

@@ -51,7 +51,9 @@ pub(crate) enum Ended {
 /// than 2 ^ 64.
 pub(crate) fn run_to(run: &Run, watching: Watching) -> Result<Ended, NoMemory>
     requires { IsValidRun (source_of run.now.checked.now) run.now.limits run.now.input.now.words.items }
-    ensures { IfOk result (λ ended. IsEnded ended watching (trail (source_of run.now.checked.now) run.now.limits run.now.input.now.words.items MOST_COST)) }
+    ensures { IfOk result (λ ended. IsEnded ended watching
+        (trail (source_of run.now.checked.now) run.now.limits run.now.input.now.words.items
+        MOST_COST)) }
 {
     let mut heap = start(run.alloc, run.checked, run.limits, run.input)?;
     let mut values = Vec::new(run.alloc);
@@ -72,7 +74,11 @@ pub(crate) fn run_to(run: &Run, watching: Watching) -> Result<Ended, NoMemory>
         &mut fuel,
         &mut watch,
     );
-    let Watch { watching, arrival } = watch;
+    let Watch {
+        watching,
+        arrival,
+        ..
+    } = watch;
     match result {
         Ok(()) => Ok(Ended::Over { heap, watching }),
         Err(stop) => broken(stop, heap, watching, arrival),

@@ -34,7 +34,9 @@ pub(crate) enum Place {
 /// Where a position is. A position that the run does not have counts as want of memory.
 pub(crate) fn place_at(run: &Run, position: u64) -> Result<Place, NoMemory>
     requires { IsValidRun (source_of run.now.checked.now) run.now.limits run.now.input.now.words.items }
-    ensures { IfOk result (λ place. stand_of place ≡ stand_at (trail (source_of run.now.checked.now) run.now.limits run.now.input.now.words.items MOST_COST) position) }
+    ensures { IfOk result (λ place. stand_of place
+        ≡ stand_at (trail (source_of run.now.checked.now) run.now.limits
+        run.now.input.now.words.items MOST_COST) position) }
 {
     let wanted = Watching::First {
         place: None,
@@ -70,7 +72,8 @@ fn add_ending(text: &mut String, ending: Ending) -> Result<(), AllocError>
 
 // The line on where moves led.
 fn line_text(alloc: Global, walk: Walk, place: &Place) -> Result<String, AllocError>
-    ensures { IfOk result (λ text. line_at walk.position (stand_of place.now) walk.ending ≡ Some (string_bytes text)) }
+    ensures { IfOk result (λ text. line_at walk.position (stand_of place.now) walk.ending
+        ≡ Some (string_bytes text)) }
 {
     let mut text = String::new(alloc);
     let position = walk.position;
@@ -89,7 +92,10 @@ fn line_text(alloc: Global, walk: Walk, place: &Place) -> Result<String, AllocEr
 /// The line on where moves led.
 pub(crate) fn walk_text(run: &Run, walk: Walk) -> Result<String, NoMemory>
     requires { IsValidRun (source_of run.now.checked.now) run.now.limits run.now.input.now.words.items }
-    ensures { IfOk result (λ text. line_at walk.position (stand_at (trail (source_of run.now.checked.now) run.now.limits run.now.input.now.words.items MOST_COST) walk.position) walk.ending ≡ Some (string_bytes text)) }
+    ensures { IfOk result (λ text. line_at walk.position
+        (stand_at (trail (source_of run.now.checked.now) run.now.limits
+        run.now.input.now.words.items MOST_COST) walk.position) walk.ending
+        ≡ Some (string_bytes text)) }
 {
     let place = place_at(run, walk.position)?;
     Ok(line_text(run.alloc, walk, &place)?)
@@ -104,7 +110,12 @@ fn add_state(
     params: usize,
     variables: &[Variable],
 ) -> Result<(), NoMemory>
-    ensures { OnOk result (string_bytes text.new ≡ string_bytes text.old ++ (fields_named [] (class_fields (source_of checked.now) (class_of_head (object_at heap.now.store object).head)) (object_at heap.now.store object).cells ++ frame_named params (map binding_of variables.now))) }
+    ensures { OnOk result (string_bytes text.new
+        ≡ string_bytes text.old
+        ++ (fields_named [] (class_fields (source_of checked.now)
+        (class_of_head (object_at heap.now.store object).head))
+        (object_at heap.now.store object).cells
+        ++ frame_named params (map binding_of variables.now))) }
 {
     add_class_fields(
         text,
@@ -128,7 +139,8 @@ fn cells_of(heap: &Heap, name: u32) -> &[Value]
 
 // The lines of fields and variables at a place.
 fn place_regs(alloc: Global, checked: &Checked, place: &Place) -> Result<String, NoMemory>
-    ensures { IfOk result (λ text. regs_at (source_of checked.now) (stand_of place.now) ≡ Some (string_bytes text)) }
+    ensures { IfOk result (λ text. regs_at (source_of checked.now) (stand_of place.now)
+        ≡ Some (string_bytes text)) }
 {
     let mut text = String::new(alloc);
     match place {
@@ -148,7 +160,9 @@ fn place_regs(alloc: Global, checked: &Checked, place: &Place) -> Result<String,
 /// The lines of fields and variables at a position.
 pub(crate) fn regs_text(run: &Run, position: u64) -> Result<String, NoMemory>
     requires { IsValidRun (source_of run.now.checked.now) run.now.limits run.now.input.now.words.items }
-    ensures { IfOk result (λ text. regs_at (source_of run.now.checked.now) (stand_at (trail (source_of run.now.checked.now) run.now.limits run.now.input.now.words.items MOST_COST) position) ≡ Some (string_bytes text)) }
+    ensures { IfOk result (λ text. regs_at (source_of run.now.checked.now)
+        (stand_at (trail (source_of run.now.checked.now) run.now.limits
+        run.now.input.now.words.items MOST_COST) position) ≡ Some (string_bytes text)) }
 {
     let place = place_at(run, position)?;
     place_regs(run.alloc, run.checked, &place)
@@ -162,7 +176,8 @@ fn place_cells(
     from: u32,
     count: u32,
 ) -> Result<String, NoMemory>
-    ensures { IfOk result (λ text. cells_at (source_of checked.now) from count (stand_of place.now) ≡ Some (string_bytes text)) }
+    ensures { IfOk result (λ text. cells_at (source_of checked.now) from count (stand_of place.now)
+        ≡ Some (string_bytes text)) }
 {
     let mut text = String::new(alloc);
     match place {
@@ -180,7 +195,9 @@ pub(crate) fn cells_text(
     count: u32,
 ) -> Result<String, NoMemory>
     requires { IsValidRun (source_of run.now.checked.now) run.now.limits run.now.input.now.words.items }
-    ensures { IfOk result (λ text. cells_at (source_of run.now.checked.now) from count (stand_at (trail (source_of run.now.checked.now) run.now.limits run.now.input.now.words.items MOST_COST) position) ≡ Some (string_bytes text)) }
+    ensures { IfOk result (λ text. cells_at (source_of run.now.checked.now) from count
+        (stand_at (trail (source_of run.now.checked.now) run.now.limits
+        run.now.input.now.words.items MOST_COST) position) ≡ Some (string_bytes text)) }
 {
     let place = place_at(run, position)?;
     place_cells(run.alloc, run.checked, &place, from, count)

@@ -13,11 +13,20 @@ pub record Numbers : Type 0 where
   pub cells : List ℕ
 
 abbrev pub numbers_of : Object → Numbers
-numbers_of object = record { head = object.head; count = object.count; cells = map number_of object.cells }
+numbers_of object = record {
+  head = object.head;
+  count = object.count;
+  cells = map number_of object.cells;
+}
 
 abbrev pub seen_object : Seen → Numbers
-seen_object object = record { head = head_of object.head; count = object.count; cells = object.cells.items }
+seen_object object = record {
+  head = head_of object.head;
+  count = object.count;
+  cells = object.cells.items;
+}
 
 -- what is kept for readers of a heap: each object or array at the place of its name
 pub record AreNumbers (heap : Kept) (objects : List (Option Seen)) : Type 0 where
-  pub each : (name : ℕ) → option_map seen_object (unwrap_or (slice_get objects name) None) ≡ option_map numbers_of (object_named heap.store name)
+  pub each : (name : ℕ) → option_map seen_object (unwrap_or (slice_get objects name) None)
+      ≡ option_map numbers_of (object_named heap.store name)

@@ -35,17 +35,20 @@ IsStop stop.NoMemory cost answer = ⊥
 -- where the run is over, more fuel gives the same answer
 abbrev pub StaysSo : Outcome → Source → Limits → List FieldWord → ℕ → Type 0
 StaysSo outcome.More program limits input fuel = Unit {0}
-StaysSo over program limits input fuel = (more : ℕ) → fuel ≤ more → IsOutcome over (source program limits input more)
+StaysSo over program limits input fuel =
+    (more : ℕ) → fuel ≤ more → IsOutcome over (source program limits input more)
 
 -- The inverse of `main`'s body leads from the final state, whose store is the answered one, back to a state that agrees
 -- with the start.
 pub record ComesBack (program : Source) (limits : Limits) (input : List FieldWord) (fuel : ℕ) (store : Store) (cost : ℕ) : Type 0 where
   pub end : EndsWith (source program limits input fuel) store cost
-  pub leads : LeadsBack (record { program = program; limits = limits }) (main_body program) (starting program input) end.end cost
+  pub leads : LeadsBack (record { program = program; limits = limits }) (main_body program)
+      (starting program input) end.end cost
 
 -- where the run is done, its inverse undoes it
 abbrev pub IsUndone : Outcome → Source → Limits → List FieldWord → ℕ → Type 0
-IsUndone (outcome.Done store cost) program limits input fuel = ComesBack program limits input fuel store cost
+IsUndone (outcome.Done store cost) program limits input fuel =
+    ComesBack program limits input fuel store cost
 IsUndone (outcome.Fault code cost) program limits input fuel = Unit {0}
 IsUndone outcome.More program limits input fuel = Unit {0}
 

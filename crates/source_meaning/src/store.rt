@@ -63,7 +63,8 @@ impl Store {
 
     /// The object or array of a name, none where the name is not in the store.
     pub fn object(&self, name: u32) -> Option<&Object>
-        ensures object { option_map (λ object. seen_object object.now) result ≡ option_map numbers_of (object_named self.now name) }
+        ensures object { option_map (λ object. seen_object object.now) result
+            ≡ option_map numbers_of (object_named self.now name) }
         ensures counts { CountsReferences self.now }
     {
         object_in(&self.objects, name as usize)
@@ -72,7 +73,8 @@ impl Store {
     /// The number in a field of the main object.
     pub fn main_field(&self, field: u32) -> u32
         requires { field < length (object_at self.now main_name).cells }
-        ensures { result ≡ number_of (unwrap_or (slice_get (object_at self.now main_name).cells field) Nil) }
+        ensures { result ≡ number_of
+            (unwrap_or (slice_get (object_at self.now main_name).cells field) Nil) }
     {
         self.heap.part(1, field as usize).number()
     }
@@ -102,7 +104,8 @@ fn in_slot(slot: &Option<Object>) -> Option<&Object>
 }
 
 fn object_in(objects: &[Option<Object>], name: usize) -> Option<&Object>
-    ensures { option_map (λ object. seen_object object.now) result ≡ option_map seen_object (unwrap_or (slice_get objects.now name) None) }
+    ensures { option_map (λ object. seen_object object.now) result
+        ≡ option_map seen_object (unwrap_or (slice_get objects.now name) None) }
 {
     match objects.get(name) {
         None => None,
@@ -137,7 +140,8 @@ fn with_numbers(alloc: Global, object: &store_table::Object) -> Result<Object, N
 
 // What is live at a name, by its numbers.
 fn numbers_at(alloc: Global, heap: &Heap, name: usize) -> Result<Option<Object>, NoMemory>
-    ensures { IfOk result (λ shown. option_map seen_object shown ≡ option_map numbers_of (object_named heap.now.store name)) }
+    ensures { IfOk result (λ shown. option_map seen_object shown
+        ≡ option_map numbers_of (object_named heap.now.store name)) }
 {
     match u32::try_from(name) {
         Err(_) => Err(NoMemory),

@@ -22,7 +22,7 @@ use source_steps::{Scope, Setting, Stop, put_value, zeros};
 use std::alloc::Global;
 use store_table::{Head, Heap, Value};
 
-/// How many calls may be open, so that the machine's own stack is deep enough.
+/// The most calls that `interpret` allows a run to have open.
 pub const MOST_OPEN: u32 = 32;
 
 fn put_word(cells: &mut Vec<Value>, field: u32, word: u32)
@@ -68,8 +68,13 @@ pub fn run_main(
 ) -> Result<(), Stop>
     requires framed { IsFramed setting.now scope.now heap.old values.old.items }
     requires waits { watch.old.arrival ≡ None }
-    ensures ends { Ends setting.now scope.now result heap.new values.new.items fuel.new (runs setting.now fuel.old fuel.old (main_body (setting_of setting.now).program) (state_of setting.now scope.now heap.old values.old.items)) }
-    ensures tells { Tells result watch.new heap.new (watched watch.old.watching (points (setting_of setting.now) fuel.old (params_of scope.now) (main_body (setting_of setting.now).program) (state_of setting.now scope.now heap.old values.old.items))) }
+    ensures ends { Ends setting.now scope.now result heap.new values.new.items fuel.new
+        (runs setting.now fuel.old fuel.old (main_body (setting_of setting.now).program)
+        (state_of setting.now scope.now heap.old values.old.items)) }
+    ensures tells { Tells result watch.new heap.new
+        (watched watch.old.watching (points (setting_of setting.now) fuel.old (params_of scope.now)
+        (main_body (setting_of setting.now).program)
+        (state_of setting.now scope.now heap.old values.old.items))) }
     ensures less { fuel.new ≤ fuel.old }
 {
     let bound = *fuel;
@@ -119,7 +124,8 @@ fn run_whole(
 ) -> Result<Outcome, NoMemory>
     requires valid { IsValid (source_of checked.now) input.now.words.items }
     requires limits { IsLimits limits }
-    ensures { IfOk result (λ outcome. IsOutcome outcome (source (source_of checked.now) limits input.now.words.items fuel)) }
+    ensures { IfOk result (λ outcome. IsOutcome outcome
+        (source (source_of checked.now) limits input.now.words.items fuel)) }
 {
     checked.program();
     let mut heap = start(alloc, checked, limits, input)?;
@@ -159,13 +165,17 @@ pub fn interpret(
     requires valid { IsValid (source_of checked.now) input.now.words.items }
     requires limits { IsLimits limits }
     requires shallow { limits.deep ≤ MOST_OPEN }
-    ensures outcome { IfOk result (λ outcome. IsOutcome outcome (source (source_of checked.now) limits input.now.words.items fuel)) }
+    ensures outcome { IfOk result
+        (λ outcome. IsOutcome outcome (source (source_of checked.now) limits input.now.words.items
+        fuel)) }
 
     // Where the run is over, more fuel gives the same.
-    ensures more { IfOk result (λ outcome. StaysSo outcome (source_of checked.now) limits input.now.words.items fuel) }
+    ensures more { IfOk result (λ outcome. StaysSo outcome (source_of checked.now) limits
+        input.now.words.items fuel) }
 
     // Where it is done, the inverse of the body of `main` leads from the final state back to one that agrees with the start.
-    ensures back { IfOk result (λ outcome. IsUndone outcome (source_of checked.now) limits input.now.words.items fuel) }
+    ensures back { IfOk result (λ outcome. IsUndone outcome (source_of checked.now) limits
+        input.now.words.items fuel) }
 {
     checked.program();
     run_whole(alloc, checked, input, limits, fuel)

@@ -58,35 +58,44 @@ module _ (setting : Setting) where
 
   -- the points of a block with a local variable
   abbrev pub local_points : Lister → ℕ → List ℕ → Expression → Statements → State → List Point
-  local_points list params name value body st = behind (evaluated setting.program value st) (λ v. list params body (opened name v st))
+  local_points list params name value body st =
+      behind (evaluated setting.program value st) (λ v. list params body (opened name v st))
 
   -- the points of a loop's turn behind its first part: none where the exit holds
-  abbrev pub again_points : Runner → Lister → ℕ → Expression → Statements → (State → List Point) → Bool → State → List Point
+  abbrev pub again_points : Runner → Lister → ℕ → Expression → Statements → (State → List Point)
+      → Bool → State → List Point
   again_points run list params entry again next true st = []
   again_points run list params entry again next false st =
       list params again st
-      ++ behind (run again st) (λ end. behind (evaluated setting.program entry end) (λ v. behind (fault_if loop_fault (holds v)) (λ u. next end)))
+      ++ behind (run again st) (λ end. behind (evaluated setting.program entry end)
+      (λ v. behind (fault_if loop_fault (holds v)) (λ u. next end)))
 
   -- the points of a loop whose entry has passed, of at most so many turns
-  abbrev pub turn_points : ℕ → Runner → Lister → ℕ → Expression → Statements → Statements → Expression → State → List Point
+  abbrev pub turn_points : ℕ → Runner → Lister → ℕ → Expression → Statements → Statements
+      → Expression → State → List Point
   turn_points zero run list params entry first again exit st = []
   turn_points (suc n) run list params entry first again exit st =
       list params first st
       ++ behind (run first st) (λ end. behind (evaluated setting.program exit end) (λ v.
-      again_points run list params entry again (turn_points n run list params entry first again exit) (holds v) end))
+      again_points run list params entry again
+      (turn_points n run list params entry first again exit) (holds v) end))
 
   -- the points of a call, by what is called
   abbrev pub call_points : Lister → ℕ → ℕ → Bool → Option Lvalue → Ident → List Ident → State → List Point
   call_points list params at back None method args st =
       behind (fault_if too_deep_fault (is_too_deep setting st)) (λ u.
-      called_points list back (method_named setting.program (own_class st) method.text) st.self [] (cells_named setting st args) st)
+      called_points list back (method_named setting.program (own_class st) method.text) st.self []
+      (cells_named setting st args) st)
   call_points list params at back (Some (Whole name)) method args st =
       let cell = cell_named setting.program st name.text in
       let self = number_of (read st cell) in
-      behind (fault_if nil_fault (is_nil (read st cell))) (λ u. behind (fault_if too_deep_fault (is_too_deep setting st)) (λ u.
-      called_points list back (method_named setting.program (class_of setting st self) method.text) self (cell ∷ []) (cells_named setting st args) st))
+      behind (fault_if nil_fault (is_nil (read st cell)))
+      (λ u. behind (fault_if too_deep_fault (is_too_deep setting st)) (λ u.
+      called_points list back (method_named setting.program (class_of setting st self) method.text)
+      self (cell ∷ []) (cells_named setting st args) st))
   call_points list params at back (Some (Item name index)) method args st =
-      local_points list params (element_name at).text (Null at) (element_call at back name index method args) st
+      local_points list params (element_name at).text (Null at)
+      (element_call at back name index method args) st
 
   -- the points of the blocks in a statement that run, one clause for each form that has some
   abbrev pub inner_points : ℕ → Runner → Lister → ℕ → Statement → State → List Point
@@ -99,12 +108,14 @@ module _ (setting : Setting) where
       turn_points n run list params entry first again exit st))
   inner_points n run list params (Construct at class name body end) st =
       local_points list params name.text (Null at) (constructed at class name body) st
-  inner_points n run list params (Local at var value body end_var end_value) st = local_points list params var.name.text value body st
+  inner_points n run list params (Local at var value body end_var end_value) st =
+      local_points list params var.name.text value body st
   inner_points n run list params (New at made target) st = []
   inner_points n run list params (Delete at made target) st = []
   inner_points n run list params (Copy at kind source target) st = []
   inner_points n run list params (Uncopy at kind source target) st = []
-  inner_points n run list params (Call at back receiver method args) st = call_points list params at back receiver method args st
+  inner_points n run list params (Call at back receiver method args) st =
+      call_points list params at back receiver method args st
   inner_points n run list params (Skip at) st = []
 
   -- the points of a block, at most n statements deep and long

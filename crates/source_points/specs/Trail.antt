@@ -17,6 +17,8 @@ pub record Trail : Type 0 where
 -- the run of a program, at most n statements deep and long
 abbrev pub trail : Source → Limits → List FieldWord → ℕ → Trail
 trail program limits input n = record {
-  points = points (record { program = program; limits = limits }) n 0 (main_body program) (starting program input);
-  end = exec (record { program = program; limits = limits }) n (main_body program) (starting program input);
+  points = points (record { program = program; limits = limits }) n 0 (main_body program)
+      (starting program input);
+  end = exec (record { program = program; limits = limits }) n (main_body program)
+      (starting program input);
 }

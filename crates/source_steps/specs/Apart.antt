@@ -19,8 +19,10 @@ abbrev pub meets : Source → State → Value → Expression → Bool
 meets program st array (Number at word) = false
 meets program st array (Null at) = false
 meets program st array (Variable name) = false
-meets program st array (Element name index) = same_value array (variable_value program st name.text) || meets program st array index
-meets program st array (Binary at op left right) = meets program st array left || meets program st array right
+meets program st array (Element name index) =
+    same_value array (variable_value program st name.text) || meets program st array index
+meets program st array (Binary at op left right) =
+    meets program st array left || meets program st array right
 
 -- the elements of an expression that may be there
 abbrev pub reads_of : Option Expression → List Ident

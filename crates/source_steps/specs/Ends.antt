@@ -23,7 +23,8 @@ turned true s = inverse_statement s
 turned false s = s
 
 -- a call ends in the state and with the fuel that the run gives
-abbrev pub Ends : {E : Type 0} → Here → Chain → Result E Stop → Heap → List Held → ℕ → Metered State → Type 0
+abbrev pub Ends : {E : Type 0} → Here → Chain → Result E Stop → Heap → List Held → ℕ → Metered State
+    → Type 0
 Ends here scope result heap values left run = Gives (λ u. state_of here scope heap values) result left run
 
 -- a statement, with blocks bounded by n
@@ -145,7 +146,8 @@ slot_or_first program class name = unwrap_or (method_slot program class name) 0
 
 -- a call of no method
 abbrev pub invoked_nothing : List Cell → List Cell → State → Run State
-invoked_nothing receiver args st = moved_back receiver (map (read st) receiver) (moved_out args (moved_out receiver st))
+invoked_nothing receiver args st =
+    moved_back receiver (map (read st) receiver) (moved_out args (moved_out receiver st))
 
 -- a call's direction, as it stands or undone
 abbrev pub call_turned : Bool → Bool → Bool

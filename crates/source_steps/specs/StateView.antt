@@ -35,7 +35,13 @@ setting_of here = record { program = source_of here.checked.now; limits = here.l
 
 abbrev pub state_of : Here → Chain → Kept → List Held → State
 state_of here scope heap values =
-    record { frame = frame_of scope values; self = here.object; depth = here.depth; store = heap.store; log = heap.log }
+    record {
+      frame = frame_of scope values;
+      self = here.object;
+      depth = here.depth;
+      store = heap.store;
+      log = heap.log;
+    }
 
 -- what a computation gave, or its fault
 abbrev pub seen : {A B : Type 0} → (A → B) → Result A ℕ → Result B ℕ
@@ -44,7 +50,8 @@ seen f (Err fault) = Err fault
 
 -- the element of an array at an index
 abbrev pub element_in : Store → Value → ℕ → Result Cell ℕ
-element_in store (Name array) index = if nat_lt index (length (object_at store array).cells) then Ok (Part array index) else Err index_fault
+element_in store (Name array) index = if nat_lt index (length (object_at store array).cells)
+    then Ok (Part array index) else Err index_fault
 element_in store _ index = Err nil_fault
 
 -- a scope with one more variable of this name
@@ -54,7 +61,13 @@ pub record IsInner (name : List ℕ) (scope inner : Chain) : Type 0 where
 -- the state in which a method begins on an object, with these values of its variables
 abbrev pub entered : Here → List Var → ℕ → Kept → List Held → State
 entered here params object heap values =
-    record { frame = bound params (values_of values); self = object; depth = 1 + here.depth; store = heap.store; log = heap.log }
+    record {
+      frame = bound params (values_of values);
+      self = object;
+      depth = 1 + here.depth;
+      store = heap.store;
+      log = heap.log;
+    }
 
 -- the values are those of the variables
 pub record OwnValues (params : List Var) (values : List Held) : Type 0 where

@@ -43,7 +43,9 @@ fn pay_elements(fuel: u64, e: &Expr) -> Option<u64>
 /// Fuel after the elements of two expressions, the first of which may be missing.
 #[tactic(auto, using(crate::proofs::Elements::count_both, crate::proofs::Elements::count_one))]
 fn pay_both(fuel: u64, first: Option<&Expr>, second: &Expr) -> Option<u64>
-    ensures left { result ≡ left_of fuel (length (reads_of (option_map (λ e. expression_of e.now) first.entry) ++ elements (expression_of second.now))) }
+    ensures left { result ≡ left_of fuel
+        (length (reads_of (option_map (λ e. expression_of e.now) first.entry)
+        ++ elements (expression_of second.now))) }
     ensures less { IfSome result (λ left. left ≤ fuel) }
 {
     match first {
@@ -57,7 +59,10 @@ fn pay_both(fuel: u64, first: Option<&Expr>, second: &Expr) -> Option<u64>
 
 /// Counts the elements of two expressions.
 fn spend_elements(fuel: &mut u64, first: Option<&Expr>, second: &Expr) -> Result<(), Stop>
-    ensures gives { Gives (λ u. tt) result fuel.new (metered fuel.old (spending (length (reads_of (option_map (λ e. expression_of e.now) first.entry) ++ elements (expression_of second.now))))) }
+    ensures gives { Gives (λ u. tt) result fuel.new
+        (metered fuel.old
+        (spending (length (reads_of (option_map (λ e. expression_of e.now) first.entry)
+        ++ elements (expression_of second.now))))) }
     ensures less { fuel.new ≤ fuel.old }
 {
     match pay_both(*fuel, first, second) {
@@ -80,7 +85,9 @@ fn meets(
     e: &Expr,
 ) -> bool
     requires { IsFramed setting.now scope.now heap.now values.now }
-    ensures { result ≡ meets_in (setting_of setting.now).program (state_of setting.now scope.now heap.now values.now) (value_of array) (expression_of e.now) }
+    ensures { result ≡ meets_in (setting_of setting.now).program
+        (state_of setting.now scope.now heap.now values.now) (value_of array)
+        (expression_of e.now) }
 {
     match e {
         Expr::Number { .. } => false,
@@ -116,7 +123,10 @@ fn shares(
     second: &Expr,
 ) -> bool
     requires { IsFramed setting.now scope.now heap.now values.now }
-    ensures { result ≡ is_among (setting_of setting.now).program (state_of setting.now scope.now heap.now values.now) name.now (reads_of (option_map (λ e. expression_of e.now) first.entry) ++ elements (expression_of second.now)) }
+    ensures { result ≡ is_among (setting_of setting.now).program
+        (state_of setting.now scope.now heap.now values.now) name.now
+        (reads_of (option_map (λ e. expression_of e.now) first.entry)
+        ++ elements (expression_of second.now)) }
 {
     let array = variable(setting, scope, heap, values, &name.text);
     let later = meets(setting, scope, heap, values, array, second);
@@ -141,7 +151,11 @@ fn reads_apart(
     second: &Expr,
 ) -> Result<(), Stop>
     requires { IsFramed setting.now scope.now heap.now values.now.items }
-    ensures gives { Gives (λ u. tt) result fuel.new (metered fuel.old (kept_apart (setting_of setting.now).program (name.now ∷ []) (reads_of (option_map (λ e. expression_of e.now) first.entry) ++ elements (expression_of second.now)) (state_of setting.now scope.now heap.now values.now.items))) }
+    ensures gives { Gives (λ u. tt) result fuel.new
+        (metered fuel.old (kept_apart (setting_of setting.now).program (name.now ∷ [])
+        (reads_of (option_map (λ e. expression_of e.now) first.entry)
+        ++ elements (expression_of second.now))
+        (state_of setting.now scope.now heap.now values.now.items))) }
     ensures less { fuel.new ≤ fuel.old }
 {
     spend_elements(fuel, first, second)?;
@@ -165,7 +179,10 @@ fn both_apart(
     second: &Expr,
 ) -> Result<(), Stop>
     requires { IsFramed setting.now scope.now heap.now values.now.items }
-    ensures gives { Gives (λ u. tt) result fuel.new (metered fuel.old (kept_apart (setting_of setting.now).program (name.now ∷ other.now ∷ []) (elements (expression_of first.now) ++ elements (expression_of second.now)) (state_of setting.now scope.now heap.now values.now.items))) }
+    ensures gives { Gives (λ u. tt) result fuel.new
+        (metered fuel.old (kept_apart (setting_of setting.now).program (name.now ∷ other.now ∷ [])
+        (elements (expression_of first.now) ++ elements (expression_of second.now))
+        (state_of setting.now scope.now heap.now values.now.items))) }
     ensures less { fuel.new ≤ fuel.old }
 {
     spend_elements(fuel, Some(first), second)?;
@@ -176,7 +193,8 @@ fn both_apart(
 
 /// The index of a place, if it is an element.
 fn index_of(place: &Place) -> Option<&Expr>
-    ensures { reads_of (option_map (λ e. expression_of e.now) result) ≡ index_elements (lvalue_of place.now) }
+    ensures { reads_of (option_map (λ e. expression_of e.now) result)
+        ≡ index_elements (lvalue_of place.now) }
 {
     match &place.index {
         None => None,
@@ -195,7 +213,11 @@ pub fn update_apart(
     e: &Expr,
 ) -> Result<(), Stop>
     requires { IsFramed setting.now scope.now heap.now values.now.items }
-    ensures gives { Gives (λ u. tt) result fuel.new (metered fuel.old (kept_apart (setting_of setting.now).program (own_element (lvalue_of place.now)) (index_elements (lvalue_of place.now) ++ elements (expression_of e.now)) (state_of setting.now scope.now heap.now values.now.items))) }
+    ensures gives { Gives (λ u. tt) result fuel.new
+        (metered fuel.old (kept_apart (setting_of setting.now).program
+        (own_element (lvalue_of place.now))
+        (index_elements (lvalue_of place.now) ++ elements (expression_of e.now))
+        (state_of setting.now scope.now heap.now values.now.items))) }
     ensures less { fuel.new ≤ fuel.old }
 {
     match &place.index {
@@ -223,7 +245,10 @@ pub fn place_apart(
     place: &Place,
 ) -> Result<(), Stop>
     requires { IsFramed setting.now scope.now heap.now values.now.items }
-    ensures gives { Gives (λ u. tt) result fuel.new (metered fuel.old (kept_apart (setting_of setting.now).program (own_element (lvalue_of place.now)) (index_elements (lvalue_of place.now)) (state_of setting.now scope.now heap.now values.now.items))) }
+    ensures gives { Gives (λ u. tt) result fuel.new
+        (metered fuel.old (kept_apart (setting_of setting.now).program
+        (own_element (lvalue_of place.now)) (index_elements (lvalue_of place.now))
+        (state_of setting.now scope.now heap.now values.now.items))) }
     ensures less { fuel.new ≤ fuel.old }
 {
     match &place.index {
@@ -243,7 +268,11 @@ pub fn copy_apart(
     target: &Place,
 ) -> Result<(), Stop>
     requires { IsFramed setting.now scope.now heap.now values.now.items }
-    ensures gives { Gives (λ u. tt) result fuel.new (metered fuel.old (kept_apart (setting_of setting.now).program (own_element (lvalue_of target.now)) (index_elements (lvalue_of source.now) ++ index_elements (lvalue_of target.now)) (state_of setting.now scope.now heap.now values.now.items))) }
+    ensures gives { Gives (λ u. tt) result fuel.new
+        (metered fuel.old (kept_apart (setting_of setting.now).program
+        (own_element (lvalue_of target.now))
+        (index_elements (lvalue_of source.now) ++ index_elements (lvalue_of target.now))
+        (state_of setting.now scope.now heap.now values.now.items))) }
     ensures less { fuel.new ≤ fuel.old }
 {
     match &target.index {
@@ -275,7 +304,11 @@ pub fn swap_apart(
     right: &Place,
 ) -> Result<(), Stop>
     requires { IsFramed setting.now scope.now heap.now values.now.items }
-    ensures gives { Gives (λ u. tt) result fuel.new (metered fuel.old (kept_apart (setting_of setting.now).program (own_element (lvalue_of left.now) ++ own_element (lvalue_of right.now)) (index_elements (lvalue_of left.now) ++ index_elements (lvalue_of right.now)) (state_of setting.now scope.now heap.now values.now.items))) }
+    ensures gives { Gives (λ u. tt) result fuel.new
+        (metered fuel.old (kept_apart (setting_of setting.now).program
+        (own_element (lvalue_of left.now) ++ own_element (lvalue_of right.now))
+        (index_elements (lvalue_of left.now) ++ index_elements (lvalue_of right.now))
+        (state_of setting.now scope.now heap.now values.now.items))) }
     ensures less { fuel.new ≤ fuel.old }
 {
     match &left.index {

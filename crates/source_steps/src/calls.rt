@@ -28,7 +28,9 @@ pub fn name_cells(
     names: &[Ident],
 ) -> Result<(), NoMemory>
     requires { IsFramed setting.now scope.now heap.now values.now }
-    ensures { OnOk result (map cell_of cells.new.items ≡ map cell_of cells.old.items ++ cells_named (setting_of setting.now) (state_of setting.now scope.now heap.now values.now) names.now) }
+    ensures { OnOk result (map cell_of cells.new.items ≡ map cell_of cells.old.items
+        ++ cells_named (setting_of setting.now) (state_of setting.now scope.now heap.now values.now)
+        names.now) }
 {
     for name in names {
         cells.push(cell_of_name(setting, scope, heap, values, &name.text))?;
@@ -46,7 +48,8 @@ pub fn read_cells(
     cells: &[Cell],
 ) -> Result<Vec<Value>, NoMemory>
     requires { IsFramed setting.now scope.now heap.now values.now }
-    ensures { IfOk result (λ moved. values_of moved.items ≡ map (read (state_of setting.now scope.now heap.now values.now)) (map cell_of cells.now)) }
+    ensures { IfOk result (λ moved. values_of moved.items
+        ≡ map (read (state_of setting.now scope.now heap.now values.now)) (map cell_of cells.now)) }
 {
     let mut moved = Vec::new(alloc);
     for cell in cells {
@@ -64,7 +67,9 @@ pub fn move_out(
     cells: &[Cell],
 )
     requires { IsFramed setting.now scope.now heap.old values.old.items }
-    ensures moved { state_of setting.now scope.now heap.new values.new.items ≡ moved_out (map cell_of cells.now) (state_of setting.now scope.now heap.old values.old.items) }
+    ensures moved { state_of setting.now scope.now heap.new values.new.items
+        ≡ moved_out (map cell_of cells.now)
+        (state_of setting.now scope.now heap.old values.old.items) }
     ensures framed { IsFramed setting.now scope.now heap.new values.new.items }
 {
     for cell in cells {
@@ -84,7 +89,9 @@ pub fn move_back(
     moved: &[Value],
 ) -> Result<(), Stop>
     requires { IsFramed setting.now scope.now heap.old values.old.items }
-    ensures ends { Ends setting.now scope.now result heap.new values.new.items fuel.new (metered fuel.old (moved_back (map cell_of cells.now) (values_of moved.now) (state_of setting.now scope.now heap.old values.old.items))) }
+    ensures ends { Ends setting.now scope.now result heap.new values.new.items fuel.new
+        (metered fuel.old (moved_back (map cell_of cells.now) (values_of moved.now)
+        (state_of setting.now scope.now heap.old values.old.items))) }
     ensures framed { OnOk result (IsFramed setting.now scope.now heap.new values.new.items) }
     ensures same { fuel.new ≡ fuel.old }
 {
@@ -111,7 +118,10 @@ pub fn cells_of(
     names: &[Ident],
 ) -> Result<Vec<Cell>, Stop>
     requires { IsFramed setting.now scope.now heap.now values.now.items }
-    ensures { MatchResult result (λ cells. map cell_of cells.items ≡ cells_named (setting_of setting.now) (state_of setting.now scope.now heap.now values.now.items) names.now) (λ why. why ≡ Stop.NoMemory) }
+    ensures { MatchResult result (λ cells. map cell_of cells.items
+        ≡ cells_named (setting_of setting.now)
+        (state_of setting.now scope.now heap.now values.now.items) names.now)
+        (λ why. why ≡ Stop.NoMemory) }
 {
     let mut cells = Vec::new(setting.alloc);
     match name_cells(setting, scope, heap, values, &mut cells, names) {
@@ -134,7 +144,10 @@ pub fn return_values(
 ) -> Result<(), Stop>
     requires framed { IsFramed setting.now scope.now heap.old values.old.items }
     requires same { length held.now ≡ length receiver.now }
-    ensures ends { Ends setting.now scope.now result heap.new values.new.items fuel.new (metered fuel.old (moved_back (map cell_of receiver.now ++ map cell_of args.now) (values_of held.now ++ values_of inside.now) (state_of setting.now scope.now heap.old values.old.items))) }
+    ensures ends { Ends setting.now scope.now result heap.new values.new.items fuel.new
+        (metered fuel.old (moved_back (map cell_of receiver.now ++ map cell_of args.now)
+        (values_of held.now ++ values_of inside.now)
+        (state_of setting.now scope.now heap.old values.old.items))) }
     ensures framed { OnOk result (IsFramed setting.now scope.now heap.new values.new.items) }
     ensures less { fuel.new ≤ fuel.old }
 {

@@ -70,7 +70,9 @@ pub fn read_cell(
 
 /// The number of a field of the present object.
 fn field_number(setting: &Setting, heap: &Heap, name: &Text) -> usize
-    ensures { result ≡ unwrap_or (field_of (class_fields (setting_of setting.now).program (class_of_head (object_at (heap.now.store) setting.now.object).head)) name.now) 0 }
+    ensures { result ≡ unwrap_or
+        (field_of (class_fields (setting_of setting.now).program
+        (class_of_head (object_at (heap.now.store) setting.now.object).head)) name.now) 0 }
 {
     match setting
         .checked
@@ -91,7 +93,8 @@ pub fn cell_of_name(
     name: &Text,
 ) -> Cell
     requires { IsFramed setting.now scope.now heap.now values.now }
-    ensures { cell_of result ≡ cell_named (setting_of setting.now).program (state_of setting.now scope.now heap.now values.now) name.now }
+    ensures { cell_of result ≡ cell_named (setting_of setting.now).program
+        (state_of setting.now scope.now heap.now values.now) name.now }
 {
     match slot(scope, values, name) {
         Some(index) => Cell::Slot(index),
@@ -112,7 +115,9 @@ pub fn write_cell(
     value: Value,
 )
     requires { IsFramed setting.now scope.now heap.old values.old.items }
-    ensures written { state_of setting.now scope.now heap.new values.new.items ≡ written (state_of setting.now scope.now heap.old values.old.items) (cell_of cell) (value_of value) }
+    ensures written { state_of setting.now scope.now heap.new values.new.items
+        ≡ written (state_of setting.now scope.now heap.old values.old.items) (cell_of cell)
+        (value_of value) }
     ensures framed { IsFramed setting.now scope.now heap.new values.new.items }
 {
     match cell {
@@ -130,7 +135,8 @@ pub fn variable(
     name: &Text,
 ) -> Value
     requires { IsFramed setting.now scope.now heap.now values.now }
-    ensures { value_of result ≡ variable_value (setting_of setting.now).program (state_of setting.now scope.now heap.now values.now) name.now }
+    ensures { value_of result ≡ variable_value (setting_of setting.now).program
+        (state_of setting.now scope.now heap.now values.now) name.now }
 {
     let cell = cell_of_name(setting, scope, heap, values, name);
     read_cell(setting, scope, heap, values, cell)

@@ -40,7 +40,9 @@ fn refer(
     b: Cell,
 ) -> Result<(), Stop>
     requires { IsFramed setting.now scope.now heap.old values.old.items }
-    ensures ends { Ends setting.now scope.now result heap.new values.new.items fuel.new (metered fuel.old (copied (cell_of a) (cell_of b) (state_of setting.now scope.now heap.old values.old.items))) }
+    ensures ends { Ends setting.now scope.now result heap.new values.new.items fuel.new
+        (metered fuel.old (copied (cell_of a) (cell_of b)
+        (state_of setting.now scope.now heap.old values.old.items))) }
     ensures framed { OnOk result (IsFramed setting.now scope.now heap.new values.new.items) }
     ensures less { fuel.new ≤ fuel.old }
 {
@@ -66,7 +68,10 @@ pub fn copy(
     target: &Place,
 ) -> Result<(), Stop>
     requires { IsFramed setting.now scope.now heap.old values.old.items }
-    ensures ends { Ends setting.now scope.now result heap.new values.new.items fuel.new (does_simply setting.now fuel.old (CopyTo at kind.now (lvalue_of source.now) (lvalue_of target.now)) (state_of setting.now scope.now heap.old values.old.items)) }
+    ensures ends { Ends setting.now scope.now result heap.new values.new.items fuel.new
+        (does_simply setting.now fuel.old
+        (CopyTo at kind.now (lvalue_of source.now) (lvalue_of target.now))
+        (state_of setting.now scope.now heap.old values.old.items)) }
     ensures framed { OnOk result (IsFramed setting.now scope.now heap.new values.new.items) }
     ensures less { fuel.new ≤ fuel.old }
 {
@@ -87,7 +92,9 @@ fn take_back(
     b: Cell,
 ) -> Result<(), Stop>
     requires { IsFramed setting.now scope.now heap.old values.old.items }
-    ensures ends { Ends setting.now scope.now result heap.new values.new.items fuel.new (metered fuel.old (uncopied (cell_of a) (cell_of b) (state_of setting.now scope.now heap.old values.old.items))) }
+    ensures ends { Ends setting.now scope.now result heap.new values.new.items fuel.new
+        (metered fuel.old (uncopied (cell_of a) (cell_of b)
+        (state_of setting.now scope.now heap.old values.old.items))) }
     ensures framed { OnOk result (IsFramed setting.now scope.now heap.new values.new.items) }
     ensures less { fuel.new ≤ fuel.old }
 {
@@ -113,7 +120,10 @@ pub fn uncopy(
     target: &Place,
 ) -> Result<(), Stop>
     requires { IsFramed setting.now scope.now heap.old values.old.items }
-    ensures ends { Ends setting.now scope.now result heap.new values.new.items fuel.new (does_simply setting.now fuel.old (Uncopy at kind.now (lvalue_of source.now) (lvalue_of target.now)) (state_of setting.now scope.now heap.old values.old.items)) }
+    ensures ends { Ends setting.now scope.now result heap.new values.new.items fuel.new
+        (does_simply setting.now fuel.old
+        (Uncopy at kind.now (lvalue_of source.now) (lvalue_of target.now))
+        (state_of setting.now scope.now heap.old values.old.items)) }
     ensures framed { OnOk result (IsFramed setting.now scope.now heap.new values.new.items) }
     ensures less { fuel.new ≤ fuel.old }
 {

@@ -101,7 +101,8 @@ fn word_of(op: BinOp, a: u32, b: u32) -> u32
 
 /// An operator on two values.
 fn combine(op: BinOp, left: Value, right: Value) -> Value
-    ensures { value_of result ≡ Word (operated op (number_of (value_of left)) (number_of (value_of right))) }
+    ensures { value_of result
+        ≡ Word (operated op (number_of (value_of left)) (number_of (value_of right))) }
 {
     Value::Word(word_of(op, left.number(), right.number()))
 }
@@ -137,7 +138,8 @@ pub fn value(
     e: &Expr,
 ) -> Result<Value, u32>
     requires { IsFramed setting.now scope.now heap.now values.now }
-    ensures { seen value_of result ≡ value_in (setting_of setting.now).program (state_of setting.now scope.now heap.now values.now) (expression_of e.now) }
+    ensures { seen value_of result ≡ value_in (setting_of setting.now).program
+        (state_of setting.now scope.now heap.now values.now) (expression_of e.now) }
 {
     match e {
         Expr::Number { word, .. } => Ok(Value::Word(*word)),
@@ -169,7 +171,8 @@ pub fn find(
     place: &Place,
 ) -> Result<Cell, u32>
     requires { IsFramed setting.now scope.now heap.now values.now }
-    ensures { seen cell_of result ≡ place_in (setting_of setting.now).program (state_of setting.now scope.now heap.now values.now) (lvalue_of place.now) }
+    ensures { seen cell_of result ≡ place_in (setting_of setting.now).program
+        (state_of setting.now scope.now heap.now values.now) (lvalue_of place.now) }
 {
     let named = cell_of_name(setting, scope, heap, values, &place.name.text);
     match &place.index {

@@ -30,7 +30,9 @@ pub fn close_local(
 ) -> Result<(), Stop>
     requires framed { IsFramed setting.now inner.now heap.old values.old.items }
     requires inner { IsInner name.now scope.now inner.now }
-    ensures ends { Ends setting.now scope.now result heap.new values.new.items fuel.new (metered fuel.old (local_end (setting_of setting.now) (expression_of end_value.now) (state_of setting.now inner.now heap.old values.old.items))) }
+    ensures ends { Ends setting.now scope.now result heap.new values.new.items fuel.new
+        (metered fuel.old (local_end (setting_of setting.now) (expression_of end_value.now)
+        (state_of setting.now inner.now heap.old values.old.items))) }
     ensures framed { OnOk result (IsFramed setting.now scope.now heap.new values.new.items) }
     ensures less { fuel.new ≤ fuel.old }
 {
@@ -54,7 +56,9 @@ pub fn close_nil(
 ) -> Result<(), Stop>
     requires framed { IsFramed setting.now inner.now heap.old values.old.items }
     requires inner { IsInner name.now scope.now inner.now }
-    ensures ends { Ends setting.now scope.now result heap.new values.new.items fuel.new (metered fuel.old (local_end (setting_of setting.now) (Null at) (state_of setting.now inner.now heap.old values.old.items))) }
+    ensures ends { Ends setting.now scope.now result heap.new values.new.items fuel.new
+        (metered fuel.old (local_end (setting_of setting.now) (Null at)
+        (state_of setting.now inner.now heap.old values.old.items))) }
     ensures framed { OnOk result (IsFramed setting.now scope.now heap.new values.new.items) }
     ensures less { fuel.new ≤ fuel.old }
 {
@@ -67,7 +71,8 @@ pub fn close_nil(
 
 /// The place of a variable of this name.
 pub fn whole_place(alloc: Global, name: &Ident) -> Result<Place, Stop>
-    ensures { MatchResult result (λ place. (place.name ≡ name.now) × (place.index ≡ None)) (λ why. why ≡ Stop.NoMemory) }
+    ensures { MatchResult result (λ place. (place.name ≡ name.now) × (place.index ≡ None))
+        (λ why. why ≡ Stop.NoMemory) }
 {
     match name.text.copy(alloc) {
         Err(_full) => Err(Stop::NoMemory),
@@ -80,7 +85,8 @@ pub fn whole_place(alloc: Global, name: &Ident) -> Result<Place, Stop>
 
 /// The place of the variable that holds an element during a call on it.
 pub fn element_place(alloc: Global, at: u32) -> Result<Place, Stop>
-    ensures { MatchResult result (λ place. (place.name ≡ element_name at) × (place.index ≡ None)) (λ why. why ≡ Stop.NoMemory) }
+    ensures { MatchResult result (λ place. (place.name ≡ element_name at) × (place.index ≡ None))
+        (λ why. why ≡ Stop.NoMemory) }
 {
     match Text::of(alloc, &[]) {
         Err(_full) => Err(Stop::NoMemory),

@@ -59,7 +59,10 @@ fn allocate(
 ) -> Result<(), Stop>
     requires framed { IsFramed setting.now scope.now heap.old values.old.items }
     requires small { length cells.items < 2 ^ 31 }
-    ensures ends { Ends setting.now scope.now result heap.new values.new.items fuel.new (metered fuel.old (allocated (setting_of setting.now) (length cells.items) (cell_of cell) (head_of head) (values_of cells.items) (state_of setting.now scope.now heap.old values.old.items))) }
+    ensures ends { Ends setting.now scope.now result heap.new values.new.items fuel.new
+        (metered fuel.old (allocated (setting_of setting.now) (length cells.items) (cell_of cell)
+        (head_of head) (values_of cells.items)
+        (state_of setting.now scope.now heap.old values.old.items))) }
     ensures framed { OnOk result (IsFramed setting.now scope.now heap.new values.new.items) }
     ensures same { fuel.new ≡ fuel.old }
 {
@@ -86,7 +89,9 @@ fn make(
     class: &Text,
 ) -> Result<(), Stop>
     requires framed { IsFramed setting.now scope.now heap.old values.old.items }
-    ensures ends { Ends setting.now scope.now result heap.new values.new.items fuel.new (metered fuel.old (made (setting_of setting.now) class.now (cell_of cell) (state_of setting.now scope.now heap.old values.old.items))) }
+    ensures ends { Ends setting.now scope.now result heap.new values.new.items fuel.new
+        (metered fuel.old (made (setting_of setting.now) class.now (cell_of cell)
+        (state_of setting.now scope.now heap.old values.old.items))) }
     ensures framed { OnOk result (IsFramed setting.now scope.now heap.new values.new.items) }
     ensures less { fuel.new ≤ fuel.old }
 {
@@ -107,7 +112,9 @@ fn allocate_object(
     class: &Text,
 ) -> Result<(), Stop>
     requires framed { IsFramed setting.now scope.now heap.old values.old.items }
-    ensures ends { Ends setting.now scope.now result heap.new values.new.items fuel.new (metered fuel.old (new_of (setting_of setting.now) class.now (cell_of cell) (state_of setting.now scope.now heap.old values.old.items))) }
+    ensures ends { Ends setting.now scope.now result heap.new values.new.items fuel.new
+        (metered fuel.old (new_of (setting_of setting.now) class.now (cell_of cell)
+        (state_of setting.now scope.now heap.old values.old.items))) }
     ensures framed { OnOk result (IsFramed setting.now scope.now heap.new values.new.items) }
     ensures less { fuel.new ≤ fuel.old }
 {
@@ -155,7 +162,9 @@ pub fn new_object(
     place: &Place,
 ) -> Result<(), Stop>
     requires framed { IsFramed setting.now scope.now heap.old values.old.items }
-    ensures ends { Ends setting.now scope.now result heap.new values.new.items fuel.new (does_simply setting.now fuel.old (New at (AnObject class.now) (lvalue_of place.now)) (state_of setting.now scope.now heap.old values.old.items)) }
+    ensures ends { Ends setting.now scope.now result heap.new values.new.items fuel.new
+        (does_simply setting.now fuel.old (New at (AnObject class.now) (lvalue_of place.now))
+        (state_of setting.now scope.now heap.old values.old.items)) }
     ensures framed { OnOk result (IsFramed setting.now scope.now heap.new values.new.items) }
     ensures less { fuel.new ≤ fuel.old }
 {
@@ -203,7 +212,10 @@ fn allocate_array(
 ) -> Result<(), Stop>
     requires framed { IsFramed setting.now scope.now heap.old values.old.items }
     requires small { count < 2 ^ 31 }
-    ensures ends { Ends setting.now scope.now result heap.new values.new.items fuel.new (metered fuel.old (allocated (setting_of setting.now) count (cell_of cell) (array_head kind count) (replicate count (first_element kind)) (state_of setting.now scope.now heap.old values.old.items))) }
+    ensures ends { Ends setting.now scope.now result heap.new values.new.items fuel.new
+        (metered fuel.old (allocated (setting_of setting.now) count (cell_of cell)
+        (array_head kind count) (replicate count (first_element kind))
+        (state_of setting.now scope.now heap.old values.old.items))) }
     ensures framed { OnOk result (IsFramed setting.now scope.now heap.new values.new.items) }
     ensures same { fuel.new ≡ fuel.old }
 {
@@ -235,7 +247,10 @@ fn make_array(
     size: Value,
 ) -> Result<(), Stop>
     requires framed { IsFramed setting.now scope.now heap.old values.old.items }
-    ensures ends { Ends setting.now scope.now result heap.new values.new.items fuel.new (metered fuel.old (made_array (setting_of setting.now) (cell_of cell) (array_head kind) (first_element kind) (value_of size) (state_of setting.now scope.now heap.old values.old.items))) }
+    ensures ends { Ends setting.now scope.now result heap.new values.new.items fuel.new
+        (metered fuel.old (made_array (setting_of setting.now) (cell_of cell) (array_head kind)
+        (first_element kind) (value_of size)
+        (state_of setting.now scope.now heap.old values.old.items))) }
     ensures framed { OnOk result (IsFramed setting.now scope.now heap.new values.new.items) }
     ensures less { fuel.new ≤ fuel.old }
 {
@@ -259,7 +274,9 @@ fn fill_array(
 ) -> Result<(), Stop>
     requires framed { IsFramed setting.now scope.now heap.old values.old.items }
     requires small { count < 2 ^ 31 }
-    ensures ends { Ends setting.now scope.now result heap.new values.new.items fuel.new (metered fuel.old (filled (setting_of setting.now) (cell_of cell) (array_head kind) (first_element kind) count (state_of setting.now scope.now heap.old values.old.items))) }
+    ensures ends { Ends setting.now scope.now result heap.new values.new.items fuel.new
+        (metered fuel.old (filled (setting_of setting.now) (cell_of cell) (array_head kind)
+        (first_element kind) count (state_of setting.now scope.now heap.old values.old.items))) }
     ensures framed { OnOk result (IsFramed setting.now scope.now heap.new values.new.items) }
     ensures less { fuel.new ≤ fuel.old }
 {
@@ -280,7 +297,10 @@ pub fn new_array(
     size: &Expr,
 ) -> Result<(), Stop>
     requires framed { IsFramed setting.now scope.now heap.old values.old.items }
-    ensures ends { Ends setting.now scope.now result heap.new values.new.items fuel.new (metered fuel.old (new_array_in (setting_of setting.now) (lvalue_of place.now) (expression_of size.now) (array_head kind) (first_element kind) (state_of setting.now scope.now heap.old values.old.items))) }
+    ensures ends { Ends setting.now scope.now result heap.new values.new.items fuel.new
+        (metered fuel.old (new_array_in (setting_of setting.now) (lvalue_of place.now)
+        (expression_of size.now) (array_head kind) (first_element kind)
+        (state_of setting.now scope.now heap.old values.old.items))) }
     ensures framed { OnOk result (IsFramed setting.now scope.now heap.new values.new.items) }
     ensures less { fuel.new ≤ fuel.old }
 {
@@ -299,7 +319,10 @@ fn free(
     name: u32,
 ) -> Result<(), Stop>
     requires framed { IsFramed setting.now scope.now heap.old values.old.items }
-    ensures freed { MatchResult result (λ u. state_of setting.now scope.now heap.new values.new.items ≡ freed (setting_of setting.now) (cell_of cell) name (state_of setting.now scope.now heap.old values.old.items)) (λ why. why ≡ Stop.NoMemory) }
+    ensures freed { MatchResult result
+        (λ u. state_of setting.now scope.now heap.new values.new.items
+        ≡ freed (setting_of setting.now) (cell_of cell) name
+        (state_of setting.now scope.now heap.old values.old.items)) (λ why. why ≡ Stop.NoMemory) }
     ensures framed { OnOk result (IsFramed setting.now scope.now heap.new values.new.items) }
 {
     match heap.give(name) {
@@ -323,7 +346,10 @@ fn empty_out(
     cells: u32,
 ) -> Result<(), Stop>
     requires framed { IsFramed setting.now scope.now heap.old values.old.items }
-    ensures ends { Ends setting.now scope.now result heap.new values.new.items fuel.new (metered fuel.old (emptied (setting_of setting.now) ((setting_of setting.now).limits.heap + 1 + cells) (cell_of cell) name (state_of setting.now scope.now heap.old values.old.items))) }
+    ensures ends { Ends setting.now scope.now result heap.new values.new.items fuel.new
+        (metered fuel.old (emptied (setting_of setting.now)
+        ((setting_of setting.now).limits.heap + 1 + cells) (cell_of cell) name
+        (state_of setting.now scope.now heap.old values.old.items))) }
     ensures framed { OnOk result (IsFramed setting.now scope.now heap.new values.new.items) }
     ensures less { fuel.new ≤ fuel.old }
 {
@@ -343,7 +369,9 @@ fn drop_object(
     class: &Text,
 ) -> Result<(), Stop>
     requires framed { IsFramed setting.now scope.now heap.old values.old.items }
-    ensures ends { Ends setting.now scope.now result heap.new values.new.items fuel.new (metered fuel.old (gone (setting_of setting.now) class.now (cell_of cell) (state_of setting.now scope.now heap.old values.old.items))) }
+    ensures ends { Ends setting.now scope.now result heap.new values.new.items fuel.new
+        (metered fuel.old (gone (setting_of setting.now) class.now (cell_of cell)
+        (state_of setting.now scope.now heap.old values.old.items))) }
     ensures framed { OnOk result (IsFramed setting.now scope.now heap.new values.new.items) }
     ensures less { fuel.new ≤ fuel.old }
 {
@@ -368,7 +396,9 @@ pub fn delete_object(
     place: &Place,
 ) -> Result<(), Stop>
     requires framed { IsFramed setting.now scope.now heap.old values.old.items }
-    ensures ends { Ends setting.now scope.now result heap.new values.new.items fuel.new (does_simply setting.now fuel.old (Delete at (AnObject class.now) (lvalue_of place.now)) (state_of setting.now scope.now heap.old values.old.items)) }
+    ensures ends { Ends setting.now scope.now result heap.new values.new.items fuel.new
+        (does_simply setting.now fuel.old (Delete at (AnObject class.now) (lvalue_of place.now))
+        (state_of setting.now scope.now heap.old values.old.items)) }
     ensures framed { OnOk result (IsFramed setting.now scope.now heap.new values.new.items) }
     ensures less { fuel.new ≤ fuel.old }
 {
@@ -388,7 +418,9 @@ fn drop_array(
     size: Value,
 ) -> Result<(), Stop>
     requires framed { IsFramed setting.now scope.now heap.old values.old.items }
-    ensures ends { Ends setting.now scope.now result heap.new values.new.items fuel.new (metered fuel.old (gone_array (setting_of setting.now) (cell_of cell) (value_of size) (state_of setting.now scope.now heap.old values.old.items))) }
+    ensures ends { Ends setting.now scope.now result heap.new values.new.items fuel.new
+        (metered fuel.old (gone_array (setting_of setting.now) (cell_of cell) (value_of size)
+        (state_of setting.now scope.now heap.old values.old.items))) }
     ensures framed { OnOk result (IsFramed setting.now scope.now heap.new values.new.items) }
     ensures less { fuel.new ≤ fuel.old }
 {
@@ -421,7 +453,9 @@ pub fn delete_array(
     size: &Expr,
 ) -> Result<(), Stop>
     requires framed { IsFramed setting.now scope.now heap.old values.old.items }
-    ensures ends { Ends setting.now scope.now result heap.new values.new.items fuel.new (metered fuel.old (delete_array_in (setting_of setting.now) (lvalue_of place.now) (expression_of size.now) (state_of setting.now scope.now heap.old values.old.items))) }
+    ensures ends { Ends setting.now scope.now result heap.new values.new.items fuel.new
+        (metered fuel.old (delete_array_in (setting_of setting.now) (lvalue_of place.now)
+        (expression_of size.now) (state_of setting.now scope.now heap.old values.old.items))) }
     ensures framed { OnOk result (IsFramed setting.now scope.now heap.new values.new.items) }
     ensures less { fuel.new ≤ fuel.old }
 {
@@ -442,7 +476,9 @@ pub fn new_made(
     place: &Place,
 ) -> Result<(), Stop>
     requires framed { IsFramed setting.now scope.now heap.old values.old.items }
-    ensures ends { Ends setting.now scope.now result heap.new values.new.items fuel.new (does_simply setting.now fuel.old (New at (creation_of made.now) (lvalue_of place.now)) (state_of setting.now scope.now heap.old values.old.items)) }
+    ensures ends { Ends setting.now scope.now result heap.new values.new.items fuel.new
+        (does_simply setting.now fuel.old (New at (creation_of made.now) (lvalue_of place.now))
+        (state_of setting.now scope.now heap.old values.old.items)) }
     ensures framed { OnOk result (IsFramed setting.now scope.now heap.new values.new.items) }
     ensures less { fuel.new ≤ fuel.old }
 {
@@ -477,7 +513,9 @@ pub fn delete_made(
     place: &Place,
 ) -> Result<(), Stop>
     requires framed { IsFramed setting.now scope.now heap.old values.old.items }
-    ensures ends { Ends setting.now scope.now result heap.new values.new.items fuel.new (does_simply setting.now fuel.old (Delete at (creation_of made.now) (lvalue_of place.now)) (state_of setting.now scope.now heap.old values.old.items)) }
+    ensures ends { Ends setting.now scope.now result heap.new values.new.items fuel.new
+        (does_simply setting.now fuel.old (Delete at (creation_of made.now) (lvalue_of place.now))
+        (state_of setting.now scope.now heap.old values.old.items)) }
     ensures framed { OnOk result (IsFramed setting.now scope.now heap.new values.new.items) }
     ensures less { fuel.new ≤ fuel.old }
 {

@@ -40,7 +40,9 @@ pub fn update(
     e: &Expr,
 ) -> Result<(), Stop>
     requires { IsFramed setting.now scope.now heap.old values.old.items }
-    ensures ends { Ends setting.now scope.now result heap.new values.new.items fuel.new (does_simply setting.now fuel.old (Update at op (lvalue_of place.now) (expression_of e.now)) (state_of setting.now scope.now heap.old values.old.items)) }
+    ensures ends { Ends setting.now scope.now result heap.new values.new.items fuel.new
+        (does_simply setting.now fuel.old (Update at op (lvalue_of place.now) (expression_of e.now))
+        (state_of setting.now scope.now heap.old values.old.items)) }
     ensures framed { OnOk result (IsFramed setting.now scope.now heap.new values.new.items) }
     ensures less { fuel.new ≤ fuel.old }
 {
@@ -65,7 +67,9 @@ pub fn swap(
     right: &Place,
 ) -> Result<(), Stop>
     requires { IsFramed setting.now scope.now heap.old values.old.items }
-    ensures ends { Ends setting.now scope.now result heap.new values.new.items fuel.new (does_simply setting.now fuel.old (Swap at (lvalue_of left.now) (lvalue_of right.now)) (state_of setting.now scope.now heap.old values.old.items)) }
+    ensures ends { Ends setting.now scope.now result heap.new values.new.items fuel.new
+        (does_simply setting.now fuel.old (Swap at (lvalue_of left.now) (lvalue_of right.now))
+        (state_of setting.now scope.now heap.old values.old.items)) }
     ensures framed { OnOk result (IsFramed setting.now scope.now heap.new values.new.items) }
     ensures less { fuel.new ≤ fuel.old }
 {

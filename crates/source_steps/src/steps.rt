@@ -50,7 +50,9 @@ pub fn evaluate(
     e: &Expr,
 ) -> Result<Value, Stop>
     requires { IsFramed setting.now scope.now heap.now values.now.items }
-    ensures gives { Gives value_of result fuel.new (metered fuel.old (evaluated_in (setting_of setting.now).program (expression_of e.now) (state_of setting.now scope.now heap.now values.now.items))) }
+    ensures gives { Gives value_of result fuel.new
+        (metered fuel.old (evaluated_in (setting_of setting.now).program (expression_of e.now)
+        (state_of setting.now scope.now heap.now values.now.items))) }
     ensures less { fuel.new ≤ fuel.old }
     ensures some { IfOk result (λ value. fuel.new < fuel.old) }
 {
@@ -76,7 +78,9 @@ pub fn locate(
     place: &Place,
 ) -> Result<Cell, Stop>
     requires { IsFramed setting.now scope.now heap.now values.now.items }
-    ensures gives { Gives cell_of result fuel.new (metered fuel.old (found_in (setting_of setting.now).program (lvalue_of place.now) (state_of setting.now scope.now heap.now values.now.items))) }
+    ensures gives { Gives cell_of result fuel.new
+        (metered fuel.old (found_in (setting_of setting.now).program (lvalue_of place.now)
+        (state_of setting.now scope.now heap.now values.now.items))) }
     ensures less { fuel.new ≤ fuel.old }
 {
     match pay_place(*fuel, place) {
@@ -93,7 +97,8 @@ pub fn locate(
 
 /// One more value, in front of the others.
 pub fn open_value(values: &mut Vec<Value>, value: Value) -> Result<(), Stop>
-    ensures { MatchResult result (λ u. values.new.items ≡ value ∷ values.old.items) (λ why. why ≡ Stop.NoMemory) }
+    ensures { MatchResult result (λ u. values.new.items ≡ value ∷ values.old.items)
+        (λ why. why ≡ Stop.NoMemory) }
 {
     match values.insert(0, value) {
         Ok(()) => Ok(()),

@@ -20,6 +20,7 @@ use Rattle.paired_code.proofs.Laws.{will_more}
 use Rattle.paired_code.proofs.Mirrored.{will_mirror, length_mirror}
 use Rattle.roopl_semantics.specs.Execution.{exec, constructed}
 use Rattle.roopl_semantics.specs.Store.{State}
+use Rattle.sound_execution.proofs.Locals.{no_int_class}
 use Rattle.statement_laws.specs.Form.{World, Scope, Open, Owes, StmtLaw, BlockLaw, turned, told, one, with_var}
 use Rattle.statement_laws.specs.Worlds.{world_of}
 use Rattle.statement_laws.specs.Held.{Holds}
@@ -30,7 +31,7 @@ use Rattle.statement_laws.proofs.Told.{told_joined, count, cost_counts}
 use Rattle.method_scope.specs.Visible.{Visible, known_in}
 use Rattle.statement_codegen.specs.Codes.{scope_of}
 use Rattle.statement_codegen.specs.Laws.{LocalLaw, ConstructLaw}
-use Rattle.statement_codegen.proofs.Stands.{laid_out, names_same, class_no_int}
+use Rattle.statement_codegen.proofs.Stands.{laid_out, names_same}
 
 -- ---- a block behind another
 
@@ -90,7 +91,7 @@ construct_clause v at var making p inside all is made = record {
   law = λ class body end of_class few new block. record {
     law = λ place routine linked same.
         let program = place.setting.program in
-        let no_int : is_int (kind_of (table_of program) var.kind) ≡ false = ap (λ t. is_int (kind_of (table_of program) t)) of_class ∙ class_no_int (class_of (table_of program) class.text) in
+        let no_int : is_int (kind_of (table_of program) var.kind) ≡ false = ap (λ t. is_int (kind_of (table_of program) t)) of_class ∙ no_int_class (class_of (table_of program) class.text) in
         made.construct place (laid_out place routine linked) (scope_of v) (names_same v place same) at class body end refl refl
         (record { few = few; value = inr (record { no_int = no_int; null = tt }) })
         (subst (λ z. BlockLaw (world_of place) (with_var (scope_of v) var) (constructed at class var.name body) z) (sym is)

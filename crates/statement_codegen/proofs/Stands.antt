@@ -22,6 +22,7 @@ use Rattle.class_table.proofs.FirstPlaces.{same_name}
 use Rattle.class_table.proofs.PassedRules.{both_passed, held, handed_on, both_true, neither_true, int_kind}
 use Rattle.paired_code.specs.declared.part.Symbol.{Symbol}
 use Rattle.sound_execution.specs.Plain.{HasWords}
+use Rattle.sound_execution.proofs.Locals.{no_int_class}
 use Rattle.statement_laws.specs.Form.{Scope}
 use Rattle.statement_laws.specs.Stands.{shape_of}
 use Rattle.statement_laws.specs.Worlds.{Place}
@@ -142,10 +143,6 @@ null_is (Variable name) h = absurd (cc)
 null_is (Element name index) h = absurd (cc)
 null_is (Binary at op left right) h = absurd (cc)
 
-pub class_no_int : (o : Option ℕ) → is_int (class_kind o) ≡ false
-class_no_int None = refl
-class_no_int (Some c) = refl
-
 array_no_int : (o : Option ℕ) → is_int (array_kind o) ≡ false
 array_no_int None = refl
 array_no_int (Some c) = refl
@@ -159,7 +156,7 @@ init_is program s var e k few typed has apart fits = by var.kind refl fits
 
     by : (t : VarType) → var.kind ≡ t → (if is_type_int t then is_int k else is_nil_word e) ≡ true → IsInit program s var e
     by type.Int same h = record { few = few; value = inl (record { is_int = ap (kind_of (table_of program)) same; typed = typed ∙ ap (λ z. Ok z) (int_kind k h); has_words = has; apart = apart }) }
-    by (type.Class c) same h = nil (type.Class c) same (class_no_int (class_of (table_of program) c.text)) h
+    by (type.Class c) same h = nil (type.Class c) same (no_int_class (class_of (table_of program) c.text)) h
     by type.IntArray same h = nil type.IntArray same refl h
     by (type.ClassArray c) same h = nil (type.ClassArray c) same (array_no_int (class_of (table_of program) c.text)) h
 

@@ -27,23 +27,27 @@ with_variable v var = record v { variables = var ∷ v.variables }
 
 -- the code of a statement where this is visible
 pub record IsStatementCode (v : Visible) (statement : Statement) (cells : List Symbol) : Type 0 where
-  pub law : (place : Place) (routine : ℕ → Ident → ℕ) → IsLinked place routine → place.setting.program ≡ source_of v.program
+  pub law : (place : Place) (routine : ℕ → Ident → ℕ) → IsLinked place routine
+      → place.setting.program ≡ source_of v.program
       → StmtLaw (world_of place) (scope_of v) statement cells
 
 -- the code of a block
 pub record IsBlockCode (v : Visible) (body : Statements) (cells : List Symbol) : Type 0 where
-  pub law : (place : Place) (routine : ℕ → Ident → ℕ) → IsLinked place routine → place.setting.program ≡ source_of v.program
+  pub law : (place : Place) (routine : ℕ → Ident → ℕ) → IsLinked place routine
+      → place.setting.program ≡ source_of v.program
       → BlockLaw (world_of place) (scope_of v) body cells
 
 -- the code of a method (the body of its routine)
 pub record IsMethodCode (v : Visible) (method : Procedure) (cells : List Symbol) : Type 0 where
-  pub law : (place : Place) (routine : ℕ → Ident → ℕ) → IsLinked place routine → place.setting.program ≡ source_of v.program
+  pub law : (place : Place) (routine : ℕ → Ident → ℕ) → IsLinked place routine
+      → place.setting.program ≡ source_of v.program
       → MethodLaw (world_of place) (scope_of v) method cells
 
 -- the rules of types pass a statement where this is visible
 abbrev pub Passes : Visible → Statement → Type 0
 Passes v statement =
-    check_statement (typing_in (source_of v.program) (scope_of v)) (shape_of (source_of v.program) (scope_of v)) statement ≡ passed
+    check_statement (typing_in (source_of v.program) (scope_of v))
+    (shape_of (source_of v.program) (scope_of v)) statement ≡ passed
 
 -- a statement that the rules pass, whose literals are words, with few enough nodes, and locals beside what is visible
 pub record IsAllowed (v : Visible) (statement : Statement) : Type 0 where

@@ -48,7 +48,8 @@ pub record LocalLaw (known : Known) (var : Var) (value last : Expression) (p all
       → HasRoom place.setting.program s (words value) → HasRoom place.setting.program s (words last)
       → BlockLaw (world_of place) (with_var s var) body p
       → StmtLaw (world_of place) s (Local at var value body end_var last) all
-  pub construct : (place : Place) → IsLaidOut place → (s : Scope) → known_of place.setting.program s ≡ known
+  pub construct : (place : Place) → IsLaidOut place → (s : Scope)
+      → known_of place.setting.program s ≡ known
       → (at : ℕ) (class : Ident) (body : Statements) (end : Ident) → value ≡ Null at → last ≡ Null at
       → IsInit place.setting.program s var (Null at)
       → BlockLaw (world_of place) (with_var s var) (constructed at class var.name body) p
@@ -76,7 +77,8 @@ pub record RoutineLaw (v : Visible) (p all : List Symbol) : Type 0 where
 -- `construct`, where the first piece is the code of `new`, and p that of its block: where the block ends, the first
 -- piece stands mirrored, and so it is that of `delete`
 pub record ConstructLaw (v : Visible) (at : ℕ) (var : Var) (making p all : List Symbol) : Type 0 where
-  pub law : (class : Ident) (body : Statements) (end : Ident) → var.kind ≡ type.Class class → length v.variables < MOST_VARIABLES
+  pub law : (class : Ident) (body : Statements) (end : Ident) → var.kind ≡ type.Class class
+      → length v.variables < MOST_VARIABLES
       → IsStatementCode (with_variable v var) (New at (Object class) (Whole var.name)) making
       → IsBlockCode (with_variable v var) body p
       → IsStatementCode v (Construct at class var.name body end) all
@@ -90,7 +92,8 @@ element_type _ = type.Int
 
 -- the variable that holds an element of this array while a method is called on it
 abbrev pub element_var : Visible → ℕ → Ident → Var
-element_var v at array = record { kind = element_type (kind_named (known_in v) array.text); name = element_name at }
+element_var v at array =
+    record { kind = element_type (kind_named (known_in v) array.text); name = element_name at }
 
 -- what stands inside of it: the element moves into the variable, the method is called, and the element moves back
 pub record ExchangedCall (v : Visible) (at : ℕ) (back : Bool) (element : Lvalue) (method : Ident) (args : List Ident) (all : List Symbol) : Type 0 where
@@ -98,9 +101,11 @@ pub record ExchangedCall (v : Visible) (at : ℕ) (back : Bool) (element : Lvalu
   pub call : List Symbol
   pub last : List Symbol
   pub cells : all ≡ first ++ (call ++ last)
-  pub swaps_in : SwapLaw (spot_of (known_in v)) (free_of (known_in v)) (Whole (element_name at)) element first
+  pub swaps_in : SwapLaw (spot_of (known_in v)) (free_of (known_in v)) (Whole (element_name at))
+      element first
   pub calls : CallLaw v back (Some (element_name at)) method args call
-  pub swaps_out : SwapLaw (spot_of (known_in v)) (free_of (known_in v)) (Whole (element_name at)) element last
+  pub swaps_out : SwapLaw (spot_of (known_in v)) (free_of (known_in v)) (Whole (element_name at))
+      element last
 
 -- a call or uncall on an element, whose names are not empty, that the rules of types pass
 pub record ElementLaw (v : Visible) (at : ℕ) (back : Bool) (element : Lvalue) (method : Ident) (args : List Ident) (all : List Symbol) : Type 0 where

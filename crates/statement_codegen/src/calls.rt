@@ -151,7 +151,8 @@ fn code_on(
     scope: &Scope,
 ) -> Result<Piece, NoMemory>
     requires few { length args.now ≤ 32 }
-    ensures law { IfOk result (λ p. CallLaw scope.now back (Some receiver.now) method.now args.now p.cells) }
+    ensures law { IfOk result (λ p. CallLaw scope.now back (Some receiver.now) method.now args.now
+        p.cells) }
     ensures none { IfOk result (λ p. p.marks ≡ []) }
     ensures size { IfOk result (λ p. length p.cells ≡ 30 * length args.now + 161) }
 {

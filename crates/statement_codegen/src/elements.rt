@@ -49,7 +49,8 @@ fn element_type(alloc: Global, kind: &VarType) -> Result<VarType, NoMemory>
 
 // The type of the elements of the variable of a name.
 fn type_in(alloc: Global, array: &Ident, scope: &Scope) -> Result<VarType, NoMemory>
-    ensures { IfOk result (λ element. element ≡ type_of_element (kind_named (known_in scope.now) array.now.text)) }
+    ensures { IfOk result (λ element. element
+        ≡ type_of_element (kind_named (known_in scope.now) array.now.text)) }
 {
     match scope.kind(&array.text) {
         None => Ok(VarType::Int),

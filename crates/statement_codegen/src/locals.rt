@@ -48,7 +48,8 @@ pub fn local_code(
 #[tactic(auto, using(statement_laws::proofs::Holding::around_clause))]
 fn between_piece(alloc: Global, making: Piece, body: Piece) -> Result<Piece, NoMemory>
     requires none { making.marks ≡ [] }
-    ensures cells { IfOk result (λ p. p.cells ≡ making.cells ++ (body.cells ++ mirror_cells making.cells)) }
+    ensures cells { IfOk result (λ p. p.cells
+        ≡ making.cells ++ (body.cells ++ mirror_cells making.cells)) }
     ensures held { IfOk result (λ p. Holds body p) }
 {
     let ending = mirror(alloc, &making)?;

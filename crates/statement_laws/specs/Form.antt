@@ -85,7 +85,8 @@ pub record World : Type 1 where
   pub opens : Scope → Under → List Moved → State → List ℕ → Type 0
   -- the same but for counts, which may be off: expressions can be read
   pub reads : Scope → Under → State → List ℕ → Type 0
-  pub are_read : (s : Scope) (u : Under) (st : State) (cells : List ℕ) → opens s u [] st cells → reads s u st cells
+  pub are_read : (s : Scope) (u : Under) (st : State) (cells : List ℕ) → opens s u [] st cells
+      → reads s u st cells
   -- the word that stands for a value
   pub word_of : Under → State → Value → ℕ
 
@@ -136,7 +137,8 @@ StmtLaw w s stmt p =
 abbrev pub BlockLaw : World → Scope → Statements → List Symbol → Type 0
 BlockLaw w s body p =
     (n : ℕ) → Owes w n → (d : Bool) (u : w.Under)
-    → Does w.im p d (Open w s u) (Open w s u) w.rates n 0 (λ st. told (exec w.setting n (in_direction d body) st))
+    → Does w.im p d (Open w s u) (Open w s u) w.rates n 0
+    (λ st. told (exec w.setting n (in_direction d body) st))
 
 -- the code of a method
 abbrev pub MethodLaw : World → Scope → Procedure → List Symbol → Type 0
@@ -145,7 +147,8 @@ MethodLaw w s method p = (n : ℕ) → Owes w n → RunsBody w s method p n
 -- each routine's body has the law of its method
 abbrev pub AllMethods : World → Type 0
 AllMethods w =
-    (r : ℕ) → r < w.routines.count → MethodLaw w (w.routines.scope r) (w.routines.method r) (w.routines.body r)
+    (r : ℕ) → r < w.routines.count → MethodLaw w (w.routines.scope r) (w.routines.method r)
+    (w.routines.body r)
 
 -- ---- tests and values
 
@@ -162,18 +165,25 @@ bit true = 1
 
 -- the memory of an open frame with a flag in register 11
 abbrev pub flagged : (w : World) → w.Under → Bool → List ℕ → Memory
-flagged w u v cells = record { regs = registers 0 (w.object_of u) (w.frame_of u) 0 0 0 (bit v) 0; cells = cells }
+flagged w u v cells = record {
+  regs = registers 0 (w.object_of u) (w.frame_of u) 0 0 0 (bit v) 0;
+  cells = cells;
+}
 
 -- the code of a test xors the truth of an expression into the flag, in both directions, and changes nothing else
 abbrev pub TestLaw : World → Scope → Expression → List Symbol → Type 0
 TestLaw w s e p =
     (n : ℕ) (d : Bool) (u : w.Under) (v : Bool) (st : State) (cells : List ℕ) → w.reads s u st cells
     → Will w.im p d (flagged w u v cells)
-    (Meets (λ t m. m ≡ flagged w u (xor v t) cells) (test_rates w) n test_slack (told (tested w.setting e st)))
+    (Meets (λ t m. m ≡ flagged w u (xor v t) cells) (test_rates w) n test_slack
+    (told (tested w.setting e st)))
 
 -- the memory of an open frame with a word in register 12, the one of places, which is free there
 abbrev pub holding : (w : World) → w.Under → ℕ → List ℕ → Memory
-holding w u x cells = record { regs = registers 0 (w.object_of u) (w.frame_of u) 0 0 0 0 x; cells = cells }
+holding w u x cells = record {
+  regs = registers 0 (w.object_of u) (w.frame_of u) 0 0 0 0 x;
+  cells = cells;
+}
 
 -- the code of a value xors its word into that register, in both directions, and changes nothing else
 abbrev pub ValueLaw : World → Scope → Expression → List Symbol → Type 0

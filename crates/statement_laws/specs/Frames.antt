@@ -77,7 +77,8 @@ module _ (setting : Setting) (statics : List ℕ) where
   above_words at (v ∷ vs) = replicate put_size 0 ++ value_words at (v ∷ vs)
 
   abbrev pub stack_words : Placing → Under → List Binding → List Value → List ℕ
-  stack_words at u frame vals = callers_words at u.callers ++ (frame_words at u.put_by (values_of frame) ++ above_words at vals)
+  stack_words at u frame vals = callers_words at u.callers
+      ++ (frame_words at u.put_by (values_of frame) ++ above_words at vals)
 
   -- the cells before the stack are those of the layout
   abbrev pub before_stack : Placing → Store → List ℕ
@@ -92,7 +93,8 @@ module _ (setting : Setting) (statics : List ℕ) where
 
   -- the objects of open calls are there, of the same class and at the same address
   abbrev pub StandsAt : Placing → Store → (self class object : ℕ) → Type 0
-  StandsAt at store self class object = (class_of_head (object_at store self).head ≡ class) × (address_of at self ≡ object)
+  StandsAt at store self class object = (class_of_head (object_at store self).head ≡ class)
+      × (address_of at self ≡ object)
 
   abbrev pub CallersStand : Placing → Store → List Caller → Type 0
   CallersStand at store [] = Unit {0}
@@ -103,7 +105,8 @@ module _ (setting : Setting) (statics : List ℕ) where
   -- where a name stands in a scope, or else the field of the object
   abbrev pub cell_at : Under → Ident → Option ℕ → Cell
   cell_at u name (Some i) = Slot i
-  cell_at u name None = Part u.self (unwrap_or (field_of (class_fields setting.program u.class) name.text) 0)
+  cell_at u name None =
+      Part u.self (unwrap_or (field_of (class_fields setting.program u.class) name.text) 0)
 
   abbrev pub cell_in : Scope → Under → Ident → Cell
   cell_in s u name = cell_at u name (position (bytes_eq name.text) (map (λ var. var.name.text) s.vars))

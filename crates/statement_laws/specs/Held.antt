@@ -16,4 +16,5 @@ pub record HoldsBoth (left right p : Code) : Type 0 where
   pub mid : List Symbol
   pub after : List Symbol
   pub cells : p.cells ≡ before ++ (left.cells ++ (mid ++ (right.cells ++ after)))
-  pub marks : p.marks ≡ shift (length before) left.marks ++ shift (length before + length left.cells + length mid) right.marks
+  pub marks : p.marks ≡ shift (length before) left.marks
+      ++ shift (length before + length left.cells + length mid) right.marks

@@ -26,12 +26,15 @@ use Rattle.statement_laws.specs.declared.spot.Spot.TheVariants.{Field, Frame}
 
 -- a receiver that moved into an open call: word 1 of its frame is the caller's object
 abbrev pub receiver_held : ℕ → ℕ → List ℕ → ℕ
-receiver_held name self put_by = if nat_eq (slice_index put_by 1) 0 then 0 else one_if_name name (Name self)
+receiver_held name self put_by = if nat_eq (slice_index put_by 1) 0 then 0
+    else one_if_name name (Name self)
 
 -- the frames below
 abbrev pub below_held : ℕ → List Caller → ℕ
 below_held name [] = 0
-below_held name (c ∷ callers) = holders_among name (map value_of c.frame) + (receiver_held name c.self c.put_by + below_held name callers)
+below_held name (c ∷ callers) =
+    holders_among name (map value_of c.frame) +
+    (receiver_held name c.self c.put_by + below_held name callers)
 
 abbrev pub moved_value : Moved → Value
 moved_value m = m.value
@@ -42,13 +45,16 @@ main_held name = if nat_eq name main_name then 1 else 0
 
 -- with the values that have moved into the frame above
 abbrev pub extra : Under → List Moved → ℕ → ℕ
-extra u moved name = main_held name + (receiver_held name u.self u.put_by + (below_held name u.callers + holders_among name (map moved_value moved)))
+extra u moved name = main_held name +
+    (receiver_held name u.self u.put_by +
+    (below_held name u.callers + holders_among name (map moved_value moved)))
 
 -- the object of each frame below is held by the frames that it is called from, or is the main object
 abbrev pub CallersHeld : List Caller → Type 0
 CallersHeld [] = Unit {0}
 CallersHeld (c ∷ callers) =
-    (0 < main_held c.self + (receiver_held c.self c.self c.put_by + below_held c.self callers)) × CallersHeld callers
+    (0 < main_held c.self + (receiver_held c.self c.self c.put_by + below_held c.self callers))
+    × CallersHeld callers
 
 -- ---- scopes
 
@@ -64,7 +70,8 @@ spot_at program s name (Some i) = Frame (put_size + (length s.vars - 1 - i))
 spot_at program s name None = Field (unwrap_or (field_of (class_fields program s.class) name.text) 0)
 
 abbrev pub spot_in : Source → Scope → Ident → Spot
-spot_in program s name = spot_at program s name (position (bytes_eq name.text) (map (λ var. var.name.text) s.vars))
+spot_in program s name = spot_at program s name
+    (position (bytes_eq name.text) (map (λ var. var.name.text) s.vars))
 
 -- an array has an element
 abbrev pub HasElements : Head → Type 0
@@ -82,7 +89,8 @@ module _ (setting : Setting) (statics : List ℕ) where
   abbrev pub CallersFit : Store → List Caller → Type 0
   CallersFit store [] = Unit {0}
   CallersFit store (c ∷ callers) =
-      AllFit setting.program store (map local_type (shape_of setting.program c.scope)) (map value_of c.frame)
+      AllFit setting.program store (map local_type (shape_of setting.program c.scope))
+      (map value_of c.frame)
       × (named_fits setting.program (kind.Class c.scope.class) (head_named store c.self) ≡ true)
       × (head_named store c.self ≡ Some (OfClass c.class))
       × CallersFit store callers
@@ -90,7 +98,8 @@ module _ (setting : Setting) (statics : List ℕ) where
   -- a value that has moved up has the type of the cell that it came from
   pub record MovedFits (store : Store) (s : Scope) (u : Under) (m : Moved) : Type 0 where
     pub kind : Kind
-    pub of_cell : cell_kind setting.program (shape_of setting.program s) store (cell_in setting statics s u m.from) ≡ Some kind
+    pub of_cell : cell_kind setting.program (shape_of setting.program s) store
+        (cell_in setting statics s u m.from) ≡ Some kind
     pub fit : fits setting.program store m.value kind ≡ true
 
   abbrev pub AllMoved : Store → Scope → Under → List Moved → Type 0
@@ -100,7 +109,8 @@ module _ (setting : Setting) (statics : List ℕ) where
   -- types and live names
   pub record Kept (s : Scope) (u : Under) (moved : List Moved) (st : State) : Type 0 where
     pub class_inside : s.class < length setting.program.classes
-    pub variables : AllFit setting.program st.store (map local_type (shape_of setting.program s)) (map value_of st.frame)
+    pub variables : AllFit setting.program st.store (map local_type (shape_of setting.program s))
+        (map value_of st.frame)
     pub objects : (name : ℕ) (object : Object) → object_named st.store name ≡ Some object
         → AllFit setting.program st.store (cell_kinds setting.program object.head) object.cells
     pub arrays : (name : ℕ) (head : Head) → head_named st.store name ≡ Some head → HasElements head
@@ -132,4 +142,5 @@ module _ (setting : Setting) (statics : List ℕ) where
     pub frame : OpenFrame setting statics s u (moved_values moved) st cells
     pub keeps : Kept s u moved st
     pub words : (a : ℕ) → slice_index cells a < 2 ^ 32
-    pub counts : (name count : ℕ) → count_named st.store name ≡ Some count → count ≡ held name st + extra u moved name
+    pub counts : (name count : ℕ) → count_named st.store name ≡ Some count
+        → count ≡ held name st + extra u moved name

@@ -38,5 +38,6 @@ world_of p = record {
   opens = Stands p.setting p.statics;
   reads = λ s u st cells. Reads p.setting p.statics s u [] st cells;
   are_read = λ s u st cells h. record { frame = h.frame; keeps = h.keeps; words = h.words };
-  word_of = λ u st v. value_word p.setting p.statics (unwrap_or (place p.setting.limits.heap st.log) no_placing) v;
+  word_of = λ u st v. value_word p.setting p.statics
+      (unwrap_or (place p.setting.limits.heap st.log) no_placing) v;
 }

@@ -20,21 +20,27 @@ abbrev mutual
   pub inverse_statement_as : Bool → Statement → Statement
   inverse_statement_as turn (Update at op target value) = Update at (inverse_operator op) target value
   inverse_statement_as turn (Swap at left right) = Swap at left right
-  inverse_statement_as turn (If at test taken other after) = If at after (inverse_as turn taken) (inverse_as turn other) test
-  inverse_statement_as turn (From at entry first again exit) = From at exit (inverse_as turn first) (inverse_as turn again) entry
-  inverse_statement_as turn (Construct at class name body end) = Construct at class name (inverse_as turn body) end
-  inverse_statement_as turn (Local at var value body end_var end_value) = Local at end_var end_value (inverse_as turn body) var value
+  inverse_statement_as turn (If at test taken other after) =
+      If at after (inverse_as turn taken) (inverse_as turn other) test
+  inverse_statement_as turn (From at entry first again exit) =
+      From at exit (inverse_as turn first) (inverse_as turn again) entry
+  inverse_statement_as turn (Construct at class name body end) =
+      Construct at class name (inverse_as turn body) end
+  inverse_statement_as turn (Local at var value body end_var end_value) =
+      Local at end_var end_value (inverse_as turn body) var value
   inverse_statement_as turn (New at made target) = Delete at made target
   inverse_statement_as turn (Delete at made target) = New at made target
   inverse_statement_as turn (Copy at kind source target) = Uncopy at kind source target
   inverse_statement_as turn (Uncopy at kind source target) = Copy at kind source target
-  inverse_statement_as turn (Call at back receiver method args) = Call at (call_direction turn back) receiver method args
+  inverse_statement_as turn (Call at back receiver method args) =
+      Call at (call_direction turn back) receiver method args
   inverse_statement_as turn (Skip at) = Skip at
 
   -- a block undone: the last statement first
   pub inverse_as : Bool → Statements → Statements
   inverse_as turn End = End
-  inverse_as turn (Then first rest) = joined (inverse_as turn rest) (Then (inverse_statement_as turn first) End)
+  inverse_as turn (Then first rest) =
+      joined (inverse_as turn rest) (Then (inverse_statement_as turn first) End)
 
 -- the statement that undoes a statement
 abbrev pub inverse_statement : Statement → Statement
@@ -46,10 +52,16 @@ inverse body = inverse_as true body
 
 -- a method of the inverse program: its calls keep their direction
 abbrev pub inverse_procedure : Procedure → Procedure
-inverse_procedure method = record { name = method.name; params = method.params; body = inverse_as false method.body }
+inverse_procedure method =
+    record { name = method.name; params = method.params; body = inverse_as false method.body }
 
 abbrev pub inverse_class : ClassText → ClassText
-inverse_class class = record { name = class.name; parent = class.parent; fields = class.fields; methods = map inverse_procedure class.methods }
+inverse_class class = record {
+  name = class.name;
+  parent = class.parent;
+  fields = class.fields;
+  methods = map inverse_procedure class.methods;
+}
 
 -- the program whose methods undo those of a program
 abbrev pub inverse_program : Source → Source

@@ -48,7 +48,8 @@ pub(crate) fn undo_block(alloc: Global, b: &Block, turn: bool) -> Result<Block, 
 /// A statement undone; calls turn or stay.
 #[cycle(undo)]
 fn undo_stmt(alloc: Global, s: &Stmt, turn: bool) -> Result<Stmt, NoMemory>
-    ensures { IfOk result (λ inverted. statement_of inverted ≡ inverse_statement_as turn (statement_of s.now)) }
+    ensures { IfOk result (λ inverted. statement_of inverted
+        ≡ inverse_statement_as turn (statement_of s.now)) }
 {
     match s {
         Stmt::If {

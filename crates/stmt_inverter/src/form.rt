@@ -28,7 +28,8 @@ pub fn update(
     place: &Place,
     value: &Expr,
 ) -> Result<Stmt, NoMemory>
-    ensures { IfOk result (λ s. statement_of s ≡ Update at op (lvalue_of place.now) (expression_of value.now)) }
+    ensures { IfOk result (λ s. statement_of s
+        ≡ Update at op (lvalue_of place.now) (expression_of value.now)) }
 {
     let place = place.copy(alloc)?;
     let value = value.copy(alloc)?;
@@ -49,7 +50,8 @@ pub fn conditional(
     no: Block,
     after: &Expr,
 ) -> Result<Stmt, NoMemory>
-    ensures { IfOk result (λ s. statement_of s ≡ If at (expression_of test.now) (block_of yes) (block_of no) (expression_of after.now)) }
+    ensures { IfOk result (λ s. statement_of s
+        ≡ If at (expression_of test.now) (block_of yes) (block_of no) (expression_of after.now)) }
 {
     let test = test.copy(alloc)?;
     let after = after.copy(alloc)?;
@@ -71,7 +73,9 @@ pub fn turns(
     again: Block,
     until: &Expr,
 ) -> Result<Stmt, NoMemory>
-    ensures { IfOk result (λ s. statement_of s ≡ FromLoop at (expression_of entry.now) (block_of first) (block_of again) (expression_of until.now)) }
+    ensures { IfOk result (λ s. statement_of s
+        ≡ FromLoop at (expression_of entry.now) (block_of first) (block_of again)
+        (expression_of until.now)) }
 {
     let entry = entry.copy(alloc)?;
     let until = until.copy(alloc)?;
@@ -93,7 +97,8 @@ pub fn construct(
     body: Block,
     end: &Ident,
 ) -> Result<Stmt, NoMemory>
-    ensures { IfOk result (λ s. statement_of s ≡ Construct at class.now name.now (block_of body) end.now) }
+    ensures { IfOk result (λ s. statement_of s
+        ≡ Construct at class.now name.now (block_of body) end.now) }
 {
     let class = class.copy(alloc)?;
     let name = name.copy(alloc)?;
@@ -117,7 +122,9 @@ pub fn local(
     end_var: &Var,
     end_value: &Expr,
 ) -> Result<Stmt, NoMemory>
-    ensures { IfOk result (λ s. statement_of s ≡ Local at var.now (expression_of value.now) (block_of body) end_var.now (expression_of end_value.now)) }
+    ensures { IfOk result (λ s. statement_of s
+        ≡ Local at var.now (expression_of value.now) (block_of body) end_var.now
+        (expression_of end_value.now)) }
 {
     let var = var.copy(alloc)?;
     let value = value.copy(alloc)?;
@@ -159,7 +166,8 @@ pub fn copy_stmt(
     source: &Place,
     target: &Place,
 ) -> Result<Stmt, NoMemory>
-    ensures { IfOk result (λ s. statement_of s ≡ CopyTo at kind.now (lvalue_of source.now) (lvalue_of target.now)) }
+    ensures { IfOk result (λ s. statement_of s
+        ≡ CopyTo at kind.now (lvalue_of source.now) (lvalue_of target.now)) }
 {
     let kind = kind.copy(alloc)?;
     let source = source.copy(alloc)?;
@@ -180,7 +188,8 @@ pub fn uncopy_stmt(
     source: &Place,
     target: &Place,
 ) -> Result<Stmt, NoMemory>
-    ensures { IfOk result (λ s. statement_of s ≡ Uncopy at kind.now (lvalue_of source.now) (lvalue_of target.now)) }
+    ensures { IfOk result (λ s. statement_of s
+        ≡ Uncopy at kind.now (lvalue_of source.now) (lvalue_of target.now)) }
 {
     let kind = kind.copy(alloc)?;
     let source = source.copy(alloc)?;
@@ -202,7 +211,8 @@ pub fn call(
     method: &Ident,
     args: &[Ident],
 ) -> Result<Stmt, NoMemory>
-    ensures { IfOk result (λ s. statement_of s ≡ Call at back (optional_lvalue_of receiver.now) method.now args.now) }
+    ensures { IfOk result (λ s. statement_of s
+        ≡ Call at back (optional_lvalue_of receiver.now) method.now args.now) }
 {
     let receiver = copy_receiver(alloc, receiver)?;
     let method = method.copy(alloc)?;

@@ -11,7 +11,8 @@ use std::alloc::Global;
 
 /// A method of the inverse program.
 fn invert_method(alloc: Global, method: &Method) -> Result<Method, NoMemory>
-    ensures { IfOk result (λ inverted. procedure_of inverted ≡ inverse_procedure (procedure_of method.now)) }
+    ensures { IfOk result (λ inverted. procedure_of inverted
+        ≡ inverse_procedure (procedure_of method.now)) }
 {
     let name = method.name.copy(alloc)?;
     let params = copy_vars(alloc, &method.params)?;
@@ -21,7 +22,8 @@ fn invert_method(alloc: Global, method: &Method) -> Result<Method, NoMemory>
 
 /// The methods of a class of the inverse program.
 fn invert_methods(alloc: Global, methods: &[Method]) -> Result<Vec<Method>, NoMemory>
-    ensures { IfOk result (λ inverted. map procedure_of inverted.items ≡ map inverse_procedure (map procedure_of methods.now)) }
+    ensures { IfOk result (λ inverted. map procedure_of inverted.items
+        ≡ map inverse_procedure (map procedure_of methods.now)) }
 {
     let mut inverted = Vec::new(alloc);
     for method in methods {

@@ -9,6 +9,7 @@ use Rattle.class_table.proofs.Numbers.{length-each_below}
 use Rattle.roopl_semantics.specs.Layout.{table_at}
 use Rattle.roopl_semantics.specs.Walk.{class_with_table}
 use Rattle.sound_execution.proofs.Stores.{same_number, other_number}
+use Rattle.open_frame.proofs.TableWords.{tables_ascend}
 use Rattle.class_table.proofs.FirstPlaces.{position_cons, position_before}
 
 abbrev NoneOf : (ℕ → Bool) → List ℕ → Type 0
@@ -26,14 +27,6 @@ position_behind p (x ∷ xs) y h e = position_cons p x (xs ++ y ∷ []) false h.
 none_below : (f : ℕ → ℕ) (v n : ℕ) → ((k : ℕ) → k < n → nat_eq v (f k) ≡ false) → NoneOf (nat_eq v) (each_below f n)
 none_below f v zero h = tt
 none_below f v (suc n) h = none_append (nat_eq v) (each_below f n) (f n) (none_below f v n (λ k l. h k (omega arith))) (h n (omega arith))
-
-pub tables_ascend : (program : Source) (c d : ℕ) → c < d → table_at program c < table_at program d
-tables_ascend program c zero h = absurd (omega arith)
-tables_ascend program c (suc d) h = by (λ l. tables_ascend program c d l) (nat_lt c d) refl
-  where
-    by : (c < d → table_at program c < table_at program d) → (b : Bool) → nat_lt c d ≡ b → table_at program c < table_at program (suc d)
-    by rest true e = let a = rest (ltb-true c d e) in omega arith
-    by rest false e = let a : c ≡ d = (let l = ltb-false c d e in omega arith) in let b = ap (table_at program) a in omega arith
 
 pub table_tells : (program : Source) (c n : ℕ) → c < n → position (nat_eq (table_at program c)) (each_below (table_at program) n) ≡ Some c
 table_tells program c zero h = absurd (omega arith)

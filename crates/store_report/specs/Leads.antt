@@ -42,12 +42,14 @@ is_unmet met word = is_none (position (nat_eq word) (map address_met met))
 -- after a cell with this word: a reference to what is not yet met is met
 abbrev pub meets_one : Met → Lead → ℕ → Met
 meets_one met lead word =
-    if is_reference lead && not (nat_eq word 0) && is_unmet met word then insert_entry nat_eq met word lead else met
+    if is_reference lead && not (nat_eq word 0) && is_unmet met word
+    then insert_entry nat_eq met word lead else met
 
 -- after the cells from an address on
 abbrev pub meets : List ℕ → Met → ℕ → List Lead → Met
 meets cells met address [] = met
-meets cells met address (lead ∷ leads) = meets cells (meets_one met lead (word_at cells address)) (address + 1) leads
+meets cells met address (lead ∷ leads) =
+    meets cells (meets_one met lead (word_at cells address)) (address + 1) leads
 
 -- the class whose table stands at an address
 abbrev pub class_at_table : List ℕ → ℕ → ℕ

@@ -24,7 +24,8 @@ value_by (lead.Objects class) word = reference_told word
 -- what the cells from an address on tell
 abbrev pub values_by : List ℕ → ℕ → List Lead → List Value
 values_by cells address [] = []
-values_by cells address (lead ∷ leads) = value_by lead (word_at cells address) ∷ values_by cells (address + 1) leads
+values_by cells address (lead ∷ leads) =
+    value_by lead (word_at cells address) ∷ values_by cells (address + 1) leads
 
 abbrev pub head_by : List ℕ → Lead → ℕ → Head
 head_by tables lead.Int word = OfInts 0
@@ -49,7 +50,8 @@ cells_by table tables cells names at (lead.Objects class) word =
 -- the head line and the lines of what is met at an address
 abbrev pub object_by : Source → Table → List ℕ → List ℕ → List ℕ → ℕ × Lead → Text
 object_by program table tables cells names entry =
-    number_shown names entry.0 ++ codes " " ++ head_shown program (head_by tables entry.1 (word_at cells entry.0))
+    number_shown names entry.0 ++ codes " "
+    ++ head_shown program (head_by tables entry.1 (word_at cells entry.0))
     ++ codes " count " ++ decimal (word_at cells (entry.0 + 1)) ++ line_end
     ++ cells_by table tables cells names entry.0 entry.1 (word_at cells entry.0)
 

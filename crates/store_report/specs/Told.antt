@@ -35,7 +35,8 @@ abbrev pub head_told : Source → VarType → ℕ → Head
 head_told program kind.Int word = OfInts 0
 head_told program (kind.Class class) word = OfClass (unwrap_or (class_with_table program word) 0)
 head_told program kind.IntArray word = OfInts word
-head_told program (kind.ClassArray class) word = OfObjects (unwrap_or (class_number program class.text) 0) word
+head_told program (kind.ClassArray class) word =
+    OfObjects (unwrap_or (class_number program class.text) 0) word
 
 -- the object or array at a reference: its head, its count and its cells
 abbrev pub object_told : Source → List ℕ → Reference → Object
@@ -63,6 +64,7 @@ abbrev pub report_told : Source → List ℕ → Text
 report_told program cells =
     let references = reached program cells in
     let addresses = map address_of references in
-    field_lines [] addresses (main_fields program) (values_told cells (statics_at + 2) (types_of (main_fields program)))
+    field_lines [] addresses (main_fields program)
+    (values_told cells (statics_at + 2) (types_of (main_fields program)))
     ++ lines_told program cells addresses references
     ++ live_line (length references)

@@ -22,7 +22,8 @@ pub fn place_of(names: &IndexSet<u32>, name: u32) -> Option<usize>
 // The name that a value is, where it is not met yet.
 #[tactic(auto, using(crate::proofs::Walked::met_key))]
 fn meet_value(names: &mut IndexSet<u32>, value: Value) -> Result<(), NoMemory>
-    ensures { OnOk result (names.new.keys ≡ names.old.keys ++ newly_met names.old.keys (value_of value ∷ [])) }
+    ensures { OnOk result (names.new.keys ≡ names.old.keys
+        ++ newly_met names.old.keys (value_of value ∷ [])) }
 {
     match value {
         Value::Word(_) => Ok(()),
@@ -45,7 +46,8 @@ fn value_at(cells: &[Value], at: usize) -> Option<Value>
 
 // The names that cells hold and that are not met yet.
 fn meet(names: &mut IndexSet<u32>, cells: &[Value]) -> Result<(), NoMemory>
-    ensures { OnOk result (names.new.keys ≡ names.old.keys ++ newly_met names.old.keys (values_of cells.now)) }
+    ensures { OnOk result (names.new.keys ≡ names.old.keys
+        ++ newly_met names.old.keys (values_of cells.now)) }
 {
     let size = cells.len();
     for at in 0..size {
@@ -69,7 +71,8 @@ pub fn cells_at(heap: &Heap, name: u32) -> &[Value]
 
 // The same for the cells of an object or array.
 fn meet_object(names: &mut IndexSet<u32>, heap: &Heap, name: u32) -> Result<(), NoMemory>
-    ensures { OnOk result (names.new.keys ≡ names.old.keys ++ newly_met names.old.keys (object_at heap.now.store name).cells) }
+    ensures { OnOk result (names.new.keys ≡ names.old.keys
+        ++ newly_met names.old.keys (object_at heap.now.store name).cells) }
 {
     meet(names, cells_at(heap, name))
 }

@@ -36,7 +36,8 @@ use std::alloc::{AllocError, Global};
 /// A class is told by its table's address, an array by the type of the reference and its length; a word that is no table's
 /// address counts as the first class's. The time is linear in the cells that are met.
 pub fn report(alloc: Global, machine: &Machine, checked: &Checked) -> Result<String, NoMemory>
-    ensures lines { IfOk result (λ text. string_bytes text ≡ report_told (source_of checked.now) machine.now.state.cells) }
+    ensures lines { IfOk result (λ text. string_bytes text
+        ≡ report_told (source_of checked.now) machine.now.state.cells) }
 
     // Of a memory where a run ended it is the report of the store that the source gives.
     ensures last { IfOk result (λ text. (end : State) → IsMemoryOf (source_of checked.now) machine.now.state.cells end
@@ -73,7 +74,8 @@ fn place_of(met: &IndexMap<u32, Lead>, at: u32) -> u64
 
 // The number of what is met at an address.
 fn add_number(out: &mut String, met: &IndexMap<u32, Lead>, at: u32) -> Result<(), AllocError>
-    ensures { OnOk result (string_bytes out.new ≡ string_bytes out.old ++ number_shown (addresses_of met.now.entries) at) }
+    ensures { OnOk result (string_bytes out.new
+        ≡ string_bytes out.old ++ number_shown (addresses_of met.now.entries) at) }
 {
     let number = place_of(met, at) + 1;
     write!(out, "#{number}")

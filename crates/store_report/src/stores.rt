@@ -49,14 +49,16 @@ fn number_in(names: &IndexSet<u32>, name: u32) -> usize
 }
 
 fn add_number(out: &mut String, names: &IndexSet<u32>, name: u32) -> Result<(), AllocError>
-    ensures { OnOk result (string_bytes out.new ≡ string_bytes out.old ++ number_shown names.now.keys name) }
+    ensures { OnOk result (string_bytes out.new
+        ≡ string_bytes out.old ++ number_shown names.now.keys name) }
 {
     let number = number_in(names, name);
     write!(out, "#{number}")
 }
 
 fn add_value(out: &mut String, names: &IndexSet<u32>, value: Value) -> Result<(), AllocError>
-    ensures { OnOk result (string_bytes out.new ≡ string_bytes out.old ++ value_shown names.now.keys (value_of value)) }
+    ensures { OnOk result (string_bytes out.new
+        ≡ string_bytes out.old ++ value_shown names.now.keys (value_of value)) }
 {
     match value {
         Value::Word(word) => add_word(out, word),
@@ -74,7 +76,9 @@ fn add_field(
     value: Value,
 ) -> Result<(), AllocError>
     requires { IsAscii field.now.name.text }
-    ensures { OnOk result (string_bytes out.new ≡ string_bytes out.old ++ (indent.now ++ field.now.name.text ++ codes " = " ++ value_shown names.now.keys (value_of value) ++ line_end)) }
+    ensures { OnOk result (string_bytes out.new
+        ≡ string_bytes out.old ++ (indent.now ++ field.now.name.text ++ codes " = "
+        ++ value_shown names.now.keys (value_of value) ++ line_end)) }
 {
     out.push_str(indent)?;
     add_name(out, &field.name.text)?;
@@ -92,7 +96,9 @@ fn add_fields(
     values: &[Value],
 ) -> Result<(), AllocError>
     requires { All HasAsciiName fields.now }
-    ensures { OnOk result (string_bytes out.new ≡ string_bytes out.old ++ field_lines indent.now names.now.keys fields.now (values_of values.now)) }
+    ensures { OnOk result (string_bytes out.new
+        ≡ string_bytes out.old ++ field_lines indent.now names.now.keys fields.now
+        (values_of values.now)) }
 {
     match fields {
         [] => Ok(()),
@@ -113,7 +119,8 @@ fn add_element(
     index: usize,
     value: Value,
 ) -> Result<(), AllocError>
-    ensures { OnOk result (string_bytes out.new ≡ string_bytes out.old ++ element_lines names.now.keys index (value_of value ∷ [])) }
+    ensures { OnOk result (string_bytes out.new
+        ≡ string_bytes out.old ++ element_lines names.now.keys index (value_of value ∷ [])) }
 {
     write!(out, "  [{index}] = ")?;
     add_value(out, names, value)?;
@@ -122,7 +129,8 @@ fn add_element(
 
 // The lines of elements.
 fn add_elements(out: &mut String, names: &IndexSet<u32>, values: &[Value]) -> Result<(), AllocError>
-    ensures { OnOk result (string_bytes out.new ≡ string_bytes out.old ++ element_lines names.now.keys 0 (values_of values.now)) }
+    ensures { OnOk result (string_bytes out.new
+        ≡ string_bytes out.old ++ element_lines names.now.keys 0 (values_of values.now)) }
 {
     for (index, value) in values.iter().enumerate() {
         add_element(out, names, index, *value)?;
@@ -133,14 +141,16 @@ fn add_elements(out: &mut String, names: &IndexSet<u32>, values: &[Value]) -> Re
 // The name of a class.
 fn add_class(out: &mut String, program: &Program, class: u32) -> Result<(), AllocError>
     requires { IsAccepted (source_of program.now) }
-    ensures { OnOk result (string_bytes out.new ≡ string_bytes out.old ++ (class_at (source_of program.now) class).name.text) }
+    ensures { OnOk result (string_bytes out.new
+        ≡ string_bytes out.old ++ (class_at (source_of program.now) class).name.text) }
 {
     add_bytes(out, class_name(program, class))
 }
 
 fn add_head(out: &mut String, program: &Program, head: Head) -> Result<(), AllocError>
     requires { IsAccepted (source_of program.now) }
-    ensures { OnOk result (string_bytes out.new ≡ string_bytes out.old ++ head_shown (source_of program.now) (head_of head)) }
+    ensures { OnOk result (string_bytes out.new
+        ≡ string_bytes out.old ++ head_shown (source_of program.now) (head_of head)) }
 {
     match head {
         Head::Class(class) => add_class(out, program, class),
@@ -161,7 +171,9 @@ fn add_class_fields(
     class: u32,
     values: &[Value],
 ) -> Result<(), AllocError>
-    ensures { OnOk result (string_bytes out.new ≡ string_bytes out.old ++ field_lines indent.now names.now.keys (class_fields (source_of checked.now) class) (values_of values.now)) }
+    ensures { OnOk result (string_bytes out.new
+        ≡ string_bytes out.old ++ field_lines indent.now names.now.keys
+        (class_fields (source_of checked.now) class) (values_of values.now)) }
 {
     let table = checked.table();
     let fields = table.fields(class);
@@ -176,7 +188,9 @@ fn add_cells(
     head: Head,
     values: &[Value],
 ) -> Result<(), AllocError>
-    ensures { OnOk result (string_bytes out.new ≡ string_bytes out.old ++ cell_lines (source_of checked.now) names.now.keys (head_of head) (values_of values.now)) }
+    ensures { OnOk result (string_bytes out.new
+        ≡ string_bytes out.old ++ cell_lines (source_of checked.now) names.now.keys (head_of head)
+        (values_of values.now)) }
 {
     match head {
         Head::Class(class) => add_class_fields(out, "  ", checked, names, class, values),
@@ -202,7 +216,10 @@ fn add_first(
     heap: &Heap,
     name: u32,
 ) -> Result<(), AllocError>
-    ensures { OnOk result (string_bytes out.new ≡ string_bytes out.old ++ (number_shown names.now.keys name ++ codes " " ++ head_shown (source_of checked.now) (object_at heap.now.store name).head ++ codes " count " ++ decimal (object_at heap.now.store name).count ++ line_end)) }
+    ensures { OnOk result (string_bytes out.new
+        ≡ string_bytes out.old ++ (number_shown names.now.keys name ++ codes " "
+        ++ head_shown (source_of checked.now) (object_at heap.now.store name).head
+        ++ codes " count " ++ decimal (object_at heap.now.store name).count ++ line_end)) }
 {
     let count = heap.count_of(name);
     let head = head_at(heap, name);
@@ -221,7 +238,9 @@ fn add_object(
     heap: &Heap,
     name: u32,
 ) -> Result<(), AllocError>
-    ensures { OnOk result (string_bytes out.new ≡ string_bytes out.old ++ object_lines (source_of checked.now) heap.now.store names.now.keys (name ∷ [])) }
+    ensures { OnOk result (string_bytes out.new
+        ≡ string_bytes out.old ++ object_lines (source_of checked.now) heap.now.store names.now.keys
+        (name ∷ [])) }
 {
     let head = head_at(heap, name);
     let cells = cells_at(heap, name);
@@ -235,7 +254,9 @@ fn add_objects(
     names: &IndexSet<u32>,
     heap: &Heap,
 ) -> Result<(), AllocError>
-    ensures { OnOk result (string_bytes out.new ≡ string_bytes out.old ++ object_lines (source_of checked.now) heap.now.store names.now.keys names.now.keys) }
+    ensures { OnOk result (string_bytes out.new
+        ≡ string_bytes out.old ++ object_lines (source_of checked.now) heap.now.store names.now.keys
+        names.now.keys) }
 {
     let size = names.len();
     for at in 0..size {
@@ -262,7 +283,9 @@ fn add_main(
     names: &IndexSet<u32>,
     heap: &Heap,
 ) -> Result<(), AllocError>
-    ensures { OnOk result (string_bytes out.new ≡ string_bytes out.old ++ field_lines [] names.now.keys (main_fields (source_of checked.now)) (object_at heap.now.store main_name).cells) }
+    ensures { OnOk result (string_bytes out.new
+        ≡ string_bytes out.old ++ field_lines [] names.now.keys
+        (main_fields (source_of checked.now)) (object_at heap.now.store main_name).cells) }
 {
     let class = main_class(checked);
     let cells = cells_at(heap, 1);

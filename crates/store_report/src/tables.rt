@@ -8,7 +8,8 @@ use std::alloc::{AllocError, Global};
 
 /// The addresses of the classes' tables, in the order of the classes.
 pub fn table_addresses(alloc: Global, table: &ClassTable) -> Result<Vec<u32>, AllocError>
-    ensures places { IfOk result (λ tables. tables.items ≡ each_below (table_in table.now) (length table.now.names)) }
+    ensures places { IfOk result (λ tables. tables.items
+        ≡ each_below (table_in table.now) (length table.now.names)) }
     ensures few { length table.now.names ≤ 256 }
 {
     let mut tables = Vec::new(alloc);

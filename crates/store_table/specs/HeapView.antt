@@ -70,8 +70,10 @@ pub record IsPlaced (book : Shown) (block_of_name : ℕ → Option (ℕ × ℕ))
   pub kept : IsKept book
   pub blocks : List (ℕ × ℕ)
   pub placed : place book.h log ≡ Some (record { book = book.free; blocks = blocks })
-  pub each : (name address size : ℕ) → block_of_name name ≡ Some (address, size) → IsBlock book blocks name address size
-  pub apart : (n m address size other : ℕ) → block_of_name n ≡ Some (address, size) → block_of_name m ≡ Some (address, other) → n ≡ m
+  pub each : (name address size : ℕ) → block_of_name name ≡ Some (address, size)
+      → IsBlock book blocks name address size
+  pub apart : (n m address size other : ℕ) → block_of_name n ≡ Some (address, size)
+      → block_of_name m ≡ Some (address, other) → n ≡ m
 
 -- what every heap keeps: the next name is the table's length, and each block stands where the requests place it
 pub record IsHeap (order : ℕ) (book : Shown) (table : List (Option Live)) (requests : List Asked) : Type 0 where
@@ -92,7 +94,11 @@ asked_for heap size = Taken (2 + count_taken heap.log) (order_of_cells size) ∷
 pub record TookBlock (name : ℕ) (old new : Kept) (head : Head) (cells : List Value) : Type 0 where
   pub named : name ≡ 2 + count_taken old.log
   pub has_block : is_none (place old.order (asked_for old (length cells))) ≡ false
-  pub heap : new ≡ record { order = old.order; store = (name, new_object head cells) ∷ old.store; log = asked_for old (length cells) }
+  pub heap : new ≡ record {
+    order = old.order;
+    store = (name, new_object head cells) ∷ old.store;
+    log = asked_for old (length cells);
+  }
 
 -- the heap has no block, and stays
 pub record TookNone (old new : Kept) (size : ℕ) : Type 0 where

@@ -21,7 +21,11 @@ head_of (kept.Ints length) = OfInts length
 head_of (kept.Objects class length) = OfObjects class length
 
 abbrev pub object_of : Live → Object
-object_of live = record { head = head_of live.head; count = live.count; cells = values_of live.cells.items }
+object_of live = record {
+  head = head_of live.head;
+  count = live.count;
+  cells = values_of live.cells.items;
+}
 
 -- an object with another value in one of its cells
 abbrev pub with_part : ℕ → Value → Object → Object

@@ -16,21 +16,24 @@ use rpp_words::NoMemory;
 impl Heap {
     /// Another value in a field or element.
     pub fn set_part(&mut self, name: u32, index: usize, value: Value)
-        ensures { self.new ≡ record self.old { store = changed_at self.old.store name (with_part index (value_of value)) } }
+        ensures { self.new ≡ record self.old
+            { store = changed_at self.old.store name (with_part index (value_of value)) } }
     {
         set_part(&mut self.objects, name, index, value);
     }
 
     /// One more variable refers to the object of a name.
     pub fn raise(&mut self, name: u32) -> Result<(), NoMemory>
-        ensures { OnOk result (self.new ≡ record self.old { store = changed_at self.old.store name (with_count suc) }) }
+        ensures { OnOk result (self.new ≡ record self.old
+            { store = changed_at self.old.store name (with_count suc) }) }
     {
         raise_at(&mut self.objects, name)
     }
 
     /// One variable less refers to the object of a name.
     pub fn lower(&mut self, name: u32)
-        ensures { self.new ≡ record self.old { store = changed_at self.old.store name (with_count one_less) } }
+        ensures { self.new ≡ record self.old
+            { store = changed_at self.old.store name (with_count one_less) } }
     {
         lower_at(&mut self.objects, name);
     }
@@ -38,7 +41,8 @@ impl Heap {
     /// A new object or array with these cells and the next name, where the heap has a block for it.
     pub fn take(&mut self, head: Head, cells: Vec<Value>) -> Result<Option<u32>, NoMemory>
         requires small { length cells.items < 2 ^ 31 }
-        ensures { IfOk result (λ name. Took name self.old self.new (head_of head) (values_of cells.items)) }
+        ensures { IfOk result (λ name. Took name self.old self.new (head_of head)
+            (values_of cells.items)) }
     {
         let name = self.objects.len();
         if name >= u32::MAX as usize {
@@ -68,7 +72,11 @@ impl Heap {
     /// The object of a name goes, and its block goes back. It is refused, as want of memory, for a
     /// name without a block.
     pub fn give(&mut self, name: u32) -> Result<(), NoMemory>
-        ensures { OnOk result (self.new ≡ record self.old { store = without self.old.store name; log = Given name (order_of_cells (length (object_at self.old.store name).cells)) ∷ self.old.log }) }
+        ensures { OnOk result (self.new ≡ record self.old {
+          store = without self.old.store name;
+          log = Given name (order_of_cells (length (object_at self.old.store name).cells))
+              ∷ self.old.log;
+        }) }
     {
         self.log.reserve(1)?;
         match block_of(&self.objects, name as usize) {
@@ -120,7 +128,8 @@ fn put(object: &mut Object, index: usize, value: Value)
 }
 
 fn put_in_slot(slot: &mut Option<Object>, index: usize, value: Value)
-    ensures object { live_in (Some slot.new) ≡ option_map (with_part index (value_of value)) (live_in (Some slot.old)) }
+    ensures object { live_in (Some slot.new)
+        ≡ option_map (with_part index (value_of value)) (live_in (Some slot.old)) }
     ensures block { block_in (Some slot.new) ≡ block_in (Some slot.old) }
 {
     match slot {
@@ -131,7 +140,8 @@ fn put_in_slot(slot: &mut Option<Object>, index: usize, value: Value)
 
 /// Another value in a field or element.
 fn set_part(objects: &mut Vec<Option<Object>>, name: u32, index: usize, value: Value)
-    ensures store { store_of objects.new.items ≡ changed_at (store_of objects.old.items) name (with_part index (value_of value)) }
+    ensures store { store_of objects.new.items
+        ≡ changed_at (store_of objects.old.items) name (with_part index (value_of value)) }
     ensures blocks { SameBlocks objects.old.items objects.new.items }
 {
     if (name as usize) < objects.len() {
@@ -151,7 +161,8 @@ fn raise(object: &mut Object) -> Result<(), NoMemory>
 }
 
 fn raise_in_slot(slot: &mut Option<Object>) -> Result<(), NoMemory>
-    ensures object { OnOk result (live_in (Some slot.new) ≡ option_map (with_count suc) (live_in (Some slot.old))) }
+    ensures object { OnOk result (live_in (Some slot.new)
+        ≡ option_map (with_count suc) (live_in (Some slot.old))) }
     ensures block { block_in (Some slot.new) ≡ block_in (Some slot.old) }
 {
     match slot {
@@ -162,7 +173,8 @@ fn raise_in_slot(slot: &mut Option<Object>) -> Result<(), NoMemory>
 
 /// One more variable refers to the object of a name.
 fn raise_at(objects: &mut Vec<Option<Object>>, name: u32) -> Result<(), NoMemory>
-    ensures store { OnOk result (store_of objects.new.items ≡ changed_at (store_of objects.old.items) name (with_count suc)) }
+    ensures store { OnOk result (store_of objects.new.items
+        ≡ changed_at (store_of objects.old.items) name (with_count suc)) }
     ensures blocks { SameBlocks objects.old.items objects.new.items }
 {
     if (name as usize) >= objects.len() {
@@ -179,7 +191,8 @@ fn lower(object: &mut Object)
 }
 
 fn lower_in_slot(slot: &mut Option<Object>)
-    ensures object { live_in (Some slot.new) ≡ option_map (with_count one_less) (live_in (Some slot.old)) }
+    ensures object { live_in (Some slot.new)
+        ≡ option_map (with_count one_less) (live_in (Some slot.old)) }
     ensures block { block_in (Some slot.new) ≡ block_in (Some slot.old) }
 {
     match slot {
@@ -190,7 +203,8 @@ fn lower_in_slot(slot: &mut Option<Object>)
 
 /// One variable less refers to the object of a name.
 fn lower_at(objects: &mut Vec<Option<Object>>, name: u32)
-    ensures store { store_of objects.new.items ≡ changed_at (store_of objects.old.items) name (with_count one_less) }
+    ensures store { store_of objects.new.items
+        ≡ changed_at (store_of objects.old.items) name (with_count one_less) }
     ensures blocks { SameBlocks objects.old.items objects.new.items }
 {
     if (name as usize) < objects.len() {

@@ -46,7 +46,19 @@ impl Heap {
     pub fn new(alloc: Global, order: u32, head: Head, cells: Vec<Value>) -> Result<Heap, NoMemory>
         requires from { 1 ≤ order }
         requires to { order ≤ 20 }
-        ensures { IfOk result (λ heap. heap ≡ record { order = order; store = (main_name, record { head = head_of head; count = 1; cells = values_of cells.items }) ∷ []; log = [] }) }
+        ensures { IfOk result (λ heap. heap
+            ≡ record {
+              order = order;
+              store = (
+                main_name,
+                record {
+                  head = head_of head;
+                  count = 1;
+                  cells = values_of cells.items;
+                },
+              ) ∷ [];
+              log = [];
+            }) }
     {
         let book = Book::new(alloc, order, BASE)?;
         let mut objects = Vec::new(alloc);
@@ -99,7 +111,8 @@ impl Heap {
 
     /// The field or element of an object or array.
     pub fn part(&self, name: u32, index: usize) -> Value
-        ensures { value_of result ≡ unwrap_or (slice_get (object_at self.now.store name).cells index) Nil }
+        ensures { value_of result ≡ unwrap_or
+            (slice_get (object_at self.now.store name).cells index) Nil }
     {
         match self.object(name) {
             None => Value::Nil,

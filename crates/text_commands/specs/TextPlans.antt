@@ -16,7 +16,8 @@ use Rattle.rpp_plan.specs.Refusals.{refused_line}
 
 -- a text is written into a file, and the number of its bytes is printed
 abbrev pub writes_text : (name text : List ℕ) → Planned
-writes_text name text = writes name text (codes "written " ++ (decimal (length text) ++ (codes " bytes" ++ line_end)))
+writes_text name text = writes name text
+    (codes "written " ++ (decimal (length text) ++ (codes " bytes" ++ line_end)))
 
 -- the first refusal of a text is told, or the text of the inverse of the program that it is is written
 abbrev pub WritesInverse : Result Source Refusal → (name : List ℕ) → Planned → Type 0

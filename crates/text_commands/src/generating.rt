@@ -18,7 +18,8 @@ pub fn generate<S: Shelf>(
     out: &str,
 ) -> Result<Plan, NoPlan>
     ensures plan { GivesPlan (S.texts _shelf.old) (Generates seed size out.now) result }
-    ensures reads { OnlyReads (S.texts _shelf.old) (S.texts _shelf.new) (S.faults _shelf.old) (S.faults _shelf.new) [] result }
+    ensures reads { OnlyReads (S.texts _shelf.old) (S.texts _shelf.new) (S.faults _shelf.old)
+        (S.faults _shelf.new) [] result }
 {
     let text = rpp_generator::generate(alloc, seed, size)?;
     Ok(write_text(alloc, out, text)?)

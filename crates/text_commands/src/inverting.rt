@@ -27,7 +27,8 @@ pub fn show_inverse<S: Shelf>(
     out: &str,
 ) -> Result<Plan, NoPlan>
     ensures plan { GivesPlan (S.texts shelf.old) (ShowsInverse file.now out.now) result }
-    ensures reads { OnlyReads (S.texts shelf.old) (S.texts shelf.new) (S.faults shelf.old) (S.faults shelf.new) (source file.now ∷ []) result }
+    ensures reads { OnlyReads (S.texts shelf.old) (S.texts shelf.new) (S.faults shelf.old)
+        (S.faults shelf.new) (source file.now ∷ []) result }
 {
     let text = read_file(alloc, shelf, file, MOST_BYTES as u64)?;
     Ok(invert_text(alloc, &text, out)?)
@@ -46,7 +47,8 @@ fn invert_text(alloc: Global, text: &[u8], name: &str) -> Result<Plan, NoMemory>
 
 // The plan that writes the text of the inverse of an accepted program.
 fn write_inverse(alloc: Global, checked: &Checked, name: &str) -> Result<Plan, NoMemory>
-    ensures { IfOk result (λ plan. planned plan ≡ writes_text name.now (printed (inverse_program (source_of checked.now)))) }
+    ensures { IfOk result (λ plan. planned plan
+        ≡ writes_text name.now (printed (inverse_program (source_of checked.now)))) }
 {
     let inverse = invert_program(alloc, checked.program())?;
     let text = print(alloc, &inverse)?;

@@ -27,30 +27,39 @@ use Rattle.program_commands.specs.ProgramPlans.{IsJudgedPlan}
 pub record Follows (commands : List Command) (program : Source) (limits : Limits) (input : List FieldWord) (text : List ℕ) : Type 0 where
   pub fuel : ℕ
   pub last : ℕ
-  pub told : told program (trail program limits input fuel) commands 0 ≡ Some (record { position = last; text = text })
+  pub told : told program (trail program limits input fuel) commands 0
+      ≡ Some (record { position = last; text = text })
 
 -- the first line that is no command is told, or what the commands print
-abbrev pub IsScriptPlan : Result (List Command) ScriptError → Source → Limits → List FieldWord → Planned → Type 0
-IsScriptPlan (Err (BadCommand line)) program limits input p = p ≡ prints InputRefused (bad_command_line line)
+abbrev pub IsScriptPlan : Result (List Command) ScriptError → Source → Limits → List FieldWord
+    → Planned → Type 0
+IsScriptPlan (Err (BadCommand line)) program limits input p =
+    p ≡ prints InputRefused (bad_command_line line)
 IsScriptPlan (Err script.NoMemory) program limits input p = ⊥
-IsScriptPlan (Ok commands) program limits input p = (text : List ℕ) × Follows commands program limits input text × (p ≡ prints Done text)
+IsScriptPlan (Ok commands) program limits input p =
+    (text : List ℕ) × Follows commands program limits input text × (p ≡ prints Done text)
 
 -- the input is tried before the script
-abbrev pub IsInputPlan : Result (List FieldWord) LoadError → (script : List ℕ) → Source → Limits → Planned → Type 0
+abbrev pub IsInputPlan : Result (List FieldWord) LoadError → (script : List ℕ) → Source → Limits
+    → Planned → Type 0
 IsInputPlan (Err e) script program limits p = p ≡ prints InputRefused (load_line e)
 IsInputPlan (Ok input) script program limits p = IsScriptPlan (script_of script) program limits input p
 
 -- the sizes are tried before the input
 abbrev pub IsSizedPlan : Option LoadError → (script given : List ℕ) → Source → Limits → Planned → Type 0
 IsSizedPlan (Some e) script given program limits p = p ≡ prints InputRefused (load_line e)
-IsSizedPlan None script given program limits p = IsInputPlan (given_input program given) script program limits p
+IsSizedPlan None script given program limits p =
+    IsInputPlan (given_input program given) script program limits p
 
 abbrev pub IsTracePlan : (text script given : List ℕ) → (heap deep : ℕ) → Planned → Type 0
 IsTracePlan text script given heap deep p =
-    IsJudgedPlan text (λ program. IsSizedPlan (limits_refusal heap deep MOST_DEEP) script given program (record { heap = heap; deep = deep })) p
+    IsJudgedPlan text (λ program. IsSizedPlan (limits_refusal heap deep MOST_DEEP) script given
+    program (record { heap = heap; deep = deep })) p
 
 -- the plan of `trace` by this script over this file, on an input where there is one
-abbrev pub Traces : (file script : List ℕ) → (input : Option (List ℕ)) → (heap deep : ℕ) → Texts → Planned → Type 0
+abbrev pub Traces : (file script : List ℕ) → (input : Option (List ℕ)) → (heap deep : ℕ) → Texts
+    → Planned → Type 0
 Traces file script input heap deep texts p =
-    WithText texts file MOST_BYTES (λ text. WithText texts script MOST_SCRIPT (λ commands. WithInput texts input (λ given.
+    WithText texts file MOST_BYTES
+    (λ text. WithText texts script MOST_SCRIPT (λ commands. WithInput texts input (λ given.
     IsTracePlan text commands given heap deep p)))

@@ -18,10 +18,12 @@ ghost use Rattle.trace_commands.specs.TracePlans.{Follows, IsScriptPlan, IsInput
 
 use class_table::Checked;
 use image_commands::Room;
-use pisa_loader::{LoadError, MOST_INPUT, check_limits, read_input};
+use pisa_loader::{LoadError, check_limits, read_input};
 use program_commands::input_fields;
 use roopl_judge::{SourceError, judge};
-use rpp_plan::{NoPlan, Plan, Verdict, bad_command_line, load_line, read_file, refuse_source};
+use rpp_plan::{
+    NoPlan, Plan, Verdict, bad_command_line, load_line, read_file, read_input_file, refuse_source,
+};
 use rpp_ports::Shelf;
 use rpp_tree::MOST_BYTES;
 use rpp_words::{Input, Limits, MOST_DEEP, NoMemory};
@@ -64,7 +66,12 @@ fn read_all<S: Shelf>(
     script: &str,
     input: &Option<String>,
 ) -> Result<Read, NoPlan>
-    ensures text { IfOk result (λ read. IfSome (S.texts shelf.old) (λ texts. WithText texts file.now MOST_BYTES (λ text. WithText texts script.now MOST_SCRIPT (λ commands. WithInput texts (option_map string_bytes input.now) (λ given. (read.text.items ≡ text) × (read.script.items ≡ commands) × (read.given.items ≡ given)))))) }
+    ensures text { IfOk result (λ read. IfSome (S.texts shelf.old)
+        (λ texts. WithText texts file.now MOST_BYTES
+        (λ text. WithText texts script.now MOST_SCRIPT
+        (λ commands. WithInput texts (option_map string_bytes input.now)
+        (λ given. (read.text.items ≡ text) × (read.script.items ≡ commands)
+        × (read.given.items ≡ given)))))) }
     ensures within { IfOk result (λ read. length read.text.items ≤ MOST_BYTES) }
     ensures within_script { IfOk result (λ read. length read.script.items ≤ MOST_SCRIPT) }
     ensures within_input { IfOk result (λ read. length read.given.items ≤ MOST_INPUT) }
@@ -73,7 +80,7 @@ fn read_all<S: Shelf>(
 {
     let text = read_file(alloc, shelf, file, MOST_BYTES as u64)?;
     let script = read_file(alloc, shelf, script, MOST_SCRIPT as u64)?;
-    let given = read_given_input(alloc, shelf, input)?;
+    let given = read_input_file(alloc, shelf, input)?;
     Ok(Read {
         text,
         script,
@@ -81,27 +88,12 @@ fn read_all<S: Shelf>(
     })
 }
 
-// The text of an input, where there is one.
-fn read_given_input<S: Shelf>(
-    alloc: Global,
-    shelf: &mut S,
-    input: &Option<String>,
-) -> Result<Vec<u8>, NoPlan>
-    ensures text { IfOk result (λ bytes. IfSome (S.texts shelf.old) (λ texts. WithInput texts (option_map string_bytes input.now) (λ text. bytes.items ≡ text))) }
-    ensures within { IfOk result (λ bytes. length bytes.items ≤ MOST_INPUT) }
-    ensures reads { OnlyReads (S.texts shelf.old) (S.texts shelf.new) (S.faults shelf.old) (S.faults shelf.new) (input_files (option_map string_bytes input.now)) result }
-{
-    match input {
-        None => Ok(Vec::new(alloc)),
-        Some(name) => read_file(alloc, shelf, name.as_str(), MOST_INPUT as u64),
-    }
-}
-
 fn trace_text(alloc: Global, read: &Read, room: Room) -> Result<Plan, NoMemory>
     requires text { length read.now.text.items ≤ MOST_BYTES }
     requires script { length read.now.script.items ≤ MOST_SCRIPT }
     requires given { length read.now.given.items ≤ MOST_INPUT }
-    ensures { IfOk result (λ plan. IsTracePlan read.now.text.items read.now.script.items read.now.given.items room.heap room.deep (planned plan)) }
+    ensures { IfOk result (λ plan. IsTracePlan read.now.text.items read.now.script.items
+        read.now.given.items room.heap room.deep (planned plan)) }
 {
     match judge(alloc, &read.text) {
         Ok(checked) => trace_sized(alloc, checked, &read.script, &read.given, room),
@@ -140,7 +132,8 @@ fn trace_given(
     requires script { length script.now ≤ MOST_SCRIPT }
     requires given { length given.now ≤ MOST_INPUT }
     requires limits { IsLimits limits }
-    ensures { IfOk result (λ plan. IsInputPlan (given_input (source_of checked) given.now) script.now (source_of checked) limits (planned plan)) }
+    ensures { IfOk result (λ plan. IsInputPlan (given_input (source_of checked) given.now)
+        script.now (source_of checked) limits (planned plan)) }
 {
     let fields = input_fields(alloc, &checked)?;
     match read_input(alloc, given, &fields) {
@@ -160,7 +153,8 @@ fn trace_script(
 ) -> Result<Plan, NoMemory>
     requires script { length script.now ≤ MOST_SCRIPT }
     requires run { IsValidRun (source_of checked) limits input.now.words.items }
-    ensures { IfOk result (λ plan. IsScriptPlan (script_of script.now) (source_of checked) limits input.now.words.items (planned plan)) }
+    ensures { IfOk result (λ plan. IsScriptPlan (script_of script.now) (source_of checked) limits
+        input.now.words.items (planned plan)) }
 {
     match read_script(alloc, script) {
         Ok(commands) => {
@@ -183,7 +177,8 @@ fn follow(
     limits: Limits,
 ) -> Result<String, NoMemory>
     requires { IsValidRun (source_of checked) limits input.now.words.items }
-    ensures { IfOk result (λ text. Follows commands.now (source_of checked) limits input.now.words.items (string_bytes text)) }
+    ensures { IfOk result (λ text. Follows commands.now (source_of checked) limits
+        input.now.words.items (string_bytes text)) }
 {
     let mut debugger = SourceDebugger::new(alloc, checked, input, limits)?;
     let mut text = String::new(alloc);

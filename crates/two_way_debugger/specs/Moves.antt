@@ -15,7 +15,8 @@ moved true p = record p { state = back p.image.code p.state; made = p.made - 1 }
 
 -- why no move is made from a position, if none is: at a stop, at the last position and at position 0
 abbrev pub barrier : (backward : Bool) → Position → Option Ending
-barrier false p = if nat_lt p.made LAST_POSITION then option_map Stopped (stop p.image.code p.state) else Some Last
+barrier false p = if nat_lt p.made LAST_POSITION then option_map Stopped (stop p.image.code p.state)
+    else Some Last
 barrier true p = if nat_eq p.made 0 then Some Start else None
 
 -- whether the machine stands at a place, where there is one to go to
@@ -54,4 +55,5 @@ unless_ended None p rest = record rest { spent = suc rest.spent }
 abbrev pub walk : (backward : Bool) → (place : Option ℤ) → ℕ → Position → Walk
 walk backward place zero p = ends p Made
 walk backward place (suc n) p =
-    unless_ended (barrier backward p) p (if is_at place (moved backward p) then ends (moved backward p) Made else walk backward place n (moved backward p))
+    unless_ended (barrier backward p) p (if is_at place (moved backward p)
+    then ends (moved backward p) Made else walk backward place n (moved backward p))

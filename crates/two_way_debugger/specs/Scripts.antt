@@ -24,7 +24,8 @@ one_cell_or_more from count = if nat_eq count 0 then None else Some (Cells from 
 
 -- a cell below 2 ^ 32, and 1 to 1000
 abbrev pub cells_command : List (List ℕ) → Option Command
-cells_command (from ∷ count ∷ []) = both one_cell_or_more (number_up_to (2 ^ 32 - 1) from) (number_up_to 1000 count)
+cells_command (from ∷ count ∷ []) =
+    both one_cell_or_more (number_up_to (2 ^ 32 - 1) from) (number_up_to 1000 count)
 cells_command _ = None
 
 abbrev pub regs_command : List (List ℕ) → Option Command
@@ -37,8 +38,10 @@ command_of [] = None
 command_of (name ∷ args) =
     if bytes_eq name (codes "step") then counted_command Step args
     else if bytes_eq name (codes "back") then counted_command Back args
-    else if bytes_eq name (codes "to") then placed_command (λ place count. Some (To (pos place) count)) args
-    else if bytes_eq name (codes "backto") then placed_command (λ place count. Some (BackTo (pos place) count)) args
+    else if bytes_eq name (codes "to")
+    then placed_command (λ place count. Some (To (pos place) count)) args
+    else if bytes_eq name (codes "backto")
+    then placed_command (λ place count. Some (BackTo (pos place) count)) args
     else if bytes_eq name (codes "regs") then regs_command args
     else if bytes_eq name (codes "cells") then cells_command args
     else None
@@ -49,17 +52,21 @@ with_command line commands None = Err (BadCommand line)
 with_command line commands (Some command) = Ok (commands ++ command ∷ [])
 
 abbrev pub with_line : (line : ℕ) → List Command → List ℕ → Result (List Command) ScriptError
-with_line line commands text = if is_blank text then Ok commands else with_command line commands (command_of (pieces 32 text))
+with_line line commands text = if is_blank text then Ok commands
+    else with_command line commands (command_of (pieces 32 text))
 
 -- goes on unless it is refused
-abbrev pub and_then : Result (List Command) ScriptError → (List Command → Result (List Command) ScriptError) → Result (List Command) ScriptError
+abbrev pub and_then : Result (List Command) ScriptError
+    → (List Command → Result (List Command) ScriptError) → Result (List Command) ScriptError
 and_then (Ok commands) f = f commands
 and_then (Err e) f = Err e
 
 -- line by line, the first of which has this number
-unfoldable pub commands_from : (line : ℕ) → List Command → List (List ℕ) → Result (List Command) ScriptError
+unfoldable pub commands_from : (line : ℕ) → List Command → List (List ℕ)
+    → Result (List Command) ScriptError
 commands_from line commands [] = Ok commands
-commands_from line commands (text ∷ texts) = and_then (with_line line commands text) (λ more. commands_from (line + 1) more texts)
+commands_from line commands (text ∷ texts) =
+    and_then (with_line line commands text) (λ more. commands_from (line + 1) more texts)
 
 -- line feeds part the lines
 abbrev pub script_of : List ℕ → Result (List Command) ScriptError
@@ -70,6 +77,7 @@ abbrev pub Fails : ScriptError → Result (List Command) ScriptError → Type 0
 Fails NoMemory read = Unit {0}
 Fails refusal read = read ≡ Err refusal
 
-abbrev pub Gives : {X : Type 0} → (X → List Command) → Result X ScriptError → Result (List Command) ScriptError → Type 0
+abbrev pub Gives : {X : Type 0} → (X → List Command) → Result X ScriptError
+    → Result (List Command) ScriptError → Type 0
 Gives view (Ok x) read = read ≡ Ok (view x)
 Gives view (Err e) read = Fails e read

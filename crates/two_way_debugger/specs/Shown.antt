@@ -22,14 +22,18 @@ ending_shown (Stopped e) = codes " end " ++ stop_line e
 -- the position, the place, the branch register, the direction, and how moves ended there
 abbrev pub at_shown : Position → Ending → List ℕ
 at_shown p ending =
-    (codes "at " ++ (decimal p.made ++ (codes " pc " ++ (signed_decimal p.state.pc ++ (codes " br " ++ (word_shown p.state.br ++ (codes " dir " ++ direction p.state.back)))))))
+    (codes "at " ++ (decimal p.made
+    ++ (codes " pc " ++ (signed_decimal p.state.pc
+    ++ (codes " br " ++ (word_shown p.state.br
+    ++ (codes " dir " ++ direction p.state.back)))))))
     ++ ending_shown ending
 
 abbrev pub walk_shown : Walk → List ℕ
 walk_shown w = at_shown w.position w.ending
 
 abbrev pub registers_shown : List ℕ → List ℕ
-registers_shown words = if list_all (nat_eq 0) words then codes "all zero" ++ line_end else register_lines 0 words
+registers_shown words = if list_all (nat_eq 0) words then codes "all zero" ++ line_end
+    else register_lines 0 words
 
 -- cells from this number on
 abbrev pub cell_lines : (number : ℕ) → List ℕ → List ℕ
@@ -80,4 +84,5 @@ shown (command ∷ commands) p = text_of command p ++ shown commands (walk_of co
 -- the steps of the machine that they make
 abbrev pub spent_in : List Command → Position → ℕ
 spent_in [] p = 0
-spent_in (command ∷ commands) p = (walk_of command p).spent + spent_in commands (walk_of command p).position
+spent_in (command ∷ commands) p =
+    (walk_of command p).spent + spent_in commands (walk_of command p).position

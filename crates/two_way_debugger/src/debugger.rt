@@ -36,7 +36,8 @@ fn walk_text<L: Ledger>(
     steps: &mut Steps<L>,
 ) -> Result<String, AllocError>
     ensures position { machine.new ≡ (walk backward place most machine.old).position }
-    ensures text { IfOk result (λ text. string_bytes text ≡ walk_shown (walk backward place most machine.old)) }
+    ensures text { IfOk result (λ text. string_bytes text
+        ≡ walk_shown (walk backward place most machine.old)) }
     ensures counter { steps.new ≡ steps.old + (walk backward place most machine.old).spent }
     ensures within { (walk backward place most machine.old).spent ≤ most }
 {
@@ -84,7 +85,8 @@ impl Debugger {
         steps: &mut Steps<L>,
     ) -> Result<(), NoMemory>
         ensures position { self.new ≡ (walk_of command.now self.old).position }
-        ensures text { OnOk result (string_bytes out.new ≡ string_bytes out.old ++ text_of command.now self.old) }
+        ensures text { OnOk result (string_bytes out.new
+            ≡ string_bytes out.old ++ text_of command.now self.old) }
         ensures kept { OnErr result (string_bytes out.new ≡ string_bytes out.old) }
         ensures counter { steps.new ≡ steps.old + (walk_of command.now self.old).spent }
         ensures within { steps.new ≤ steps.old + most_moves command.now }
@@ -104,7 +106,8 @@ impl Debugger {
         steps: &mut Steps<L>,
     ) -> Result<(), NoMemory>
         ensures position { OnOk result (self.new ≡ position_after script.now self.old) }
-        ensures text { OnOk result (string_bytes out.new ≡ string_bytes out.old ++ shown script.now self.old) }
+        ensures text { OnOk result (string_bytes out.new
+            ≡ string_bytes out.old ++ shown script.now self.old) }
         ensures counter { OnOk result (steps.new ≡ steps.old + spent_in script.now self.old) }
         ensures kept { OnErr result (string_bytes out.new ≡ string_bytes out.old) }
     {

@@ -60,7 +60,8 @@ fn move_once<L: Ledger>(
     steps: &mut Steps<L>,
 ) -> Option<Ending>
     ensures ending { result ≡ barrier backward machine.old }
-    ensures position { machine.new ≡ (if is_some result then machine.old else moved backward machine.old) }
+    ensures position { machine.new ≡ (if is_some result then machine.old
+        else moved backward machine.old) }
     ensures counter { steps.new ≡ steps.old + spent_by result }
 {
     if backward {

@@ -95,7 +95,8 @@ fn back_of(args: &[&[u8]]) -> Option<Command>
 }
 
 fn to_of(args: &[&[u8]]) -> Option<Command>
-    ensures { result ≡ placed_command (λ place count. Some (Command.To (pos place) count)) (map (λ word. word.now) args.now) }
+    ensures { result ≡ placed_command (λ place count. Some (Command.To (pos place) count))
+        (map (λ word. word.now) args.now) }
 {
     match args {
         [place, count] => Some(Command::To(short_number(place)? as i64, short_number(count)?)),
@@ -104,7 +105,8 @@ fn to_of(args: &[&[u8]]) -> Option<Command>
 }
 
 fn back_to_of(args: &[&[u8]]) -> Option<Command>
-    ensures { result ≡ placed_command (λ place count. Some (Command.BackTo (pos place) count)) (map (λ word. word.now) args.now) }
+    ensures { result ≡ placed_command (λ place count. Some (Command.BackTo (pos place) count))
+        (map (λ word. word.now) args.now) }
 {
     match args {
         [place, count] => {

@@ -12,18 +12,22 @@ use Rattle.wrap_commands.specs.declared.error.NamesError.TheVariants.{UnknownRes
 -- the first of the fields that has this name
 abbrev pub field_of_name : List InputField → List ℕ → Option InputField
 field_of_name [] name = None
-field_of_name (field ∷ fields) name = if bytes_eq field.name name then Some field else field_of_name fields name
+field_of_name (field ∷ fields) name = if bytes_eq field.name name then Some field
+    else field_of_name fields name
 
 -- one result more, unless no field has the name, or an earlier name is the same
 abbrev pub with_result : List InputField → Option InputField → Result (List InputField) NamesError
 with_result results None = Err (UnknownResult (length results + 1))
 with_result results (Some field) =
-    if is_field results field.field then Err (UnknownResult (length results + 1)) else Ok (results ++ field ∷ [])
+    if is_field results field.field then Err (UnknownResult (length results + 1))
+    else Ok (results ++ field ∷ [])
 
 -- name by name, behind those of the results so far
-unfoldable pub results_from : (fields results : List InputField) → List (List ℕ) → Result (List InputField) NamesError
+unfoldable pub results_from : (fields results : List InputField) → List (List ℕ)
+    → Result (List InputField) NamesError
 results_from fields results [] = Ok results
-results_from fields results (name ∷ names) = with_result results (field_of_name fields name) >>= λ more. results_from fields more names
+results_from fields results (name ∷ names) =
+    with_result results (field_of_name fields name) >>= λ more. results_from fields more names
 
 -- commas part the names
 abbrev pub results_of : List InputField → (names : List ℕ) → Result (List InputField) NamesError
@@ -42,6 +46,7 @@ abbrev pub Fails : NamesError → Result (List InputField) NamesError → Type 0
 Fails NoMemory read = Unit {0}
 Fails refusal read = read ≡ Err refusal
 
-abbrev pub Gives : {X : Type 0} → (X → List InputField) → Result X NamesError → Result (List InputField) NamesError → Type 0
+abbrev pub Gives : {X : Type 0} → (X → List InputField) → Result X NamesError
+    → Result (List InputField) NamesError → Type 0
 Gives view (Ok x) read = read ≡ Ok (view x)
 Gives view (Err e) read = Fails e read

@@ -51,14 +51,20 @@ pub record TellsBound (program : Source) (limits : Limits) (input : List FieldWo
   pub told : p ≡ prints Bound (codes "bound" ++ (line_end ++ steps_line steps))
 
 -- what the plan of a wrapped run says, by why it ended; it never ends otherwise
-abbrev pub TellsStop : Stop → Source → Segments → List InputField → Limits → List FieldWord → MachineState → (spent steps : ℕ) → Planned → Type 0
-TellsStop Finished program image fields limits input last spent steps p = TellsResults program image fields limits input last spent p
-TellsStop (Trap code) program image fields limits input last spent steps p = ReportsFault program limits input code spent p
-TellsStop AtBound program image fields limits input last spent steps p = TellsBound program limits input steps p
+abbrev pub TellsStop : Stop → Source → Segments → List InputField → Limits → List FieldWord
+    → MachineState → (spent steps : ℕ) → Planned → Type 0
+TellsStop Finished program image fields limits input last spent steps p =
+    TellsResults program image fields limits input last spent p
+TellsStop (Trap code) program image fields limits input last spent steps p =
+    ReportsFault program limits input code spent p
+TellsStop AtBound program image fields limits input last spent steps p =
+    TellsBound program limits input steps p
 TellsStop _ program image fields limits input last spent steps p = ⊥
 
-abbrev pub TellsEnd : End → Source → Segments → List InputField → Limits → List FieldWord → (steps : ℕ) → Planned → Type 0
-TellsEnd end program image fields limits input steps p = TellsStop end.why program image fields limits input end.last end.spent steps p
+abbrev pub TellsEnd : End → Source → Segments → List InputField → Limits → List FieldWord
+    → (steps : ℕ) → Planned → Type 0
+TellsEnd end program image fields limits input steps p =
+    TellsStop end.why program image fields limits input end.last end.spent steps p
 
 -- There is an image that stands for the program, and one that is it wrapped for the cells of these fields, and the plan tells
 -- how the run of that ended, of at most so many steps from the loaded memory with zeros behind it.
@@ -69,29 +75,39 @@ pub record WrapsImage (program : Source) (fields : List InputField) (limits : Li
   pub wrapped : Segments
   pub wrapped_is_image : IsImage wrapped
   pub wraps : Wrapped image.code (result_cells fields) wrapped.code
-  pub tells : TellsEnd (wrapped_run image (result_cells fields) wrapped.code limits input steps) program image fields limits input steps p
+  pub tells : TellsEnd (wrapped_run image (result_cells fields) wrapped.code limits input steps)
+      program image fields limits input steps p
 
 -- the input is judged, and then the run is made on it
-abbrev pub IsGivenPlan : Result (List FieldWord) LoadError → Source → List InputField → Limits → ℕ → Planned → Type 0
+abbrev pub IsGivenPlan : Result (List FieldWord) LoadError → Source → List InputField → Limits → ℕ
+    → Planned → Type 0
 IsGivenPlan (Err e) program fields limits steps p = p ≡ prints InputRefused (load_line e)
 IsGivenPlan (Ok input) program fields limits steps p = WrapsImage program fields limits input steps p
 
 -- the names are judged before the input
-abbrev pub IsNamedPlan : Result (List InputField) NamesError → (given : List ℕ) → Source → Limits → ℕ → Planned → Type 0
-IsNamedPlan (Err (UnknownResult at)) given program limits steps p = p ≡ prints InputRefused (unknown_result_line at)
+abbrev pub IsNamedPlan : Result (List InputField) NamesError → (given : List ℕ) → Source → Limits
+    → ℕ → Planned → Type 0
+IsNamedPlan (Err (UnknownResult at)) given program limits steps p =
+    p ≡ prints InputRefused (unknown_result_line at)
 IsNamedPlan (Err NoMemory) given program limits steps p = ⊥
-IsNamedPlan (Ok fields) given program limits steps p = IsGivenPlan (given_input program given) program fields limits steps p
+IsNamedPlan (Ok fields) given program limits steps p =
+    IsGivenPlan (given_input program given) program fields limits steps p
 
 -- the sizes of heap and stack are tried before the names
-abbrev pub IsSizedPlan : Option LoadError → (names given : List ℕ) → Source → Limits → ℕ → Planned → Type 0
+abbrev pub IsSizedPlan : Option LoadError → (names given : List ℕ) → Source → Limits → ℕ → Planned
+    → Type 0
 IsSizedPlan (Some e) names given program limits steps p = p ≡ prints InputRefused (load_line e)
-IsSizedPlan None names given program limits steps p = IsNamedPlan (results_of (input_fields program) names) given program limits steps p
+IsSizedPlan None names given program limits steps p =
+    IsNamedPlan (results_of (input_fields program) names) given program limits steps p
 
 abbrev pub IsWrapPlan : (text names given : List ℕ) → (heap deep steps : ℕ) → Planned → Type 0
 IsWrapPlan text names given heap deep steps p =
-    IsJudgedPlan text (λ program. IsSizedPlan (limits_refusal heap deep MOST_DEEP) names given program (record { heap = heap; deep = deep }) steps) p
+    IsJudgedPlan text (λ program. IsSizedPlan (limits_refusal heap deep MOST_DEEP) names given
+    program (record { heap = heap; deep = deep }) steps) p
 
 -- the plan of `wrap` of this file for these names, on an input where there is one
-abbrev pub WrapsFile : (file names : List ℕ) → (input : Option (List ℕ)) → (heap deep steps : ℕ) → Texts → Planned → Type 0
+abbrev pub WrapsFile : (file names : List ℕ) → (input : Option (List ℕ)) → (heap deep steps : ℕ)
+    → Texts → Planned → Type 0
 WrapsFile file names input heap deep steps texts p =
-    WithText texts file MOST_BYTES (λ text. WithInput texts input (λ given. IsWrapPlan text names given heap deep steps p))
+    WithText texts file MOST_BYTES
+    (λ text. WithInput texts input (λ given. IsWrapPlan text names given heap deep steps p))

@@ -22,4 +22,5 @@ pub record HasWrapped (program : Source) (fields : List InputField) (limits : Li
   pub is_image : IsImage image
   pub results : AreResults program fields
   pub follows : FollowsWrapped program image (result_cells fields) end.image.code limits input
-  pub runs : wrapped_run image (result_cells fields) end.image.code limits input bound ≡ record { why = why; spent = spent; last = end.state }
+  pub runs : wrapped_run image (result_cells fields) end.image.code limits input bound
+      ≡ record { why = why; spent = spent; last = end.state }

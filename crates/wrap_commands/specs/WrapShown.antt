@@ -21,7 +21,8 @@ result_line name value = name ++ (codes " = " ++ (value ++ line_end))
 abbrev pub result_lines : List InputField → List Value → List ℕ
 result_lines [] cells = []
 result_lines (field ∷ fields) cells =
-    result_line field.name (value_shown [] (unwrap_or (slice_get cells field.field) Nil)) ++ result_lines fields cells
+    result_line field.name (value_shown [] (unwrap_or (slice_get cells field.field) Nil))
+    ++ result_lines fields cells
 
 -- the same, by the words of a memory from an address on
 abbrev pub word_lines : List InputField → (cells : List ℕ) → (at : ℕ) → List ℕ

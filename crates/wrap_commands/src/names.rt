@@ -33,7 +33,8 @@ fn next_result(
     results: &[InputField],
     name: &[u8],
 ) -> Result<InputField, NamesError>
-    ensures { Gives (λ field. results.now ++ field ∷ []) result (with_result results.now (field_of_name fields.now name.now)) }
+    ensures { Gives (λ field. results.now ++ field ∷ []) result
+        (with_result results.now (field_of_name fields.now name.now)) }
 {
     match field_of_name(fields, name) {
         Some(field) if !is_field(results, field.field) => Ok(copy(alloc, field)?),
@@ -45,7 +46,8 @@ fn next_result(
 
 // The first field of this name.
 fn field_of_name<'a>(fields: &'a [InputField], name: &[u8]) -> Option<&'a InputField>
-    ensures { MatchOption result (field_of_name fields.now name.now ≡ None) (λ field. field_of_name fields.now name.now ≡ Some field.now) }
+    ensures { MatchOption result (field_of_name fields.now name.now ≡ None)
+        (λ field. field_of_name fields.now name.now ≡ Some field.now) }
 {
     for field in fields {
         if field.name.bytes() == name {

@@ -134,7 +134,8 @@ fn report_results(
 
 // The plan of a run that stopped with a fault.
 fn report_fault(alloc: Global, code: u32, spent: u64) -> Result<Plan, AllocError>
-    ensures { IfOk result (λ plan. planned plan ≡ prints Verdict.Trapped (line_of_fault code ++ steps_line spent)) }
+    ensures { IfOk result (λ plan. planned plan
+        ≡ prints Verdict.Trapped (line_of_fault code ++ steps_line spent)) }
 {
     let text = with_steps(fault_line(alloc, code)?, spent)?;
     Ok(Plan::prints(Verdict::Trapped, text))
@@ -142,7 +143,8 @@ fn report_fault(alloc: Global, code: u32, spent: u64) -> Result<Plan, AllocError
 
 // The plan of a run that the bound ended.
 fn report_bound(alloc: Global, bound: u64) -> Result<Plan, AllocError>
-    ensures { IfOk result (λ plan. planned plan ≡ prints Verdict.Bound (codes "bound" ++ (line_end ++ steps_line bound))) }
+    ensures { IfOk result (λ plan. planned plan
+        ≡ prints Verdict.Bound (codes "bound" ++ (line_end ++ steps_line bound))) }
 {
     Ok(Plan::prints(Verdict::Bound, format!(in alloc; "bound\nsteps {bound}\n")?))
 }

@@ -20,7 +20,8 @@ pub(crate) fn add_results(
 ) -> Result<(), AllocError>
     requires names { All HasAsciiName results.now }
     requires room { at + length results.now < 2 ^ 32 }
-    ensures { OnOk result (string_bytes out.new ≡ string_bytes out.old ++ word_lines results.now machine.now.state.cells at) }
+    ensures { OnOk result (string_bytes out.new
+        ≡ string_bytes out.old ++ word_lines results.now machine.now.state.cells at) }
 {
     match results {
         [] => Ok(()),
@@ -34,7 +35,8 @@ pub(crate) fn add_results(
 // The line of a result.
 fn add_result(out: &mut String, field: &InputField, word: u32) -> Result<(), AllocError>
     requires { HasAsciiName field.now }
-    ensures { OnOk result (string_bytes out.new ≡ string_bytes out.old ++ result_line field.now.name (signed_decimal word)) }
+    ensures { OnOk result (string_bytes out.new
+        ≡ string_bytes out.old ++ result_line field.now.name (signed_decimal word)) }
 {
     add_name(out, field.name.bytes())?;
     out.push_str(" = ")?;

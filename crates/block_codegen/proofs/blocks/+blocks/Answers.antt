@@ -3,7 +3,7 @@ use Rattle.rpp_tree.proofs.Blocks.{block_of-list}
 use Rattle.rpp_tree.specs.Views.{expression_of, statement_of, statements_of, block_of}
 use Rattle.block_codegen.specs.Pieces.{StatementStands, StandsIn}
 use Rattle.statement_codegen.specs.Codes.{with_variable}
-use Rattle.block_codegen.proofs.Views.{statement_if, statement_from, statement_construct, statement_local}
+use Rattle.rpp_tree.proofs.Statements.{statement_if, statement_from, statement_construct, statement_local}
 use Rattle.block_codegen.proofs.Standing.{taken_stands, other_stands, entered_stands, repeated_stands, inside_stands, constructed_stands}
 use Rattle.block_codegen.proofs.Walk.{place_fits, item_stands, making_first, making_next, making_last, item_falls, if_falls, from_falls, construct_falls, local_falls}
 use Rattle.block_codegen.proofs.Arms.{if_room, from_room, local_room, if_made, from_made, local_made, popped_is}

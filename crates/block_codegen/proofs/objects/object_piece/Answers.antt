@@ -1,6 +1,6 @@
 use Rattle.std.proofs.Common.{ap, ◌∙◌}
 use Rattle.rpp_tree.specs.Views.{lvalue_of, creation_of, statement_of}
-use Rattle.block_codegen.proofs.Views.{statement_new, statement_delete, statement_copy, statement_uncopy}
+use Rattle.rpp_tree.proofs.Statements.{statement_new, statement_delete, statement_copy, statement_uncopy}
 use Rattle.block_codegen.proofs.ObjectArms.{copy_room, uncopy_room, new_room, delete_room, copy_arm, uncopy_arm, new_arm, delete_arm}
 use Rattle.block_codegen.proofs.objects.object_piece.Goals as goal
 

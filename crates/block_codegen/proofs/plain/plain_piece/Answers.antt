@@ -4,7 +4,7 @@ use Rattle.rpp_tree.specs.Views.{source_of, expression_of, lvalue_of, optional_l
 use Rattle.class_table.specs.Program.{IsAccepted}
 use Rattle.std.specs.Prelude.{IfOk}
 use Rattle.block_codegen.specs.Pieces.{StatementStands, InnerPiece}
-use Rattle.block_codegen.proofs.Views.{statement_update, statement_swap, statement_call}
+use Rattle.rpp_tree.proofs.Statements.{statement_update, statement_swap, statement_call}
 use Rattle.block_codegen.proofs.Arms.{update_room, swap_room, call_few, update_arm, swap_arm}
 use Rattle.block_codegen.proofs.plain.plain_piece.Goals as goal
 

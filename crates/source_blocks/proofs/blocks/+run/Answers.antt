@@ -28,8 +28,8 @@ use Rattle.source_blocks.proofs.BlocksTold.{seen_begins, seen_fails, seen_next}
 use Rattle.source_blocks.proofs.CallsTold.{unpaid_tells, last_seen, body_tells, body_seen, local_seen, run_seen, invoked_seen, none_seen, own_refused, own_seen, nil_refused, on_refused, on_seen}
 use Rattle.source_blocks.proofs.blocks.+run.Goals as goal
 
-pub exec_block-loop-stmt-preserved : goal.exec_block-loop-stmt-preserved
-exec_block-loop-stmt-preserved t c =
+pub run_list-loop-stmt-preserved : goal.run_list-loop-stmt-preserved
+run_list-loop-stmt-preserved t c =
     let sp = c.in_ok-spend-2.ensures in
     let begun = c.in_ok-begin_statement-2.ensures in
     let ex = c.in_ok-exec_stmt-2.ensures in
@@ -40,50 +40,50 @@ exec_block-loop-stmt-preserved t c =
       waits = ex.tells.1;
     }
 
-pub exec_block-returns-in_err-spend-2-clause-ends : goal.exec_block-returns-in_err-spend-2-clause-ends
-exec_block-returns-in_err-spend-2-clause-ends t c =
+pub run_list-returns-in_err-spend-2-clause-ends : goal.run_list-returns-in_err-spend-2-clause-ends
+run_list-returns-in_err-spend-2-clause-ends t c =
     handed _ c.in_err-spend-2.field-0.0 _ _ _ c.from_residual-in_err-spend-2.ensures.1
     (going_out _ _ _ _ _ _ _ _ _ _ _ _ _ _ c.in_err-spend-2.field-0.0 c.loop-stmt.invariant.going (forward_rest c.deref-stmt-items.result.now c.loop-stmt.stmt-index c.stmt-item.result (omega arith) c.stmt-item.is) c.in_err-spend-2.ensures.gives)
 
-pub exec_block-returns-in_err-exec_stmt-2-clause-ends : goal.exec_block-returns-in_err-exec_stmt-2-clause-ends
-exec_block-returns-in_err-exec_stmt-2-clause-ends t c =
+pub run_list-returns-in_err-exec_stmt-2-clause-ends : goal.run_list-returns-in_err-exec_stmt-2-clause-ends
+run_list-returns-in_err-exec_stmt-2-clause-ends t c =
     let sp = c.in_ok-spend-2.ensures in
     handed _ c.in_err-exec_stmt-2.field-0.0 _ _ _ c.from_residual-in_err-exec_stmt-2.ensures.1
     (going_fails _ _ _ _ _ _ _ _ _ _ _ _ _ _ _ c.in_err-exec_stmt-2.field-0.0 c.loop-stmt.invariant.going (forward_rest c.deref-stmt-items.result.now c.loop-stmt.stmt-index c.stmt-item.result (omega arith) c.stmt-item.is) sp.gives sp.paid c.in_err-exec_stmt-2.ensures.ends)
 
 -- the point of a statement ends the run, or the statement does
-pub exec_block-returns-in_err-begin_statement-2-clause-tells : goal.exec_block-returns-in_err-begin_statement-2-clause-tells
-exec_block-returns-in_err-begin_statement-2-clause-tells t c =
+pub run_list-returns-in_err-begin_statement-2-clause-tells : goal.run_list-returns-in_err-begin_statement-2-clause-tells
+run_list-returns-in_err-begin_statement-2-clause-tells t c =
     let sp = c.in_ok-spend-2.ensures in
     let rest = forward_rest c.deref-stmt-items.result.now c.loop-stmt.stmt-index c.stmt-item.result (omega arith) c.stmt-item.is in
     tells_handed _ c.in_err-begin_statement-2.field-0.0 _ _ _ c.from_residual-in_err-begin_statement-2.ensures.1
     (seen_begins _ _ _ _ _ _ _ _ _ _ _ _ false _ _ _ c.loop-stmt.invariant rest (let p = sp.paid in let b = c.loop-stmt.invariant.going.bounded in omega arith) c.in_err-begin_statement-2.field-0.0 _ c.in_err-begin_statement-2.ensures.free c.in_err-begin_statement-2.ensures.tells)
 
-pub exec_block-returns-in_err-exec_stmt-2-clause-tells : goal.exec_block-returns-in_err-exec_stmt-2-clause-tells
-exec_block-returns-in_err-exec_stmt-2-clause-tells t c =
+pub run_list-returns-in_err-exec_stmt-2-clause-tells : goal.run_list-returns-in_err-exec_stmt-2-clause-tells
+run_list-returns-in_err-exec_stmt-2-clause-tells t c =
     let sp = c.in_ok-spend-2.ensures in
     let rest = forward_rest c.deref-stmt-items.result.now c.loop-stmt.stmt-index c.stmt-item.result (omega arith) c.stmt-item.is in
     tells_handed _ c.in_err-exec_stmt-2.field-0.0 _ _ _ c.from_residual-in_err-exec_stmt-2.ensures.1
     (seen_fails _ _ _ _ _ _ _ _ _ _ _ _ false _ _ _ c.loop-stmt.invariant rest (let p = sp.paid in let b = c.loop-stmt.invariant.going.bounded in omega arith) c.begin_statement-in-loop-stmt.new.watch.watching c.in_ok-begin_statement-2.ensures.tells.0 c.in_err-exec_stmt-2.field-0.0 c.exec_stmt-in-loop-stmt.new.watch c.exec_stmt-in-loop-stmt.new.heap _ _ c.in_err-exec_stmt-2.ensures.ends c.in_err-exec_stmt-2.ensures.tells)
 
-pub exec_block-returns-in_err-begin_statement-clause-tells : goal.exec_block-returns-in_err-begin_statement-clause-tells
-exec_block-returns-in_err-begin_statement-clause-tells t c =
+pub run_list-returns-in_err-begin_statement-clause-tells : goal.run_list-returns-in_err-begin_statement-clause-tells
+run_list-returns-in_err-begin_statement-clause-tells t c =
     let sp = c.in_ok-spend.ensures in
     let len = c.len-count.ensures in
     let rest = backward_rest c.args.body.now.list.items (c.len-count.result - c.loop-k.k) (c.len-count.result - (c.loop-k.k + 1)) (c.len-count.result - 1 - c.loop-k.k) c.index-stmt.result.now (omega arith) (omega arith) (omega arith) c.index-stmt.ensures in
     tells_handed _ c.in_err-begin_statement.field-0.0 _ _ _ c.from_residual-in_err-begin_statement.ensures.1
     (seen_begins _ _ _ _ _ _ _ _ _ _ _ _ true _ _ _ c.loop-k.invariant rest (let p = sp.paid in let b = c.loop-k.invariant.going.bounded in omega arith) c.in_err-begin_statement.field-0.0 _ c.in_err-begin_statement.ensures.free c.in_err-begin_statement.ensures.tells)
 
-pub exec_block-returns-in_err-exec_stmt-clause-tells : goal.exec_block-returns-in_err-exec_stmt-clause-tells
-exec_block-returns-in_err-exec_stmt-clause-tells t c =
+pub run_list-returns-in_err-exec_stmt-clause-tells : goal.run_list-returns-in_err-exec_stmt-clause-tells
+run_list-returns-in_err-exec_stmt-clause-tells t c =
     let sp = c.in_ok-spend.ensures in
     let len = c.len-count.ensures in
     let rest = backward_rest c.args.body.now.list.items (c.len-count.result - c.loop-k.k) (c.len-count.result - (c.loop-k.k + 1)) (c.len-count.result - 1 - c.loop-k.k) c.index-stmt.result.now (omega arith) (omega arith) (omega arith) c.index-stmt.ensures in
     tells_handed _ c.in_err-exec_stmt.field-0.0 _ _ _ c.from_residual-in_err-exec_stmt.ensures.1
     (seen_fails _ _ _ _ _ _ _ _ _ _ _ _ true _ _ _ c.loop-k.invariant rest (let p = sp.paid in let b = c.loop-k.invariant.going.bounded in omega arith) c.begin_statement.new.watch.watching c.in_ok-begin_statement.ensures.tells.0 c.in_err-exec_stmt.field-0.0 c.exec_stmt.new.watch c.exec_stmt.new.heap _ _ c.in_err-exec_stmt.ensures.ends c.in_err-exec_stmt.ensures.tells)
 
-pub exec_block-loop-k-preserved : goal.exec_block-loop-k-preserved
-exec_block-loop-k-preserved t c =
+pub run_list-loop-k-preserved : goal.run_list-loop-k-preserved
+run_list-loop-k-preserved t c =
     let sp = c.in_ok-spend.ensures in
     let begun = c.in_ok-begin_statement.ensures in
     let ex = c.in_ok-exec_stmt.ensures in
@@ -95,14 +95,14 @@ exec_block-loop-k-preserved t c =
       waits = ex.tells.1;
     }
 
-pub exec_block-returns-in_err-spend-clause-ends : goal.exec_block-returns-in_err-spend-clause-ends
-exec_block-returns-in_err-spend-clause-ends t c =
+pub run_list-returns-in_err-spend-clause-ends : goal.run_list-returns-in_err-spend-clause-ends
+run_list-returns-in_err-spend-clause-ends t c =
     let len = c.len-count.ensures in
     handed _ c.in_err-spend.field-0.0 _ _ _ c.from_residual.ensures.1
     (going_out _ _ _ _ _ _ _ _ _ _ _ _ _ _ c.in_err-spend.field-0.0 c.loop-k.invariant.going (backward_rest c.args.body.now.list.items (c.len-count.result - c.loop-k.k) (c.len-count.result - (c.loop-k.k + 1)) (c.len-count.result - 1 - c.loop-k.k) c.index-stmt.result.now (omega arith) (omega arith) (omega arith) c.index-stmt.ensures) c.in_err-spend.ensures.gives)
 
-pub exec_block-returns-in_err-exec_stmt-clause-ends : goal.exec_block-returns-in_err-exec_stmt-clause-ends
-exec_block-returns-in_err-exec_stmt-clause-ends t c =
+pub run_list-returns-in_err-exec_stmt-clause-ends : goal.run_list-returns-in_err-exec_stmt-clause-ends
+run_list-returns-in_err-exec_stmt-clause-ends t c =
     let sp = c.in_ok-spend.ensures in
     let len = c.len-count.ensures in
     handed _ c.in_err-exec_stmt.field-0.0 _ _ _ c.from_residual-in_err-exec_stmt.ensures.1

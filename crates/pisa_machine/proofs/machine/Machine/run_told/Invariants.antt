@@ -1,4 +1,4 @@
-use Rattle.std.proofs.Common.{◌≡◌, ◌+◌, map, string_bytes}
+use Rattle.std.proofs.Common.{◌≡◌, ◌+◌, ◌-◌, ◌≤◌, map, string_bytes}
 use Rattle.pisa_machine.proofs.Watched.{IsTold}
 use Rattle.pisa_machine.proofs.machine.Machine.run_told.Given as goal
 
@@ -11,4 +11,8 @@ invariant-loop-made g l = record {
   image : l.self.image ≡ l.initial.self.image;
   made : l.self.made ≡ l.initial.self.made + l.made;
   counter : l.steps ≡ l.initial.steps + l.made;
+  within : l.made ≤ l.bound;
 }
+
+abbrev pub decreases-loop-made : goal.decreases-loop-made
+decreases-loop-made g l = l.bound - l.made

@@ -1,0 +1,6 @@
+use Rattle.std.proofs.Common.{refl}
+use Rattle.rpp_probes.proofs.Sure.{never_ends}
+use Rattle.rpp_probes.proofs.step_tally.StepTallyProbe.sure_steps.Goals as goal
+
+pub returns : goal.returns
+returns c = λ steps few. never_ends steps _ (λ tally. refl)
