@@ -65,8 +65,8 @@ begun_on code cells = started code zero_registers cells
 abbrev pub run_on : List Cell → (bound : ℕ) → List ℕ → End
 run_on code bound cells = run code bound (begun_on code cells)
 
--- Memory for which the copy code is made: cell 4 holds the number of its cells, each cell that is copied is one of them, and
--- so many addresses are left behind it.
+-- Memory for which the copy code is made: cell 4 holds the number of its cells, each cell that is
+-- copied is one of them, and so many addresses are left behind it.
 pub record HasRoom (a cells : List ℕ) : Type 0 where
   pub words : All IsWord a
   pub counted : slice_get a count_at ≡ Some (length a)
@@ -111,7 +111,8 @@ steps_wrapped n cells = 2 * n + 13 + 8 * length cells
 
 -- what the wrapped code does on a memory with zeros behind it, by what the code does on the memory
 pub record Wrapped (code : List Cell) (cells : List ℕ) (wrapped : List Cell) : Type 0 where
-  -- where the run finishes, the wrapped run finishes with the first memory, and with the results behind it
+  -- where the run finishes, the wrapped run finishes with the first memory, and with the results
+  -- behind it
   pub finishes : (a : List ℕ) (bound enough : ℕ) → HasRoom a cells → Computes code bound a
       → steps_wrapped (run_on code bound a).spent cells ≤ enough
       → FinishesWith (run_on wrapped enough (with_zeros a cells))
@@ -122,8 +123,8 @@ pub record Wrapped (code : List Cell) (cells : List ℕ) (wrapped : List Cell) :
       → (run_on code bound a).why ≡ Trap w → (run_on code bound a).spent ≤ enough
       → TrapsWith (run_on wrapped enough (with_zeros a cells)) w (run_on code bound a).spent
       (length a) (length cells)
-  -- where it is not over after so many steps, the wrapped run is not over after so many; so where it never ends, neither
-  -- does that
+  -- where it is not over after so many steps, the wrapped run is not over after so many; so where
+  -- it never ends, neither does that
   pub goes_on : (a : List ℕ) (bound : ℕ) → HasRoom a cells → IsNarrow code bound a
       → (run_on code bound a).why ≡ Bound
       → (run_on wrapped bound (with_zeros a cells)).why ≡ Bound

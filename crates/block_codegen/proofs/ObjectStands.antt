@@ -1,5 +1,5 @@
--- The codes of copies, and of objects and arrays that are made and given back, are those of their statements, where the rules
--- of types pass these and the limits let them through.
+-- The codes of copies, and of objects and arrays that are made and given back, are those of their
+-- statements, where the rules of types pass these and the limits let them through.
 use Rattle.std.proofs.Common.{◌≡◌, ℕ, ◌+◌, ◌≤◌, List, length, sym, subst, arith}
 use Rattle.rpp_tree.specs.declared.tree.VarType.{VarType}
 use Rattle.rpp_tree.specs.declared.tree.Ident.{Ident}

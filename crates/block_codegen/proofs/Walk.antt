@@ -54,7 +54,8 @@ making_last v whole items i scope p l h =
     let e : left_of items i ≡ End = ap (λ z. statements_of (map statement_of z)) (drop_of_length-le items {i = i} l) in
     leads_last v whole p (subst (λ z. LeadsOn v whole z p) e h.leads)
 
--- ---- the walk ends: each block has fewer tokens than the statement that holds it, and no fewer than each of its statements
+-- ---- the walk ends: each block has fewer tokens than the statement that holds it, and no fewer
+-- than each of its statements
 
 member_tokens : (items : List Stmt) (i : ℕ) (x : Stmt) → i < length items → x ≡ get_or items i x → statement_tokens (statement_of x) ≤ block_tokens (statements_of (map statement_of items))
 member_tokens [] i x l is = absurd (omega arith)

@@ -28,17 +28,18 @@ use Rattle.block_codegen.specs.Ranges.{MarksOf, IsCovered}
 abbrev pub IsPlace : ℕ → Type 0
 IsPlace at = at < MOST_BYTES
 
--- A statement that stands where this is visible: it is allowed there, the statements in it keep the limits of
--- expressions, no name in a call on an element is empty, and it stands at places that a source can have.
+-- A statement that stands where this is visible: it is allowed there, the statements in it keep the
+-- limits of expressions, no name in a call on an element is empty, and it stands at places that a
+-- source can have.
 pub record StatementStands (v : Visible) (statement : Statement) : Type 0 where
   pub allowed : IsAllowed v statement
   pub plain : StatementIsPlain statement
   pub inner_small : AreInnerSmall statement
   pub places : All IsPlace (statement_places statement)
 
--- A block that stands there: the rules of types pass it, its literals are words, no name in a call on an element is
--- empty, it keeps the limits of expressions, it stands at places that a source can have, and its locals have room in
--- the frame.
+-- A block that stands there: the rules of types pass it, its literals are words, no name in a call
+-- on an element is empty, it keeps the limits of expressions, it stands at places that a source can
+-- have, and its locals have room in the frame.
 pub record StandsIn (v : Visible) (body : Statements) : Type 0 where
   pub rules : check_statements (typing_in (source_of v.program) (scope_of v))
       (shape_of (source_of v.program) (scope_of v)) body
@@ -72,7 +73,8 @@ call_on receiver call = Call call.at call.back receiver call.method.now call.arg
 -- ---- what is made
 
 -- the code of a statement in a scope, wherever an image of the program is linked
-pub record IsRowCode (program : Source) (s : Scope) (statement : Statement) (cells : List Symbol) : Type 0 where
+pub record IsRowCode (program : Source) (s : Scope) (statement : Statement)
+    (cells : List Symbol) : Type 0 where
   pub law : (place : Place) (routine : ℕ → Ident → ℕ) → IsLinked place routine
       → place.setting.program ≡ program
       → StmtLaw (world_of place) s statement cells

@@ -18,9 +18,10 @@ use rpp_words::NoMemory;
 use statement_codegen::{construct_code, from_code, if_code, local_code};
 use std::alloc::Global;
 
-/// The code of a block in this scope: the code of its statements, one after the other, with a mark over the
-/// cells of each. Where it is made, the scope is as before; after an error nothing is known of it. It has at most
-/// 200 cells for each token of the block. The only error is that memory ran out.
+/// The code of a block in this scope: the code of its statements, one after the other, with a mark
+/// over the cells of each. Where it is made, the scope is as before; after an error nothing is
+/// known of it. It has at most 200 cells for each token of the block. The only error is that memory
+/// ran out.
 pub fn block_code(alloc: Global, body: &Block, scope: &mut Scope) -> Result<Piece, NoMemory>
     requires stands { StandsIn scope.old (block_of body.now) }
     ensures law { IfOk result (λ p. IsBlockCode scope.old (block_of body.now) p.cells) }

@@ -24,8 +24,8 @@ pub fn object_var(alloc: Global, class: &Ident, name: &Ident) -> Result<Var, NoM
     })
 }
 
-/// The code of the `new` that begins a `construct`, in the scope with its variable. The only error is that memory ran
-/// out.
+/// The code of the `new` that begins a `construct`, in the scope with its variable. The only error
+/// is that memory ran out.
 pub fn making_piece(
     alloc: Global,
     class: &Ident,
@@ -46,8 +46,8 @@ pub fn making_piece(
     class_code(alloc, class, &place, scope)
 }
 
-/// The code of such a statement: that of a delete is that of the new, mirrored, and that of an uncopy that of the
-/// copy. The only error is that memory ran out.
+/// The code of such a statement: that of a delete is that of the new, mirrored, and that of an
+/// uncopy that of the copy. The only error is that memory ran out.
 pub fn object_piece(alloc: Global, s: &Stmt, scope: &Scope) -> Result<Piece, NoMemory>
     requires stands { StatementStands scope.now (statement_of s.now) }
     requires objects { IsOfObjects (statement_of s.now) }

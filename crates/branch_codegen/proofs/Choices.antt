@@ -3,8 +3,9 @@ use Rattle.std.proofs.Common.{◌≡◌, ℕ, suc, ◌+◌, ◌-◌, ◌<◌, �
 use Rattle.std.specs.Prelude.{not, if◌then◌else◌}
 use Rattle.rpp_tree.specs.Tree.{Expression, Statements, If}
 use Rattle.stmt_inverter.specs.Inverse.{inverse}
+use Rattle.pisa_isa.specs.Machine.{Memory}
 use Rattle.paired_code.specs.declared.part.Symbol.{Symbol}
-use Rattle.paired_code.specs.Machine.{Memory, reg}
+use Rattle.paired_code.specs.Machine.{reg}
 use Rattle.paired_code.specs.Layout.{xor}
 use Rattle.paired_code.specs.Pieces.{Outcome, Will}
 use Rattle.paired_code.specs.Rows.{line}

@@ -1,8 +1,8 @@
 -- Tests between statements: the flag is set, and the frame stays open.
 use Rattle.std.proofs.Common.{◌≡◌, ℕ, Bool, List, [], sym, ap, subst}
 use Rattle.rpp_tree.specs.Tree.{Expression}
+use Rattle.pisa_isa.specs.Machine.{Memory}
 use Rattle.paired_code.specs.declared.part.Symbol.{Symbol}
-use Rattle.paired_code.specs.Machine.{Memory}
 use Rattle.paired_code.specs.Layout.{xor}
 use Rattle.paired_code.specs.Pieces.{Will}
 use Rattle.paired_code.specs.Does.{Meets}

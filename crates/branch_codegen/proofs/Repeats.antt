@@ -4,8 +4,9 @@ use Rattle.std.specs.Prelude.{not}
 use Rattle.std.proofs.Math.Nat.{mul-add, mul-le-mul_right}
 use Rattle.rpp_tree.specs.Tree.{Expression, Number, Null, Variable, Element, Binary, Statements, From, nodes}
 use Rattle.stmt_inverter.specs.Inverse.{inverse}
+use Rattle.pisa_isa.specs.Machine.{Memory}
 use Rattle.paired_code.specs.declared.part.Symbol.{Symbol}
-use Rattle.paired_code.specs.Machine.{Memory, Image, reg}
+use Rattle.paired_code.specs.Machine.{Image, reg}
 use Rattle.paired_code.specs.Layout.{xor, check_cells, loop_cells}
 use Rattle.paired_code.specs.Pieces.{Outcome, Done, Trapped, Still, Will, after, to_tail, to_head}
 use Rattle.paired_code.specs.Does.{Rates, Told, Fine, Fault, More, plus, told_then, Meets, fine, faults, more, Does, in_order}

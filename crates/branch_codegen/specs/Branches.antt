@@ -16,7 +16,8 @@ flips = record { op = Xori; a = FLAG; b = 0; c = 0; imm = 1 }
 abbrev pub part_code : List Symbol → List Symbol
 part_code p = within (flips ∷ []) p
 
--- A conditional: the flag is to be 0, the test before sets it, it chooses the part, the test after is to take it away.
+-- A conditional: the flag is to be 0, the test before sets it, it chooses the part, the test after
+-- is to take it away.
 abbrev pub if_code : (test taken other after : List Symbol) → List Symbol
 if_code test taken other after = if_cells FLAG test after (part_code taken) other
 
@@ -24,8 +25,9 @@ if_code test taken other after = if_cells FLAG test after (part_code taken) othe
 abbrev pub check : List Symbol
 check = check_cells FLAG LOOP_FAULT
 
--- A turn of a loop, the second part aside: the flag is 1 at the first entry and 0 at each later one, so the entry's test makes
--- it 0 where it is as it is to be; run back the exit's test does. The exit's test leaves 1 where the loop is left.
+-- A turn of a loop, the second part aside: the flag is 1 at the first entry and 0 at each later
+-- one, so the entry's test makes it 0 where it is as it is to be; run back the exit's test does.
+-- The exit's test leaves 1 where the loop is left.
 abbrev pub turn_code : (entry first exit : List Symbol) → List Symbol
 turn_code entry first exit = entry ++ (check ++ (first ++ (check ++ exit)))
 

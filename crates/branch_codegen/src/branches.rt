@@ -14,7 +14,8 @@ use rpp_words::NoMemory;
 use statement_laws::around;
 use std::alloc::Global;
 
-/// The code of `if test then yes else no fi after`, over the pieces of its tests, which have no marks, and of its blocks.
+/// The code of `if test then yes else no fi after`, over the pieces of its tests, which have no
+/// marks, and of its blocks.
 #[tactic(auto, using(crate::proofs::Clauses::if_clause, crate::proofs::Clauses::if_length))]
 pub fn conditional(
     alloc: Global,
@@ -33,7 +34,8 @@ pub fn conditional(
     if_piece(alloc, test, yes, no, after)
 }
 
-/// The code of `from entry do first loop again until exit`, over the pieces of its tests, which have no marks, and of its blocks.
+/// The code of `from entry do first loop again until exit`, over the pieces of its tests, which
+/// have no marks, and of its blocks.
 #[tactic(auto, using(crate::proofs::Clauses::from_clause, crate::proofs::Clauses::from_length))]
 pub fn repetition(
     alloc: Global,

@@ -1,4 +1,5 @@
--- What a request leaves: the orders of other blocks and the blocks of other names; and the least order with room.
+-- What a request leaves: the orders of other blocks and the blocks of other names; and the least
+-- order with room.
 use Rattle.std.proofs.Common.{◌≡◌, ◌≢◌, ◌∙◌, sym, ap, refl, ℕ, zero, suc, ◌+◌, ◌^◌, ◌<◌, ◌≤◌, Bool, true, false, List, [], ◌∷◌, Some, None, arith, ne_eqb}
 use Rattle.std.proofs.lemmas.Bool.{eqb-true, leb-true}
 use Rattle.std.specs.Prelude.{nat_eq, nat_lt, nat_le, if◌then◌else◌}

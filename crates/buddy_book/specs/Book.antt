@@ -1,4 +1,5 @@
--- The book of free blocks: for each order from 1 on the list of its free blocks, as distances from the heap's base.
+-- The book of free blocks: for each order from 1 on the list of its free blocks, as distances from
+-- the heap's base.
 use Rattle.std.specs.Prelude.{ℕ, zero, suc, ◌+◌, ◌-◌, ◌*◌, ◌%◌, ◌^◌, Bool, ◌&&◌, nat_eq, nat_le, List, [], ◌∷◌, Option, Some, None, if◌then◌else◌}
 
 -- the free blocks of order 1, of order 2 and so on, the head of each list first
@@ -55,7 +56,8 @@ abbrev pub lower_half : ℕ → ℕ → List ℕ → Option ℕ
 lower_half size block (low ∷ []) = if is_buddy size low block then Some low else None
 lower_half size block _ = None
 
--- a block merges with its lower half, which is given to the next order; or it becomes the head of its list
+-- a block merges with its lower half, which is given to the next order; or it becomes the head of
+-- its list
 abbrev pub merged : ℕ → List ℕ → Book → (ℕ → Book) → Option ℕ → Book
 merged block free higher give_next (Some low) = [] ∷ give_next low
 merged block free higher give_next None = (block ∷ free) ∷ higher

@@ -47,7 +47,8 @@ after_request (Given name order) (Some placing) =
       blocks = without_name placing.blocks name;
     })
 
--- where the blocks stand after these requests on an empty heap of order h; none where one of them found no block
+-- where the blocks stand after these requests on an empty heap of order h; none where one of them
+-- found no block
 abbrev pub place : ℕ → Log → Option Placing
 place h [] = Some (record { book = start h; blocks = [] })
 place h (request ∷ older) = after_request request (place h older)

@@ -61,7 +61,8 @@ taken_from block [] = []
 taken_from block (zero ∷ orders) = taken_from (2 + block) orders
 taken_from block (suc order ∷ orders) = (block, suc order) ∷ taken_from (2 + block) orders
 
--- blocks of this size stand at multiples of it below the top, and none is the upper half over its lower half as the last two
+-- blocks of this size stand at multiples of it below the top, and none is the upper half over its
+-- lower half as the last two
 abbrev pub is_sound_list : ℕ → ℕ → List ℕ → Bool
 is_sound_list top size [] = true
 is_sound_list top size (block ∷ free) =

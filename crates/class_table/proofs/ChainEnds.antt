@@ -1,4 +1,5 @@
--- A chain of parents that ends holds no class twice, so it ends within as many steps as there are classes.
+-- A chain of parents that ends holds no class twice, so it ends within as many steps as there are
+-- classes.
 use Rattle.std.proofs.Common.{◌≡◌, ◌∙◌, sym, ap, subst, ℕ, zero, suc, ◌+◌, ◌-◌, ◌<◌, ◌≤◌, Bool, true, false, List, [], ◌∷◌, ◌++◌, length, map, Option, Some, None, refl, slice_get, add-zero, add-suc, arith, length-append}
 use Rattle.std.proofs.Math.Dec.{eqb}
 use Rattle.std.proofs.lemmas.Bool.{eqb-true}

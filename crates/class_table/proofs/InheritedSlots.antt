@@ -1,4 +1,5 @@
--- The slots of a class come first in those of a class below it, with parameters of the same types; each slot is a method of its name on the line.
+-- The slots of a class come first in those of a class below it, with parameters of the same types;
+-- each slot is a method of its name on the line.
 use Rattle.std.proofs.Common.{◌≡◌, ◌≢◌, ◌∙◌, sym, ap, subst, refl, ℕ, zero, suc, ◌+◌, ◌-◌, ◌<◌, ◌≤◌, Bool, true, false, not, List, [], ◌∷◌, ◌++◌, map, length, take, Option, Some, None, arith, slice_get, append-nil, append_assoc, length-append}
 use Rattle.std.proofs.lemmas.Bool.{eqb-true}
 use Rattle.std.proofs.lemmas.List.{length-map}

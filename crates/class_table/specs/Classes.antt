@@ -24,7 +24,8 @@ class_fields program class = fields_of program class
 abbrev pub field_number : Source → ℕ → List ℕ → Option ℕ
 field_number program class name = field_of (class_fields program class) name
 
--- a class's method slots: the parent's first; an overriding method keeps its slot, a new one gets the next
+-- a class's method slots: the parent's first; an overriding method keeps its slot, a new one gets
+-- the next
 abbrev pub class_slots : Source → ℕ → Slots
 class_slots program class = slots_of program class
 

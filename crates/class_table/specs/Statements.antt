@@ -109,7 +109,8 @@ abbrev pub is_nil_word : Expression → Bool
 is_nil_word (Null at) = true
 is_nil_word _ = false
 
--- local: the type; a new name; the closing words; the name in its own expressions; the parts; what they may be
+-- local: the type; a new name; the closing words; the name in its own expressions; the parts; what
+-- they may be
 abbrev pub local_rules : Setting → Locals → ℕ → Var → Expression → Var → Expression → Verdict
 local_rules setting locals at var value end_var end_value =
     in_turn (type_known setting.table var.kind)
@@ -156,7 +157,8 @@ takes table (Object class) place = takes_object_of table (class_of table class.t
 takes table (Ints length) place = is_int_array place
 takes table (Objects class length) place = takes_objects_of (class_of table class.text) place
 
--- new and delete: the class; place then length; an int length and a place that takes it; the variable nowhere else
+-- new and delete: the class; place then length; an int length and a place that takes it; the
+-- variable nowhere else
 abbrev pub make_rules : Setting → Locals → ℕ → Creation → Lvalue → Verdict
 make_rules setting locals at made place =
     in_turn (made_known setting.table made)
@@ -192,7 +194,8 @@ same_plain (Whole name) (Whole other) = bytes_eq name.text other.text
 same_plain (Whole name) (Item other index) = false
 same_plain (Item name index) other = false
 
--- copy and uncopy: the class; the parts; a class or array type; fitting types; two variables; the second in no index
+-- copy and uncopy: the class; the parts; a class or array type; fitting types; two variables; the
+-- second in no index
 abbrev pub copy_rules : Setting → Locals → ℕ → VarType → Lvalue → Lvalue → Verdict
 copy_rules setting locals at written source target =
     in_turn (type_known setting.table written)

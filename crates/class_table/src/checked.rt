@@ -32,7 +32,8 @@ impl Model for Checked {
 
     ghost view = { λ c. c.program };
 
-    ghost invariant = { λ c. (c.table ≡ table_of (source_of c.program)) × IsAccepted (source_of c.program) };
+    ghost invariant = { λ c. (c.table ≡ table_of (source_of c.program))
+        × IsAccepted (source_of c.program) };
 }
 
 impl Checked {

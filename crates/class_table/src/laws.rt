@@ -27,7 +27,8 @@ pub fn inheritance_goes_through()
     ensures { InheritanceGoesThrough }
 {}
 
-/// In an accepted program a checked call finds a checked method for each object, with parameters of the same types.
+/// In an accepted program a checked call finds a checked method for each object, with parameters of
+/// the same types.
 pub fn calls_find_methods()
     ensures { CallsFindMethods }
 {}

@@ -1,6 +1,8 @@
-// The class table of a program: the numbers of its classes, their fields, method slots, dispatch and inheritance.
+// The class table of a program: the numbers of its classes, their fields, method slots, dispatch
+// and inheritance.
 // `ClassTable::build` refuses a program that has none, at the first rule that refuses it.
-// A `Checked` holds a program that every rule accepts, together with its table; the rules of types stand in specs/.
+// A `Checked` holds a program that every rule accepts, together with its table; the rules of types
+// stand in specs/.
 #![tactic(auto)]
 
 mod chains;
@@ -16,8 +18,6 @@ mod overrides;
 mod phases;
 mod slots;
 mod table;
-#[cfg(test)]
-mod tests;
 
 pub use checked::Checked;
 pub use error::ClassError;

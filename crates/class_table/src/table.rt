@@ -19,9 +19,12 @@ use rpp_tree::tree::{Program, Var};
 use std::alloc::Global;
 use std::marker::Model;
 
-/// The class table of a program, as in Cservenka's thesis on ROOPL++: a class has the fields and method slots of its parent first.
-/// Classes, the fields of a class, its slots and the methods that it declares are numbered from 0 in their order.
-/// Readers find names by maps. Where a number is that of no class or slot, they answer that there is nothing.
+/// The class table of a program, as in Cservenka's thesis on ROOPL++: a class has the fields and
+/// method slots of its parent first.
+/// Classes, the fields of a class, its slots and the methods that it declares are numbered from 0
+/// in their order.
+/// Readers find names by maps. Where a number is that of no class or slot, they answer that there
+/// is nothing.
 #[derive(Drop)]
 pub struct ClassTable {
     names: IndexSet<Text>,
@@ -39,13 +42,20 @@ impl Model for ClassTable {
     ghost use Rattle.std.specs.Prelude.{map, ◌≤◌, length};
     ghost use Rattle.rpp_tree.specs.declared.limits.TheConstants.{MOST_CLASSES};
 
-    ghost view = { λ t. record { names = t.names.keys; lines = map (λ line. line.items) t.lines.items; fields = t.fields.items; slots = t.slots.items; main = t.main } };
+    ghost view = { λ t. record {
+      names = t.names.keys;
+      lines = map (λ line. line.items) t.lines.items;
+      fields = t.fields.items;
+      slots = t.slots.items;
+      main = t.main;
+    } };
 
     ghost invariant = { λ t. length t.names.keys ≤ MOST_CLASSES };
 }
 
 impl ClassTable {
-    /// The table of a program, or the first refusal. `end` is the length of the text in bytes, the place of a missing `main`.
+    /// The table of a program, or the first refusal. `end` is the length of the text in bytes, the
+    /// place of a missing `main`.
     pub fn build(alloc: Global, program: &Program, end: u32) -> Result<ClassTable, ClassError>
         requires { length program.now.classes.items ≤ MOST_CLASSES }
         ensures built { IfOk result (λ table. table ≡ table_of (source_of program.now)) }

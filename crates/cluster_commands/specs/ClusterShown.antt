@@ -101,7 +101,8 @@ end_shown c = (kept_line (length c.kept) ++ processor_lines 1 c.joint.processors
     ++ filled_lines 0 c.joint.cells
 
 -- what events print from the start on, and then how the cluster stands
-pub record IsShown (images : List Segments) (cells : ℕ) (events : List Event) (text : List ℕ) : Type 0 where
+pub record IsShown (images : List Segments) (cells : ℕ) (events : List Event)
+    (text : List ℕ) : Type 0 where
   pub lines : List ℕ
   pub end : Schedule
   pub shows : ShowsAll events (first_schedule images cells) lines end

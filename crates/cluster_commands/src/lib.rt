@@ -1,5 +1,5 @@
-//! The command `cluster`: a script of steps and undoings of several processors on one memory. It reads its files and makes a plan;
-//! the top call carries it out.
+//! The command `cluster`: a script of steps and undoings of several processors on one memory. It
+//! reads its files and makes a plan; the top call carries it out.
 #![tactic(auto)]
 
 mod error;

@@ -20,8 +20,8 @@ use rpp_ports::Shelf;
 use rpp_words::NoMemory;
 use std::alloc::Global;
 
-/// Carries out the script in a file on the processors of the images in files, which have so many cells in common, and tells what
-/// it prints and how all stands at the end.
+/// Carries out the script in a file on the processors of the images in files, which have so many
+/// cells in common, and tells what it prints and how all stands at the end.
 pub fn cluster<S: Shelf>(
     alloc: Global,
     shelf: &mut S,
@@ -35,7 +35,8 @@ pub fn cluster<S: Shelf>(
     requires most { cells ≤ 65536 }
     ensures plan { GivesPlan (S.texts shelf.old)
         (ClustersFiles script.now cells (map string_bytes images.now)) result }
-    ensures reads { OnlyReads (S.texts shelf.old) (S.texts shelf.new) (S.faults shelf.old) (S.faults shelf.new)
+    ensures reads { OnlyReads (S.texts shelf.old) (S.texts shelf.new) (S.faults shelf.old)
+        (S.faults shelf.new)
         (cluster_files script.now (map string_bytes images.now)) result }
 {
     let script = read_file(alloc, shelf, script, MOST_SCRIPT as u64)?;
@@ -51,9 +52,11 @@ fn read_images<S: Shelf>(
     names: &[String],
     texts: &mut Vec<Vec<u8>>,
 ) -> Result<(), NoPlan>
-    ensures text { IfOk result (λ _. IfSome (S.texts shelf.old) (λ told. WithImages told (map string_bytes names.now)
+    ensures text { IfOk result (λ _.
+        IfSome (S.texts shelf.old) (λ told. WithImages told (map string_bytes names.now)
         (λ read. map (λ v. v.items) texts.new.items ≡ map (λ v. v.items) texts.old.items ++ read))) }
-    ensures reads { OnlyReads (S.texts shelf.old) (S.texts shelf.new) (S.faults shelf.old) (S.faults shelf.new)
+    ensures reads { OnlyReads (S.texts shelf.old) (S.texts shelf.new) (S.faults shelf.old)
+        (S.faults shelf.new)
         (map image_file (map string_bytes names.now)) result }
     ensures count { IfOk result (λ _. vec_len texts.new ≡ vec_len texts.old + length names.now) }
 {

@@ -24,8 +24,9 @@ pub enum Event {
     Rewind,
 }
 
-/// What a script asks of so many processors. A line of it is blank, or `step I N`, `undo I` or `rewind`, with one space between
-/// words; a carriage return before a line feed is dropped. The first line that is neither is refused.
+/// What a script asks of so many processors. A line of it is blank, or `step I N`, `undo I` or
+/// `rewind`, with one space between words; a carriage return before a line feed is dropped. The
+/// first line that is neither is refused.
 pub(crate) fn read_events(
     alloc: Global,
     processors: u32,

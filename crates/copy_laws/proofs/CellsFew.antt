@@ -1,9 +1,10 @@
--- A heap has no more cells of objects and arrays than words: so a name is held by few cells, and its count is small.
+-- A heap has no more cells of objects and arrays than words: so a name is held by few cells, and
+-- its count is small.
 use Rattle.std.proofs.Common.{◌≡◌, ◌≢◌, ◌∙◌, sym, ap, subst, refl, ℕ, ◌+◌, ◌*◌, ◌^◌, ◌<◌, ◌≤◌, Bool, true, false, List, [], ◌∷◌, ◌++◌, map, length, Some, arith}
 use Rattle.std.proofs.lemmas.List.{length-map}
 use Rattle.std.specs.Prelude.{nat_eq, slice_index, if◌then◌else◌}
 use Rattle.std.specs.Option.{unwrap_or, option_map}
-use Rattle.buddy_book.specs.Place.{Log, Placing, block_of, count_taken}
+use Rattle.buddy_book.specs.Place.{Log, Placing, count_taken}
 use Rattle.buddy_book.specs.Shown.{TakenBlocks, order_in, without_taken, size_of, taken_weight}
 use Rattle.buddy_book.proofs.Requests.{order_in-without_other}
 use Rattle.buddy_book.proofs.StoredLaws.{two_power}
@@ -11,9 +12,9 @@ use Rattle.buddy_book.proofs.Table.{taken_weight-without}
 use Rattle.roopl_semantics.specs.Store.{Value, Word, Nil, Name, Object, Store, State, main_name, object_named, object_at, no_object}
 use Rattle.roopl_semantics.specs.Laws.{one_if_name, holders, holders_among}
 use Rattle.roopl_semantics.specs.Execution.{Setting, order_of_cells}
-use Rattle.sound_execution.specs.Sound.{head_of, head_named, is_live, cell_kinds, AllFit, Descending, entry_name, value_of, held, IsPlaced}
+use Rattle.sound_execution.specs.Sound.{head_of, head_named, cell_kinds, AllFit, Descending, entry_name, value_of, held, IsPlaced}
 use Rattle.sound_execution.proofs.Lists.{all_length}
-use Rattle.sound_execution.proofs.Regions.{BlocksDescend, EntriesAre, room_of, blocks_descend, entries_are}
+use Rattle.sound_execution.proofs.Regions.{BlocksDescend, EntriesAre, NotAt, block_apart, room_of, blocks_descend, entries_are}
 use Rattle.sound_execution.proofs.Stores.{here, there, other_number, same_number, below_bound, live_named}
 use Rattle.open_frame.proofs.Memory.{main_cells}
 use Rattle.statement_laws.specs.Form.{Scope}
@@ -46,11 +47,6 @@ holders_most : (name : ℕ) (store : Store) → holders name store ≤ cells_in 
 holders_most name [] = omega arith
 holders_most name ((n, object) ∷ store) = let a = among_most name object.cells in let b = holders_most name store in omega (arith, a, b)
 
--- no entry's block is this
-abbrev NotAt : ℕ → List (ℕ × ℕ) → Type 0
-NotAt block [] = Unit {0}
-NotAt block ((m, b) ∷ rest) = (block ≢ b) × NotAt block rest
-
 -- the blocks of these entries have the same orders in two tables
 abbrev SameOrders : TakenBlocks → TakenBlocks → List (ℕ × ℕ) → Type 0
 SameOrders taken other [] = Unit {0}
@@ -74,13 +70,6 @@ part_less store part bound n o d h m x q =
     h m x (there n m o part (other_number n m (λ e. omega (arith, e, l))) ∙ q)
 
 module _ (setting : Setting) (store : Store) (log : Log) (p : IsPlaced setting store log) (objects : (name : ℕ) (object : Object) → object_named store name ≡ Some object → AllFit setting.program store (cell_kinds setting.program object.head) object.cells) where
-  apart_from : (n bound : ℕ) (rest : List (ℕ × ℕ)) → is_live store n ≡ true → main_name < n → bound ≤ n → BlocksDescend bound rest → EntriesAre store p.at.blocks rest → NotAt (block_of p.at.blocks n) rest
-  apart_from n bound [] live no_main l d e = tt
-  apart_from n bound ((m, b) ∷ rest) live no_main l d e =
-      let low = d.0 in
-      let high = d.1 in
-      ((λ q. p.apart n m live e.0 (λ z. omega arith) (λ z. omega arith) (λ z. omega arith) (q ∙ sym e.1)), apart_from n m rest live no_main (omega arith) d.2 e.2)
-
   abbrev main_size : ℕ
   main_size = length (object_at store main_name).cells
 
@@ -110,7 +99,7 @@ module _ (setting : Setting) (store : Store) (log : Log) (p : IsPlaced setting s
       let long = all_length setting.program store (cell_kinds setting.program o.head) o.cells (objects n o is_n) in
       let there : order_in taken x ≡ Some order = s.0 ∙ ap (order_in p.taken) (sym a.1) ∙ p.orders n o.head head_is no_main in
       let w = taken_weight-without size_of x order taken there in
-      let apart : NotAt x blocks = subst (λ z. NotAt z blocks) a.1 (apart_from n n blocks a.0 b.1 (omega arith) b.2 a.2) in
+      let apart : NotAt x blocks = subst (λ z. NotAt z blocks) a.1 (block_apart setting store log p n n blocks a.0 b.1 (omega arith) b.2 a.2) in
       let r = few_in m n part blocks (without_taken x taken) rest d.1 b.2 a.2 (part_less store part bound m o d h) (orders_without p.taken taken x blocks apart s.1) in
       room_most (length o.cells) (2 ^ order) (taken_weight size_of taken) (taken_weight size_of (without_taken x taken)) (cells_in part) (subst (λ k. 2 + k ≤ 2 ^ order) (sym long) room) w r
 

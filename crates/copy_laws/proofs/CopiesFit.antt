@@ -7,9 +7,9 @@ use Rattle.class_table.specs.declared.kind.Kind.{Kind}
 use Rattle.class_table.specs.Expressions.{is_int}
 use Rattle.class_table.specs.Statements.{passed, copy_rules}
 use Rattle.buddy_book.specs.Place.{Placing}
+use Rattle.pisa_isa.specs.Machine.{Memory}
 use Rattle.paired_code.specs.declared.part.Symbol.{Symbol}
 use Rattle.paired_code.specs.Layout.{mirror_cells}
-use Rattle.paired_code.specs.Machine.{Memory}
 use Rattle.roopl_semantics.specs.Store.{Value, Word, Nil, Name, State, object_at}
 use Rattle.roopl_semantics.specs.Value.{Cell, read, written, cell_of}
 use Rattle.roopl_semantics.specs.Elements.{index_elements, own_element, share_array}
@@ -43,7 +43,7 @@ use Rattle.expression_laws.proofs.ValuesFit.{ready, some_counts}
 use Rattle.expression_laws.proofs.WordsRead.{shown_read}
 use Rattle.copy_laws.proofs.CountPlaces.{IsRefers, refers, at_block, above_nil, count_low, count_apart, count_word, cells_apart, count_small, count_some}
 use Rattle.copy_laws.proofs.CountsWritten.{copied_stands, uncopied_stands}
-use Rattle.copy_laws.proofs.PlacesCopied.{CopyTyped, copy_typed, PlacesCopied, places_copied}
+use Rattle.inverse_law.proofs.Facts.{CopyTyped, copy_typed, PlacesCopied, places_copied}
 
 module _ (p : Place) (few : length p.statics ≤ 262144) (classes : KnowsClasses p.setting.program) (s : Scope) (u : Under) (at : ℕ) (kind : VarType) (source target : Lvalue)
     (rules : copy_rules (typing_in p.setting.program s) (shape_of p.setting.program s) at kind source target ≡ passed) (source_words : PlaceHasWords source) (target_words : PlaceHasWords target) (room : HasRoom p.setting.program s (place_words source + place_words target)) where

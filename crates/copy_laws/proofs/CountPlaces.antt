@@ -1,4 +1,5 @@
--- Where the count of an object stands: below the stack, in no cell of the source, and a word that can grow.
+-- Where the count of an object stands: below the stack, in no cell of the source, and a word that
+-- can grow.
 use Rattle.std.proofs.Common.{◌≡◌, ◌≢◌, ℕ, ◌+◌, ◌-◌, ◌*◌, ◌^◌, ◌<◌, ◌≤◌, ⊎_elim, Bool, true, false, List, [], length, Some, refl, sym, ap, ◌∙◌, arith}
 use Rattle.std.proofs.lemmas.Bool.{eqb-true}
 use Rattle.std.specs.Prelude.{nat_eq, slice_index, if◌then◌else◌}

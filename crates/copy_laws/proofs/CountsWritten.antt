@@ -105,7 +105,8 @@ module _ (setting : Setting) (statics : List ℕ) (s : Scope) (u : Under) where
         sym (ap (option_map count_of) (live_object (written st c v).store n live')) ∙ counts_written setting E (shape_of setting.program s) s.class st c v n ∙ ap (option_map count_of) (live_object st.store n live) in
         cc
 
-    -- a value of the cell's type is written, and the count of an object changes so that the whole is sound
+    -- a value of the cell's type is written, and the count of an object changes so that the whole
+    -- is sound
     module _ (c : Cell) (k : Kind) (has : cell_kind setting.program (shape_of setting.program s) st.store c ≡ Some k) (v : Value) (fit : fits setting.program st.store v k ≡ true) (no_main : one_if_name main_name v ≡ 0) (small : value_word setting statics h.frame.at v < 2 ^ 32)
         (n : ℕ) (live : is_live st.store n ≡ true) (change : ℕ → ℕ) (less : change (object_at st.store n).count < 2 ^ 32) (all : Sound setting E (shape_of setting.program s) s.class (counted change (written st c v) n)) where
       abbrev mid : State

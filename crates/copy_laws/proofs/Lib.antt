@@ -1,6 +1,5 @@
 pub mod CellsFew
 pub mod CountPlaces
 pub mod CountsWritten
-pub mod PlacesCopied
 pub mod CopiesFit
 pub mod Stated

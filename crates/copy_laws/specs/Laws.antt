@@ -15,7 +15,8 @@ use Rattle.expression_laws.specs.Laws.{IsLaidOut}
 abbrev pub CopiesAreTold : Type 0
 CopiesAreTold =
     (place : Place) → IsLaidOut place → (s : Scope) (at : ℕ) (kind : VarType) (source target : Lvalue)
-    → IsPassed place.setting.program s (Copy at kind source target) (place_words source + place_words target)
+    → IsPassed place.setting.program s
+    (Copy at kind source target) (place_words source + place_words target)
     → (p : List Symbol)
     → CopyLaw (spot_in place.setting.program s) (free_in place.setting.program s) source target p
     → StmtLaw (world_of place) s (Copy at kind source target) p
@@ -24,7 +25,8 @@ CopiesAreTold =
 abbrev pub UncopiesAreTold : Type 0
 UncopiesAreTold =
     (place : Place) → IsLaidOut place → (s : Scope) (at : ℕ) (kind : VarType) (source target : Lvalue)
-    → IsPassed place.setting.program s (Uncopy at kind source target) (place_words source + place_words target)
+    → IsPassed place.setting.program s
+    (Uncopy at kind source target) (place_words source + place_words target)
     → (p : List Symbol)
     → CopyLaw (spot_in place.setting.program s) (free_in place.setting.program s) source target p
     → StmtLaw (world_of place) s (Uncopy at kind source target) (mirror_cells p)

@@ -2,8 +2,9 @@
 use Rattle.std.proofs.Common.{◌≡◌, ℕ, ◌+◌, Bool, List, ◌∙◌}
 use Rattle.std.specs.Prelude.{Ok}
 use Rattle.rpp_tree.specs.Tree.{Expression, Null, Lvalue}
+use Rattle.pisa_isa.specs.Machine.{Memory}
 use Rattle.paired_code.specs.declared.part.Symbol.{Symbol}
-use Rattle.paired_code.specs.Machine.{Memory, Image, reg}
+use Rattle.paired_code.specs.Machine.{Image, reg}
 use Rattle.statement_laws.specs.declared.spot.Spot.{Spot}
 use Rattle.expr_uncompute.specs.Code.{words, place_words, around, found_place_cells, found_value_cells, found_places_cells}
 use Rattle.expr_uncompute.specs.Number.{number, read_of, index_of, place_address}

@@ -2,9 +2,9 @@
 use Rattle.std.proofs.Common.{◌≡◌, ◌≢◌, ℕ, Bool, true, false, ◌+◌, ◌^◌, ◌<◌, ◌≤◌, true, false, List, [], ◌∷◌, length, refl, sym, ap, ◌∙◌, arith}
 use Rattle.std.specs.Prelude.{slice_index, slice_set, nat_lt, not}
 use Rattle.std.proofs.lemmas.Bool.Decides.{nat_tests}
+use Rattle.pisa_isa.specs.Machine.{Memory}
 use Rattle.pisa_isa.specs.Table.{word_of}
 use Rattle.rpp_words.specs.Words.{is_less, sum_of}
-use Rattle.paired_code.specs.Machine.{Memory}
 use Rattle.roopl_semantics.specs.Operators.{truth_word}
 use Rattle.expr_uncompute.specs.Code.{content, left_operand, right_operand, nought, outcome, exch, sltx, xori, nil_check, index_check, point_cells}
 use Rattle.expr_uncompute.specs.Number.{Bases}

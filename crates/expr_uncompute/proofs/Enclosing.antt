@@ -1,7 +1,8 @@
 -- A piece that leads on, around a middle whose run ends within bounds.
 use Rattle.std.proofs.Common.{ℕ, ◌+◌, Bool, true, false, List, ◌++◌, arith}
+use Rattle.pisa_isa.specs.Machine.{Memory}
 use Rattle.paired_code.specs.declared.part.Symbol.{Symbol}
-use Rattle.paired_code.specs.Machine.{Memory, Image}
+use Rattle.paired_code.specs.Machine.{Image}
 use Rattle.paired_code.specs.Layout.{mirror_cells}
 use Rattle.paired_code.specs.Pieces.{Outcome, Done, Will, after}
 use Rattle.paired_code.proofs.Laws.{Next, will_of, will_more, will_seq, will_seq_back}

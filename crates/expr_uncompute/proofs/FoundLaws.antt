@@ -1,9 +1,11 @@
--- Places and values found, for any code that uses them: what stands in the registers then, and what takes it away again.
+-- Places and values found, for any code that uses them: what stands in the registers then, and what
+-- takes it away again.
 use Rattle.std.proofs.Common.{◌≡◌, ℕ, ◌+◌, Bool, true, false, List, ◌++◌, length, refl, sym, ap, ◌∙◌, subst, arith}
 use Rattle.std.specs.Prelude.{Ok, Err}
 use Rattle.rpp_tree.specs.Tree.{Expression, Lvalue}
+use Rattle.pisa_isa.specs.Machine.{Memory}
 use Rattle.paired_code.specs.declared.part.Symbol.{Symbol}
-use Rattle.paired_code.specs.Machine.{Memory, Image, reg}
+use Rattle.paired_code.specs.Machine.{Image, reg}
 use Rattle.statement_laws.specs.declared.spot.Spot.{Spot}
 use Rattle.expr_uncompute.specs.Code.{words, place_words, place, other_place, around, place_cells, apart_cells, found_value_cells}
 use Rattle.expr_uncompute.specs.Number.{number, read_of, index_of, place_address, shares, update_shares}

@@ -7,9 +7,10 @@ use Rattle.std.proofs.lemmas.Bool.Decides.{nat_tests}
 use Rattle.rpp_words.specs.Words.{sum_of, difference_of, negated}
 use Rattle.rpp_words.proofs.Laws.{xor-twice, sum_of-negated, difference_of-sum_of, sum_of-difference_of}
 use Rattle.pisa_isa.specs.declared.cell.Cell.{Cell}
+use Rattle.pisa_isa.specs.Machine.{Memory}
 use Rattle.paired_code.specs.declared.part.Symbol.{Symbol}
 use Rattle.paired_code.specs.declared.part.Symbol.TheVariants.{Own}
-use Rattle.paired_code.specs.Machine.{Memory, Image, reg, is_single}
+use Rattle.paired_code.specs.Machine.{Image, reg, is_single}
 use Rattle.paired_code.specs.Layout.{mirror_cells, check_cells}
 use Rattle.paired_code.specs.Pieces.{Outcome, Done, Trapped, Bad, Runs, after}
 use Rattle.paired_code.specs.Laws.{outcome_of}

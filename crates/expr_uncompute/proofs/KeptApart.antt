@@ -1,10 +1,10 @@
 -- A changed element's array is none of those of which elements are read, or fault 16.
 use Rattle.std.proofs.Common.{◌≡◌, ℕ, ◌+◌, ◌^◌, ◌<◌, ◌≤◌, Bool, true, false, List, [], ◌∷◌, ◌++◌, length, refl, ap, ◌∙◌, arith}
 use Rattle.std.specs.Prelude.{slice_index, slice_set, nat_eq, ◌||◌}
+use Rattle.pisa_isa.specs.Machine.{Memory}
 use Rattle.rpp_words.specs.Words.{is_less}
 use Rattle.rpp_tree.specs.Tree.{Expression, Number, Null, Variable, Element, Binary, Lvalue, Whole, Item}
 use Rattle.pisa_isa.specs.Table.{word_of as word_of_truth}
-use Rattle.paired_code.specs.Machine.{Memory}
 use Rattle.roopl_semantics.specs.Operators.{truth_word}
 use Rattle.statement_laws.specs.declared.spot.Spot.{Spot}
 use Rattle.expr_uncompute.specs.Number.{Bases, address_of, word_of, read_of, index_of, reads_array, shares, swap_shares, Sees}

@@ -28,5 +28,6 @@ pub mod Enclosing
 pub mod Kept
 pub mod FoundLaws
 pub mod AroundLaws
+pub mod Rated
 pub mod StatementRows
 pub mod Transport

@@ -1,10 +1,10 @@
 -- The laws of values and tests in the form in which pieces meet the source, with counts and steps.
-use Rattle.std.proofs.Common.{◌≡◌, ℕ, ◌*◌, ◌≤◌, Bool, List, refl, sym, ap, arith}
+use Rattle.std.proofs.Common.{◌≡◌, ℕ, ◌≤◌, Bool, List, refl, sym, ap, arith}
 use Rattle.std.specs.Prelude.{bit_xor, Result, Ok, Err}
-use Rattle.std.proofs.Math.Nat.{mul-le-mul_right}
 use Rattle.rpp_tree.specs.Tree.{Expression, Source, nodes}
+use Rattle.pisa_isa.specs.Machine.{Memory}
 use Rattle.paired_code.specs.declared.part.Symbol.{Symbol}
-use Rattle.paired_code.specs.Machine.{Memory, Image, reg, with_reg}
+use Rattle.paired_code.specs.Machine.{Image, reg, with_reg}
 use Rattle.paired_code.specs.Pieces.{Will}
 use Rattle.paired_code.specs.Does.{Rates, Told, Fine, Fault, Meets, fine, faults}
 use Rattle.paired_code.proofs.Laws.{will_of}
@@ -19,6 +19,7 @@ use Rattle.expr_uncompute.specs.Laws.{bases_of, Ready, Xored, truth_of}
 use Rattle.expr_uncompute.specs.Promises.{SeesIn, ValueLaw, TestLaw}
 use Rattle.expr_uncompute.specs.Means.{shown, shown_result, IsInt, Means}
 use Rattle.expr_uncompute.proofs.SourceLaws.{source_value, source_test}
+use Rattle.expr_uncompute.proofs.Rated.{rated}
 use Rattle.expr_uncompute.proofs.Bounds.{value_most, test_most, value_least, test_least}
 
 -- what the source says of an evaluation, with its count
@@ -30,25 +31,19 @@ abbrev pub told_test : ℕ → Result Value ℕ → Told Bool
 told_test c (Ok v) = Fine (holds v) c
 told_test c (Err f) = Fault f c
 
-counts : (b k c : ℕ) → 3 ≤ b → c ≤ 3 * k → c ≤ b * k
-counts b k c h l = let e : 3 * k ≤ b * k = mul-le-mul_right k h in omega arith
-
-rated : (b k c : ℕ) → 162 ≤ b → k ≤ 162 * c → k ≤ b * c
-rated b k c h l = let e : 162 * c ≤ b * c = mul-le-mul_right c h in omega arith
-
 module _ (address slot : ℕ → ℕ) (program : Source) (spot : List ℕ → Spot) (free : ℕ) (b : Rates) (few : 3 ≤ b.counts) (many : 162 ≤ b.steps) (into : ℕ) (e : Expression) (p : List Symbol) (im : Image) (d : Bool) (m : Memory) (st : State) (ready : Ready free (words e) m) (sees : SeesIn spot free m e) (means : Means address slot program st spot (bases_of m) m.cells e) (n : ℕ) where
   -- the value xored into the register
   pub value_meets : ValueLaw spot free into e p → Will im p d m (Meets (λ v m1. m1 ≡ with_reg m into (bit_xor (reg m into) (shown address slot v))) b n 0 (told_value (nodes e) (value program st e)))
   value_meets law = by (value program st e) (source_value address slot program spot free into e p law im d m st ready sees means)
     where
       by : (r : Result Value ℕ) → Xored into (value_steps e) m (shown_result address slot r) im p d → Will im p d m (Meets (λ v m1. m1 ≡ with_reg m into (bit_xor (reg m into) (shown address slot v))) b n 0 (told_value (nodes e) r))
-      by (Ok v) r = will_of im p d m _ _ r (fine refl (counts b.counts (value_steps e) (nodes e) few (value_least e)) (let h = rated b.steps (value_steps e) (nodes e) many (value_most e) in omega arith))
-      by (Err c) r = will_of im p d m _ _ r.2 (faults (let h = rated b.steps (value_steps e) (nodes e) many (value_most e) in omega (arith, r.1)))
+      by (Ok v) r = will_of im p d m _ _ r (fine refl (rated 3 b.counts (nodes e) (value_steps e) few (value_least e)) (let h = rated 162 b.steps (value_steps e) (nodes e) many (value_most e) in omega arith))
+      by (Err c) r = will_of im p d m _ _ r.2 (faults (let h = rated 162 b.steps (value_steps e) (nodes e) many (value_most e) in omega (arith, r.1)))
 
   -- the truth of it
   pub test_meets : IsInt address slot (value program st e) → TestLaw spot free into e p → Will im p d m (Meets (λ t m1. m1 ≡ with_reg m into (bit_xor (reg m into) (truth_word t))) b n 0 (told_test (nodes e) (value program st e)))
   test_meets int law = by (value program st e) int (source_test address slot program spot free into e p law im d m st ready sees means)
     where
       by : (r : Result Value ℕ) → IsInt address slot r → Xored into (test_steps e) m (truth_of (shown_result address slot r)) im p d → Will im p d m (Meets (λ t m1. m1 ≡ with_reg m into (bit_xor (reg m into) (truth_word t))) b n 0 (told_test (nodes e) r))
-      by (Ok v) i r = will_of im p d m _ _ r (fine (ap (λ x. with_reg m into (bit_xor (reg m into) (truth_word (is_true x)))) (sym i)) (counts b.counts (test_steps e) (nodes e) few (let l = test_least e in omega arith)) (let h = rated b.steps (test_steps e) (nodes e) many (test_most e) in omega arith))
-      by (Err c) i r = will_of im p d m _ _ r.2 (faults (let h = rated b.steps (test_steps e) (nodes e) many (test_most e) in omega (arith, r.1)))
+      by (Ok v) i r = will_of im p d m _ _ r (fine (ap (λ x. with_reg m into (bit_xor (reg m into) (truth_word (is_true x)))) (sym i)) (rated 3 b.counts (nodes e) (test_steps e) few (let l = test_least e in omega arith)) (let h = rated 162 b.steps (test_steps e) (nodes e) many (test_most e) in omega arith))
+      by (Err c) i r = will_of im p d m _ _ r.2 (faults (let h = rated 162 b.steps (test_steps e) (nodes e) many (test_most e) in omega (arith, r.1)))

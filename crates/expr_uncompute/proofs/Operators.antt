@@ -5,7 +5,8 @@ use Rattle.rpp_words.specs.Words.{is_less, sum_of, difference_of}
 use Rattle.rpp_tree.specs.declared.tree.BinOp.{BinOp}
 use Rattle.rpp_tree.specs.declared.tree.BinOp.TheVariants as op
 use Rattle.pisa_isa.specs.Table.{word_of}
-use Rattle.paired_code.specs.Machine.{Memory, reg}
+use Rattle.pisa_isa.specs.Machine.{Memory}
+use Rattle.paired_code.specs.Machine.{reg}
 use Rattle.roopl_semantics.specs.Operators.{operated, is_true, truth_word}
 use Rattle.expr_uncompute.specs.Code.{left_operand, right_operand, left_truth, right_truth, truth_cells, operator_cells, operator_result}
 use Rattle.expr_uncompute.specs.Number.{Bases}

@@ -2,7 +2,7 @@
 use Rattle.std.proofs.Common.{◌≡◌, ℕ, ◌+◌, ◌^◌, ◌<◌, ◌≤◌, List, [], ◌∷◌, length, length-set, refl, sym, ap, ◌∙◌, arith}
 use Rattle.std.specs.Prelude.{slice_index, slice_set}
 use Rattle.std.proofs.lemmas.List.{get_or-set_same, set-set}
-use Rattle.paired_code.specs.Machine.{Memory}
+use Rattle.pisa_isa.specs.Machine.{Memory}
 use Rattle.statement_laws.specs.declared.spot.Spot.{Spot}
 use Rattle.statement_laws.specs.declared.spot.Spot.TheVariants.{Field, Frame}
 use Rattle.expr_uncompute.specs.Code.{address, content, left_operand, right_operand, item, outcome, truth, xor, xori, base_of, reach_cells, copy_cells, store_cells}

@@ -4,7 +4,8 @@ use Rattle.std.specs.Prelude.{bit_xor, nat_eq, if◌then◌else◌}
 use Rattle.std.proofs.lemmas.Bool.{cases_eq}
 use Rattle.pisa_isa.specs.Table.{word_of}
 use Rattle.rpp_words.specs.Words.{is_less}
-use Rattle.paired_code.specs.Machine.{Memory, reg}
+use Rattle.pisa_isa.specs.Machine.{Memory}
+use Rattle.paired_code.specs.Machine.{reg}
 use Rattle.paired_code.specs.Pieces.{Done}
 use Rattle.roopl_semantics.specs.Operators.{is_true, truth_word}
 use Rattle.expr_uncompute.specs.Code.{content, left_operand, right_operand, item, outcome, truth, amount, place, other_place, Target, xor, truth_cells}

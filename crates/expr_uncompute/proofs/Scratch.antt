@@ -1,6 +1,6 @@
 -- A memory by its registers: those that code of expressions uses, and the others.
 use Rattle.std.proofs.Common.{ℕ, List, [], ◌∷◌}
-use Rattle.paired_code.specs.Machine.{Memory}
+use Rattle.pisa_isa.specs.Machine.{Memory}
 use Rattle.expr_uncompute.specs.Number.{Bases}
 
 pub record Scratch : Type 0 where

@@ -1,4 +1,5 @@
--- A changed element and one that is read are of one array in the source exactly where they are by the words of the memory.
+-- A changed element and one that is read are of one array in the source exactly where they are by
+-- the words of the memory.
 use Rattle.std.proofs.Common.{◌≡◌, ℕ, Bool, true, false, List, [], ◌∷◌, ◌++◌, refl, sym, ap, ◌∙◌}
 use Rattle.std.specs.Prelude.{nat_eq, ◌||◌}
 use Rattle.rpp_tree.specs.declared.tree.Ident.{Ident}

@@ -1,11 +1,12 @@
--- Updates and swaps against the source's rows, in both directions, with faults, counts and steps, from what a relation gives.
-use Rattle.std.proofs.Common.{◌≡◌, ℕ, ◌+◌, ◌*◌, ◌≤◌, Bool, true, false, List, ◌++◌, refl, sym, ◌∙◌, subst, arith}
+-- Updates and swaps against the source's rows, in both directions, with faults, counts and steps,
+-- from what a relation gives.
+use Rattle.std.proofs.Common.{◌≡◌, ℕ, ◌+◌, ◌≤◌, Bool, true, false, List, ◌++◌, refl, sym, ◌∙◌, subst, arith}
 use Rattle.std.specs.Prelude.{slice_index, slice_set, Result, Ok, Err}
-use Rattle.std.proofs.Math.Nat.{mul-le-mul_right}
 use Rattle.rpp_tree.specs.declared.tree.UpdateOp.{UpdateOp}
 use Rattle.rpp_tree.specs.Tree.{Expression, Lvalue, Update, Swap, nodes, index_nodes}
+use Rattle.pisa_isa.specs.Machine.{Memory}
 use Rattle.paired_code.specs.declared.part.Symbol.{Symbol}
-use Rattle.paired_code.specs.Machine.{Memory, Image}
+use Rattle.paired_code.specs.Machine.{Image}
 use Rattle.paired_code.specs.Pieces.{Will}
 use Rattle.paired_code.specs.Does.{Rates, Meets, fine, faults, Does}
 use Rattle.paired_code.proofs.Laws.{will_of}
@@ -25,17 +26,12 @@ use Rattle.expr_uncompute.specs.Promises.{UpdateLaw, SwapLaw, CanRun}
 use Rattle.expr_uncompute.specs.Means.{shown, cell_address, Means, MeansPlace, TellsShares}
 use Rattle.expr_uncompute.proofs.Sharing.{update_shares_is, swap_shares_is}
 use Rattle.expr_uncompute.proofs.SourceLaws.{Updating, Swapping, source_update, source_update_place, source_update_value, source_update_sharing, source_swap, source_swap_left, source_swap_right, source_swap_sharing}
+use Rattle.expr_uncompute.proofs.Rated.{less, rated}
 use Rattle.expr_uncompute.proofs.Bounds.{update_most, update_sharing_most, update_least, swap_most, swap_sharing_most, swap_least, place_less, place_most, fetch_most}
 
 -- the check of arrays, with its count
 abbrev kept_by : ℕ → Bool → Run (Unit {0})
 kept_by cost shared = spend cost >>= λ _. fault_if shared_array_fault shared
-
-pub less : (b k c : ℕ) → 1 ≤ b → c ≤ k → c ≤ b * k
-less b k c h l = let e : 1 * k ≤ b * k = mul-le-mul_right k h in omega arith
-
-pub rated : (x b k c : ℕ) → x ≤ b → k ≤ x * c → k ≤ b * c
-rated x b k c h l = let e : x * c ≤ b * c = mul-le-mul_right c h in omega arith
 
 module _ (setting : Setting) (address slot : State → ℕ → ℕ) (R : State → Memory → Type 0) (spot : List ℕ → Spot) (free : ℕ) where
   -- what an update needs of the relation

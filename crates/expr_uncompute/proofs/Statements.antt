@@ -9,7 +9,8 @@ use Rattle.rpp_tree.specs.declared.tree.UpdateOp.{UpdateOp}
 use Rattle.rpp_tree.specs.declared.tree.UpdateOp.TheVariants as update
 use Rattle.rpp_tree.specs.Tree.{Expression, Lvalue, Whole, Item}
 use Rattle.stmt_inverter.specs.Inverse.{inverse_operator}
-use Rattle.paired_code.specs.Machine.{Memory, Image, reg}
+use Rattle.pisa_isa.specs.Machine.{Memory}
+use Rattle.paired_code.specs.Machine.{Image, reg}
 use Rattle.paired_code.specs.Pieces.{Done, Trapped, Runs}
 use Rattle.paired_code.specs.declared.part.Symbol.{Symbol}
 use Rattle.roopl_semantics.specs.Operators.{updated}

@@ -1,10 +1,10 @@
 -- What a relation gives of the state after a write, it gives by the addresses of the state before.
 use Rattle.std.proofs.Common.{◌≡◌, ℕ, ◌+◌, false, List, ◌++◌, refl, sym, ap, ◌∙◌}
 use Rattle.std.specs.Prelude.{slice_index, slice_set, Result, Ok, Err}
+use Rattle.pisa_isa.specs.Machine.{Memory}
 use Rattle.rpp_tree.specs.declared.tree.BinOp.{BinOp}
 use Rattle.rpp_tree.specs.declared.tree.UpdateOp.{UpdateOp}
 use Rattle.rpp_tree.specs.Tree.{Expression, Number, Null, Variable, Element, Binary, Lvalue, Whole, Item, Source}
-use Rattle.paired_code.specs.Machine.{Memory}
 use Rattle.roopl_semantics.specs.Operators.{updated}
 use Rattle.roopl_semantics.specs.Store.{Value, Word, Nil, Name, State, number_of}
 use Rattle.roopl_semantics.specs.Value.{Cell, Slot, Part, cell_named, variable_value, read, written, value, cell_of}
@@ -72,7 +72,8 @@ module _ (setting : Setting) (address slot : State → ℕ → ℕ) (R : State �
   abbrev cells_after : UpdateOp → State → Memory → Cell → Value → List ℕ
   cells_after o st m cell v = slice_set m.cells (cell_address (address st) (slot st) cell) (updated o (number_of (read st cell)) (number_of v))
 
-  -- of the relation: what an update reads stands in the memory, and the write leads to a related memory; of the source: the write changes no value that is read
+  -- of the relation: what an update reads stands in the memory, and the write leads to a related
+  -- memory; of the source: the write changes no value that is read
   pub record UpdateNeeds (target : Lvalue) (e : Expression) : Type 0 where
     pub tells : (st : State) (m : Memory) → R st m → TellsShares (address st) (slot st) setting.program st spot (bases_of m) m.cells target (index_of target) e
     pub can : (st : State) (m : Memory) → R st m → CanRun spot free (place_words target + words e) (read_of target) e m

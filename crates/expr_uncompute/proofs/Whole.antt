@@ -2,7 +2,8 @@
 use Rattle.std.proofs.Common.{◌≡◌, ℕ, zero, suc, ◌+◌, inl, inr, Bool, List, [], ◌∷◌, length, refl, sym, ap, ◌∙◌, subst, arith}
 use Rattle.std.specs.Prelude.{slice_index, bit_xor, Result, Ok, Err}
 use Rattle.rpp_tree.specs.Tree.{Expression}
-use Rattle.paired_code.specs.Machine.{Memory, Image, reg, with_reg}
+use Rattle.pisa_isa.specs.Machine.{Memory}
+use Rattle.paired_code.specs.Machine.{Image, reg, with_reg}
 use Rattle.paired_code.specs.Pieces.{Done, Trapped, Runs}
 use Rattle.paired_code.specs.declared.part.Symbol.{Symbol}
 use Rattle.roopl_semantics.specs.Operators.{is_true, truth_word}
@@ -107,7 +108,8 @@ module _ (spot : List ℕ → Spot) (free into : ℕ) (e : Expression) (m : Memo
       let a = (both_more (omega arith) (value_traps spot free b 0 0 0 e 0 m.cells (fit_of spot free e m ready sees) (reg m) c (xor into (result_of e) ∷ []) n)).runs im d in
       (a.0, a.1, subst (λ z. Runs im (value_cells spot free e into) d z (Trapped c a.0)) (sym same) a.2)
 
-  -- the code of an expression xors its number into a register, or traps, in either direction, and nothing else differs
+  -- the code of an expression xors its number into a register, or traps, in either direction, and
+  -- nothing else differs
   pub value_law : Xored into (value_steps e) m (number spot (bases_of m) m.cells e) im (value_cells spot free e into) d
   value_law = value_by (number spot (bases_of m) m.cells e) refl
 

@@ -254,7 +254,8 @@ module _ (spot : List ℕ → Spot) where
       ++ apart_cells right (index_of left) (index_of right)
 
 module _ (spot : List ℕ → Spot) (free : ℕ) where
-  -- the value of an operand xored into a register: a word of the frame has it, from i on, where it is no leaf
+  -- the value of an operand xored into a register: a word of the frame has it, from i on, where it
+  -- is no leaf
   abbrev pub operand_cells : Expression → (i into : ℕ) → List Symbol
   operand_cells (Number at word) i into = xori into word ∷ []
   operand_cells (Null at) i into = []
@@ -323,7 +324,8 @@ module _ (spot : List ℕ → Spot) (free : ℕ) where
       prepare_cells index i ++ around (checked_cells name.text index i ++ point_cells)
       (xor into right_operand ∷ [])
 
-  -- what a statement finds, and the check that the place that changes is an element of no array that is read: a place
+  -- what a statement finds, and the check that the place that changes is an element of no array
+  -- that is read: a place
   abbrev pub found_place_cells : Lvalue → List Symbol
   found_place_cells target = place_cells target 0 place ++ apart_cells spot target (index_of target)
       (Null 0)

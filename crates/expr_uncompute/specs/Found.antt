@@ -1,9 +1,10 @@
--- Places and values found around any middle: what a middle finds and may change, and the laws of the whole
--- piece.
+-- Places and values found around any middle: what a middle finds and may change, and the laws of
+-- the whole piece.
 use Rattle.std.specs.Prelude.{◌≡◌, ℕ, ◌+◌, ◌^◌, ◌<◌, ◌≤◌, Bool, true, false, List, length, slice_index, Ok, Err}
 use Rattle.rpp_tree.specs.Tree.{Expression, Null, Lvalue}
+use Rattle.pisa_isa.specs.Machine.{Memory}
 use Rattle.paired_code.specs.declared.part.Symbol.{Symbol}
-use Rattle.paired_code.specs.Machine.{Memory, Image, with_reg}
+use Rattle.paired_code.specs.Machine.{Image, with_reg}
 use Rattle.paired_code.specs.Pieces.{Outcome, Done, Trapped, Will}
 use Rattle.roopl_semantics.specs.Elements.{shared_array_fault}
 use Rattle.statement_laws.specs.declared.spot.Spot.{Spot}
@@ -43,10 +44,11 @@ pub record Changes (low : ℕ) (cells cells' : List ℕ) : Type 0 where
   pub words : (a : ℕ) → slice_index cells' a < 2 ^ 32
   pub above : (a : ℕ) → low ≤ a → slice_index cells' a ≡ slice_index cells a
 
--- p is a middle between so many steps that find a value and two addresses, and those that take them away again.
--- Where the middle leads from any filled words to the changed cells, so does p from the cells themselves, and
--- where the middle traps, p traps. `Kept` says of the changed cells that the same value and addresses are found
--- there.
+-- p is a middle between so many steps that find a value and two addresses, and those that take them
+-- away again.
+-- Where the middle leads from any filled words to the changed cells, so does p from the cells
+-- themselves, and where the middle traps, p traps. `Kept` says of the changed cells that the same
+-- value and addresses are found there.
 pub record Encloses (im : Image) (d : Bool) (m : Memory) (low n steps v a a' : ℕ) (Kept : List ℕ → Type 0)
     (middle p : List Symbol) : Type 0 where
   pub leads : (cells' : List ℕ) (least most : ℕ) → Changes low m.cells cells' → Kept cells'
@@ -61,8 +63,8 @@ pub record Encloses (im : Image) (d : Bool) (m : Memory) (low n steps v a a' : �
 
 -- ---- the laws
 
--- the steps that find a place, a place and a value, two places of which the second changes, each with the check
--- of arrays
+-- the steps that find a place, a place and a value, two places of which the second changes, each
+-- with the check of arrays
 abbrev pub found_place_steps : Lvalue → ℕ
 found_place_steps target = place_steps target + apart_steps target (index_of target) (Null 0)
 
@@ -130,8 +132,8 @@ pub record PlacesStay (spot : List ℕ → Spot) (b : Bases) (low : ℕ) (source
   pub target_same : SamePlace spot b cells cells' target
   pub apart : shares spot b cells' target (index_of source) (index_of target) ≡ false
 
--- a middle that reads one place and changes a second: the faults of the first, of the second, and that of a
--- shared array
+-- a middle that reads one place and changes a second: the faults of the first, of the second, and
+-- that of a shared array
 pub record PlacesAroundLaw (spot : List ℕ → Spot) (free : ℕ) (source target : Lvalue)
     (middle p : List Symbol) : Type 0 where
   pub encloses : (im : Image) (d : Bool) (m : Memory)

@@ -3,8 +3,9 @@ use Rattle.std.specs.Prelude.{◌≡◌, ℕ, ◌+◌, ◌^◌, ◌<◌, ◌≤�
 use Rattle.rpp_tree.specs.declared.tree.UpdateOp.{UpdateOp}
 use Rattle.rpp_tree.specs.Tree.{Expression, Lvalue}
 use Rattle.stmt_inverter.specs.Inverse.{inverse_operator}
+use Rattle.pisa_isa.specs.Machine.{Memory}
 use Rattle.paired_code.specs.declared.part.Symbol.{Symbol}
-use Rattle.paired_code.specs.Machine.{Memory, Image, reg, with_reg}
+use Rattle.paired_code.specs.Machine.{Image, reg, with_reg}
 use Rattle.paired_code.specs.Pieces.{Done, Trapped, Runs}
 use Rattle.roopl_semantics.specs.Operators.{is_true, truth_word, updated}
 use Rattle.expr_uncompute.specs.Code.{object, frame}
@@ -51,8 +52,10 @@ updated_at d op a v cells = slice_set cells a (updated (turned d op) (slice_inde
 abbrev pub swapped_at : (p q : ℕ) → List ℕ → List ℕ
 swapped_at p q cells = slice_set (slice_set cells p (slice_index cells q)) q (slice_index cells p)
 
--- after a write all that the place and the value read is where it was, and says the same, and no array is shared
-pub record Stays (spot : List ℕ → Spot) (b : Bases) (low : ℕ) (target : Lvalue) (value : Expression) (cells cells' : List ℕ) : Type 0 where
+-- after a write all that the place and the value read is where it was, and says the same, and no
+-- array is shared
+pub record Stays (spot : List ℕ → Spot) (b : Bases) (low : ℕ) (target : Lvalue) (value : Expression)
+    (cells cells' : List ℕ) : Type 0 where
   pub place_sees : Sees spot b low cells' (read_of target)
   pub value_sees : Sees spot b low cells' value
   pub place_same : SamePlace spot b cells cells' target
@@ -60,7 +63,8 @@ pub record Stays (spot : List ℕ → Spot) (b : Bases) (low : ℕ) (target : Lv
   pub apart : update_shares spot b cells' target value ≡ false
 
 -- the same of two places
-pub record BothStay (spot : List ℕ → Spot) (b : Bases) (low : ℕ) (left right : Lvalue) (cells cells' : List ℕ) : Type 0 where
+pub record BothStay (spot : List ℕ → Spot) (b : Bases) (low : ℕ) (left right : Lvalue)
+    (cells cells' : List ℕ) : Type 0 where
   pub left_sees : Sees spot b low cells' (read_of left)
   pub right_sees : Sees spot b low cells' (read_of right)
   pub left_same : SamePlace spot b cells cells' left

@@ -35,7 +35,8 @@ module _ (address slot : ℕ → ℕ) where
   cell_result (Ok cell) = Ok (cell_address cell)
   cell_result (Err fault) = Err fault
 
-  -- two words, or two references that are the same exactly where their words are, for an operator that takes them
+  -- two words, or two references that are the same exactly where their words are, for an operator
+  -- that takes them
   pub data AreOperands (o : BinOp) (l r : Value) : Type 0 where
     words : number_of l ≡ shown l → number_of r ≡ shown r → AreOperands o l r
     compared : is_equation o ≡ true → (number_of l ≡ number_of r → shown l ≡ shown r)

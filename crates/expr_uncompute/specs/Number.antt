@@ -79,7 +79,8 @@ module _ (spot : List ℕ → Spot) (b : Bases) where
   reads_array cells array (Binary at op left right) =
       reads_array cells array left || reads_array cells array right
 
-  -- whether a place that changes is an element of an array of which one of two expressions reads an element
+  -- whether a place that changes is an element of an array of which one of two expressions reads an
+  -- element
   abbrev pub shares : List ℕ → Lvalue → (e e' : Expression) → Bool
   shares cells (Whole name) e e' = false
   shares cells (Item name index) e e' =

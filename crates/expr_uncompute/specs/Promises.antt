@@ -2,8 +2,9 @@
 use Rattle.std.specs.Prelude.{◌≡◌, ℕ, ◌+◌, ◌≤◌, Bool, true, false, List, Ok, Err}
 use Rattle.rpp_tree.specs.declared.tree.UpdateOp.{UpdateOp}
 use Rattle.rpp_tree.specs.Tree.{Expression, Lvalue}
+use Rattle.pisa_isa.specs.Machine.{Memory}
 use Rattle.paired_code.specs.declared.part.Symbol.{Symbol}
-use Rattle.paired_code.specs.Machine.{Memory, Image, reg}
+use Rattle.paired_code.specs.Machine.{Image, reg}
 use Rattle.paired_code.specs.Pieces.{Done, Trapped, Runs}
 use Rattle.roopl_semantics.specs.Elements.{shared_array_fault}
 use Rattle.statement_laws.specs.declared.spot.Spot.{Spot}
@@ -19,13 +20,16 @@ free_at free m = reg m frame + free
 abbrev pub SeesIn : (List ℕ → Spot) → ℕ → Memory → Expression → Type 0
 SeesIn spot free m e = Sees spot (bases_of m) (free_at free m) m.cells e
 
--- the number of an expression is xored into a register, or its fault is a trap, either way; nothing else differs
-pub record ValueLaw (spot : List ℕ → Spot) (free into : ℕ) (e : Expression) (p : List Symbol) : Type 0 where
+-- the number of an expression is xored into a register, or its fault is a trap, either way; nothing
+-- else differs
+pub record ValueLaw (spot : List ℕ → Spot) (free into : ℕ) (e : Expression)
+    (p : List Symbol) : Type 0 where
   pub xors : (im : Image) (d : Bool) (m : Memory) → Ready free (words e) m → SeesIn spot free m e
       → Xored into (value_steps e) m (number spot (bases_of m) m.cells e) im p d
 
 -- the truth of it
-pub record TestLaw (spot : List ℕ → Spot) (free into : ℕ) (e : Expression) (p : List Symbol) : Type 0 where
+pub record TestLaw (spot : List ℕ → Spot) (free into : ℕ) (e : Expression)
+    (p : List Symbol) : Type 0 where
   pub xors : (im : Image) (d : Bool) (m : Memory) → Ready free (words e) m → SeesIn spot free m e
       → Xored into (test_steps e) m (truth_of (number spot (bases_of m) m.cells e)) im p d
 
@@ -39,8 +43,10 @@ pub record CanRun (spot : List ℕ → Spot) (free n : ℕ) (e e' : Expression) 
 abbrev pub IsTrap : Image → List Symbol → Bool → Memory → (code steps : ℕ) → Type 0
 IsTrap im p d m code steps = (k : ℕ) × (k ≤ steps) × Runs im p d m (Trapped code k)
 
--- forward the place is updated, backward the update is undone; the place's fault comes before the value's, and then the one of a shared array
-pub record UpdateLaw (spot : List ℕ → Spot) (free : ℕ) (op : UpdateOp) (target : Lvalue) (value : Expression) (p : List Symbol) : Type 0 where
+-- forward the place is updated, backward the update is undone; the place's fault comes before the
+-- value's, and then the one of a shared array
+pub record UpdateLaw (spot : List ℕ → Spot) (free : ℕ) (op : UpdateOp) (target : Lvalue)
+    (value : Expression) (p : List Symbol) : Type 0 where
   pub updates : (im : Image) (d : Bool) (m : Memory)
       → CanRun spot free (place_words target + words value) (read_of target) value m → (a v : ℕ)
       → place_address spot (bases_of m) m.cells target ≡ Ok a
@@ -67,7 +73,8 @@ pub record UpdateLaw (spot : List ℕ → Spot) (free : ℕ) (op : UpdateOp) (ta
       (place_steps target + fetch_steps value + apart_steps target (index_of target) value)
 
 -- either way two places are swapped; where they are one, nothing changes
-pub record SwapLaw (spot : List ℕ → Spot) (free : ℕ) (left right : Lvalue) (p : List Symbol) : Type 0 where
+pub record SwapLaw (spot : List ℕ → Spot) (free : ℕ) (left right : Lvalue)
+    (p : List Symbol) : Type 0 where
   pub swaps : (im : Image) (d : Bool) (m : Memory)
       → CanRun spot free (place_words left + place_words right) (read_of left) (read_of right) m
       → (a a' : ℕ) → place_address spot (bases_of m) m.cells left ≡ Ok a

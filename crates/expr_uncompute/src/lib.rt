@@ -12,8 +12,6 @@ mod found;
 mod middles;
 mod places;
 mod rows;
-#[cfg(test)]
-mod tests;
 mod values;
 
 pub use around::{place_and_value_around, place_around, places_around};

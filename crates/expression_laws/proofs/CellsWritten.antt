@@ -1,4 +1,5 @@
--- A write of a value of the cell's type keeps an open frame that expressions are read from, whatever its counts.
+-- A write of a value of the cell's type keeps an open frame that expressions are read from,
+-- whatever its counts.
 use Rattle.std.proofs.Common.{◌≡◌, ℕ, ◌+◌, ◌^◌, ◌<◌, true, List, [], Some, arith}
 use Rattle.std.specs.Prelude.{slice_set}
 use Rattle.class_table.specs.declared.kind.Kind.{Kind}

@@ -1,4 +1,5 @@
--- The words of an open frame with no values above it: what its cells hold, and the free words behind its variables.
+-- The words of an open frame with no values above it: what its cells hold, and the free words
+-- behind its variables.
 use Rattle.std.proofs.Common.{◌≡◌, ℕ, ◌+◌, ◌-◌, ◌*◌, ◌<◌, ◌≤◌, List, [], ◌++◌, length, sym, ap, ◌∙◌, subst, arith, length-append}
 use Rattle.std.proofs.lemmas.List.{get_or-replicate, length-replicate, length-map}
 use Rattle.std.specs.Prelude.{replicate, slice_index, Some}

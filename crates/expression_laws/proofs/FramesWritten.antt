@@ -1,12 +1,13 @@
--- Open frames before and after a write: where cells stand, what they hold, and the memory after the write.
+-- Open frames before and after a write: where cells stand, what they hold, and the memory after the
+-- write.
 use Rattle.std.proofs.Common.{◌≡◌, ℕ, ◌+◌, ◌-◌, List, [], length, Some, refl, sym, ap, ◌∙◌, arith}
 use Rattle.std.specs.Prelude.{slice_index, Ok}
 use Rattle.std.specs.Option.{unwrap_or}
+use Rattle.pisa_isa.specs.Machine.{Memory}
 use Rattle.rpp_tree.specs.Tree.{Lvalue, Source}
 use Rattle.class_table.specs.declared.kind.Kind.{Kind}
 use Rattle.class_table.specs.Expressions.{place_type}
 use Rattle.buddy_book.specs.Place.{place}
-use Rattle.paired_code.specs.Machine.{Memory}
 use Rattle.roopl_semantics.specs.Store.{Value, State}
 use Rattle.roopl_semantics.specs.Value.{Cell, Slot, Part, read, written, cell_of}
 use Rattle.roopl_semantics.specs.Layout.{no_placing}

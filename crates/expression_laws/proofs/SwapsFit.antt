@@ -5,8 +5,8 @@ use Rattle.rpp_tree.specs.Tree.{Lvalue, Swap, Source}
 use Rattle.class_table.specs.declared.kind.Kind.{Kind}
 use Rattle.class_table.specs.Expressions.{place_type}
 use Rattle.buddy_book.specs.Place.{Placing}
+use Rattle.pisa_isa.specs.Machine.{Memory}
 use Rattle.paired_code.specs.declared.part.Symbol.{Symbol}
-use Rattle.paired_code.specs.Machine.{Memory}
 use Rattle.roopl_semantics.specs.Store.{Value, State, Word, main_name}
 use Rattle.roopl_semantics.specs.Value.{Cell, read, written, cell_of}
 use Rattle.roopl_semantics.specs.Elements.{index_elements, own_element, share_array}

@@ -4,8 +4,8 @@ use Rattle.std.specs.Prelude.{slice_index, slice_set, Ok}
 use Rattle.rpp_tree.specs.declared.tree.UpdateOp.{UpdateOp}
 use Rattle.rpp_tree.specs.Tree.{Expression, Lvalue, Update, Source}
 use Rattle.class_table.specs.declared.kind.Kind.TheVariants as kind
+use Rattle.pisa_isa.specs.Machine.{Memory}
 use Rattle.paired_code.specs.declared.part.Symbol.{Symbol}
-use Rattle.paired_code.specs.Machine.{Memory}
 use Rattle.roopl_semantics.specs.Operators.{updated}
 use Rattle.roopl_semantics.specs.Store.{Value, Word, State, number_of}
 use Rattle.roopl_semantics.specs.Value.{Cell, read, written, value, cell_of}

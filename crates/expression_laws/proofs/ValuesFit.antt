@@ -10,8 +10,8 @@ use Rattle.class_table.specs.Expressions.{is_int}
 use Rattle.class_table.proofs.PassedRules.{int_kind}
 use Rattle.buddy_book.specs.Place.{place, block_of}
 use Rattle.pisa_isa.specs.Loaded.{statics_at}
+use Rattle.pisa_isa.specs.Machine.{Memory}
 use Rattle.paired_code.specs.declared.part.Symbol.{Symbol}
-use Rattle.paired_code.specs.Machine.{Memory}
 use Rattle.paired_code.specs.Layout.{xor}
 use Rattle.paired_code.specs.Does.{Fine, Fault}
 use Rattle.paired_code.proofs.Laws.{will_more}

@@ -1,4 +1,5 @@
--- The code of tests, values, updates and swaps, by what it does with words, has their laws over open frames.
+-- The code of tests, values, updates and swaps, by what it does with words, has their laws over
+-- open frames.
 use Rattle.std.specs.Prelude.{ℕ, ◌+◌, ◌≤◌, List, length}
 use Rattle.rpp_tree.specs.declared.tree.UpdateOp.{UpdateOp}
 use Rattle.rpp_tree.specs.Tree.{Expression, Lvalue, Update, Swap}

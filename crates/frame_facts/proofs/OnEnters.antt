@@ -1,4 +1,5 @@
--- A frame with its arguments and its receiver taken is the open frame of the receiver's method, and back: what is kept goes over.
+-- A frame with its arguments and its receiver taken is the open frame of the receiver's method, and
+-- back: what is kept goes over.
 use Rattle.std.proofs.Common.{◌≡◌, ◌≢◌, ℕ, ◌+◌, ◌<◌, Bool, true, false, List, [], ◌∷◌, length, map, Some, refl, sym, ap, ◌∙◌, subst, arith}
 use Rattle.std.proofs.lemmas.Bool.{ltb-true, ltb-false}
 use Rattle.std.specs.Prelude.{replicate, nat_lt, if◌then◌else◌}

@@ -1,4 +1,5 @@
--- The open frames of an image have what the laws of calls, of blocks with a local variable and of `main` take as premises.
+-- The open frames of an image have what the laws of calls, of blocks with a local variable and of
+-- `main` take as premises.
 use Rattle.std.specs.Prelude.{◌≡◌, ℕ, ◌+◌, ◌^◌, ◌<◌, ◌≤◌, true, List, [], length, slice_get, slice_index, Some}
 use Rattle.std.specs.Option.{unwrap_or}
 use Rattle.rpp_words.specs.Limits.{IsLimits}
@@ -25,15 +26,17 @@ use Rattle.method_calls.specs.Names.{known_of, receivers_of, IsInit}
 abbrev pub most_statics : ℕ
 most_statics = 262144
 
--- The routine of a method in a class runs the method that the class has for the name, in the scope of the class that the method
--- is written in, and its place stands in the method's slot of the class.
-pub record Route (program : Source) (places : List (List ℕ)) (routines : Routines) (routine : ℕ → Ident → ℕ) (own slot : ℕ) (name : Ident) : Type 0 where
+-- The routine of a method in a class runs the method that the class has for the name, in the scope
+-- of the class that the method is written in, and its place stands in the method's slot of the class.
+pub record Route (program : Source) (places : List (List ℕ)) (routines : Routines)
+    (routine : ℕ → Ident → ℕ) (own slot : ℕ) (name : Ident) : Type 0 where
   pub below : routine own name < routines.count
   pub method_is : method_named program own name.text ≡ routines.method (routine own name)
   pub vars_are : (routines.scope (routine own name)).vars ≡ (routines.method (routine own name)).params
   pub class_inside : (routines.scope (routine own name)).class < length program.classes
   pub class_above : is_or_inherits program own (routines.scope (routine own name)).class ≡ true
-  pub place_is : slice_index (unwrap_or (slice_get places own) []) slot ≡ routines.top (routine own name) + 1
+  pub place_is : slice_index (unwrap_or (slice_get places own) []) slot
+      ≡ routines.top (routine own name) + 1
 
 -- The allocator of the heap is routine 0 of an image.
 pub record HasAllocator (im : Image) : Type 0 where
@@ -42,8 +45,9 @@ pub record HasAllocator (im : Image) : Type 0 where
   pub law : AllocatorLaw body
   pub routine : Routine im 0 top body
 
--- The static cells of a place are those of an image of its accepted program, its routines stand in its code, and its class
--- tables lead to them: for each class, and each slot that the class or one that it inherits from has for a name.
+-- The static cells of a place are those of an image of its accepted program, its routines stand in
+-- its code, and its class tables lead to them: for each class, and each slot that the class or one
+-- that it inherits from has for a name.
 pub record IsLinked (place : Place) (routine : ℕ → Ident → ℕ) : Type 0 where
   pub accepted : IsAccepted place.setting.program
   pub image : Segments
@@ -83,7 +87,8 @@ pub record OpensMain (place : Place) (input : List FieldWord) (main : ℕ) : Typ
   pub facts : MainFacts (world_of place) place.statics input
   pub routine_is : facts.main ≡ main
 
--- where a routine is the one of `main`, the loaded memory is its open frame, and where that ends, it is the layout
+-- where a routine is the one of `main`, the loaded memory is its open frame, and where that ends,
+-- it is the layout
 abbrev pub MainIsOpen : Type 0
 MainIsOpen =
     (place : Place) (image : Segments) (input : List FieldWord) (main : ℕ)
@@ -92,5 +97,6 @@ MainIsOpen =
     → length place.statics ≤ most_statics → length image.code < 2 ^ 32
     → IsLimits place.setting.limits → IsValid place.setting.program input
     → main < place.routines.count → (place.routines.method main).body ≡ main_body place.setting.program
-    → (place.routines.scope main).vars ≡ [] → (place.routines.scope main).class ≡ (main_of place.setting.program).class
+    → (place.routines.scope main).vars ≡ [] →
+    (place.routines.scope main).class ≡ (main_of place.setting.program).class
     → OpensMain place input main

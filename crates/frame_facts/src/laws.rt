@@ -1,7 +1,8 @@
 // What open frames have, each law the contract of a function.
 ghost use Rattle.frame_facts.specs.Laws.{FramesAreOpen, ReceiversAreOpen, LocalsAreOpen, MainIsOpen};
 
-/// An open frame has what calls on the present object take as premises, where the image is linked from an accepted program.
+/// An open frame has what calls on the present object take as premises, where the image is linked
+/// from an accepted program.
 pub fn frames_are_open()
     ensures { FramesAreOpen }
 {}

@@ -174,7 +174,8 @@ module _ (program : Source) (limits : Limits) (statics : List ℕ) (store : Stor
         let m2 = laid_length program limits statics store two stack lists2 top count2 apart2 main in
         one_memory base h second laid2 cells lists2 (laid_lists program limits statics store two stack lists2 top count2 apart2 main) holds.lists (n ∙ m1 ∙ sym m2) same
 
-    -- where a word is free in the second book, it is told; else it is as in the first memory, or 0 where it was free there
+    -- where a word is free in the second book, it is told; else it is as in the first memory, or 0
+    -- where it was free there
     left : (cells : List ℕ) (word k : ℕ) → 1 ≤ k → word < 2 ^ h → HoldsBook base h second cells → length cells ≡ length laid1 → ((y : ℕ) → y ≢ base + word → (y < 8 + k) ⊎ (8 + h < y) → get_or cells y 0 ≡ get_or laid1 y 0) → ((x : ℕ) → x < 2 ^ h → weight (cover x) 2 second ≡ 0 → ((weight (cover x) 2 first ≡ 0) × (x ≢ word)) ⊎ ((1 ≤ weight (cover x) 2 first) × (get_or cells (base + x) 0 ≡ 0))) → cells ≡ laid2
     left cells word k from inside holds n same off =
         is_laid cells holds n (λ y other. by y other.0 other.1 (nat_lt y base) (nat_lt (y - base) (2 ^ h)) refl refl)

@@ -5,9 +5,10 @@ use Rattle.rpp_words.specs.Words.{IsWord}
 use Rattle.rpp_words.specs.declared.input.Limits.{Limits}
 use Rattle.rpp_tree.specs.Tree.{Source}
 use Rattle.pisa_isa.specs.Loaded.{heap_base}
+use Rattle.pisa_isa.specs.Machine.{Memory}
 use Rattle.paired_code.specs.declared.part.Symbol.{Symbol}
 use Rattle.paired_code.specs.declared.part.Symbol.TheVariants.{Enter}
-use Rattle.paired_code.specs.Machine.{Memory, Image, with_reg}
+use Rattle.paired_code.specs.Machine.{Image, with_reg}
 use Rattle.paired_code.specs.Layout.{xor}
 use Rattle.paired_code.specs.Pieces.{Outcome, Done, Trapped, Will}
 use Rattle.buddy_book.specs.Book.{Book, take, give}

@@ -5,7 +5,8 @@ use crate::line_judge::{
 use crate::refusal::Refusal;
 use std::alloc::{AllocError, Global};
 
-// The mnemonics in the order of their numbers, each with its operands: registers, a word, an amount, or an offset.
+// The mnemonics in the order of their numbers, each with its operands: registers, a word, an
+// amount, or an offset.
 const ROWS: [(&str, &[u8]); 35] = [
     ("ADD", b"rr"),
     ("SUB", b"rr"),

@@ -9,8 +9,8 @@ use std::test::Fail;
 const TEXT: &[u8] =
     b"START ; go\r\nup: BEQ $1 $12 up\nRL $3 +31\n\tADD $4  $5\na: b: EXCH $6 $7\nFINISH\nSTATIC -5\nMARK 1 2 33\nNAME 40 x'1\nBRA a";
 
-// The refusal of the text is the one that the rules of the format give; what is assembled is listed to a text that is
-// assembled to the same image.
+// The refusal of the text is the one that the rules of the format give; what is assembled is listed
+// to a text that is assembled to the same image.
 fn judged_text(rt: &impl Abort, alloc: Global, text: &[u8], what: &str) -> Result<(), Fail> {
     let mut shelf = shelf_of(alloc, &[("T", text)], &[])?;
     let (status, said) = answer_on(alloc, &mut shelf, "asm T I", &[])?;

@@ -14,8 +14,8 @@ pub(crate) enum Damage {
     Exchanged,
 }
 
-// What is done to each byte: of the values, one is no white space and begins nothing, one is a digit, one a letter,
-// and one parts lines.
+// What is done to each byte: of the values, one is no white space and begins nothing, one is a
+// digit, one a letter, and one parts lines.
 pub(crate) const TO_BYTES: [Damage; 9] = [
     Damage::Cut,
     Damage::Becomes(0),

@@ -10,8 +10,8 @@ enum Word {
     Any,
 }
 
-// For each number of an instruction, how many registers it names, which word it has, and whether its first register must
-// differ from the others.
+// For each number of an instruction, how many registers it names, which word it has, and whether
+// its first register must differ from the others.
 const ROWS: [(u8, Word, bool); 36] = [
     (0, Word::None, false),
     // ADD, SUB, XOR

@@ -11,8 +11,8 @@ const NOTED: &[u8] =
 
 const SMALLEST: &[u8] = b"START\nFINISH\n";
 
-// The refusal of these bytes is the one that the format gives; and what is read is written as a listing that leads to the
-// same image.
+// The refusal of these bytes is the one that the format gives; and what is read is written as a
+// listing that leads to the same image.
 fn judged_image(rt: &impl Abort, alloc: Global, bytes: &[u8], what: &str) -> Result<(), Fail> {
     let mut shelf = shelf_of(alloc, &[("I", bytes)], &[])?;
     let (status, said) = answer_on(alloc, &mut shelf, "list I O", &[])?;
@@ -83,7 +83,8 @@ fn damaged_images_of_the_version_before(rt: HostRuntime) -> Result<(), Fail> {
     Ok(())
 }
 
-// The refusal of this state is the one that the format gives; what is read is run, and saved again as it was.
+// The refusal of this state is the one that the format gives; what is read is run, and saved again
+// as it was.
 fn judged_state(
     rt: &impl Abort,
     alloc: Global,

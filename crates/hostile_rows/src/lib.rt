@@ -1,5 +1,5 @@
-//! Damaged files, images that no compiler made, and calls that fail, through the top call over files in memory. It holds
-//! tests alone: no layer uses it.
+//! Damaged files, images that no compiler made, and calls that fail, through the top call over
+//! files in memory. It holds tests alone: no layer uses it.
 #![tactic(auto)]
 
 #[cfg(test)]

@@ -25,7 +25,8 @@ pub(crate) fn first_bad_line(
     Ok(None)
 }
 
-// Whether a line is blank or one of the script's. In front of a line feed a carriage return counts for nothing.
+// Whether a line is blank or one of the script's. In front of a line feed a carriage return counts
+// for nothing.
 fn is_good(alloc: Global, line: &[u8], is_last: bool, script: Script) -> Result<bool, AllocError> {
     let line = if is_last { line } else { without_return(line) };
     let words = parts(alloc, line, b' ')?;

@@ -22,8 +22,8 @@ const READERS: [&str; 8] = [
     "wrap F 1 1 1000 x",
 ];
 
-// The refusal of this source is one that its tokens allow, and the one that the rules of tokens give where one of them is
-// broken; what is accepted has an inverse whose inverse has it as its inverse.
+// The refusal of this source is one that its tokens allow, and the one that the rules of tokens
+// give where one of them is broken; what is accepted has an inverse whose inverse has it as its inverse.
 fn judged_source(
     rt: &impl Abort,
     alloc: Global,

@@ -57,7 +57,8 @@ place_lines pc br back =
     codes "pc " ++ (signed_decimal pc
     ++ (codes "\nbr " ++ (word_shown br ++ (codes "\ndir " ++ (direction back ++ line_end)))))
 
--- why the run ended, its steps, where the machine stands, its statement, the registers that are not 0, and the names' words
+-- why the run ended, its steps, where the machine stands, its statement, the registers that are not
+-- 0, and the names' words
 abbrev pub end_lines : NoteLists → End → List ℕ
 end_lines notes end =
     ((((stop_line end.why ++ steps_line end.spent) ++ place_lines end.last.pc end.last.br end.last.back)

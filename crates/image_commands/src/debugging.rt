@@ -31,8 +31,8 @@ pub struct Room {
     pub deep: u64,
 }
 
-/// Follows the script in a file along the run of the image in a file, from the loaded memory on, and tells what its commands
-/// print.
+/// Follows the script in a file along the run of the image in a file, from the loaded memory on,
+/// and tells what its commands print.
 pub fn debug<S: Shelf, L: Ledger>(
     alloc: Global,
     shelf: &mut S,
@@ -43,7 +43,8 @@ pub fn debug<S: Shelf, L: Ledger>(
 ) -> Result<Plan, NoPlan>
     ensures plan { GivesPlan (S.texts shelf.old)
         (DebugsFile image.now room.heap room.deep script.now) result }
-    ensures reads { OnlyReads (S.texts shelf.old) (S.texts shelf.new) (S.faults shelf.old) (S.faults shelf.new)
+    ensures reads { OnlyReads (S.texts shelf.old) (S.texts shelf.new) (S.faults shelf.old)
+        (S.faults shelf.new)
         (image_file image.now ∷ script_file script.now ∷ []) result }
 {
     let read = read_both(

@@ -1,5 +1,5 @@
-//! The commands on images: `asm`, `list`, `flip`, `run` and `debug`. Each reads its files and makes a plan; the top call
-//! carries it out.
+//! The commands on images: `asm`, `list`, `flip`, `run` and `debug`. Each reads its files and makes
+//! a plan; the top call carries it out.
 #![tactic(auto)]
 
 mod debugging;

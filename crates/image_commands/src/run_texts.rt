@@ -19,7 +19,11 @@ pub fn end_lines(
 ) -> Result<String, AllocError>
     requires names { All HasAsciiText notes.now.names }
     ensures { IfOk result (λ text. string_bytes text
-        ≡ lines_of_end notes.now (record { why = end.stop; spent = end.spent; last = machine.now.state })) }
+        ≡ lines_of_end notes.now (record {
+          why = end.stop;
+          spent = end.spent;
+          last = machine.now.state;
+        })) }
 {
     let mut text = String::new(alloc);
     add_stop(&mut text, end.stop)?;

@@ -35,8 +35,10 @@ pub fn run<S: Shelf, L: Ledger>(
 ) -> Result<Plan, NoPlan>
     requires { sizes.bound < 2 ^ 63 }
     ensures plan { GivesPlan (S.texts shelf.old)
-        (RunsFile image.now sizes.heap sizes.deep sizes.bound (state_of_names states.now) (save_of_names states.now)) result }
-    ensures reads { OnlyReads (S.texts shelf.old) (S.texts shelf.new) (S.faults shelf.old) (S.faults shelf.new)
+        (RunsFile image.now sizes.heap sizes.deep sizes.bound (state_of_names states.now)
+        (save_of_names states.now)) result }
+    ensures reads { OnlyReads (S.texts shelf.old) (S.texts shelf.new) (S.faults shelf.old)
+        (S.faults shelf.new)
         (image_file image.now ∷ state_files (state_of_names states.now)) result }
 {
     let read = read_images(alloc, shelf, image, states)?;
@@ -73,7 +75,8 @@ fn run_sized<L: Ledger>(
 ) -> Result<Plan, NoMemory>
     requires { sizes.bound < 2 ^ 63 }
     ensures { IfOk result (λ plan. IsSizedPlan (limits_refusal sizes.heap sizes.deep MOST_DEEP) noted
-        (record { heap = sizes.heap; deep = sizes.deep }) (option_map (λ v. v.items) state.now) (save_of_names states.now) sizes.bound (planned plan)) }
+        (record { heap = sizes.heap; deep = sizes.deep }) (option_map (λ v. v.items) state.now)
+        (save_of_names states.now) sizes.bound (planned plan)) }
 {
     match check_limits(sizes.heap, sizes.deep, MOST_DEEP) {
         Ok(limits) => {
@@ -105,7 +108,8 @@ fn run_from<L: Ledger>(
 ) -> Result<Plan, NoMemory>
     requires limits { IsLimits bounds.limits }
     requires bound { bounds.bound < 2 ^ 63 }
-    ensures { IfOk result (λ plan. IsRanPlan (first_of noted.image bounds.limits (option_map (λ v. v.items) state.now))
+    ensures { IfOk result (λ plan.
+        IsRanPlan (first_of noted.image bounds.limits (option_map (λ v. v.items) state.now))
         noted.notes (save_of_names states.now) bounds.bound (planned plan)) }
 {
     let (image, notes) = noted.into_parts();
@@ -173,7 +177,8 @@ fn ran(
 ) -> Result<Plan, NoMemory>
     requires names { All HasAsciiText notes.now.names }
     ensures { IfOk result (λ plan. planned plan
-        ≡ ran_plan notes.now (save_of_names states.now) (record { why = end.stop; spent = end.spent; last = machine.now.state })) }
+        ≡ ran_plan notes.now (save_of_names states.now)
+        (record { why = end.stop; spent = end.spent; last = machine.now.state })) }
 {
     let text = end_lines(alloc, end, machine, notes)?;
     let writing = saved(alloc, machine, states)?;

@@ -3,13 +3,13 @@ use Rattle.std.proofs.Common.{◌≡◌, ◌∙◌, ap, sym, subst, refl, arith,
 use Rattle.std.proofs.lemmas.List.{map-append, reverse-append}
 use Rattle.pisa_isa.specs.declared.cell.Cell.{Cell}
 use Rattle.pisa_isa.specs.Table.{inverse_of}
-use Rattle.pisa_isa.specs.Machine.{State}
+use Rattle.pisa_isa.specs.Machine.{State, Memory, memory_of}
 use Rattle.pisa_isa.specs.Image.{Segments, IsImage}
 use Rattle.pisa_isa.specs.Runs.{run, started}
 use Rattle.pisa_isa.specs.Ends.{IsCleanFinish}
 use Rattle.pisa_isa.specs.Flipped.{flipped, Restores}
 use Rattle.pisa_isa.proofs.Restored.{flipped_run_restores}
-use Rattle.image_inverter.specs.Leading.{Memory, memory_of, begun, LeadsBack}
+use Rattle.image_inverter.specs.Leading.{begun, LeadsBack}
 
 same_memory : (m : State) (to : Memory) → m.regs ≡ to.regs → m.cells ≡ to.cells → memory_of m ≡ to
 same_memory m to e f = rw (e, f)

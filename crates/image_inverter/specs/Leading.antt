@@ -1,17 +1,9 @@
 -- Runs that lead from one memory to another, and runs that lead back.
 use Rattle.std.specs.Prelude.{◌≡◌, ℕ, List}
 use Rattle.pisa_isa.specs.declared.cell.Cell.{Cell}
-use Rattle.pisa_isa.specs.Machine.{State, IsState}
+use Rattle.pisa_isa.specs.Machine.{State, IsState, Memory, memory_of}
 use Rattle.pisa_isa.specs.Runs.{run, started}
 use Rattle.pisa_isa.specs.Ends.{IsCleanFinish}
-
--- the registers and the data cells
-pub record Memory : Type 0 where
-  pub regs : List ℕ
-  pub cells : List ℕ
-
-abbrev pub memory_of : State → Memory
-memory_of m = record { regs = m.regs; cells = m.cells }
 
 -- where a run of code begins with this memory: at START
 abbrev pub begun : List Cell → Memory → State

@@ -4,7 +4,5 @@
 #![tactic(auto)]
 
 mod inverter;
-#[cfg(test)]
-mod tests;
 
 pub use inverter::flip;

@@ -252,7 +252,8 @@ module _ (setting : Setting) (classes : KnowsClasses setting.program) (C : Conte
       indexed x at kind.IntArray q = cc
       indexed x at (kind.ClassArray c) q = cc
 
-  -- the cell of a place is apart from what other variables mean, and from the arrays that the place is not of
+  -- the cell of a place is apart from what other variables mean, and from the arrays that the place
+  -- is not of
   pub place_apart : (st : State) (p : Lvalue) (k : Kind) (c : Cell) (first second : List ℕ) (R : List ℕ → Type 0) → Typed setting C.extra C.shape C.class st → place_type typing C.locals p ≡ Ok k → cell_of program st p ≡ Ok c
       → ((other : List ℕ) → bytes_eq other first ≡ false → bytes_eq other second ≡ false → bytes_eq other (place_name p).text ≡ false) → ((other : List ℕ) → R other → Avoids program st p other) → VariablesApart typing C.locals first second R st c
   place_apart st (Whole name) k c first second R g typed is excluded avoids =

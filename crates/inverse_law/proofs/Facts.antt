@@ -26,7 +26,7 @@ use Rattle.class_table.proofs.PassedRules.{both_passed, held as was_held, handed
 use Rattle.sound_execution.proofs.Values.{int_value, value_found, cell_found, value_fits, place_fits}
 use Rattle.sound_execution.proofs.Removal.{reference}
 use Rattle.sound_execution.proofs.AfterWrites.{read_other}
-use Rattle.sound_execution.proofs.Makes.{copy_parts}
+use Rattle.sound_execution.proofs.Makes.{CopyParts, copy_parts}
 use Rattle.roopl_semantics.specs.Execution.{exec}
 use Rattle.inverse_law.proofs.Cells.{named_changed}
 use Rattle.inverse_law.proofs.Ground.{UpdateFacts, SwapFacts, CopyFacts, copied, uncopied}
@@ -307,24 +307,40 @@ module _ (setting : Setting) (classes : KnowsClasses setting.program) (C : Conte
         apart_stays = p.apart;
       }
 
-  -- copies: the second place is written, and a count changes
-  copied_facts : (at : ℕ) (written_type : VarType) (source target : Lvalue) (st : State) (a b : Cell) (x : Value) (change : ℕ → ℕ) → copy_rules typing C.locals at written_type source target ≡ passed → Good setting C st
-      → cell_of program st source ≡ Ok a → cell_of program st target ≡ Ok b → share_array program st (own_element target) (index_elements source ++ index_elements target) ≡ false → is_nil (read st a) ≡ false → CopyFacts program st (counted change (written st b x) (number_of (read st a))) source target a b
-  copied_facts at written_type source target st a b x change h g is_a is_b unshared some =
-      let t = typed_in setting classes C st g in
-      let parts = copy_parts setting classes (exec setting 0) C.extra C.locals C.shape C.class C.inside C.means at written_type source target h in
-      let known = both_passed (type_known typing.table written_type) _ h in
+  -- what the rules of types say of a copy
+  pub record CopyTyped (source target : Lvalue) : Type 0 where
+    pub parts : CopyParts setting classes (exec setting 0) C.extra C.locals C.shape C.class C.inside C.means source target
+    pub source_apart : occurs_in_index (place_name target).text source ≡ false
+    pub target_apart : occurs_in_index (place_name target).text target ≡ false
+
+  pub copy_typed : (at : ℕ) (kind : VarType) (source target : Lvalue) → copy_rules typing C.locals at kind source target ≡ passed → CopyTyped source target
+  copy_typed at kind source target h =
+      let known = both_passed (type_known typing.table kind) _ h in
       let s = handed_on (place_type typing C.locals source) _ tt known.1 in
       let d = handed_on (place_type typing C.locals target) _ tt s.goes in
-      let c = handed_on (written_kind typing.table at written_type) _ tt d.goes in
+      let c = handed_on (written_kind typing.table at kind) _ tt d.goes in
       let r1 = both_passed (required (takes_copy typing.table c.value s.value d.value) (type_differs at)) _ c.goes in
       let r2 = both_passed (required (not (same_plain source target)) (same_argument at)) _ r1.1 in
       let m = (place_name target).text in
       let apart = either_false (occurs_in_index m source) (occurs_in_index m target) (not_held (in_either_index m source target) (was_held _ (self_update at) r2.1)) in
-      let kb = cell_typed st target parts.second b t parts.target_is is_b in
-      let name = reference program st.store (read st a) parts.first (read_fits setting C.extra C.shape C.class st a parts.first t (cell_typed st source parts.first a t parts.source_is is_a)) parts.first_refers some in
+      record { parts = copy_parts setting classes (exec setting 0) C.extra C.locals C.shape C.class C.inside C.means at kind source target h; source_apart = apart.0; target_apart = apart.1 }
+    where
+      not_held : (t : Bool) → not t ≡ true → t ≡ false
+      not_held true e = cc
+      not_held false e = refl
+
+  -- copies: the second place is written, and a count changes
+  pub record PlacesCopied (source target : Lvalue) (st end : State) : Type 0 where
+    pub source_same : SamePlace program st end source
+    pub target_same : SamePlace program st end target
+    pub apart : share_array program end (own_element target) (index_elements source ++ index_elements target) ≡ false
+
+  pub places_copied : (source target : Lvalue) (st : State) (b : Cell) (x : Value) (n : ℕ) (change : ℕ → ℕ) → Typed setting C.extra C.shape C.class st → CopyTyped source target → cell_of program st target ≡ Ok b
+      → share_array program st (own_element target) (index_elements source ++ index_elements target) ≡ false → PlacesCopied source target st (counted change (written st b x) n)
+  places_copied source target st b x n change t rules is_b unshared =
+      let parts = rules.parts in
+      let m = (place_name target).text in
       let mid = written st b x in
-      let n = number_of (read st a) in
       let end = counted change mid n in
       let R : List ℕ → Type 0 = Avoids program st target in
       let reads = avoids_of program st target (index_elements source ++ index_elements target) unshared in
@@ -332,29 +348,41 @@ module _ (setting : Setting) (classes : KnowsClasses setting.program) (C : Conte
       let stay1 = written_stays setting typing refl C.locals m m R st b x cells in
       let stay = stays_then setting typing refl C.locals m m R st mid end stay1 (counted_stays setting C.locals C.class m m R change mid n) in
       let named : (y : List ℕ) → cell_named program end y ≡ cell_named program st y = λ y. named_counted setting change mid n y ∙ named_written setting st b x y in
-      let after : (y : Lvalue) → VariableSame program mid end y = λ y. counted_variable mid n y in
-      let sources = place_stays st end source parts.first m m R parts.source_is stay (first_read R (index_elements source) (index_elements target) reads) apart.0 apart.0 named
-      (variable_then st mid end source (variable_written st target parts.second b x source parts.first t parts.target_is is_b parts.source_is parts.no_element) (after source)) in
-      let targets = place_stays st end target parts.second m m R parts.target_is stay (second_read R (index_elements source) (index_elements target) reads) apart.1 apart.1 named
-      (variable_then st mid end target (variable_written st target parts.second b x target parts.second t parts.target_is is_b parts.target_is (no_own_element parts.second)) (after target)) in
+      let sources = place_stays st end source parts.first m m R parts.source_is stay (first_read R (index_elements source) (index_elements target) reads) rules.source_apart rules.source_apart named
+      (variable_then st mid end source (variable_written st target parts.second b x source parts.first t parts.target_is is_b parts.source_is parts.no_element) (counted_variable mid source)) in
+      let targets = place_stays st end target parts.second m m R parts.target_is stay (second_read R (index_elements source) (index_elements target) reads) rules.target_apart rules.target_apart named
+      (variable_then st mid end target (variable_written st target parts.second b x target parts.second t parts.target_is is_b parts.target_is (no_own_element parts.second)) (counted_variable mid target)) in
+      record {
+        source_same = sources;
+        target_same = targets;
+        apart = share_same program st end (own_element target) (index_elements source ++ index_elements target) (own_read program st end target targets)
+            (both_read (SameVariable program st end) (index_elements source) (index_elements target) (index_read program st end source sources) (index_read program st end target targets)) ∙ unshared;
+      }
+    where
+      counted_variable : (mid : State) (y : Lvalue) → VariableSame program mid (counted change mid n) y
+      counted_variable mid (Whole y) = tt
+      counted_variable mid (Item y index) =
+          (ap (read (counted change mid n)) (named_counted setting change mid n y.text) ∙ read_counted change mid n (cell_named program mid y.text), length_of_array mid (counted change mid n) (variable_value program mid y.text) (array_counted change mid n (variable_value program mid y.text)))
+
+  copied_facts : (at : ℕ) (written_type : VarType) (source target : Lvalue) (st : State) (a b : Cell) (x : Value) (change : ℕ → ℕ) → copy_rules typing C.locals at written_type source target ≡ passed → Good setting C st
+      → cell_of program st source ≡ Ok a → cell_of program st target ≡ Ok b → share_array program st (own_element target) (index_elements source ++ index_elements target) ≡ false → is_nil (read st a) ≡ false → CopyFacts program st (counted change (written st b x) (number_of (read st a))) source target a b
+  copied_facts at written_type source target st a b x change h g is_a is_b unshared some =
+      let t = typed_in setting classes C st g in
+      let rules = copy_typed at written_type source target h in
+      let parts = rules.parts in
+      let kb = cell_typed st target parts.second b t parts.target_is is_b in
+      let name = reference program st.store (read st a) parts.first (read_fits setting C.extra C.shape C.class st a parts.first t (cell_typed st source parts.first a t parts.source_is is_a)) parts.first_refers some in
+      let n = number_of (read st a) in
+      let end = counted change (written st b x) n in
+      let p = places_copied source target st b x n change t rules is_b unshared in
       record {
         there = is_cell setting classes C st b parts.second t kb;
         name = name.name;
         is_name = name.is;
-        source_stays = place_same program st end source sources ∙ is_a;
-        target_stays = place_same program st end target targets ∙ is_b;
-        apart_stays = share_same program st end (own_element target) (index_elements source ++ index_elements target) (own_read program st end target targets)
-            (both_read (SameVariable program st end) (index_elements source) (index_elements target) (index_read program st end source sources) (index_read program st end target targets)) ∙ unshared;
+        source_stays = place_same program st end source p.source_same ∙ is_a;
+        target_stays = place_same program st end target p.target_same ∙ is_b;
+        apart_stays = p.apart;
       }
-    where
-      not_held : (t : Bool) → not t ≡ true → t ≡ false
-      not_held true e = cc
-      not_held false e = refl
-
-      counted_variable : (mid : State) (n : ℕ) (y : Lvalue) → VariableSame program mid (counted change mid n) y
-      counted_variable mid n (Whole y) = tt
-      counted_variable mid n (Item y index) =
-          (ap (read (counted change mid n)) (named_counted setting change mid n y.text) ∙ read_counted change mid n (cell_named program mid y.text), length_of_array mid (counted change mid n) (variable_value program mid y.text) (array_counted change mid n (variable_value program mid y.text)))
 
   pub copy_facts : (at : ℕ) (written_type : VarType) (source target : Lvalue) (st : State) (a b : Cell) → Checked setting C (Then (Copy at written_type source target) End) → Good setting C st
       → cell_of program st source ≡ Ok a → cell_of program st target ≡ Ok b → share_array program st (own_element target) (index_elements source ++ index_elements target) ≡ false → is_nil (read st a) ≡ false → CopyFacts program st (copied st a b) source target a b

@@ -183,8 +183,8 @@ entered method self receiver args st =
 abbrev pub returned : List Cell → State → State → State
 returned cells st end = record (moved_out cells st) { store = end.store; log = end.log }
 
--- a call: its cells are there and differ, its values are as many as the parameters, its method begins in a good state, and
--- what it returns to a cell is a word exactly where the cell holds a word
+-- a call: its cells are there and differ, its values are as many as the parameters, its method
+-- begins in a good state, and what it returns to a cell is a word exactly where the cell holds a word
 pub record CallFacts (setting : Setting) (Context : Type 0) (Good : Context → State → Type 0) (Typed : Context → Statements → Type 0) (C : Context) (st : State) (back : Bool) (method : Procedure) (self : ℕ) (receiver args : List Cell) : Type 0 where
   pub distinct : AreDistinct (receiver ++ args)
   pub there : Each (IsCell st) (receiver ++ args)

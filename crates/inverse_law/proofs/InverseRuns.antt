@@ -1,4 +1,5 @@
--- Runs of programs and of their inverse programs: one that leads back, and one whose inverse program finds no block.
+-- Runs of programs and of their inverse programs: one that leads back, and one whose inverse
+-- program finds no block.
 use Rattle.std.specs.Prelude.{◌≡◌, false, [], ◌∷◌, None, codes}
 use Rattle.std.specs.Fmt.{digits}
 use Rattle.std.proofs.Common.{refl}
@@ -24,7 +25,8 @@ called-inverse : ending (inverse_program called-text) 1 2 (word_for 0 3 ∷ word
 unfolding digits
 called-inverse = refl
 
--- class P int[] w int[] a int[] b method main() new int[14] w delete int[14] w new int[6] a new int[6] b delete int[6] a delete int[6] b
+-- class P int[] w int[] a int[] b method main() new int[14] w delete int[14] w new int[6] a new
+-- int[6] b delete int[6] a delete int[6] b
 abbrev fragmented-text : Source
 fragmented-text =
     program (class_text (named 6 (codes "P")) None (var kind.IntArray (named 14 (codes "w")) ∷ var kind.IntArray (named 22 (codes "a")) ∷ var kind.IntArray (named 30 (codes "b")) ∷ [])
@@ -36,6 +38,7 @@ fragmented : ending fragmented-text 4 1 [] 1000 ≡ Finished (lines (codes "w = 
 unfolding digits
 fragmented = refl
 
--- the lower half was given back last, so the halves did not merge; run with the final fields from an empty heap, `new int[14] w` finds no block
+-- the lower half was given back last, so the halves did not merge; run with the final fields from
+-- an empty heap, `new int[14] w` finds no block
 fragmented-inverse : ending (inverse_program fragmented-text) 4 1 [] 1000 ≡ Faulted 8 59
 fragmented-inverse = refl

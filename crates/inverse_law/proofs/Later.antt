@@ -1,4 +1,5 @@
--- What every run keeps, of any program: the names of the frame, the object, the depth; that names are drawn anew.
+-- What every run keeps, of any program: the names of the frame, the object, the depth; that names
+-- are drawn anew.
 use Rattle.std.proofs.Common.{◌≡◌, ℕ, zero, suc, ◌+◌, ◌<◌, ◌≤◌, refl, sym, ap, subst, ◌∙◌, arith, true, false, Bool, not, List, [], ◌∷◌, ◌++◌, length, map, Option, Some, None, option_map, unwrap_or, nat_eq, if◌then◌else◌, eqb-true, replicate, cond, ◌||◌}
 use Rattle.rpp_tree.specs.Tree.{Expression, Null, Lvalue, Whole, Item, Object as AnObject, Ints, Objects, Statement, Statements, Update, Swap, If, From, Construct, Local, New, Delete, Copy, Uncopy, Call, Skip, End, Then, Procedure}
 use Rattle.class_table.specs.Classes.{class_number, class_fields, method_named}

@@ -1,4 +1,5 @@
--- An inverse program keeps the limits of a tree that the program keeps: its parts are the same, in another order.
+-- An inverse program keeps the limits of a tree that the program keeps: its parts are the same, in
+-- another order.
 use Rattle.std.proofs.Common.{◌≡◌, ℕ, ◌+◌, ◌-◌, ◌<◌, ◌≤◌, refl, sym, ap, subst, ◌∙◌, arith, false, List, [], ◌∷◌, ◌++◌, length, map, max, sum_by}
 use Rattle.std.proofs.Math.Nat.{le-max_left, le-max_right, max-le}
 use Rattle.std.proofs.lemmas.List.{append_assoc, append-nil, length-map}

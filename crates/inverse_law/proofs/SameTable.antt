@@ -1,4 +1,5 @@
--- A program and its inverse program have the same class table, and no rule of the table refuses the one that does not refuse the other.
+-- A program and its inverse program have the same class table, and no rule of the table refuses the
+-- one that does not refuse the other.
 use Rattle.std.proofs.Common.{◌≡◌, ℕ, ◌+◌, ◌-◌, refl, sym, ap, ◌∙◌, not, List, [], ◌∷◌, ◌++◌, length, map, take, position, Option, Some, None, option_map, unwrap_or, slice_get, nat_lt, if◌then◌else◌}
 use Rattle.std.proofs.lemmas.List.{length-map}
 use Rattle.std.proofs.lemmas.Option.{slice_get-map}

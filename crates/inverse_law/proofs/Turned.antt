@@ -1,4 +1,5 @@
--- A block with its calls turned: what inverts with calls turned is the turned inverse of what inverts with calls as they are.
+-- A block with its calls turned: what inverts with calls turned is the turned inverse of what
+-- inverts with calls as they are.
 use Rattle.std.proofs.Common.{◌≡◌, refl, sym, ap, ◌∙◌, true, false, Bool, not}
 use Rattle.rpp_tree.specs.Tree.{Statement, Statements, Update, Swap, If, From, Construct, Local, New, Delete, Copy, Uncopy, Call, Skip, End, Then, joined}
 use Rattle.class_table.specs.Scope.{Setting, Locals}

@@ -114,7 +114,8 @@ module _ (setting : Setting) (G : Ground setting) where
         same = same_then f second.names one.names a x b sound later late second.same one.same;
       }
 
-  -- the inverse of a block leads back from where the block led, at the same cost, to a state that agrees with the start
+  -- the inverse of a block leads back from where the block led, at the same cost, to a state that
+  -- agrees with the start
   pub block_leads_back : (C : G.Context) (n : ℕ) (body : Statements) (a b : State) (c : ℕ) → G.Typed C body → G.Good C a → exec setting n body a ≡ Done b c → LeadsBack setting body a b c
   block_leads_back C n body a b c typed good e =
       let later = exec_later setting n body a b c (G.sound C a good) e in

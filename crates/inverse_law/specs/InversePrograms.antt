@@ -20,8 +20,10 @@ use Rattle.roopl_semantics.specs.Laws.{book_of}
 abbrev pub InverseIsAccepted : Type 0
 InverseIsAccepted = (program : Source) → IsAccepted program → IsAccepted (inverse_program program)
 
--- the main method of the inverse program leads back from an end, at this cost, to a state that agrees with the start
-pub record MainLeadsBack (program : Source) (limits : Limits) (begin end : State) (cost : ℕ) : Type 0 where
+-- the main method of the inverse program leads back from an end, at this cost, to a state that
+-- agrees with the start
+pub record MainLeadsBack (program : Source) (limits : Limits) (begin end : State)
+    (cost : ℕ) : Type 0 where
   pub back : State
   pub runs : exec (record { program = inverse_program program; limits = limits }) cost
       (main_body (inverse_program program)) end
@@ -36,9 +38,10 @@ InverseMainUndoes =
     → source program limits input fuel ≡ Done end cost
     → MainLeadsBack program limits (starting program input) end cost
 
--- a state with which a run can begin: the main object's fields are those of an input, so that no field names an object,
--- and the free lists are those of an empty heap
-pub record BeginsAnew (program : Source) (limits : Limits) (end : State) (input : List FieldWord) : Type 0 where
+-- a state with which a run can begin: the main object's fields are those of an input, so that no
+-- field names an object, and the free lists are those of an empty heap
+pub record BeginsAnew (program : Source) (limits : Limits) (end : State)
+    (input : List FieldWord) : Type 0 where
   pub fields : (object_at end.store main_name).cells ≡ (main_object program input).cells
   pub free : book_of (place limits.heap end.log) ≡ Some (start limits.heap)
 
@@ -70,14 +73,17 @@ FinalFieldsAreInput =
     → names_nothing (object_at end.store main_name).cells ≡ true
     → AreInput program (object_at end.store main_name).cells
 
--- the inverse program, run with an input, ends at this cost in a state that agrees with the start, and its report is the start's
-pub record RunsBack (program : Source) (limits : Limits) (begin : State) (input : List FieldWord) (cost : ℕ) : Type 0 where
+-- the inverse program, run with an input, ends at this cost in a state that agrees with the start,
+-- and its report is the start's
+pub record RunsBack (program : Source) (limits : Limits) (begin : State) (input : List FieldWord)
+    (cost : ℕ) : Type 0 where
   pub back : State
   pub runs : source (inverse_program program) limits input cost ≡ Done back cost
   pub agrees : AgreeStates limits.heap begin back
   pub shown : report (inverse_program program) back.store ≡ report program begin.store
 
--- what an accepted program did, its inverse program undoes at the same cost, where the end can be begun with
+-- what an accepted program did, its inverse program undoes at the same cost, where the end can be
+-- begun with
 abbrev pub InverseProgramUndoes : Type 0
 InverseProgramUndoes =
     (program : Source) (limits : Limits) (input final : List FieldWord) (fuel : ℕ) (end : State)

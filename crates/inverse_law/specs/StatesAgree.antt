@@ -9,8 +9,8 @@ use Rattle.roopl_semantics.specs.Laws.{book_of, block_in}
 abbrev pub renamed_binding : (ℕ → ℕ) → Binding → Binding
 renamed_binding names binding = record binding { value = renamed names binding.value }
 
--- one map of names carries store, frame and object of the one state onto those of the other; the depth is the same, and over a
--- heap of order h the free lists and the block of each object are
+-- one map of names carries store, frame and object of the one state onto those of the other; the
+-- depth is the same, and over a heap of order h the free lists and the block of each object are
 pub record AgreeStates (h : ℕ) (first second : State) : Type 0 where
   pub stores : Agree first.store second.store
   pub frame : second.frame ≡ map (renamed_binding stores.there) first.frame

@@ -32,18 +32,21 @@ pub fn inverse_is_accepted()
     ensures { InverseIsAccepted }
 {}
 
-/// What an accepted program did, the main method of its inverse program undoes from the end, at the same cost.
+/// What an accepted program did, the main method of its inverse program undoes from the end, at the
+/// same cost.
 pub fn inverse_main_undoes()
     ensures { InverseMainUndoes }
 {}
 
-/// Where no final field of the main object names an object or array, the words among the final fields are an input.
+/// Where no final field of the main object names an object or array, the words among the final
+/// fields are an input.
 pub fn final_fields_are_input()
     ensures { FinalFieldsAreInput }
 {}
 
-/// What an accepted program did, its inverse program undoes at the same cost, run with the final fields as its input, where
-/// these are an input and the free lists are again those of an empty heap; and it prints the report of the start.
+/// What an accepted program did, its inverse program undoes at the same cost, run with the final
+/// fields as its input, where these are an input and the free lists are again those of an empty
+/// heap; and it prints the report of the start.
 pub fn inverse_program_undoes()
     ensures { InverseProgramUndoes }
 {}

@@ -1,5 +1,6 @@
-//! What the commands on machines write and read in common: the lines on stops, registers and cells, and the lines of scripts
-//! with their words and numbers. A layer above may use that each call gives exactly the text of its definition.
+//! What the commands on machines write and read in common: the lines on stops, registers and cells,
+//! and the lines of scripts with their words and numbers. A layer above may use that each call
+//! gives exactly the text of its definition.
 #![tactic(auto)]
 
 mod lines;

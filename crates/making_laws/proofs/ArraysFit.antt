@@ -14,9 +14,9 @@ use Rattle.class_table.specs.Refusal.{not_an_array}
 use Rattle.class_table.specs.Expressions.{is_int, element_kind, element_of, variable_type, first_token, index_is_int, type_of, place_type, occurs}
 use Rattle.class_table.specs.Statements.{is_int_array, length_is_int}
 use Rattle.class_table.proofs.PassedRules.{handed_on, some_of, int_kind}
+use Rattle.pisa_isa.specs.Machine.{Memory}
 use Rattle.paired_code.specs.declared.part.Symbol.{Symbol}
 use Rattle.paired_code.specs.Layout.{mirror_cells}
-use Rattle.paired_code.specs.Machine.{Memory}
 use Rattle.buddy_pisa.specs.Promise.{most_steps}
 use Rattle.roopl_semantics.specs.Store.{Value, Word, Nil, Name, Head, OfInts, OfObjects, State, number_of, object_at}
 use Rattle.roopl_semantics.specs.Value.{Cell, cell_named, read, value}

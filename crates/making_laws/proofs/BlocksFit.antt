@@ -1,9 +1,11 @@
--- An open frame whose place gets a block of the heap, or gives one back: what the code of `new` and `delete` asks of the memory.
+-- An open frame whose place gets a block of the heap, or gives one back: what the code of `new` and
+-- `delete` asks of the memory.
 use Rattle.std.proofs.Common.{◌≡◌, ◌≢◌, ◌∙◌, sym, ap, subst, refl, ℕ, zero, suc, ◌+◌, ◌*◌, ◌^◌, ◌<◌, ◌≤◌, Bool, true, false, List, [], ◌∷◌, length, Option, Some, None, arith, length-set}
 use Rattle.std.proofs.lemmas.Bool.{ltb-true}
 use Rattle.std.proofs.lemmas.List.{get_or-set_other}
 use Rattle.std.specs.Prelude.{nat_eq, nat_lt, nat_le, is_none, ◌||◌, ◌&&◌, slice_get, slice_index, slice_set, if◌then◌else◌}
 use Rattle.std.specs.Option.{option_map, unwrap_or}
+use Rattle.pisa_isa.specs.Machine.{Memory}
 use Rattle.rpp_tree.specs.declared.tree.Ident.{Ident}
 use Rattle.rpp_tree.specs.Tree.{Source}
 use Rattle.class_table.specs.declared.kind.Kind.{Kind}
@@ -11,7 +13,6 @@ use Rattle.class_table.specs.Expressions.{is_int}
 use Rattle.buddy_book.specs.Book.{take, order_from, order_for}
 use Rattle.buddy_book.specs.Place.{Placing, block_of, count_taken, place}
 use Rattle.buddy_pisa.specs.Promise.{most_steps}
-use Rattle.paired_code.specs.Machine.{Memory}
 use Rattle.pisa_isa.specs.Loaded.{statics_at}
 use Rattle.roopl_semantics.specs.Store.{Value, Word, Nil, Name, Head, Store, State, main_name, is_zero, object_named, object_at}
 use Rattle.roopl_semantics.specs.Value.{Cell, Part, read, written}

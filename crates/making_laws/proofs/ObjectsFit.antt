@@ -18,9 +18,9 @@ use Rattle.class_table.specs.Statements.{passed, make_rules}
 use Rattle.class_table.specs.Table.{table_of}
 use Rattle.buddy_book.specs.Book.{order_for}
 use Rattle.buddy_pisa.specs.Promise.{most_steps}
+use Rattle.pisa_isa.specs.Machine.{Memory}
 use Rattle.paired_code.specs.declared.part.Symbol.{Symbol}
 use Rattle.paired_code.specs.Layout.{mirror_cells}
-use Rattle.paired_code.specs.Machine.{Memory}
 use Rattle.roopl_semantics.specs.Layout.{table_at, head_word}
 use Rattle.roopl_semantics.specs.Store.{Value, Nil, Name, Head, OfClass, OfInts, OfObjects, State, object_at, is_zero, zero_value, zero_values}
 use Rattle.roopl_semantics.specs.Value.{Cell, read, cell_of}

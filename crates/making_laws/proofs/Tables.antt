@@ -1,4 +1,5 @@
--- What the rules of a program say of its classes: few fields, and tables with addresses of their own, which are words.
+-- What the rules of a program say of its classes: few fields, and tables with addresses of their
+-- own, which are words.
 use Rattle.std.proofs.Common.{◌≡◌, ◌≢◌, ◌∙◌, ap, subst, ℕ, zero, suc, ◌+◌, ◌^◌, ◌<◌, ◌≤◌, Bool, true, false, List, [], ◌∷◌, length, Option, Some, None, refl, slice_get, arith, length-append, ◌⊎◌, inl, inr, ⊎_elim}
 use Rattle.std.proofs.lemmas.Bool.{ltb-true, ltb-false, cases_lt}
 use Rattle.std.proofs.lemmas.List.{length-replicate}

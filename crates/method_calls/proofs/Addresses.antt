@@ -1,7 +1,9 @@
--- Address code: it finds the place of a variable, or of a word of the frame above, and takes it away again.
+-- Address code: it finds the place of a variable, or of a word of the frame above, and takes it
+-- away again.
 use Rattle.std.proofs.Common.{◌≡◌, ℕ, ◌+◌, ◌^◌, ◌<◌, true, false, List, [], ◌∷◌, refl, ap, arith}
 use Rattle.rpp_words.specs.Words.{sum_of, difference_of, negated}
-use Rattle.paired_code.specs.Machine.{Memory, Image}
+use Rattle.pisa_isa.specs.Machine.{Memory}
+use Rattle.paired_code.specs.Machine.{Image}
 use Rattle.paired_code.specs.Pieces.{Done, Will}
 use Rattle.statement_laws.specs.Form.{registers}
 use Rattle.method_calls.specs.CallCode.{spot_row, above_row, add, addi}

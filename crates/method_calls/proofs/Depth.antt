@@ -7,7 +7,8 @@ use Rattle.std.proofs.lemmas.Bool.Decides.{nat_tests}
 use Rattle.rpp_words.specs.Words.{sum_of, negated, is_less, signed}
 use Rattle.pisa_isa.specs.Table.{word_of}
 use Rattle.pisa_isa.specs.declared.cell.Cell.{Cell}
-use Rattle.paired_code.specs.Machine.{Memory, Image}
+use Rattle.pisa_isa.specs.Machine.{Memory}
+use Rattle.paired_code.specs.Machine.{Image}
 use Rattle.paired_code.specs.Layout.{check_cells}
 use Rattle.paired_code.specs.Pieces.{Done, Trapped, Will}
 use Rattle.paired_code.proofs.Laws.{will_of}

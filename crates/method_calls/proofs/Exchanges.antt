@@ -2,7 +2,7 @@
 use Rattle.std.proofs.Common.{◌≡◌, ℕ, ◌<◌, Bool, true, false, length, refl, arith}
 use Rattle.std.specs.Prelude.{nat_lt, if◌then◌else◌, slice_index, slice_set}
 use Rattle.std.proofs.lemmas.Bool.Decides.{nat_tests}
-use Rattle.paired_code.specs.Machine.{Memory}
+use Rattle.pisa_isa.specs.Machine.{Memory}
 use Rattle.paired_code.specs.Pieces.{Outcome, Done, Bad}
 use Rattle.paired_code.specs.Laws.{outcome_of}
 use Rattle.method_calls.specs.CallCode.{exch}

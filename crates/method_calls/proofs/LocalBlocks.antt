@@ -5,8 +5,9 @@ use Rattle.rpp_tree.specs.declared.tree.Var.{Var}
 use Rattle.rpp_tree.specs.declared.tree.Ident.{Ident}
 use Rattle.rpp_tree.specs.Tree.{Expression, Null, Statement, Statements, Local, Construct, Call, New, Delete, Whole, Item, Object as AnObject, End, Then, joined}
 use Rattle.stmt_inverter.specs.Inverse.{inverse, inverse_statement}
+use Rattle.pisa_isa.specs.Machine.{Memory}
 use Rattle.paired_code.specs.declared.part.Symbol.{Symbol}
-use Rattle.paired_code.specs.Machine.{Memory, Image}
+use Rattle.paired_code.specs.Machine.{Image}
 use Rattle.paired_code.specs.Layout.{check_cells, mirror_cells}
 use Rattle.paired_code.specs.Pieces.{Done, Will}
 use Rattle.paired_code.specs.Does.{Told, Fine, Fault, More, plus, told_then, Meets, fine, faults, Does, in_order}

@@ -2,8 +2,8 @@
 use Rattle.std.proofs.Common.{◌≡◌, ℕ, ◌+◌, ◌-◌, ◌^◌, ◌<◌, Bool, true, List, [], refl, sym, ap, ◌∙◌, subst, arith}
 use Rattle.std.specs.Prelude.{slice_set}
 use Rattle.rpp_tree.specs.Tree.{Procedure}
+use Rattle.pisa_isa.specs.Machine.{Memory}
 use Rattle.paired_code.specs.declared.part.Symbol.{Symbol}
-use Rattle.paired_code.specs.Machine.{Memory}
 use Rattle.paired_code.specs.Pieces.{Will}
 use Rattle.paired_code.specs.Does.{Fine, told_then, Meets, fine}
 use Rattle.paired_code.proofs.Laws.{will_more}

@@ -4,7 +4,8 @@ use Rattle.std.specs.Prelude.{not, nat_lt, slice_index, slice_set}
 use Rattle.std.proofs.lemmas.List.{get_or-set_other}
 use Rattle.std.proofs.Math.ListN.{length-set}
 use Rattle.rpp_tree.specs.declared.tree.Ident.{Ident}
-use Rattle.paired_code.specs.Machine.{Memory, Image}
+use Rattle.pisa_isa.specs.Machine.{Memory}
+use Rattle.paired_code.specs.Machine.{Image}
 use Rattle.paired_code.specs.Layout.{check_cells}
 use Rattle.paired_code.specs.Pieces.{Outcome, Done, Trapped, Will, after}
 use Rattle.paired_code.specs.Does.{Fault, Meets, fine, faults}

@@ -4,7 +4,8 @@ use Rattle.std.specs.Prelude.{not, nat_lt, slice_index, None}
 use Rattle.rpp_tree.specs.declared.tree.Ident.{Ident}
 use Rattle.rpp_tree.specs.Tree.{Call, Procedure}
 use Rattle.class_table.specs.Classes.{method_named}
-use Rattle.paired_code.specs.Machine.{Memory, reg, with_reg}
+use Rattle.pisa_isa.specs.Machine.{Memory}
+use Rattle.paired_code.specs.Machine.{reg, with_reg}
 use Rattle.paired_code.specs.Layout.{xor, Routine, Tidy, enter_at_cells}
 use Rattle.paired_code.specs.Pieces.{Outcome, Done, Trapped, Will, after}
 use Rattle.paired_code.specs.Does.{Told, Fault, plus, told_then, Meets, fine, faults, more}

@@ -1,6 +1,7 @@
 -- The code of calls, of methods and of blocks with a local variable.
 use Rattle.std.specs.Prelude.{ℕ, ◌+◌, Bool, false, List, [], ◌∷◌, ◌++◌, length}
 use Rattle.rpp_words.specs.Words.{negated}
+use Rattle.rpp_words.specs.declared.input.TheConstants.{FRAME_WORDS}
 use Rattle.statement_laws.specs.declared.spot.Spot.{Spot}
 use Rattle.statement_laws.specs.declared.spot.Spot.TheVariants.{Field, Frame}
 use Rattle.rpp_tree.specs.declared.tree.Ident.{Ident}
@@ -41,7 +42,7 @@ first_word = 16
 
 -- register 6 gets the address of a word of the frame above
 abbrev pub above_row : ℕ → List Cell
-above_row word = add 6 4 ∷ addi 6 (512 + word) ∷ []
+above_row word = add 6 4 ∷ addi 6 (FRAME_WORDS + word) ∷ []
 
 -- the value of a variable moves into word 16 + j of the frame above; back, the variable is to be 0
 abbrev pub move_code : Spot → ℕ → List Symbol
@@ -58,7 +59,7 @@ moves_code spot (name ∷ names) = moves_code spot names ++ move_code (spot name
 abbrev pub depth_row : List Cell
 depth_row =
     addi 5 4 ∷ exch 6 5 ∷ add 8 6 ∷ exch 6 5 ∷ addi 5 (negated 4)
-    ∷ sub 8 4 ∷ addi 8 (negated 512) ∷ sltx 11 7 8 ∷ xori 11 1 ∷ []
+    ∷ sub 8 4 ∷ addi 8 (negated FRAME_WORDS) ∷ sltx 11 7 8 ∷ xori 11 1 ∷ []
 
 abbrev pub depth_code : List Symbol
 depth_code = around (line depth_row) (check_cells 11 14)
@@ -72,7 +73,7 @@ fetch_row slot =
 
 -- before a call on the present object
 abbrev pub front_code : (Ident → Spot) → ℕ → List Ident → List Symbol
-front_code spot slot args = depth_code ++ (moves_code spot args ++ line (addi 4 512 ∷ fetch_row slot))
+front_code spot slot args = depth_code ++ (moves_code spot args ++ line (addi 4 FRAME_WORDS ∷ fetch_row slot))
 
 -- a call or uncall on the present object
 abbrev pub call_code : (Ident → Spot) → Bool → ℕ → List Ident → List Symbol
@@ -124,7 +125,7 @@ abbrev pub front_on_code : (Ident → Spot) → Ident → ℕ → List Ident →
 front_on_code spot x slot args =
     nil_code (spot x) ++ (depth_code
     ++ (moves_code spot args ++ (take_code (spot x)
-    ++ (onto_code ++ line (addi 4 512 ∷ fetch_row slot)))))
+    ++ (onto_code ++ line (addi 4 FRAME_WORDS ∷ fetch_row slot)))))
 
 -- a call or uncall on the object of a variable
 abbrev pub call_on_code : (Ident → Spot) → Bool → Ident → ℕ → List Ident → List Symbol
@@ -137,7 +138,7 @@ moves_of (spot ∷ spots) = moves_of spots ++ move_code spot (length spots)
 
 -- the last cells before a call, under one name
 unfoldable pub last_cells : ℕ → List Symbol
-last_cells slot = line (addi 4 512 ∷ fetch_row slot)
+last_cells slot = line (addi 4 FRAME_WORDS ∷ fetch_row slot)
 
 -- the cells behind the moves of the arguments, under one name
 unfoldable pub behind_of : Spot → ℕ → List Symbol

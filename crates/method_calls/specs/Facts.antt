@@ -1,5 +1,6 @@
 -- What calls need of the layers below: the open frame, the class table, the image.
 use Rattle.std.specs.Prelude.{◌≡◌, ◌≢◌, ℕ, ◌+◌, ◌^◌, ◌<◌, ◌≤◌, Bool, true, false, not, nat_lt, List, [], ◌∷◌, length, map, slice_index, slice_set, bit_xor}
+use Rattle.rpp_words.specs.declared.input.TheConstants.{FRAME_WORDS}
 use Rattle.rpp_tree.specs.declared.tree.Ident.{Ident}
 use Rattle.rpp_tree.specs.declared.tree.Var.{Var}
 use Rattle.paired_code.specs.Does.{Fine}
@@ -48,8 +49,8 @@ pub record MovesBack (cells : List ℕ) (at up : ℕ) (free : Bool) (After : Lis
 pub record HasEnd (cells : List ℕ) (frame : ℕ) (full : Bool) : Type 0 where
   pub cell_in : 4 < length cells
   pub small : slice_index cells 4 < 2 ^ 31
-  pub at_end : full ≡ true → frame + 512 ≡ slice_index cells 4
-  pub room : full ≡ false → frame + 512 < slice_index cells 4
+  pub at_end : full ≡ true → frame + FRAME_WORDS ≡ slice_index cells 4
+  pub room : full ≡ false → frame + FRAME_WORDS < slice_index cells 4
 
 -- the table of an object's class, and the place that stands in a slot
 pub record HasPlace (cells : List ℕ) (object slot place : ℕ) : Type 0 where
@@ -75,7 +76,8 @@ vals_from (c ∷ cs) st = read (out_from cs st) c ∷ vals_from cs st
 
 -- what is known of names when code is made, and what stays while a frame is open
 pub record Known (w : World) : Type 1 where
-  -- a name is a variable or a field; where it stands; a method of the present object with these arguments, and its slot
+  -- a name is a variable or a field; where it stands; a method of the present object with these
+  -- arguments, and its slot
   pub IsVariable : Scope → Ident → Type 0
   pub spot : Scope → Ident → Spot
   pub IsMethod : Scope → Ident → List Ident → Type 0
@@ -128,7 +130,7 @@ pub record FrameFacts (w : World) (knows : Known w) : Type 0 where
       → w.opens s u vals st cells → knows.IsVariable s name → length vals < 32
       → not (nat_lt (knows.depth_of u) w.setting.limits.deep) ≡ false
       → MovesIn cells (address (w.object_of u) (w.frame_of u) (knows.spot s name))
-      (w.frame_of u + (512 + (first_word + length vals)))
+      (w.frame_of u + (FRAME_WORDS + (first_word + length vals)))
       (w.opens s u (record { from = name; value = read st (knows.cell_of s u name) } ∷ vals)
       (written st (knows.cell_of s u name) (cleared (read st (knows.cell_of s u name)))))
   pub moves_back :
@@ -136,7 +138,7 @@ pub record FrameFacts (w : World) (knows : Known w) : Type 0 where
       (name : Ident)
       → w.opens s u (record { from = name; value = v } ∷ vals) st cells → knows.IsVariable s name
       → MovesBack cells (address (w.object_of u) (w.frame_of u) (knows.spot s name))
-      (w.frame_of u + (512 + (first_word + length vals)))
+      (w.frame_of u + (FRAME_WORDS + (first_word + length vals)))
       (is_zero (read st (knows.cell_of s u name)))
       (w.opens s u vals (written st (knows.cell_of s u name) v))
   -- ---- a frame with all arguments above it is the callee's open frame, and back
@@ -172,7 +174,7 @@ pub record FrameFacts (w : World) (knows : Known w) : Type 0 where
       → w.object_of (knows.deeper s u st) ≡ w.object_of u
   pub fresh : (s : Scope) (u : w.Under) (st : State) → w.IsFresh (knows.deeper s u st)
   pub next_frame : (s : Scope) (u : w.Under) (st : State)
-      → w.frame_of (knows.deeper s u st) ≡ w.frame_of u + 512
+      → w.frame_of (knows.deeper s u st) ≡ w.frame_of u + FRAME_WORDS
   -- ---- the class table
   pub is_routine : (s : Scope) (u : w.Under) (vals : List Moved) (st : State) (cells : List ℕ)
       (name : Ident) (args : List Ident)
@@ -209,7 +211,8 @@ pub record FrameFacts (w : World) (knows : Known w) : Type 0 where
   pub put_object : (u : w.Under) (link place : ℕ) → w.object_of (knows.put u link place) ≡ w.object_of u
   pub put_frame : (u : w.Under) (link place : ℕ) → w.frame_of (knows.put u link place) ≡ w.frame_of u
 
--- what main needs of them, for an input: its frame is the first one, and where it is the only one, the memory is the layout
+-- what main needs of them, for an input: its frame is the first one, and where it is the only one,
+-- the memory is the layout
 pub record MainFacts (w : World) (statics : List ℕ) (input : List FieldWord) : Type 0 where
   pub main : ℕ
   pub is_routine : main < w.routines.count
@@ -251,7 +254,8 @@ pub record LocalFacts (w : World) (IsInit : Scope → Var → Expression → Typ
   pub var_word : (s : Scope) (u : w.Under) (st : State) (cells : List ℕ) (var : Var) (e : Expression)
       → w.opens (with_var s var) u [] st cells → IsInit s var e
       → slice_index cells (w.frame_of u + new_word s) ≡ w.word_of u st (read st (Slot 0))
-  -- where its word is taken away, expressions can be read; and where the value is the closing one, the frame is open without it
+  -- where its word is taken away, expressions can be read; and where the value is the closing one,
+  -- the frame is open without it
   pub undeclares : (s : Scope) (u : w.Under) (st : State) (cells : List ℕ) (var : Var) (e : Expression)
       → w.opens (with_var s var) u [] st cells → IsInit s var e
       → w.reads s u (closed st) (slice_set cells (w.frame_of u + new_word s) 0)
@@ -287,7 +291,8 @@ pub record GoesOn (cells : List ℕ) (at up object word : ℕ) (After : List ℕ
   pub moved : After (slice_set (slice_set cells at 0) up object)
 
 -- and back, where the cell still reads nil
-pub record ComesBack (cells : List ℕ) (at up object word : ℕ) (free : Bool) (After : List ℕ → Type 0) : Type 0 where
+pub record ComesBack (cells : List ℕ) (at up object word : ℕ) (free : Bool)
+    (After : List ℕ → Type 0) : Type 0 where
   pub at_in : at < length cells
   pub up_in : up < length cells
   pub apart : at ≢ up
@@ -296,8 +301,9 @@ pub record ComesBack (cells : List ℕ) (at up object word : ℕ) (free : Bool) 
   pub untouched : free ≡ true → slice_index cells at ≡ 0
   pub back : free ≡ true → After (slice_set (slice_set cells up 0) at word)
 
--- what is known of receivers: a variable x whose class has the method, with so many arguments; the method's slot; what stays
--- while the call is open; and that an object of a class may stand in the variable
+-- what is known of receivers: a variable x whose class has the method, with so many arguments; the
+-- method's slot; what stays while the call is open; and that an object of a class may stand in the
+-- variable
 pub record Receivers (w : World) : Type 1 where
   pub IsReceiver : Scope → Ident → Ident → List Ident → Type 0
   pub slot_on : Scope → Ident → Ident → ℕ
@@ -312,7 +318,7 @@ pub record ReceiverFacts (w : World) (knows : Known w) (on : Receivers w) : Type
       → on.slot_on s x name < 2 ^ 20
   pub fresh_on : (s : Scope) (u : w.Under) (st : State) (n : ℕ) → w.IsFresh (on.deeper_on s u st n)
   pub next_frame_on : (s : Scope) (u : w.Under) (st : State) (n : ℕ)
-      → w.frame_of (on.deeper_on s u st n) ≡ w.frame_of u + 512
+      → w.frame_of (on.deeper_on s u st n) ≡ w.frame_of u + FRAME_WORDS
   -- the word of a receiver: 0 for nil, else an address
   pub at_in : (s : Scope) (u : w.Under) (st : State) (cells : List ℕ) (x name : Ident) (args : List Ident)
       → w.opens s u [] st cells → on.IsReceiver s x name args
@@ -382,7 +388,7 @@ pub record ReceiverFacts (w : World) (knows : Known w) (on : Receivers w) : Type
       → not (nat_lt (knows.depth_of u) w.setting.limits.deep) ≡ false
       → is_nil (read st (knows.cell_of s u x)) ≡ false → number_of (read st (knows.cell_of s u x)) ≡ n
       → GoesOn cells (address (w.object_of u) (w.frame_of u) (knows.spot s x))
-      (w.frame_of u + (512 + 1)) (w.object_of u)
+      (w.frame_of u + (FRAME_WORDS + 1)) (w.object_of u)
       (w.object_of (on.deeper_on s u
       (written st (knows.cell_of s u x) (cleared (read st (knows.cell_of s u x)))) n))
       (w.opens (w.routines.scope
@@ -411,7 +417,7 @@ pub record ReceiverFacts (w : World) (knows : Known w) (on : Receivers w) : Type
       (on.deeper_on s u st n) [] end cells
       → on.IsReceiver s x name args → on.IsFor s x (knows.class_of (on.deeper_on s u st n))
       → ComesBack cells (address (w.object_of u) (w.frame_of u) (knows.spot s x))
-      (w.frame_of u + (512 + 1)) (w.object_of u) (w.object_of (on.deeper_on s u st n))
+      (w.frame_of u + (FRAME_WORDS + 1)) (w.object_of u) (w.object_of (on.deeper_on s u st n))
       (is_zero (read (record st { store = end.store; log = end.log }) (knows.cell_of s u x)))
       (w.opens s u (pairs args (map (λ binding. binding.value) end.frame))
       (written (record st { store = end.store; log = end.log }) (knows.cell_of s u x) (Name n)))

@@ -5,8 +5,8 @@ use Rattle.rpp_tree.specs.declared.tree.Ident.{Ident}
 use Rattle.rpp_tree.specs.declared.tree.Var.{Var}
 use Rattle.rpp_tree.specs.Tree.{Expression, Null, Whole, Item, Statements, Local, Construct, Call, Procedure}
 use Rattle.pisa_isa.specs.Loaded.{loaded}
+use Rattle.pisa_isa.specs.Machine.{Memory}
 use Rattle.paired_code.specs.declared.part.Symbol.{Symbol}
-use Rattle.paired_code.specs.Machine.{Memory}
 use Rattle.paired_code.specs.Pieces.{Will}
 use Rattle.paired_code.specs.Does.{Meets}
 use Rattle.roopl_semantics.specs.Store.{State}
@@ -23,8 +23,9 @@ use Rattle.method_calls.specs.Names.{HasMethod, IsReceiver, IsInit, known_of, re
 
 -- ---- blocks with a local variable
 
--- Its word takes the value and, behind the body, is to be the closing value, or it stops with fault 3; back it is the inverse
--- statement, where the two values change places. So are the blocks that `construct` and calls on elements mean.
+-- Its word takes the value and, behind the body, is to be the closing value, or it stops with fault
+-- 3; back it is the inverse statement, where the two values change places. So are the blocks that
+-- `construct` and calls on elements mean.
 pub record LocalCode (word : ℕ) (v p x all : List Symbol) : Type 0 where
   pub law : (place : Place) (s : Scope) (at : ℕ) (var : Var) (value : Expression)
       (body : Statements) (end_var : Var) (end_value : Expression)
@@ -70,9 +71,9 @@ abbrev pub AreVariables : (w : World) → Known w → Scope → List Ident → T
 AreVariables w knows s [] = Unit {0}
 AreVariables w knows s (name ∷ names) = knows.IsVariable s name × AreVariables w knows s names
 
--- A call or uncall on the present object of the method in a slot, with arguments at these spots. It stops with fault 14 where
--- one more call may not be open, and with fault 15 where an argument does not move back. Which method it is, the class of the
--- object tells.
+-- A call or uncall on the present object of the method in a slot, with arguments at these spots. It
+-- stops with fault 14 where one more call may not be open, and with fault 15 where an argument does
+-- not move back. Which method it is, the class of the object tells.
 pub record OwnCallCode (back : Bool) (slot : ℕ) (spots : List Spot) (all : List Symbol) : Type 0 where
   pub law : (place : Place) (routine : ℕ → Ident → ℕ) (s : Scope) (at : ℕ) (name : Ident)
       (args : List Ident)
@@ -84,9 +85,10 @@ pub record OwnCallCode (back : Bool) (slot : ℕ) (spots : List Spot) (all : Lis
       → NamesApart (world_of place) (known_of place routine) s args
       → StmtLaw (world_of place) s (Call at back None name args) all
 
--- A call or uncall on the object of a variable at a spot: fault 5 comes before fault 14, where the variable is nil, and fault 15
--- where it does not move back.
-pub record CallOnCode (back : Bool) (spot : Spot) (slot : ℕ) (spots : List Spot) (all : List Symbol) : Type 0 where
+-- A call or uncall on the object of a variable at a spot: fault 5 comes before fault 14, where the
+-- variable is nil, and fault 15 where it does not move back.
+pub record CallOnCode (back : Bool) (spot : Spot) (slot : ℕ) (spots : List Spot)
+    (all : List Symbol) : Type 0 where
   pub law : (place : Place) (routine : ℕ → Ident → ℕ) (s : Scope) (at : ℕ) (x name : Ident)
       (args : List Ident)
       → FrameFacts (world_of place) (known_of place routine)
@@ -111,7 +113,8 @@ pub record MethodCode (p all : List Symbol) : Type 0 where
 abbrev pub quiet : List ℕ → Memory
 quiet cells = record { regs = registers 0 0 0 0 0 0 0 0; cells = cells }
 
--- The main piece, from the loaded memory: it does what the source says of `main`, and leaves the layout with zero registers.
+-- The main piece, from the loaded memory: it does what the source says of `main`, and leaves the
+-- layout with zero registers.
 pub record MainCode (number : ℕ) (all : List Symbol) : Type 0 where
   pub law : (place : Place) (routine : ℕ → Ident → ℕ) (input : List FieldWord)
       → FrameFacts (world_of place) (known_of place routine)

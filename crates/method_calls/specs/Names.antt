@@ -41,7 +41,8 @@ AllTyped program s (x ∷ names) (k ∷ ks) =
     × AllTyped program s names ks
 
 -- a method of a class, with arguments of its parameters' types
-pub record HasMethod (program : Source) (s : Scope) (class : ℕ) (name : Ident) (args : List Ident) : Type 0 where
+pub record HasMethod (program : Source) (s : Scope) (class : ℕ) (name : Ident)
+    (args : List Ident) : Type 0 where
   pub slot : ℕ
   pub is_slot : slot_in (table_of program) class name.text ≡ Some slot
   pub small : slot < 2 ^ 20

@@ -15,7 +15,7 @@ ghost use Rattle.method_calls.specs.Laws.{MethodCode, MainCode, OwnCallCode};
 
 use paired_code::{Piece, check_zero, empty, enter, enter_at, mirror, plain, seq};
 use pisa_isa::{Cell, Op};
-use rpp_words::NoMemory;
+use rpp_words::{FRAME_WORDS, NoMemory};
 use statement_laws::{Spot, around};
 use std::alloc::Global;
 
@@ -95,7 +95,7 @@ pub(crate) fn above_piece(alloc: Global, word: u32) -> Result<Piece, NoMemory>
     requires { word < 2 ^ 16 }
     ensures code { IfOk result (λ p. p ≡ unmarked (line (above_row word))) }
 {
-    then(alloc, plain(alloc, add(6, 4))?, addi(6, 512 + word))
+    then(alloc, plain(alloc, add(6, 4))?, addi(6, FRAME_WORDS + word))
 }
 
 // The word of the variable leaves, checked when it comes back.
@@ -138,7 +138,7 @@ fn depth_test(alloc: Global) -> Result<Piece, NoMemory>
     let test = then(alloc, test, exch(6, 5))?;
     let test = then(alloc, test, addi(5, negated(4)))?;
     let test = then(alloc, test, sub(8, 4))?;
-    let test = then(alloc, test, addi(8, negated(512)))?;
+    let test = then(alloc, test, addi(8, negated(FRAME_WORDS)))?;
     let test = then(alloc, test, sltx(11, 7, 8))?;
     then(alloc, test, xori(11, 1))
 }
@@ -155,7 +155,7 @@ pub(crate) fn fetch_piece(alloc: Global, slot: u32) -> Result<Piece, NoMemory>
     requires { slot < 2 ^ 20 }
     ensures code { IfOk result (λ p. p ≡ unmarked (last_cells slot)) }
 {
-    let piece = then(alloc, plain(alloc, addi(4, 512))?, add(5, 3))?;
+    let piece = then(alloc, plain(alloc, addi(4, FRAME_WORDS))?, add(5, 3))?;
     let piece = then(alloc, piece, exch(6, 5))?;
     let piece = then(alloc, piece, add(8, 6))?;
     let piece = then(alloc, piece, exch(6, 5))?;
@@ -277,7 +277,8 @@ fn own_piece(alloc: Global, back: bool, slot: u32, args: &[Spot]) -> Result<Piec
     )
 }
 
-/// A call or uncall on the present object of the method in a slot, with arguments that stand at these spots.
+/// A call or uncall on the present object of the method in a slot, with arguments that stand at
+/// these spots.
 #[tactic(auto, using(crate::proofs::Clauses::own_clause, crate::proofs::Clauses::own_length))]
 pub fn own_call(alloc: Global, back: bool, slot: u32, args: &[Spot]) -> Result<Piece, NoMemory>
     requires near { All IsNear args.now }

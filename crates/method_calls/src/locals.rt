@@ -77,8 +77,8 @@ fn local_piece(
     )
 }
 
-/// The code of a block with a local variable in this word of the frame, over the pieces of its value, its block and the closing
-/// value.
+/// The code of a block with a local variable in this word of the frame, over the pieces of its
+/// value, its block and the closing value.
 #[tactic(auto, using(crate::proofs::Clauses::local_clause, crate::proofs::Clauses::local_length))]
 pub fn local_block(
     alloc: Global,

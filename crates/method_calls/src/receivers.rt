@@ -142,7 +142,8 @@ fn on_piece(
     )
 }
 
-/// A call or uncall on the object of the variable at a spot, of the method in a slot, with arguments that stand at these spots.
+/// A call or uncall on the object of the variable at a spot, of the method in a slot, with
+/// arguments that stand at these spots.
 #[tactic(auto, using(crate::proofs::Clauses::on_clause, crate::proofs::Clauses::on_length))]
 pub fn call_on(
     alloc: Global,

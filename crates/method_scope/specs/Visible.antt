@@ -1,5 +1,5 @@
--- Where the visible variables of a method stand: parameters and locals in words of the open frame, fields in the present
--- object.
+-- Where the visible variables of a method stand: parameters and locals in words of the open frame,
+-- fields in the present object.
 use Rattle.std.specs.Prelude.{ℕ, suc, ◌+◌, List, [], ◌∷◌, length, reverse, Option, Some, None, slice_get, if◌then◌else◌}
 use Rattle.std.specs.Option.{option_or, option_map, unwrap_or}
 use Rattle.std.specs.Str.{bytes_eq}
@@ -16,7 +16,8 @@ use Rattle.statement_laws.specs.declared.spot.Spot.TheVariants.{Field, Frame}
 use Rattle.method_scope.specs.declared.known.Names.{Names}
 use Rattle.method_scope.specs.declared.known.TheConstants.{FIRST_VARIABLE}
 
--- how far a spot stands from the address of its object or frame: before the fields stand the class and the count
+-- how far a spot stands from the address of its object or frame: before the fields stand the class
+-- and the count
 abbrev pub offset_of : Spot → ℕ
 offset_of (Field i) = 2 + i
 offset_of (Frame i) = i

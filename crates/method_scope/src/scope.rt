@@ -40,7 +40,11 @@ impl<'a> Model for Scope<'a> {
     ghost use Rattle.std.specs.Prelude.{◌≤◌, length, reverse};
     ghost use Rattle.method_scope.specs.declared.known.TheConstants.{MOST_VARIABLES};
 
-    ghost view = { λ s. record { program = s.checked.now; method = s.method; variables = reverse s.variables.items } };
+    ghost view = { λ s. record {
+      program = s.checked.now;
+      method = s.method;
+      variables = reverse s.variables.items;
+    } };
 
     ghost invariant = { λ s. length s.variables.items ≤ MOST_VARIABLES };
 }

@@ -1,18 +1,20 @@
--- `new` and `delete` of arrays against the source's rows, in both directions, with faults, counts and steps, from what a relation gives.
-use Rattle.std.proofs.Common.{◌≡◌, ◌≢◌, ℕ, suc, ◌+◌, ◌*◌, ◌^◌, ◌<◌, ◌≤◌, Bool, true, false, List, [], ◌∷◌, ◌++◌, length, refl, sym, ap, ◌∙◌, subst, arith}
+-- `new` and `delete` of arrays against the source's rows, in both directions, with faults, counts
+-- and steps, from what a relation gives.
+use Rattle.std.proofs.Common.{◌≡◌, ◌≢◌, ℕ, ◌+◌, ◌*◌, ◌^◌, ◌<◌, ◌≤◌, Bool, true, false, List, refl, sym, ap, ◌∙◌, subst, arith}
 use Rattle.std.specs.Prelude.{slice_index, nat_eq, not, replicate, Result, Ok, Err}
 use Rattle.std.proofs.lemmas.Bool.Decides.{nat_tests}
 use Rattle.std.proofs.lemmas.Int.{ints}
 use Rattle.rpp_words.specs.Words.{is_less}
 use Rattle.rpp_tree.specs.declared.tree.Ident.{Ident}
-use Rattle.rpp_tree.specs.Tree.{Expression, Whole, Ints, Objects, New, Delete, nodes, index_nodes}
+use Rattle.rpp_tree.specs.Tree.{Expression, Whole, Ints, Objects, New, Delete, nodes}
 use Rattle.buddy_pisa.specs.Promise.{most_steps}
+use Rattle.pisa_isa.specs.Machine.{Memory}
 use Rattle.paired_code.specs.declared.part.Symbol.{Symbol}
-use Rattle.paired_code.specs.Machine.{Memory, Image}
+use Rattle.paired_code.specs.Machine.{Image}
 use Rattle.paired_code.specs.Layout.{mirror_cells}
 use Rattle.paired_code.specs.Pieces.{Outcome, Will}
-use Rattle.paired_code.specs.Does.{Rates, Fine, Fault, Meets, fine, faults, Does}
-use Rattle.paired_code.proofs.Laws.{will_of, will_more}
+use Rattle.paired_code.specs.Does.{Rates, Fine, Fault, Meets, fine, Does}
+use Rattle.paired_code.proofs.Laws.{will_more}
 use Rattle.paired_code.proofs.Mirrored.{will_mirror}
 use Rattle.roopl_semantics.specs.Run.{Run, after_cost, given, give, spend, fault_if, ◌>>=◌}
 use Rattle.roopl_semantics.specs.Store.{Value, Word, Nil, Name, Head, OfInts, OfObjects, State, number_of, is_nil}
@@ -24,15 +26,15 @@ use Rattle.expr_uncompute.specs.Code.{words, place_words}
 use Rattle.expr_uncompute.specs.Number.{number, place_address}
 use Rattle.expr_uncompute.specs.Steps.{place_steps, fetch_steps}
 use Rattle.expr_uncompute.specs.Laws.{bases_of, Stays}
-use Rattle.expr_uncompute.specs.Promises.{free_at, IsTrap}
-use Rattle.expr_uncompute.specs.Found.{LeavesWithin, leaves_within, TrapsWithin, traps_within, found_value_steps}
+use Rattle.expr_uncompute.specs.Promises.{free_at}
+use Rattle.expr_uncompute.specs.Found.{LeavesWithin, leaves_within, TrapsWithin, found_value_steps}
 use Rattle.expr_uncompute.specs.Means.{shown, shown_result, cell_address, SameValues}
 use Rattle.expr_uncompute.proofs.Bounds.{fetch_most, found_value_most, found_value_least}
 use Rattle.expr_uncompute.proofs.Meaning.{number_is}
 use Rattle.object_codegen.specs.declared.shape.Shape.TheVariants.{Lengthy}
 use Rattle.buddy_book.specs.Book.{order_for}
 use Rattle.object_codegen.specs.News.{filled, whole_steps, Makes, ArrayLaw}
-use Rattle.expr_uncompute.proofs.StatementRows.{rated, less}
+use Rattle.expr_uncompute.proofs.Rated.{rated, less, trap_meets, stop_meets}
 use Rattle.object_codegen.proofs.CopyRows.{Refers}
 use Rattle.object_codegen.proofs.MakeFacts.{length_at, count_at, is_empty, is_full, made, number_in, KeepsNames, ArrayStands, ArrayFacts}
 use Rattle.object_codegen.proofs.MakeKept.{kept_numbers}
@@ -87,18 +89,6 @@ module _ (setting : Setting) (address slot : State → ℕ → ℕ) (R : State �
   number_at st m r v e =
       number_is (address st) (slot st) setting.program st spot (bases_of m) m.cells size (facts.size_means st m r) ∙ ap (shown_result (address st) (slot st)) e ∙ ap Ok (sym (facts.is_int st m v r e))
 
-  trap_meets : (d : Bool) (m : Memory) (c cost steps : ℕ) → steps ≤ 500 * cost → IsTrap im p d m c steps → Will im p d m (Meets R rates n0 0 (Fault c cost))
-  trap_meets d m c cost steps l t =
-      let e = rated 500 rates.steps steps cost many l in
-      let l' = t.1 in
-      will_of im p d m _ _ t.2 (faults (omega arith))
-
-  stop_meets : (d : Bool) (m : Memory) (c cost steps : ℕ) → steps ≤ 500 * cost → Will im p d m (TrapsWithin c steps) → Will im p d m (Meets R rates n0 0 (Fault c cost))
-  stop_meets d m c cost steps l w = will_more im p d m _ _ over w
-    where
-      over : (o : Outcome) → TrapsWithin c steps o → Meets R rates n0 0 (Fault c cost) o
-      over _ (traps_within k h) = let e = rated 500 rates.steps steps cost many l in faults (omega arith)
-
   leave_meets : (d : Bool) (m m' : Memory) (st' : State) (n c : ℕ) → R st' m' → c ≡ 1 + nodes size + (setting.limits.heap + 1) + n
       → Will im p d m (LeavesWithin m' (whole_steps (found_value_steps (Whole name) size) Lengthy n (setting.limits.heap + 1)) (whole_steps (found_value_steps (Whole name) size) Lengthy n (most_steps setting.limits.heap + 7))) → Will im p d m (Meets R rates n0 0 (Fine st' c))
   leave_meets d m m' st' n c r e w = will_more im p d m _ _ over w
@@ -131,7 +121,7 @@ module _ (setting : Setting) (address slot : State → ℕ → ℕ) (R : State �
 
     -- a fault with the cost of the place and the length
     fault_meets : (d : Bool) (code extra c : ℕ) → extra ≤ 26 → c ≡ 1 + nodes size → Will im p d m (TrapsWithin code (found_value_steps (Whole name) size + extra)) → Will im p d m (Meets R rates n0 0 (Fault code c))
-    fault_meets d code extra c l e t = let up = found_value_most (Whole name) size in stop_meets d m code c (found_value_steps (Whole name) size + extra) (omega arith) t
+    fault_meets d code extra c l e t = let up = found_value_most (Whole name) size in stop_meets R rates 500 many im p n0 d m code c (found_value_steps (Whole name) size + extra) (omega arith) t
 
     new_by : (w : Value) (below full : Bool) → read st (own st) ≡ w → is_less (number_of v) 1 ≡ below → is_full setting (number_of v) st ≡ full
         → Will im p false m (Meets R rates n0 0 (told (sized_row size (own st) (Ok v) (λ v. new_end setting.limits.heap below full w (number_of v) (with_new setting head element (number_of v) (own st) st)))))
@@ -143,7 +133,7 @@ module _ (setting : Setting) (address slot : State → ℕ → ℕ) (R : State �
         (law.length_faults im m object frame (at st) (number_of v) (facts.regs_are st m r) (facts.can st m r) (place_at_is st m r) (number_at st m r v nv) refl (word_at Nil e) (below_one (number_of v) (facts.is_word st m v r nv) eb))
     new_by Nil false true e eb ef =
         let up = found_value_most (Whole name) size in
-        stop_meets false m 8 _ _ (omega arith) (makes.full_faults (most_steps setting.limits.heap + 7) (from_one_on (number_of v) (facts.is_word st m v r nv) eb) (word_at Nil e) (facts.lacks st m v r nv e eb ef))
+        stop_meets R rates 500 many im p n0 false m 8 _ _ (omega arith) (makes.full_faults (most_steps setting.limits.heap + 7) (from_one_on (number_of v) (facts.is_word st m v r nv) eb) (word_at Nil e) (facts.lacks st m v r nv e eb ef))
     new_by Nil false false e eb ef =
         let h = facts.makes st m v r nv e eb ef in
         leave_meets false m _ (with_new setting head element (number_of v) (own st) st) (number_of v) _ h.after (omega arith)
@@ -182,7 +172,7 @@ module _ (setting : Setting) (address slot : State → ℕ → ℕ) (R : State �
             let f1 = f.1 in
             let one : count_at st array ≡ 1 = grind (arith, nat_tests) in
             let up = found_value_most (Whole name) size in
-            stop_meets true m 7 _ _ (omega arith) (makes.not_empty_faults (address st array) (address st array + 2 + f.0) (word_at (Name array) e) (omega arith) (omega arith) some_at (s.mark ∙ same) (s.there.count ∙ one) (omega arith) (omega arith) f.2)
+            stop_meets R rates 500 many im p n0 true m 7 _ _ (omega arith) (makes.not_empty_faults (address st array) (address st array + 2 + f.0) (word_at (Name array) e) (omega arith) (omega arith) some_at (s.mark ∙ same) (s.there.count ∙ one) (omega arith) (omega arith) f.2)
         last true true true es eo ez =
             let i = s.there.small in
             let y = s.some in
@@ -202,7 +192,7 @@ module _ (setting : Setting) (address slot : State → ℕ → ℕ) (R : State �
   pub array_meets : (d : Bool) (st : State) (m : Memory) → R st m → (rv : Result Value ℕ) → value setting.program st size ≡ rv → Will im p d m (Meets R rates n0 0 (told (sized_row size (own st) rv (λ v. end_of setting head element d st (own st) (read st (own st)) (number_of v)))))
   array_meets d st m r (Err c) nv =
       let one = fetch_most size in
-      trap_meets d m c _ (place_steps (Whole name) + fetch_steps size) (omega arith)
+      trap_meets R rates 500 many im p n0 d m c _ (place_steps (Whole name) + fetch_steps size) (omega arith)
       (law.length_value_faults im d m (facts.can st m r) (at st) c (place_at_is st m r) (number_is (address st) (slot st) setting.program st spot (bases_of m) m.cells size (facts.size_means st m r) ∙ ap (shown_result (address st) (slot st)) nv))
   array_meets d st m r (Ok v) nv = ends_by st m v r nv d
 

@@ -2,8 +2,9 @@
 use Rattle.std.proofs.Common.{◌≡◌, ◌≢◌, ℕ, ◌+◌, ◌^◌, ◌<◌, ◌≤◌, Bool, true, false, List, ◌++◌, length, refl, sym, ap, ◌∙◌, subst, arith}
 use Rattle.std.specs.Prelude.{slice_index}
 use Rattle.rpp_tree.specs.Tree.{Lvalue}
+use Rattle.pisa_isa.specs.Machine.{Memory}
 use Rattle.paired_code.specs.declared.part.Symbol.{Symbol}
-use Rattle.paired_code.specs.Machine.{Memory, Image, reg}
+use Rattle.paired_code.specs.Machine.{Image, reg}
 use Rattle.paired_code.specs.Layout.{mirror_cells}
 use Rattle.paired_code.specs.Pieces.{Done, Will}
 use Rattle.paired_code.proofs.Laws.{will_of}

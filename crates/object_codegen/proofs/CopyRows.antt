@@ -1,15 +1,17 @@
--- Copies against the source's rows, in both directions, with faults, counts and steps, from what a relation gives.
+-- Copies against the source's rows, in both directions, with faults, counts and steps, from what a
+-- relation gives.
 use Rattle.std.proofs.Common.{◌≡◌, ◌≢◌, ℕ, suc, ◌+◌, ◌-◌, ◌*◌, ◌^◌, ◌<◌, ◌≤◌, Bool, true, false, List, ◌++◌, length, refl, sym, ap, ◌∙◌, subst, arith}
 use Rattle.std.specs.Prelude.{slice_index, nat_eq, not, ◌||◌, Result, Ok, Err}
 use Rattle.std.proofs.lemmas.Bool.Decides.{nat_tests}
 use Rattle.rpp_tree.specs.declared.tree.VarType.{VarType}
 use Rattle.rpp_tree.specs.Tree.{Lvalue, Whole, Item, Source, Copy, Uncopy, index_nodes}
+use Rattle.pisa_isa.specs.Machine.{Memory}
 use Rattle.paired_code.specs.declared.part.Symbol.{Symbol}
-use Rattle.paired_code.specs.Machine.{Memory, Image}
+use Rattle.paired_code.specs.Machine.{Image}
 use Rattle.paired_code.specs.Layout.{mirror_cells}
 use Rattle.paired_code.specs.Pieces.{Outcome, Will}
-use Rattle.paired_code.specs.Does.{Rates, Fine, Fault, Meets, fine, faults, Does}
-use Rattle.paired_code.proofs.Laws.{will_of, will_more}
+use Rattle.paired_code.specs.Does.{Rates, Fine, Fault, Meets, fine, Does}
+use Rattle.paired_code.proofs.Laws.{will_more}
 use Rattle.paired_code.proofs.Mirrored.{will_mirror}
 use Rattle.roopl_semantics.specs.Run.{Run, after_cost, given, give, spend, fault_if, ◌>>=◌}
 use Rattle.roopl_semantics.specs.Store.{Value, Word, Nil, Name, State, number_of, is_nil, same_value, object_at}
@@ -22,14 +24,14 @@ use Rattle.expr_uncompute.specs.Code.{place_words}
 use Rattle.expr_uncompute.specs.Number.{place_address, read_of, index_of, shares}
 use Rattle.expr_uncompute.specs.Steps.{place_steps}
 use Rattle.expr_uncompute.specs.Laws.{bases_of}
-use Rattle.expr_uncompute.specs.Promises.{free_at, CanRun, IsTrap}
-use Rattle.expr_uncompute.specs.Found.{LeavesWithin, leaves_within, TrapsWithin, traps_within, PlacesStay, found_places_steps}
+use Rattle.expr_uncompute.specs.Promises.{free_at, CanRun}
+use Rattle.expr_uncompute.specs.Found.{LeavesWithin, leaves_within, TrapsWithin, PlacesStay, found_places_steps}
 use Rattle.expr_uncompute.specs.Means.{shown, cell_address, cell_result, MeansPlace, TellsShares, SameCells}
 use Rattle.expr_uncompute.proofs.Bounds.{place_less, found_places_most, found_places_least}
 use Rattle.expr_uncompute.proofs.Meaning.{place_is}
 use Rattle.expr_uncompute.proofs.Sharing.{places_share_is}
 use Rattle.expr_uncompute.proofs.SourceLaws.{same_places}
-use Rattle.expr_uncompute.proofs.StatementRows.{rated, less}
+use Rattle.expr_uncompute.proofs.Rated.{rated, less, trap_meets, stop_meets}
 use Rattle.expr_uncompute.proofs.Transport.{place_means_by}
 use Rattle.expr_uncompute.proofs.Updates.{place_low}
 use Rattle.object_codegen.specs.Promises.{referring, unreferring, Places, CopyLaw, copy_steps}
@@ -134,19 +136,6 @@ module _ (setting : Setting) (address slot : State → ℕ → ℕ) (R : State �
     shares_is : (st : State) (m : Memory) → R st m → shares spot (bases_of m) m.cells target (index_of source) (index_of target) ≡ sharing st
     shares_is st m r = places_share_is (address st) (slot st) setting.program st spot (bases_of m) m.cells source target (facts.source_means st m r) (facts.target_means st m r) (facts.tells st m r)
 
-    -- a trap in so many steps meets the fault, with its cost
-    trap_meets : (d : Bool) (m : Memory) (c cost steps : ℕ) → steps ≤ 370 * cost → IsTrap im p d m c steps → Will im p d m (Meets R rates n0 0 (Fault c cost))
-    trap_meets d m c cost steps l t =
-        let e = rated 370 rates.steps steps cost many l in
-        let l' = t.1 in
-        will_of im p d m _ _ t.2 (faults (omega arith))
-
-    stop_meets : (d : Bool) (m : Memory) (c cost steps : ℕ) → steps ≤ 370 * cost → Will im p d m (TrapsWithin c steps) → Will im p d m (Meets R rates n0 0 (Fault c cost))
-    stop_meets d m c cost steps l w = will_more im p d m _ _ over w
-      where
-        over : (o : Outcome) → TrapsWithin c steps o → Meets R rates n0 0 (Fault c cost) o
-        over _ (traps_within k h) = let e = rated 370 rates.steps steps cost many l in faults (omega arith)
-
     leave_meets : (d : Bool) (m m' : Memory) (st' : State) (c : ℕ) → R st' m' → c ≡ 1 + index_nodes source + index_nodes target + read_cost (own_element target) (index_elements source ++ index_elements target) → Will im p d m (LeavesWithin m' (copy_steps source target) (copy_steps source target)) → Will im p d m (Meets R rates n0 0 (Fine st' c))
     leave_meets d m m' st' c r e w = will_more im p d m _ _ over w
       where
@@ -201,7 +190,7 @@ module _ (setting : Setting) (address slot : State → ℕ → ℕ) (R : State �
 
       -- a fault with the cost of the places
       fault_meets : (d : Bool) (code extra c : ℕ) → extra ≤ 33 → c ≡ 1 + index_nodes source + index_nodes target + read_cost (own_element target) (index_elements source ++ index_elements target) → Will im p d m (TrapsWithin code (found_places_steps source target + extra)) → Will im p d m (Meets R rates n0 0 (Fault code c))
-      fault_meets d code extra c l e t = let most = found_places_most source target in stop_meets d m code c (found_places_steps source target + extra) (omega arith) t
+      fault_meets d code extra c l e t = let most = found_places_most source target in stop_meets R rates 370 many im p n0 d m code c (found_places_steps source target + extra) (omega arith) t
 
       copy_by : (x y : Value) → read st a ≡ x → read st b ≡ y → sharing st ≡ false → Will im p false m (Meets R rates n0 0 (told (pair_row source target (Ok a) (Ok b) (λ a b. kept_by reads false (copy_end st b x y)))))
       copy_by (Word w) y ea eb sh = absurd (subst (Refers (address st)) ea (facts.source_refers st m a r na))
@@ -277,17 +266,17 @@ module _ (setting : Setting) (address slot : State → ℕ → ℕ) (R : State �
       ends_by true false e = uncopy_by (read st a) (read st b) refl refl e
       ends_by d true e =
           let most = found_places_most source target in
-          trap_meets d m 16 _ (found_places_steps source target) (omega arith) (law.sharing_faults im d m (facts.can st m r) (at st a) (at st b) (source_at st m r (Ok a) na) (target_at st m r (Ok b) nb) (shares_is st m r ∙ e))
+          trap_meets R rates 370 many im p n0 d m 16 _ (found_places_steps source target) (omega arith) (law.sharing_faults im d m (facts.can st m r) (at st a) (at st b) (source_at st m r (Ok a) na) (target_at st m r (Ok b) nb) (shares_is st m r ∙ e))
 
     pair_meets : (d : Bool) (st : State) (m : Memory) → R st m → (rx ry : Result Cell ℕ) → cell_of setting.program st source ≡ rx → cell_of setting.program st target ≡ ry
         → Will im p d m (Meets R rates n0 0 (told (pair_row source target rx ry (λ a b. kept_by reads (sharing st) (end_of d st a b (read st a) (read st b))))))
     pair_meets d st m r (Err c) ry nx ny =
         let one = place_less source in
-        trap_meets d m c _ (place_steps source) (omega arith) (law.source_faults im d m (facts.can st m r) c (source_at st m r (Err c) nx))
+        trap_meets R rates 370 many im p n0 d m c _ (place_steps source) (omega arith) (law.source_faults im d m (facts.can st m r) c (source_at st m r (Err c) nx))
     pair_meets d st m r (Ok a) (Err c) nx ny =
         let one = place_less source in
         let two = place_less target in
-        trap_meets d m c _ (place_steps source + place_steps target) (omega arith) (law.target_faults im d m (facts.can st m r) (at st a) c (source_at st m r (Ok a) nx) (target_at st m r (Err c) ny))
+        trap_meets R rates 370 many im p n0 d m c _ (place_steps source + place_steps target) (omega arith) (law.target_faults im d m (facts.can st m r) (at st a) c (source_at st m r (Ok a) nx) (target_at st m r (Err c) ny))
     pair_meets d st m r (Ok a) (Ok b) nx ny = ends_by st m a b r nx ny d (sharing st) refl
 
     copy_is : (d : Bool) (here n : ℕ) (kind : VarType) (run : Runner) (st : State)

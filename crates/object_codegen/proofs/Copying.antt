@@ -4,10 +4,10 @@ use Rattle.std.specs.Prelude.{slice_index, slice_set, bit_xor, nat_eq}
 use Rattle.std.proofs.lemmas.List.{get_or-set_same, get_or-set_other}
 use Rattle.std.specs.Int.Bits.{xor_zero_l}
 use Rattle.std.proofs.lemmas.Bool.Decides.{nat_tests}
+use Rattle.pisa_isa.specs.Machine.{Memory}
 use Rattle.rpp_words.proofs.Laws.{xor-twice}
 use Rattle.rpp_words.specs.Words.{is_less}
 use Rattle.pisa_isa.specs.Table.{word_of}
-use Rattle.paired_code.specs.Machine.{Memory}
 use Rattle.roopl_semantics.specs.Operators.{truth_word}
 use Rattle.expr_uncompute.specs.Code.{outcome, place, other_place, first_word, addi, xori, sltx}
 use Rattle.expr_uncompute.specs.Number.{Bases}

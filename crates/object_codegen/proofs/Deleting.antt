@@ -5,7 +5,7 @@ use Rattle.std.specs.Int.Bits.{xor_zero_l}
 use Rattle.rpp_words.specs.Words.{is_less, sum_of}
 use Rattle.rpp_words.proofs.Laws.{xor-twice}
 use Rattle.pisa_isa.specs.Table.{word_of}
-use Rattle.paired_code.specs.Machine.{Memory}
+use Rattle.pisa_isa.specs.Machine.{Memory}
 use Rattle.paired_code.specs.Layout.{mirror_cells}
 use Rattle.roopl_semantics.specs.Operators.{truth_word}
 use Rattle.expr_uncompute.specs.Code.{content, outcome, nought, amount, place, right_truth, first_word, exch, addi, xori, sltx}

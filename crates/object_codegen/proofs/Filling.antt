@@ -4,9 +4,10 @@ use Rattle.std.specs.Prelude.{slice_index, slice_set, bit_xor}
 use Rattle.std.specs.Int.Bits.{xor_zero_l}
 use Rattle.std.proofs.lemmas.List.{get_or-set_other}
 use Rattle.rpp_words.proofs.Laws.{xor-twice}
+use Rattle.pisa_isa.specs.Machine.{Memory}
 use Rattle.paired_code.specs.declared.part.Symbol.{Symbol}
 use Rattle.paired_code.specs.declared.part.Symbol.TheVariants.{Enter}
-use Rattle.paired_code.specs.Machine.{Memory, Image}
+use Rattle.paired_code.specs.Machine.{Image}
 use Rattle.paired_code.specs.Pieces.{Will}
 use Rattle.expr_uncompute.specs.Code.{addi}
 use Rattle.expr_uncompute.specs.Number.{Bases}

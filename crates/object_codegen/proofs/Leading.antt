@@ -1,7 +1,9 @@
--- A piece that leads from one memory to another and back, in an image, within so many steps; and one that traps.
+-- A piece that leads from one memory to another and back, in an image, within so many steps; and
+-- one that traps.
 use Rattle.std.proofs.Common.{ℕ, ◌+◌, ◌≤◌, true, false, List, ◌++◌, arith}
+use Rattle.pisa_isa.specs.Machine.{Memory}
 use Rattle.paired_code.specs.declared.part.Symbol.{Symbol}
-use Rattle.paired_code.specs.Machine.{Memory, Image}
+use Rattle.paired_code.specs.Machine.{Image}
 use Rattle.paired_code.specs.Layout.{mirror_cells}
 use Rattle.paired_code.specs.Pieces.{Outcome, Trapped, Will, after}
 use Rattle.paired_code.proofs.Laws.{Next, will_of, will_more, will_seq, will_seq_back}

@@ -8,7 +8,8 @@ use Rattle.rpp_tree.specs.Tree.{Expression, Null, Lvalue, Whole}
 use Rattle.class_table.specs.Classes.{class_number, class_fields}
 use Rattle.buddy_book.specs.Place.{Log, Taken, count_taken, place as place_log}
 use Rattle.buddy_pisa.specs.Promise.{most_steps}
-use Rattle.paired_code.specs.Machine.{Memory, Image}
+use Rattle.pisa_isa.specs.Machine.{Memory}
+use Rattle.paired_code.specs.Machine.{Image}
 use Rattle.roopl_semantics.specs.Store.{Value, Word, Nil, Name, Head, OfClass, State, number_of, zero_values, object_at}
 use Rattle.roopl_semantics.specs.Value.{Cell, cell_named, read, written, value, cell_of}
 use Rattle.roopl_semantics.specs.Elements.{index_elements, own_element, share_array}
@@ -71,14 +72,16 @@ module _ (setting : Setting) (address slot : State → ℕ → ℕ) (R : State �
   abbrev pub KeepsNames : (st st' : State) → Type 0
   KeepsNames st st' = (a a' : Cell) (n : ℕ) → read st a ≡ Name n → read st' a' ≡ Name n → address st' n ≡ address st n
 
-  -- the object or array of a name stands in the cells, with its count, and a word that is not 0 where not all are
+  -- the object or array of a name stands in the cells, with its count, and a word that is not 0
+  -- where not all are
   pub record StandsThere (st : State) (m : Memory) (name : ℕ) : Type 0 where
     pub inside : address st name + 2 + length_at st name ≤ free_at free m
     pub small : address st name + 2 + length_at st name < 2 ^ 31
     pub count : slice_index m.cells (address st name + 1) ≡ count_at st name
     pub full : is_empty st name ≡ false → (i : ℕ) × (i < length_at st name) × (slice_index m.cells (address st name + 2 + i) ≢ 0)
 
-  -- the heap has a block: st' is the state with the new object or array, whose place is at p and whose length v
+  -- the heap has a block: st' is the state with the new object or array, whose place is at p and
+  -- whose length v
   pub record TakesBlock (st st' : State) (m : Memory) (p v order n : ℕ) (shape : Shape) : Type 0 where
     pub x : ℕ
     pub taken : List ℕ

@@ -1,4 +1,5 @@
--- Where values stay and the names that they are stand where they stood, the same numbers are found, whatever else is made or freed.
+-- Where values stay and the names that they are stand where they stood, the same numbers are found,
+-- whatever else is made or freed.
 use Rattle.std.proofs.Common.{◌≡◌, ℕ, ◌+◌, Bool, true, false, List, length, refl, sym, ap, ◌∙◌}
 use Rattle.std.specs.Prelude.{nat_lt, if◌then◌else◌, Result, Ok, Err}
 use Rattle.rpp_tree.specs.declared.tree.BinOp.{BinOp}

@@ -3,8 +3,9 @@ use Rattle.std.proofs.Common.{◌≡◌, ◌≢◌, ℕ, ◌+◌, ◌*◌, ◌^�
 use Rattle.std.specs.Prelude.{slice_index}
 use Rattle.buddy_book.specs.Book.{order_for}
 use Rattle.rpp_tree.specs.Tree.{Expression, Null, Lvalue}
+use Rattle.pisa_isa.specs.Machine.{Memory}
 use Rattle.paired_code.specs.declared.part.Symbol.{Symbol}
-use Rattle.paired_code.specs.Machine.{Memory, Image}
+use Rattle.paired_code.specs.Machine.{Image}
 use Rattle.paired_code.specs.Pieces.{Will}
 use Rattle.statement_laws.specs.Form.{registers}
 use Rattle.statement_laws.specs.declared.spot.Spot.{Spot}

@@ -1,16 +1,18 @@
--- `new` and `delete` of objects against the source's rows, in both directions, with faults, counts and steps, from what a relation gives.
-use Rattle.std.proofs.Common.{◌≡◌, ◌≢◌, ℕ, suc, ◌+◌, ◌*◌, ◌^◌, ◌<◌, ◌≤◌, Bool, true, false, List, [], ◌∷◌, ◌++◌, length, refl, sym, ap, ◌∙◌, subst, arith, append-nil}
+-- `new` and `delete` of objects against the source's rows, in both directions, with faults, counts
+-- and steps, from what a relation gives.
+use Rattle.std.proofs.Common.{◌≡◌, ◌≢◌, ℕ, ◌+◌, ◌*◌, ◌≤◌, Bool, true, false, List, length, refl, sym, ap, ◌∙◌, subst, arith, append-nil}
 use Rattle.std.specs.Prelude.{slice_index, nat_eq, not, Result, Ok, Err}
 use Rattle.std.proofs.lemmas.Bool.Decides.{nat_tests}
 use Rattle.rpp_tree.specs.declared.tree.Ident.{Ident}
 use Rattle.rpp_tree.specs.Tree.{Null, Lvalue, Object as AnObject, New, Delete, index_nodes}
 use Rattle.buddy_pisa.specs.Promise.{most_steps}
+use Rattle.pisa_isa.specs.Machine.{Memory}
 use Rattle.paired_code.specs.declared.part.Symbol.{Symbol}
-use Rattle.paired_code.specs.Machine.{Memory, Image}
+use Rattle.paired_code.specs.Machine.{Image}
 use Rattle.paired_code.specs.Layout.{mirror_cells}
 use Rattle.paired_code.specs.Pieces.{Outcome, Will}
-use Rattle.paired_code.specs.Does.{Rates, Fine, Fault, Meets, fine, faults, Does}
-use Rattle.paired_code.proofs.Laws.{will_of, will_more}
+use Rattle.paired_code.specs.Does.{Rates, Fine, Fault, Meets, fine, Does}
+use Rattle.paired_code.proofs.Laws.{will_more}
 use Rattle.paired_code.proofs.Mirrored.{will_mirror}
 use Rattle.roopl_semantics.specs.Run.{Run, after_cost, given, give, spend, fault_if, ◌>>=◌}
 use Rattle.roopl_semantics.specs.Store.{Value, Word, Nil, Name, OfClass, State, number_of, is_nil}
@@ -23,17 +25,17 @@ use Rattle.expr_uncompute.specs.Code.{place_words}
 use Rattle.expr_uncompute.specs.Number.{place_address, update_shares}
 use Rattle.expr_uncompute.specs.Steps.{place_steps}
 use Rattle.expr_uncompute.specs.Laws.{bases_of, Stays}
-use Rattle.expr_uncompute.specs.Promises.{free_at, IsTrap}
-use Rattle.expr_uncompute.specs.Found.{LeavesWithin, leaves_within, TrapsWithin, traps_within, found_place_steps}
+use Rattle.expr_uncompute.specs.Promises.{free_at}
+use Rattle.expr_uncompute.specs.Found.{LeavesWithin, leaves_within, TrapsWithin, found_place_steps}
 use Rattle.expr_uncompute.specs.Means.{shown, cell_address, cell_result, SameCells}
 use Rattle.expr_uncompute.proofs.Bounds.{place_less, found_place_most, found_place_least}
 use Rattle.expr_uncompute.proofs.Meaning.{place_is}
 use Rattle.expr_uncompute.proofs.Sharing.{update_shares_is}
 use Rattle.object_codegen.specs.declared.shape.Shape.TheVariants.{Fixed}
 use Rattle.object_codegen.specs.News.{filled, whole_steps, Makes, ObjectLaw}
-use Rattle.expr_uncompute.proofs.StatementRows.{rated, less}
+use Rattle.expr_uncompute.proofs.Rated.{rated, less, trap_meets, stop_meets}
 use Rattle.object_codegen.proofs.CopyRows.{Refers}
-use Rattle.object_codegen.proofs.MakeFacts.{made, number_in, length_at, count_at, is_empty, fresh_cells, same_class, is_full, KeepsNames, StandsThere, ObjectStands, ObjectFacts}
+use Rattle.object_codegen.proofs.MakeFacts.{made, number_in, count_at, is_empty, fresh_cells, same_class, is_full, KeepsNames, ObjectStands, ObjectFacts}
 use Rattle.object_codegen.proofs.MakeKept.{kept_places}
 
 -- ---- the rows
@@ -85,18 +87,6 @@ module _ (setting : Setting) (address slot : State → ℕ → ℕ) (R : State �
       update_shares_is (address st) (slot st) setting.program st spot (bases_of m) m.cells target (Null 0) (facts.means st m r) tt (facts.tells st m r)
       ∙ ap (share_array setting.program st (own_element target)) (append-nil (index_elements target))
 
-  trap_meets : (d : Bool) (m : Memory) (c cost steps : ℕ) → steps ≤ 500 * cost → IsTrap im p d m c steps → Will im p d m (Meets R rates n0 0 (Fault c cost))
-  trap_meets d m c cost steps l t =
-      let e = rated 500 rates.steps steps cost many l in
-      let l' = t.1 in
-      will_of im p d m _ _ t.2 (faults (omega arith))
-
-  stop_meets : (d : Bool) (m : Memory) (c cost steps : ℕ) → steps ≤ 500 * cost → Will im p d m (TrapsWithin c steps) → Will im p d m (Meets R rates n0 0 (Fault c cost))
-  stop_meets d m c cost steps l w = will_more im p d m _ _ over w
-    where
-      over : (o : Outcome) → TrapsWithin c steps o → Meets R rates n0 0 (Fault c cost) o
-      over _ (traps_within k h) = let e = rated 500 rates.steps steps cost many l in faults (omega arith)
-
   abbrev least : ℕ
   least = whole_steps (found_place_steps target) (Fixed table fields) fields (setting.limits.heap + 1)
 
@@ -134,7 +124,7 @@ module _ (setting : Setting) (address slot : State → ℕ → ℕ) (R : State �
 
     -- a fault with the cost of the place
     fault_meets : (d : Bool) (code extra c : ℕ) → extra ≤ 26 → c ≡ 1 + index_nodes target + reads → Will im p d m (TrapsWithin code (found_place_steps target + extra)) → Will im p d m (Meets R rates n0 0 (Fault code c))
-    fault_meets d code extra c l e t = let up = found_place_most target in stop_meets d m code c (found_place_steps target + extra) (omega arith) t
+    fault_meets d code extra c l e t = let up = found_place_most target in stop_meets R rates 500 many im p n0 d m code c (found_place_steps target + extra) (omega arith) t
 
     new_by : (v : Value) (full : Bool) → read st cell ≡ v → is_full setting (length (fresh_cells setting class)) st ≡ full → sharing st ≡ false
         → Will im p false m (Meets R rates n0 0 (told (one_row target (Ok cell) (λ c. kept_by reads false (new_end setting.limits.heap full v (with_new setting class c st))))))
@@ -143,7 +133,7 @@ module _ (setting : Setting) (address slot : State → ℕ → ℕ) (R : State �
         fault_meets false 4 5 _ (omega arith) (omega arith) ((makes sh).not_nil_faults (λ q. subst (Refers (address st)) e (facts.refers st m cell r nc) (sym (word_at (Name name) e) ∙ q)))
     new_by Nil true e ef sh =
         let up = found_place_most target in
-        stop_meets false m 8 _ _ (omega arith) ((makes sh).full_faults (most_steps setting.limits.heap + 7) tt (word_at Nil e) (facts.lacks st m cell r nc e ef))
+        stop_meets R rates 500 many im p n0 false m 8 _ _ (omega arith) ((makes sh).full_faults (most_steps setting.limits.heap + 7) tt (word_at Nil e) (facts.lacks st m cell r nc e ef))
     new_by Nil false e ef sh =
         let h = facts.makes st m cell r nc sh e ef in
         let s = facts.made_same st m cell r nc sh e ef in
@@ -181,7 +171,7 @@ module _ (setting : Setting) (address slot : State → ℕ → ℕ) (R : State �
             let f1 = f.1 in
             let one : count_at st name ≡ 1 = grind (arith, nat_tests) in
             let up = found_place_most target in
-            stop_meets true m 7 _ _ (omega arith) ((makes sh).not_empty_faults (address st name) (address st name + 2 + f.0) (word_at (Name name) e) (omega arith) (omega arith) some_at (s.mark es) (s.there.count ∙ one) (omega arith) (omega arith) f.2)
+            stop_meets R rates 500 many im p n0 true m 7 _ _ (omega arith) ((makes sh).not_empty_faults (address st name) (address st name + 2 + f.0) (word_at (Name name) e) (omega arith) (omega arith) some_at (s.mark es) (s.there.count ∙ one) (omega arith) (omega arith) f.2)
         last true true true es eo ez =
             let one : count_at st name ≡ 1 = grind (arith, nat_tests) in
             let h = facts.frees st m cell name r nc sh e es one ez in
@@ -196,12 +186,12 @@ module _ (setting : Setting) (address slot : State → ℕ → ℕ) (R : State �
     ends_by true false e = delete_by (read st cell) refl e
     ends_by d true e =
         let up = found_place_most target in
-        trap_meets d m 16 _ (found_place_steps target) (omega arith) (law.sharing_faults im d m (facts.can st m r) (at st cell) (place_at_is st m r (Ok cell) nc) (shares_is st m r ∙ e))
+        trap_meets R rates 500 many im p n0 d m 16 _ (found_place_steps target) (omega arith) (law.sharing_faults im d m (facts.can st m r) (at st cell) (place_at_is st m r (Ok cell) nc) (shares_is st m r ∙ e))
 
   one_meets : (d : Bool) (st : State) (m : Memory) → R st m → (rc : Result Cell ℕ) → cell_of setting.program st target ≡ rc → Will im p d m (Meets R rates n0 0 (told (one_row target rc (λ c. kept_by reads (sharing st) (end_of setting class d st c (read st c))))))
   one_meets d st m r (Err c) nc =
       let one = place_less target in
-      trap_meets d m c _ (place_steps target) (omega arith) (law.place_faults im d m (facts.can st m r) c (place_at_is st m r (Err c) nc))
+      trap_meets R rates 500 many im p n0 d m c _ (place_steps target) (omega arith) (law.place_faults im d m (facts.can st m r) c (place_at_is st m r (Err c) nc))
   one_meets d st m r (Ok cell) nc = ends_by st m cell r nc d (sharing st) refl
 
   new_is : (d : Bool) (here n : ℕ) (run : Runner) (st : State) → after_cost 1 (statement setting n run (facing d (New here (AnObject class) target)) st) ≡ one_row target (cell_of setting.program st target) (λ c. kept_by reads (sharing st) (end_of setting class d st c (read st c)))

@@ -1,4 +1,5 @@
--- The allocator, called over the memory of a store, is one over which the code of new and delete runs, whatever words the frame holds.
+-- The allocator, called over the memory of a store, is one over which the code of new and delete
+-- runs, whatever words the frame holds.
 use Rattle.std.proofs.Common.{◌≡◌, ℕ, zero, suc, ◌+◌, ◌-◌, ◌^◌, ◌<◌, ◌≤◌, true, false, List, [], ◌∷◌, ◌++◌, length, refl, sym, ap, ◌∙◌, subst, arith, take as taken_from, drop, ⊎_elim, Some, None, append-nil}
 use Rattle.std.specs.Prelude.{slice_index, map, replicate}
 use Rattle.std.specs.List.{All}
@@ -13,9 +14,10 @@ use Rattle.pisa_isa.specs.Loaded.{statics_at, heap_base, fixed_cells}
 use Rattle.buddy_book.specs.Book.{Book, take, give}
 use Rattle.buddy_book.specs.Shown.{TakenBlocks, order_in}
 use Rattle.buddy_book.specs.Place.{Placing}
+use Rattle.pisa_isa.specs.Machine.{Memory}
 use Rattle.paired_code.specs.declared.part.Symbol.{Symbol}
 use Rattle.paired_code.specs.declared.part.Symbol.TheVariants.{Enter}
-use Rattle.paired_code.specs.Machine.{Memory, Image, reg}
+use Rattle.paired_code.specs.Machine.{Image, reg}
 use Rattle.paired_code.specs.Layout.{Routine, Tidy}
 use Rattle.paired_code.specs.Pieces.{Outcome, Will}
 use Rattle.paired_code.proofs.Laws.{will_more}

@@ -7,9 +7,9 @@ use Rattle.std.proofs.lemmas.Nat.Bits.{and_pow}
 use Rattle.std.proofs.Math.Nat.{div-lt_iff_lt-mul, mul-le-mul_left}
 use Rattle.std.proofs.Math.Pow.{pow_mono}
 use Rattle.std.specs.Int.Bits.{xor_self}
+use Rattle.pisa_isa.specs.Machine.{Memory}
 use Rattle.rpp_words.specs.Words.{shifted_right, turned_left, turned_right, is_less, sum_of}
 use Rattle.pisa_isa.specs.Table.{word_of}
-use Rattle.paired_code.specs.Machine.{Memory}
 use Rattle.expr_uncompute.proofs.Goes.{Goes, goes_cons, goes_seq, goes_around, goes_to, goes_mirror, goes_set, goes_xor_to, goes_addi, goes_add, goes_cell}
 use Rattle.expr_uncompute.specs.Code.{add, addi, sltx, nought}
 use Rattle.object_codegen.specs.Code.{srlvx, andix, turn_left, shifted as start, one_bit as end, at_length as size, order, order_bit, order_cells as order_of_size}

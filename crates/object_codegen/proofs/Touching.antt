@@ -2,9 +2,9 @@
 use Rattle.std.proofs.Common.{◌≡◌, ◌≢◌, ℕ, ◌+◌, ◌^◌, ◌<◌, Bool, true, false, List, [], ◌∷◌, length, length-set, refl, ap, ◌∙◌, arith}
 use Rattle.std.specs.Prelude.{slice_index, slice_set, bit_xor, not}
 use Rattle.std.proofs.lemmas.List.{get_or-set_same, set-set}
+use Rattle.pisa_isa.specs.Machine.{Memory}
 use Rattle.rpp_words.specs.Words.{is_less}
 use Rattle.pisa_isa.specs.Table.{word_of}
-use Rattle.paired_code.specs.Machine.{Memory}
 use Rattle.roopl_semantics.specs.Operators.{truth_word}
 use Rattle.expr_uncompute.specs.Code.{content, outcome, nought, place, other_place, first_word, xor, exch, addi, xori, sltx}
 use Rattle.expr_uncompute.specs.Number.{Bases}

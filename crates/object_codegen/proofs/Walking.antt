@@ -6,7 +6,8 @@ use Rattle.std.proofs.lemmas.Bool.{cases_lt, cases_eq}
 use Rattle.std.proofs.lemmas.Int.{ints}
 use Rattle.rpp_words.specs.Words.{is_less}
 use Rattle.pisa_isa.specs.Table.{word_of}
-use Rattle.paired_code.specs.Machine.{Memory, Image}
+use Rattle.pisa_isa.specs.Machine.{Memory}
+use Rattle.paired_code.specs.Machine.{Image}
 use Rattle.paired_code.specs.Pieces.{Done, Trapped, Runs}
 use Rattle.paired_code.specs.Laws.{Rounds, leaves, ends_in_tail, again}
 use Rattle.paired_code.proofs.MoreLaws.{while_law}

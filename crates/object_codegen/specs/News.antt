@@ -1,12 +1,13 @@
--- What the code of `new` and `delete` does, by the memory alone, over any call of the allocator that takes a
--- block and gives it back.
+-- What the code of `new` and `delete` does, by the memory alone, over any call of the allocator
+-- that takes a block and gives it back.
 use Rattle.std.specs.Prelude.{◌≡◌, ◌≢◌, ℕ, ◌+◌, ◌*◌, ◌^◌, ◌<◌, ◌≤◌, Bool, true, false, List, [], ◌∷◌, slice_index, slice_set, Ok, Err}
 use Rattle.rpp_words.specs.Words.{is_less}
 use Rattle.rpp_tree.specs.Tree.{Expression, Null, Lvalue}
 use Rattle.buddy_book.specs.Book.{order_for}
+use Rattle.pisa_isa.specs.Machine.{Memory}
 use Rattle.paired_code.specs.declared.part.Symbol.{Symbol}
 use Rattle.paired_code.specs.declared.part.Symbol.TheVariants.{Enter}
-use Rattle.paired_code.specs.Machine.{Memory, Image}
+use Rattle.paired_code.specs.Machine.{Image}
 use Rattle.paired_code.specs.Pieces.{Will}
 use Rattle.roopl_semantics.specs.Elements.{shared_array_fault}
 use Rattle.roopl_semantics.specs.Value.{nil_fault}
@@ -25,8 +26,8 @@ use Rattle.object_codegen.specs.Code.{mark_fault, mark_of, size_of}
 
 -- ---- the allocator's call
 
--- all registers are 0 but these: the addresses of object and frame, a word, two more, the order, the block, the
--- place, the length, and the length and the place as they were found
+-- all registers are 0 but these: the addresses of object and frame, a word, two more, the order,
+-- the block, the place, the length, and the length and the place as they were found
 abbrev pub room : (object frame c u w order block p v a q : ℕ) → List ℕ → Memory
 room object frame c u w order block p v a q cells = record {
   regs = 0 ∷ 0 ∷ 0 ∷ object ∷ frame ∷ 0 ∷ c ∷ 0 ∷ u ∷ w ∷ 0 ∷ 0 ∷ order ∷ block ∷ p ∷ v ∷ 0 ∷ 0 ∷ 0
@@ -50,8 +51,8 @@ calling object frame order block p v shape cells =
     room object frame 0 0 0 order block p (moved_length v shape)
     (left_length v shape) 0 cells
 
--- over any filled words of the frame, the allocator called with this order takes the block x, and back it gives
--- it: the cells before, and those with the block taken
+-- over any filled words of the frame, the allocator called with this order takes the block x, and
+-- back it gives it: the cells before, and those with the block taken
 pub record Allocates (im : Image) (object frame order x p v : ℕ) (shape : Shape) (low n least most : ℕ)
     (cells taken : List ℕ) : Type 0 where
   pub takes : (ys zs : List ℕ) → Filled low n cells ys → Filled low n taken zs → Changes low ys zs
@@ -70,7 +71,8 @@ pub record Lacks (im : Image) (object frame order p v : ℕ) (shape : Shape) (lo
 
 -- ---- the cells
 
--- a block of zeros at x has been taken for so many cells; the place is nil before and after, and stands outside
+-- a block of zeros at x has been taken for so many cells; the place is nil before and after, and
+-- stands outside
 pub record Takes (low size p x : ℕ) (cells taken : List ℕ) : Type 0 where
   pub changes : Changes low cells taken
   pub p_in : p < low
@@ -122,10 +124,10 @@ whole_steps steps shape size t = steps + (middle_steps shape size t + steps)
 
 -- ---- the laws
 
--- p finds the place at a, and the length v, in so many steps. Along, a new: fault 4 where the place is not nil,
--- and 8 where there is no block. Back, a delete: fault 5 where the place is nil; 11 or 12 where the first word
--- is another; 6 where the count is not 1; 7 where a cell is not 0. `Kept` says that the same is found in the
--- changed cells.
+-- p finds the place at a, and the length v, in so many steps. Along, a new: fault 4 where the place
+-- is not nil, and 8 where there is no block. Back, a delete: fault 5 where the place is nil; 11 or
+-- 12 where the first word is another; 6 where the count is not 1; 7 where a cell is not 0. `Kept`
+-- says that the same is found in the changed cells.
 pub record Makes (im : Image) (m : Memory) (object frame low n steps a v order : ℕ) (shape : Shape)
     (Kept : List ℕ → Type 0) (p : List Symbol) : Type 0 where
   pub news : (x least most : ℕ) (taken : List ℕ) → IsLength v shape
@@ -181,8 +183,8 @@ pub record ObjectLaw (spot : List ℕ → Spot) (free table fields order : ℕ) 
       → update_shares spot (bases_of m) m.cells target (Null 0) ≡ true
       → IsTrap im p d m shared_array_fault (found_place_steps target)
 
--- the same of an array, with a length: its fault comes after the place's, and along 13 after 4 where it is not
--- above 0
+-- the same of an array, with a length: its fault comes after the place's, and along 13 after 4
+-- where it is not above 0
 pub record ArrayLaw (spot : List ℕ → Spot) (free : ℕ) (target : Lvalue) (size : Expression)
     (p : List Symbol) : Type 0 where
   pub makes : (im : Image) (m : Memory) (object frame a v : ℕ)

@@ -1,8 +1,9 @@
 -- What the code of objects and arrays does, by the memory alone.
 use Rattle.std.specs.Prelude.{◌≡◌, ◌≢◌, ℕ, ◌+◌, ◌^◌, ◌<◌, ◌≤◌, Bool, true, false, List, length, slice_index, slice_set, Ok, Err}
 use Rattle.rpp_tree.specs.Tree.{Lvalue}
+use Rattle.pisa_isa.specs.Machine.{Memory}
 use Rattle.paired_code.specs.declared.part.Symbol.{Symbol}
-use Rattle.paired_code.specs.Machine.{Memory, Image}
+use Rattle.paired_code.specs.Machine.{Image}
 use Rattle.paired_code.specs.Pieces.{Will}
 use Rattle.roopl_semantics.specs.Elements.{shared_array_fault}
 use Rattle.roopl_semantics.specs.Value.{nil_fault}
@@ -68,10 +69,11 @@ pub record Places (spot : List ℕ → Spot) (free : ℕ) (source target : Lvalu
 abbrev pub copy_steps : (source target : Lvalue) → ℕ
 copy_steps source target = found_places_steps source target + (66 + found_places_steps source target)
 
--- run along a copy: the second place refers to what the first one refers to, and its count grows; run back the
--- inverse. The faults of the places come first, in both directions; then nil in the first place, and what the
--- second one has to be.
-pub record CopyLaw (spot : List ℕ → Spot) (free : ℕ) (source target : Lvalue) (p : List Symbol) : Type 0 where
+-- run along a copy: the second place refers to what the first one refers to, and its count grows;
+-- run back the inverse. The faults of the places come first, in both directions; then nil in the
+-- first place, and what the second one has to be.
+pub record CopyLaw (spot : List ℕ → Spot) (free : ℕ) (source target : Lvalue)
+    (p : List Symbol) : Type 0 where
   pub copies : (im : Image) (m : Memory) (a a' x c : ℕ) → Places spot free source target m a a'
       → Copies (free_at free m) a a' x c m.cells
       → PlacesStay spot (bases_of m) (free_at free m) source target m.cells

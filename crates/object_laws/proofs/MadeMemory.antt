@@ -1,4 +1,5 @@
--- The memory of a frame that holds an object of zeros which nothing names: that without it, with two words written in a block of zeros.
+-- The memory of a frame that holds an object of zeros which nothing names: that without it, with
+-- two words written in a block of zeros.
 use Rattle.std.proofs.Common.{◌≡◌, ◌≢◌, ◌∙◌, sym, ap, subst, refl, ℕ, ◌+◌, ◌-◌, ◌*◌, ◌<◌, ◌≤◌, ◌⊎◌, inl, inr, ⊎_elim, Bool, true, false, List, [], ◌∷◌, ◌++◌, map, length, Some, arith, append-nil, length-append}
 use Rattle.std.proofs.lemmas.Bool.{eqb-true}
 use Rattle.std.proofs.lemmas.List.{length-map, length-replicate}

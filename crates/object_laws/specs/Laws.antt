@@ -18,11 +18,13 @@ use Rattle.object_codegen.specs.News.{Takes, filled}
 
 -- the first word behind the variables of the open frame
 abbrev pub behind : Setting → List ℕ → Under → Scope → ℕ
-behind setting statics u s = stack_base setting statics + frame_size * length u.callers + (put_by + length s.vars)
+behind setting statics u s =
+    stack_base setting statics + frame_size * length u.callers + (put_by + length s.vars)
 
 -- the requests with one for what has this head
 abbrev pub asked : Setting → Head → State → Log
-asked setting head st = Taken (2 + count_taken st.log) (order_of_cells (length (cell_kinds setting.program head))) ∷ st.log
+asked setting head st =
+    Taken (2 + count_taken st.log) (order_of_cells (length (cell_kinds setting.program head))) ∷ st.log
 
 -- the state with a new object or array in a cell
 abbrev pub with_new : Setting → Head → List Value → Cell → State → State
@@ -40,7 +42,8 @@ pub record IsMade (setting : Setting) (statics : List ℕ) (s : Scope) (u : Unde
   pub block : ℕ
   pub taken : List ℕ
   pub takes : Takes (behind setting statics u s) (length values) at block cells taken
-  pub after : Stands setting statics s u [] (with_new setting head values cell st) (filled at block (head_word setting.program head) taken)
+  pub after : Stands setting statics s u [] (with_new setting head values cell st)
+      (filled at block (head_word setting.program head) taken)
 
 -- so it is with each that has the type of a nil cell, where the heap has a block
 abbrev pub NewsAreOpen : Type 0
@@ -57,7 +60,8 @@ NewsAreOpen =
     → head_word setting.program head < 2 ^ 32
     → IsMade setting statics s u st cells cell head values
 
--- the memory is one in which its block was taken and filled; with the block given back the frame is open without it
+-- the memory is one in which its block was taken and filled; with the block given back the frame is
+-- open without it
 pub record IsGone (setting : Setting) (statics : List ℕ) (s : Scope) (u : Under) (st : State)
     (cells : List ℕ)
     (cell : Cell) (n : ℕ) : Type 0 where

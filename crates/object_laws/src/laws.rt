@@ -1,4 +1,5 @@
-// What new objects and arrays, and those that are given back, do to open frames, each law the contract of a function.
+// What new objects and arrays, and those that are given back, do to open frames, each law the
+// contract of a function.
 ghost use Rattle.object_laws.specs.Laws.{NewsAreOpen, DeletesAreOpen};
 
 /// A new object or array stands in a block of zeros, and the frame is open with it.

@@ -1,4 +1,5 @@
--- The body of `main` begins in an open frame: from the loaded memory, with the two addresses in their registers.
+-- The body of `main` begins in an open frame: from the loaded memory, with the two addresses in
+-- their registers.
 use Rattle.std.proofs.Common.{◌≡◌, ◌∙◌, sym, ap, refl, ℕ, ◌<◌, List, [], length, arith, length-append}
 use Rattle.std.proofs.lemmas.List.{length-replicate}
 use Rattle.std.specs.Prelude.{replicate}

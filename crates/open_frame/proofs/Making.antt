@@ -1,4 +1,5 @@
--- What a new object changes in memory, and a deleted one: its words in its block, which is zero without it.
+-- What a new object changes in memory, and a deleted one: its words in its block, which is zero
+-- without it.
 use Rattle.std.proofs.Common.{◌≡◌, ◌≢◌, ◌∙◌, sym, ap, refl, ℕ, ◌+◌, ◌^◌, ◌<◌, ◌≤◌, true, List, ◌++◌, map, length, drop, arith, length-append}
 use Rattle.std.proofs.lemmas.List.{get_or-replicate}
 use Rattle.std.specs.Prelude.{slice_index, replicate}

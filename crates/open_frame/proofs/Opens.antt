@@ -1,4 +1,5 @@
--- Under an open frame the cells of the source are words of the machine, and their writes are writes there; variables and frames come and go.
+-- Under an open frame the cells of the source are words of the machine, and their writes are writes
+-- there; variables and frames come and go.
 use Rattle.std.proofs.Common.{◌≡◌, ◌∙◌, sym, ap, subst, refl, ℕ, zero, suc, ◌+◌, ◌-◌, ◌*◌, ◌<◌, ◌≤◌, List, [], ◌∷◌, ◌++◌, map, length, Some, arith, append_assoc, append-nil, length-append}
 use Rattle.std.proofs.lemmas.List.{get_or_append_left, get_or-append_right, set-append_left, set-append_right, length-replicate, length-set, length-map, set_at}
 use Rattle.std.specs.Prelude.{slice_get, slice_index, slice_set, replicate}
@@ -244,7 +245,8 @@ variable_closed u extra shape class st name v s g below m o =
 
 -- ---- the whole run
 
--- the layout, with the two addresses in their registers, is an open frame without variables: so the body of `main` begins
+-- the layout, with the two addresses in their registers, is an open frame without variables: so the
+-- body of `main` begins
 pub begun : (u : Setup) (at : Placing) (st : State) (m : Machine) → st.frame ≡ [] → st.depth ≡ 1 → 1 ≤ u.setting.limits.deep → place u.setting.limits.heap st.log ≡ Some at
     → m.cells ≡ layout u.setting.program u.setting.limits u.statics st.store st.log → length m.regs ≡ 32
     → reg m object_register ≡ address_of u at.blocks st.self → reg m frame_register ≡ stack_at u

@@ -1,4 +1,5 @@
--- The memory of a state is that of the state without an object which nothing holds, with the object's words in its block, where all is zero without it.
+-- The memory of a state is that of the state without an object which nothing holds, with the
+-- object's words in its block, where all is zero without it.
 use Rattle.std.proofs.Common.{◌≡◌, ◌≢◌, ◌∙◌, sym, ap, refl, ℕ, zero, suc, ◌+◌, ◌-◌, ◌*◌, ◌^◌, ◌<◌, ◌≤◌, ◌⊎◌, inl, inr, ⊎_elim, Bool, true, false, List, [], ◌∷◌, ◌++◌, map, length, Some, arith}
 use Rattle.std.proofs.lemmas.Bool.{eqb-true, ltb-true, ltb-false}
 use Rattle.std.proofs.lemmas.List.{ext_get_or}

@@ -1,4 +1,5 @@
--- What the words of an open frame tell: references from nil and from each other, heads, counts; and that they are words in range.
+-- What the words of an open frame tell: references from nil and from each other, heads, counts; and
+-- that they are words in range.
 -- That a name in a cell is live and not the main object's comes from the main object's own count alone.
 use Rattle.std.proofs.Common.{◌≡◌, ◌≢◌, ◌∙◌, sym, ap, subst, refl, ℕ, ◌+◌, ◌-◌, ◌*◌, ◌/◌, ◌^◌, ◌<◌, ◌≤◌, Bool, true, false, List, [], ◌∷◌, length, drop, Some, arith}
 use Rattle.std.proofs.Math.Nat.{mod-add-div}

@@ -14,9 +14,10 @@ use Rattle.open_frame.specs.Open.{Setup, base_of, stack_at, address_of, cell_add
 abbrev pub with_word : Machine → ℕ → ℕ → Machine
 with_word m address word = record m { cells = slice_set m.cells address word }
 
--- under an open frame the address of a cell that has a type holds the word of what the source reads, and its write is the
--- write there
-pub record CellsAreWords (u : Setup) (shape : Locals) (at : Placing) (st : State) (below : List ℕ) (m : Machine) : Type 0 where
+-- under an open frame the address of a cell that has a type holds the word of what the source
+-- reads, and its write is the write there
+pub record CellsAreWords (u : Setup) (shape : Locals) (at : Placing) (st : State) (below : List ℕ)
+    (m : Machine) : Type 0 where
   pub reads : (cell : Cell) (k : Kind) → cell_kind u.setting.program shape st.store cell ≡ Some k
       → slice_index m.cells (cell_address u at.blocks st cell)
       ≡ word_of (base_of u) at.blocks (read st cell)
@@ -32,7 +33,8 @@ OpenCells =
     (below : List ℕ) (m : Machine)
     → IsGrounded u st.store → Open u s.placed.at below st m → CellsAreWords u shape s.placed.at st below m
 
--- at depth 1 with no variables and nothing put by, an open frame is the layout with the two addresses in their registers
+-- at depth 1 with no variables and nothing put by, an open frame is the layout with the two
+-- addresses in their registers
 pub record OpenIsLayout (u : Setup) (at : Placing) (st : State) (m : Machine) : Type 0 where
   pub begins : 1 ≤ u.setting.limits.deep
       → m.cells ≡ layout u.setting.program u.setting.limits u.statics st.store st.log → length m.regs ≡ 32

@@ -71,8 +71,8 @@ pub record IsGrounded (u : Setup) (store : Store) : Type 0 where
   pub room : 2 + length (main_fields u.setting.program) ≤ length u.statics
   pub main : head_named store main_name ≡ Some (OfClass (main_of u.setting.program).class)
 
--- Memory and the two addresses of an open frame. Below its variables the stack has any words: the frames below, and what
--- is put by.
+-- Memory and the two addresses of an open frame. Below its variables the stack has any words: the
+-- frames below, and what is put by.
 pub record Open (u : Setup) (at : Placing) (below : List ℕ) (st : State) (m : Machine) : Type 0 where
   pub placed : place u.setting.limits.heap st.log ≡ Some at
   pub cells : m.cells ≡ memory u at st.store (below ++ frame_words (base_of u) at.blocks st.frame)

@@ -1,7 +1,8 @@
 // What the memory of an open frame tells, each law the contract of a function.
 ghost use Rattle.open_frame.specs.Laws.{OpenCells, OpenLayout};
 
-/// Under an open frame the address of each cell holds the word of the cell's value, and a write there is the write of the cell.
+/// Under an open frame the address of each cell holds the word of the cell's value, and a write
+/// there is the write of the cell.
 pub fn open_cells()
     ensures { OpenCells }
 {}

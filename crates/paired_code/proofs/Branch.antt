@@ -1,8 +1,9 @@
 -- The law of branch_if.
 use Rattle.std.proofs.Common.{◌≡◌, ◌≢◌, ℕ, ◌+◌, ◌^◌, ◌<◌, Bool, true, false, List, length, refl, sym, subst, arith, length-append}
+use Rattle.pisa_isa.specs.Machine.{Memory}
 use Rattle.paired_code.specs.Cells.{bra}
 use Rattle.paired_code.specs.declared.part.Symbol.{Symbol}
-use Rattle.paired_code.specs.Machine.{Memory, Image, reg}
+use Rattle.paired_code.specs.Machine.{Image, reg}
 use Rattle.paired_code.specs.Layout.{Frame, Stands, between, branch_cells}
 use Rattle.paired_code.specs.Pieces.{Outcome, Done, Will, around, around_no}
 use Rattle.paired_code.proofs.Steps.{Has}

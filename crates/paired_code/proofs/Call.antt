@@ -12,9 +12,9 @@ use Rattle.paired_code.specs.Cells.{neg, swapbr, bra, rbra}
 use Rattle.paired_code.specs.declared.part.Symbol.{Symbol}
 use Rattle.paired_code.specs.declared.part.Symbol.TheVariants.{Enter}
 use Rattle.rpp_words.specs.Words.{sum_of, negated}
-use Rattle.pisa_isa.specs.Machine.{State, effect, stop_at, fetch, stride, moved}
+use Rattle.pisa_isa.specs.Machine.{State, effect, stop_at, fetch, stride, moved, Memory}
 use Rattle.paired_code.proofs.Words.{along, turned, toward, first_br, second_br, goes_to, near, far, near_is, far_is}
-use Rattle.paired_code.specs.Machine.{Memory, state, Image, reg, with_reg, act, is_routine, is_end, change, Change, Same, Enters, Leaves, Level, same, enters, leaves}
+use Rattle.paired_code.specs.Machine.{state, Image, reg, with_reg, act, is_routine, is_end, change, Change, Same, Enters, Leaves, Level, same, enters, leaves}
 use Rattle.paired_code.specs.Layout.{xor, Frame, spot, place, at, between, resolved, code_line, Routine}
 use Rattle.paired_code.specs.Pieces.{Inside, cell, open_call, in_flight, Path, stay, step, Outcome, Done, Trapped, Bad, Still, Way, Ends, finishes, traps, bad, still, Will, after, IsOver, near_end, far_end}
 use Rattle.paired_code.specs.Laws.{lead}

@@ -1,9 +1,10 @@
 -- Calls meet the source: a count of 1, and the routine's body with the fuel that is left.
 use Rattle.std.proofs.Common.{◌≡◌, ◌≢◌, ℕ, suc, ◌+◌, ◌^◌, ◌<◌, ◌≤◌, Bool, true, false, List, [], ◌∷◌, length, arith}
 use Rattle.std.proofs.Math.Nat.{mul-add}
+use Rattle.pisa_isa.specs.Machine.{Memory}
 use Rattle.paired_code.specs.declared.part.Symbol.{Symbol}
 use Rattle.paired_code.specs.declared.part.Symbol.TheVariants.{Enter}
-use Rattle.paired_code.specs.Machine.{Memory, Image, reg, with_reg}
+use Rattle.paired_code.specs.Machine.{Image, reg, with_reg}
 use Rattle.paired_code.specs.Layout.{xor, code_line, Routine, Tidy, enter_at_cells}
 use Rattle.paired_code.specs.Pieces.{Outcome, Will}
 use Rattle.paired_code.specs.Link.{Whole, Linked}

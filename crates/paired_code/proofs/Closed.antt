@@ -4,8 +4,8 @@ use Rattle.std.specs.Prelude.{not, ℤ, if◌then◌else◌}
 use Rattle.pisa_isa.specs.declared.cell.Cell.{Cell}
 use Rattle.paired_code.specs.declared.part.Symbol.{Symbol}
 use Rattle.paired_code.specs.declared.part.Symbol.TheVariants.{Own}
-use Rattle.pisa_isa.specs.Machine.{State}
-use Rattle.paired_code.specs.Machine.{Memory, Image, effect_along, reg}
+use Rattle.pisa_isa.specs.Machine.{State, Memory}
+use Rattle.paired_code.specs.Machine.{Image, effect_along, reg}
 use Rattle.paired_code.specs.Layout.{xor, code_line, at, Stands}
 use Rattle.paired_code.specs.Pieces.{Outcome, Done, Trapped, Bad, Still, Ends, finishes, traps, bad, still, Will, after, around, around_no, to_tail, to_head, near_end, far_end}
 use Rattle.paired_code.specs.Laws.{outcome_of, lead}

@@ -1,8 +1,9 @@
 -- The rules by which pieces meet the source.
 use Rattle.std.proofs.Common.{◌≡◌, ◌≢◌, ℕ, suc, ◌+◌, ◌-◌, ◌*◌, ◌≤◌, Bool, true, false, List, [], ◌∷◌, refl, sym, subst, arith, append-nil}
 use Rattle.std.proofs.Math.Nat.{mul-add}
+use Rattle.pisa_isa.specs.Machine.{Memory}
 use Rattle.paired_code.specs.declared.part.Symbol.{Symbol}
-use Rattle.paired_code.specs.Machine.{Memory, Image, reg}
+use Rattle.paired_code.specs.Machine.{Image, reg}
 use Rattle.paired_code.specs.Layout.{branch_cells}
 use Rattle.paired_code.specs.Pieces.{Outcome, Done, Will, after, around}
 use Rattle.paired_code.specs.Does.{Rates, Told, Fine, plus, told_then, Meets, fine, faults, more, in_order, chosen}

@@ -11,9 +11,9 @@ use Rattle.paired_code.specs.Cells.{add, addi, swapbr, bra, rbra}
 use Rattle.paired_code.specs.declared.part.Symbol.{Symbol}
 use Rattle.paired_code.specs.declared.part.Symbol.TheVariants.{Fixed, Aim, Turn}
 use Rattle.rpp_words.specs.Words.{sum_of, difference_of, negated}
-use Rattle.pisa_isa.specs.Machine.{fetch, stride}
+use Rattle.pisa_isa.specs.Machine.{fetch, stride, Memory}
 use Rattle.paired_code.proofs.Words.{along, toward, near, far, near_is, far_is}
-use Rattle.paired_code.specs.Machine.{Memory, state, Image, reg, with_reg, effect_along, is_single, act, is_routine, change, Same, Enters, Leaves, same, enters, leaves}
+use Rattle.paired_code.specs.Machine.{state, Image, reg, with_reg, effect_along, is_single, act, is_routine, change, Same, Enters, Leaves, same, enters, leaves}
 use Rattle.paired_code.specs.Layout.{xor, Frame, spot, place, at, Stands, between, resolved, code_line, Routine, Tidy, place_register, enter_at_cells}
 use Rattle.paired_code.specs.Pieces.{Inside, cell, open_call, in_flight, Path, Outcome, Done, Trapped, Bad, Still, Way, Ends, finishes, traps, bad, still, Will, near_end, far_end}
 use Rattle.paired_code.specs.Laws.{left_in}

@@ -1,8 +1,9 @@
 -- Instructions in a row.
 use Rattle.std.proofs.Common.{◌≡◌, ◌^◌, ◌<◌, Bool, true, false, List, [], ◌∷◌}
 use Rattle.pisa_isa.specs.declared.cell.Cell.{Cell}
+use Rattle.pisa_isa.specs.Machine.{Memory}
 use Rattle.paired_code.specs.declared.part.Symbol.TheVariants.{Own}
-use Rattle.paired_code.specs.Machine.{Memory, Image, is_single}
+use Rattle.paired_code.specs.Machine.{Image, is_single}
 use Rattle.paired_code.specs.Pieces.{Outcome, Done, Runs, then_do}
 use Rattle.paired_code.specs.Laws.{outcome_of}
 use Rattle.paired_code.specs.Rows.{line}

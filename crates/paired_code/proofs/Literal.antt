@@ -3,10 +3,10 @@ use Rattle.std.proofs.Common.{◌≡◌, ℕ, ◌+◌, ◌<◌, ◌≤◌, Bool,
 use Rattle.std.specs.Prelude.{ℤ}
 use Rattle.std.proofs.lemmas.Int.{ints}
 use Rattle.paired_code.specs.declared.part.Symbol.{Symbol}
-use Rattle.pisa_isa.specs.Machine.{State, stop, stop_at, moved, effect_at}
+use Rattle.pisa_isa.specs.Machine.{State, stop, stop_at, moved, effect_at, Memory, memory_of}
 use Rattle.pisa_isa.specs.declared.machine.Stop.{Stop}
 use Rattle.pisa_isa.specs.declared.machine.Stop.TheVariants.{Trap, BadAddress}
-use Rattle.paired_code.specs.Machine.{Memory, mem_of, Image, act, Change, Level, same, enters, leaves}
+use Rattle.paired_code.specs.Machine.{Image, act, Change, Level, same, enters, leaves}
 use Rattle.paired_code.specs.Layout.{Frame, spot, code_line}
 use Rattle.paired_code.specs.Pieces.{Inside, cell, open_call, in_flight, Path, stay, step, Outcome, Done, Trapped, Bad, Still, Ends, finishes, traps, bad, still, near_end, far_end}
 use Rattle.paired_code.specs.Literal.{opened, change_at, Coming, Comes, Stops, Stays, Said, InWords}
@@ -35,7 +35,7 @@ module _ (im : Image) (f : Frame) (d : Bool) (a b : ℕ) (k : Bool) where
   before : (e : ℕ) (s : State) → Inside f a b e s.pc s.br → ¬ Coming far k e s
   before e s i c = not_coming f d k a b e s.pc s.br i c.closed c.place c.free
 
-  pub path_comes : {n e e' : ℕ} {s s' : State} (m : Memory) → Path im f a b n e s e' s' → Coming far k e' s' × (mem_of s' ≡ m) → Comes im far k n e s m
+  pub path_comes : {n e e' : ℕ} {s s' : State} (m : Memory) → Path im f a b n e s e' s' → Coming far k e' s' × (memory_of s' ≡ m) → Comes im far k n e s m
   path_comes m stay q = q
   path_comes m (step {k = n} {e = e} {s = s} c i h g v l p) q =
       (before e s i, subst (λ o. stop_at o s ≡ None) (sym h) g, subst (λ o. Comes im far k n (opened (change_at im.routines o s) e) (moved (effect_at o s)) m) (sym h) (subst (λ y. Comes im far k n y (act c s) m) (sym (level_opened l)) (path_comes m p q)))

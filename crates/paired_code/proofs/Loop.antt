@@ -1,8 +1,9 @@
 -- The law of turn_while.
 use Rattle.std.proofs.Common.{◌≡◌, ◌≢◌, ℕ, ◌+◌, ◌^◌, ◌<◌, ◌⊎◌, ⊎_elim, Bool, true, false, List, length, refl, sym, arith, length-append}
+use Rattle.pisa_isa.specs.Machine.{Memory}
 use Rattle.paired_code.specs.Cells.{bra}
 use Rattle.paired_code.specs.declared.part.Symbol.{Symbol}
-use Rattle.paired_code.specs.Machine.{Memory, Image, reg}
+use Rattle.paired_code.specs.Machine.{Image, reg}
 use Rattle.paired_code.specs.Layout.{Frame, at, Stands, between, loop_cells}
 use Rattle.paired_code.specs.Pieces.{Outcome, Done, Trapped, Bad, Still, Ends, finishes, traps, bad, still, Will, Way, after, stay, to_tail, to_head}
 use Rattle.paired_code.proofs.Steps.{Has}

@@ -4,8 +4,8 @@ use Rattle.std.specs.Prelude.{not, ℤ, pos, ◌+ℤ◌, ◌-ℤ◌}
 use Rattle.std.proofs.lemmas.Int.{ints}
 use Rattle.paired_code.specs.declared.part.Symbol.{Symbol}
 use Rattle.paired_code.specs.declared.part.Symbol.TheVariants.{Own, Enter, Fixed, Aim, Turn}
-use Rattle.pisa_isa.specs.Machine.{State, fetch}
-use Rattle.paired_code.specs.Machine.{Memory, state, Image}
+use Rattle.pisa_isa.specs.Machine.{State, fetch, Memory}
+use Rattle.paired_code.specs.Machine.{state, Image}
 use Rattle.paired_code.specs.Layout.{xor, Frame, spot, place, at, base, resolved, Stands, inverse_sym, mirror_cells}
 use Rattle.paired_code.specs.Pieces.{Inside, cell, open_call, in_flight, Path, stay, step, Outcome, Ends, finishes, traps, bad, still, Will, near_end, far_end}
 use Rattle.paired_code.proofs.Steps.{inverse_twice}

@@ -1,8 +1,9 @@
 -- The laws of the loop, the check and the calls, as contracts state them.
 use Rattle.std.proofs.Common.{◌≡◌, ◌≢◌, ℕ, ◌+◌, ◌^◌, ◌<◌, ◌≤◌, inl, inr, Bool, List, [], ◌∷◌, length, refl, ap, subst}
+use Rattle.pisa_isa.specs.Machine.{Memory}
 use Rattle.paired_code.specs.declared.part.Symbol.{Symbol}
 use Rattle.paired_code.specs.declared.part.Symbol.TheVariants.{Enter}
-use Rattle.paired_code.specs.Machine.{Memory, Image, with_reg}
+use Rattle.paired_code.specs.Machine.{Image, with_reg}
 use Rattle.paired_code.specs.Layout.{xor, loop_cells, check_cells, place_register, enter_at_cells}
 use Rattle.paired_code.specs.Pieces.{Outcome, Done, Trapped, Bad, Still, Ends, after, IsOver, to_tail, to_head, near_end, far_end}
 use Rattle.paired_code.specs.Laws.{Rounds, pause, ends_in_head, leaves, ends_in_tail, again, WhileLaw, CheckLaw, EnterLaw, EnterAtLaw, came_back, called, called_at}

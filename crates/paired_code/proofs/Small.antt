@@ -5,10 +5,10 @@ use Rattle.pisa_isa.specs.declared.cell.Cell.{Cell}
 use Rattle.paired_code.specs.Cells.{bra, bgtz, bltz, data_word}
 use Rattle.paired_code.specs.declared.part.Symbol.{Symbol}
 use Rattle.paired_code.specs.declared.part.Symbol.TheVariants.{Own}
-use Rattle.pisa_isa.specs.Machine.{stop_at, fetch}
+use Rattle.pisa_isa.specs.Machine.{stop_at, fetch, Memory}
 use Rattle.pisa_isa.specs.declared.machine.Stop.TheVariants.{Trap, BadAddress}
 use Rattle.paired_code.proofs.Words.{is_positive, is_negative, toward, near, near_is}
-use Rattle.paired_code.specs.Machine.{Memory, state, Image, is_single, reg, effect_along}
+use Rattle.paired_code.specs.Machine.{state, Image, is_single, reg, effect_along}
 use Rattle.paired_code.specs.Layout.{xor, Frame, place, at, Stands, between, check_cells}
 use Rattle.paired_code.specs.Pieces.{Inside, cell, stay, Done, Trapped, Bad, Still, Way, Halts, Ends, finishes, traps, bad, still, Runs, near_end, far_end}
 use Rattle.paired_code.specs.Laws.{outcome_of}

@@ -9,10 +9,10 @@ use Rattle.pisa_isa.specs.declared.cell.Cell.{Cell}
 use Rattle.pisa_isa.specs.Table.{inverse_op, inverse_word, inverse_of}
 use Rattle.pisa_isa.specs.declared.machine.Stop.{Stop}
 use Rattle.pisa_isa.specs.declared.machine.Stop.TheVariants.{BadAddress}
-use Rattle.pisa_isa.specs.Machine.{State, row, row_of, faced, effect, moved, stride, fetch, stop_at, stop_in, has_cell}
+use Rattle.pisa_isa.specs.Machine.{State, row, row_of, faced, effect, moved, stride, fetch, stop_at, stop_in, has_cell, Memory, memory_of}
 use Rattle.pisa_isa.proofs.Mirror.{inverse_op-twice, inverse_word-twice}
 use Rattle.paired_code.specs.Cells.{bra, bgtz, bltz}
-use Rattle.paired_code.specs.Machine.{Memory, mem_of, state, Image, act, reversed, reversed_word, effect_along, is_single_op, is_single, is_end_op, is_end, reg, change_by, change, Same, Level, same}
+use Rattle.paired_code.specs.Machine.{state, Image, act, reversed, reversed_word, effect_along, is_single_op, is_single, is_end_op, is_end, reg, change_by, change, Same, Level, same}
 use Rattle.paired_code.specs.Layout.{xor, Frame, spot, place, at, between}
 use Rattle.paired_code.specs.Pieces.{cell, Path, stay, step, Way}
 use Rattle.paired_code.proofs.Words.{along, turned, is_positive, is_negative, place_along, flipped, opposite_twice, toward, first_br, second_br, goes_to, near, far, near_is, far_is}
@@ -159,7 +159,7 @@ faced_is true true c h = reversed_is c h
 
 -- ---- instructions that are no branch
 
-single_acts : (op : Op) (a b c i : ℕ) → is_single_op op ≡ true → (pc : ℤ) (k : Bool) (m : Memory) → row op a b c i (state pc 0 k m) ≡ state pc 0 k (mem_of (row op a b c i (state (pos 0) 0 false m)))
+single_acts : (op : Op) (a b c i : ℕ) → is_single_op op ≡ true → (pc : ℤ) (k : Bool) (m : Memory) → row op a b c i (state pc 0 k m) ≡ state pc 0 k (memory_of (row op a b c i (state (pos 0) 0 false m)))
 single_acts Add a b c i h pc k m = refl
 single_acts Swapbr a b c i h pc k m = cc
 single_acts Bra a b c i h pc k m = cc

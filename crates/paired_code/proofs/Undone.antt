@@ -1,4 +1,5 @@
--- A row run backward undoes what it did forward; so rows, and pieces between a row and its inverse, need to be known forward alone.
+-- A row run backward undoes what it did forward; so rows, and pieces between a row and its inverse,
+-- need to be known forward alone.
 use Rattle.std.proofs.Common.{◌≡◌, ◌≢◌, ◌∙◌, ℕ, suc, ◌+◌, ◌^◌, ◌<◌, Bool, true, false, List, [], ◌∷◌, ◌++◌, length, refl, sym, ap, subst, arith, pos, nat_lt, ap₂, get_or, length-set, ltb-true, ℤ}
 use Rattle.std.proofs.lemmas.List.{get_or-set_other}
 use Rattle.std.proofs.lemmas.List.Elements.{All-get_or, All-set}
@@ -9,14 +10,14 @@ use Rattle.pisa_isa.specs.declared.cell.Op.{Op}
 use Rattle.pisa_isa.specs.declared.cell.Op.TheVariants.{Exch, Swapbr, Bra, Rbra, Beq, Bne, Bgez, Bgtz, Blez, Bltz, Start, Finish, DataWord}
 use Rattle.pisa_isa.specs.declared.cell.Cell.{Cell}
 use Rattle.pisa_isa.specs.Table.{IsCell, inverse_op, b_is_source, new_value}
-use Rattle.pisa_isa.specs.Machine.{State, turned, effect, row, row_of, faced, has_cell}
+use Rattle.pisa_isa.specs.Machine.{State, turned, effect, row, row_of, faced, has_cell, Memory, memory_of}
 use Rattle.pisa_isa.proofs.Back.{Apart-cell}
 use Rattle.pisa_isa.proofs.Effect.{Fits, effect-twice}
 use Rattle.pisa_isa.proofs.Keeps.{new_value-lt}
 use Rattle.pisa_isa.proofs.Ranges.{a_below, b_below, c_below, imm_word}
 use Rattle.paired_code.specs.declared.part.Symbol.{Symbol}
 use Rattle.paired_code.specs.declared.part.Symbol.TheVariants.{Own}
-use Rattle.paired_code.specs.Machine.{Memory, Image, state, mem_of, reg as reg_of, is_single, is_single_op, effect_along}
+use Rattle.paired_code.specs.Machine.{Image, state, reg as reg_of, is_single, is_single_op, effect_along}
 use Rattle.paired_code.specs.Layout.{mirror_cells}
 use Rattle.paired_code.specs.Pieces.{Outcome, Done, Trapped, Bad, Still, Runs, after}
 use Rattle.paired_code.proofs.Steps.{has_its_cell}
@@ -38,7 +39,7 @@ of_done : (a b : Memory) (k j : ℕ) → Done a k ≡ Done b j → a ≡ b
 of_done a b k j e = ap (λ o. elim o as (λ _. Memory) [ Done m i ↦ m | Trapped w i ↦ a | Bad w i ↦ a | Still i ↦ a ]) e
 
 -- a row that may stand alone does not look at the place, the branch register or the direction
-row_free : (op : Op) (a b c i : ℕ) (s : State) → is_single_op op ≡ true → mem_of (row op a b c i s) ≡ mem_of (row op a b c i (at_first (mem_of s)))
+row_free : (op : Op) (a b c i : ℕ) (s : State) → is_single_op op ≡ true → memory_of (row op a b c i s) ≡ memory_of (row op a b c i (at_first (memory_of s)))
 row_free Exch a b c i s h = refl
 row_free Swapbr a b c i s h = cc
 row_free Bra a b c i s h = cc
@@ -159,8 +160,8 @@ effect_back c m h k w t =
     } in
     let same : e.back ≡ false = row_back c.op c.a c.b c.c c.imm s h in
     let undone : effect c (turned e) ≡ turned s = effect-twice c.op c.a c.b c.c c.imm (pos 0) 0 false m.regs m.cells fits in
-    let free : mem_of (row_of d (turned e)) ≡ mem_of (row_of d (at_first (mem_of e))) = row_free d.op d.a d.b d.c d.imm (turned e) (single_inverse c.op h) in
-    sym free ∙ ap (λ b. mem_of (row_of (faced (not b) c) (turned e))) (sym same) ∙ ap mem_of undone
+    let free : memory_of (row_of d (turned e)) ≡ memory_of (row_of d (at_first (memory_of e))) = row_free d.op d.a d.b d.c d.imm (turned e) (single_inverse c.op h) in
+    sym free ∙ ap (λ b. memory_of (row_of (faced (not b) c) (turned e))) (sym same) ∙ ap memory_of undone
 
 -- ---- rows
 
@@ -196,7 +197,7 @@ went_ahead im p (goes {c = c} {cs = cs} {m = m} {m1 = m1} h r) =
     steps_are im (line (c ∷ cs)) false m m1 (1 + length cs) (suc (length cs)) (omega arith) (ahead im (Own c ∷ []) (line cs) m (effect_along false c m) 1 (Done m1 (length cs)) one (went_ahead im p.2 r))
 
 -- an EXCH has its cell afterwards too
-still_has : (op : Op) (a b c i : ℕ) (m : Memory) → (b_is_source op ≡ true → b ≢ a) → has_cell op b (at_first m) ≡ true → has_cell op b (at_first (mem_of (row op a b c i (at_first m)))) ≡ true
+still_has : (op : Op) (a b c i : ℕ) (m : Memory) → (b_is_source op ≡ true → b ≢ a) → has_cell op b (at_first m) ≡ true → has_cell op b (at_first (memory_of (row op a b c i (at_first m)))) ≡ true
 still_has Exch a b c i m ne h =
     let x = get_or m.cells (get_or m.regs b 0) 0 in
     ap₂ nat_lt (get_or-set_other m.regs a b x 0 (ne refl)) (length-set m.cells (get_or m.regs b 0) (get_or m.regs a 0)) ∙ h

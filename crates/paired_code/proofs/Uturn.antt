@@ -5,9 +5,9 @@ use Rattle.paired_code.specs.Cells.{bra, rbra}
 use Rattle.paired_code.specs.declared.part.Symbol.{Symbol}
 use Rattle.paired_code.specs.declared.part.Symbol.TheVariants.{Own}
 use Rattle.rpp_words.specs.Words.{sum_of, negated}
-use Rattle.pisa_isa.specs.Machine.{effect, State, stop_at}
+use Rattle.pisa_isa.specs.Machine.{effect, State, stop_at, Memory}
 use Rattle.paired_code.proofs.Words.{turned, flipped, toward, first_br, second_br, goes_to, near, far, near_is, far_is}
-use Rattle.paired_code.specs.Machine.{Memory, state, Image, act, is_end, change, Same, same}
+use Rattle.paired_code.specs.Machine.{state, Image, act, is_end, change, Same, same}
 use Rattle.paired_code.specs.Layout.{xor, Frame, spot, place, at, between}
 use Rattle.paired_code.specs.Pieces.{cell, Path, Outcome, Ends, finishes, traps, bad, still, Will, around, near_end, far_end}
 use Rattle.paired_code.proofs.Paths.{append}

@@ -7,10 +7,10 @@ use Rattle.pisa_isa.specs.declared.cell.Cell.{Cell}
 use Rattle.paired_code.specs.Cells.{bra, bgtz, bltz}
 use Rattle.paired_code.specs.declared.part.Symbol.{Symbol}
 use Rattle.paired_code.specs.declared.part.Symbol.TheVariants.{Own}
-use Rattle.pisa_isa.specs.Machine.{fetch}
+use Rattle.pisa_isa.specs.Machine.{fetch, Memory}
 use Rattle.pisa_isa.specs.declared.machine.Stop.{Stop}
 use Rattle.paired_code.proofs.Words.{is_positive, is_negative, near, far}
-use Rattle.paired_code.specs.Machine.{Memory, Image, reg}
+use Rattle.paired_code.specs.Machine.{Image, reg}
 use Rattle.paired_code.specs.Layout.{Frame, place, between, resolved, Stands}
 use Rattle.paired_code.specs.Pieces.{stay, Outcome, Done, Way, Halts, Ends, finishes, traps, bad, still, after, then_do, around}
 use Rattle.paired_code.proofs.Paths.{append, widen, inside_wider}

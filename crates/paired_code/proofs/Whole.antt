@@ -10,7 +10,7 @@ use Rattle.pisa_isa.specs.declared.cell.Cell.{Cell}
 use Rattle.pisa_isa.specs.declared.machine.Stop.{Stop}
 use Rattle.pisa_isa.specs.declared.machine.Stop.TheVariants.{Finished, Returned, Trap, BadAddress, OffCode, Bound}
 use Rattle.pisa_isa.specs.Table.{IsCell}
-use Rattle.pisa_isa.specs.Machine.{State, fetch, stop, stop_in, stop_at, is_zero, next, moved, effect_at}
+use Rattle.pisa_isa.specs.Machine.{State, fetch, stop, stop_in, stop_at, is_zero, next, moved, effect_at, Memory}
 use Rattle.pisa_isa.specs.Image.{is_start, is_finish, is_start_op, is_finish_op}
 use Rattle.pisa_isa.specs.Runs.{run, steps, started, unless_stop, visited, before_step, later, counted}
 use Rattle.pisa_isa.specs.Ends.{is_at_start, is_at_finish, cell_is, MeetsEndsOnce}
@@ -19,7 +19,7 @@ use Rattle.pisa_isa.proofs.Runs.{run-stop}
 use Rattle.paired_code.specs.Cells.{neg, swapbr, addi, bra, rbra, start, finish}
 use Rattle.paired_code.specs.declared.part.Symbol.{Symbol}
 use Rattle.paired_code.specs.declared.part.Symbol.TheVariants.{Own, Enter, Fixed, Aim, Turn}
-use Rattle.paired_code.specs.Machine.{Memory, state, Image, is_end_op, is_end}
+use Rattle.paired_code.specs.Machine.{state, Image, is_end_op, is_end}
 use Rattle.paired_code.specs.Layout.{base, between, offset_to, aim, six, code_line, Frame, at, Routine, Tidy}
 use Rattle.paired_code.specs.Fit.{IsInner, IsFit, AllFit, EachFit}
 use Rattle.paired_code.specs.Pieces.{Path, stay, step, Outcome, Done, Trapped, Bad, Still, Ends, finishes, traps, bad, still, Will}

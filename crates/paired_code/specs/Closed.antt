@@ -4,9 +4,9 @@ use Rattle.pisa_isa.specs.declared.cell.Cell.{Cell}
 use Rattle.pisa_isa.specs.Table.{IsCell}
 use Rattle.paired_code.specs.declared.part.Symbol.{Symbol}
 use Rattle.paired_code.specs.declared.part.Symbol.TheVariants.{Own, Enter}
-use Rattle.pisa_isa.specs.Machine.{State}
+use Rattle.pisa_isa.specs.Machine.{State, Memory}
 use Rattle.pisa_isa.specs.declared.machine.Stop.TheVariants.{Trap, BadAddress}
-use Rattle.paired_code.specs.Machine.{Memory, Image, reg, with_reg, is_single}
+use Rattle.paired_code.specs.Machine.{Image, reg, with_reg, is_single}
 use Rattle.paired_code.specs.Layout.{xor, at, code_line, mirror_cells, branch_cells, loop_cells, check_cells, place_register, enter_at_cells, Routine, Tidy}
 use Rattle.paired_code.specs.Pieces.{Outcome, Done, Trapped, Bad, Still, after, around, around_no, to_tail, to_head, near_end, far_end}
 use Rattle.paired_code.specs.Laws.{outcome_of, lead, left_in}
@@ -150,7 +150,8 @@ pub data One_of_four (im : Image) (far : ℤ) (d : Bool) (n : ℕ) (s : State) :
   stops : (a k : ℕ) → Stops im far d (BadAddress a) k 0 s → One_of_four im far d n s
   stays : Stays im far d n 0 s → One_of_four im far d n s
 
--- so a piece of this shape that stands from cell a on does one of the four, if its run meets the conditions
+-- so a piece of this shape that stands from cell a on does one of the four, if its run meets the
+-- conditions
 abbrev pub Closed : Image → Shape → ℕ → Bool → Memory → ℕ → Type 0
 Closed im s a d m n =
     let b = a + length (cells_of_shape s) in

@@ -73,7 +73,8 @@ parts c = marked_parts c.cells c.marks
 
 -- ---- the marks of an image that is linked of them
 
--- those of the routines, of which the first has its top at t: each body stands three cells behind its routine's top
+-- those of the routines, of which the first has its top at t: each body stands three cells behind
+-- its routine's top
 abbrev pub routine_marks : ℕ → List Code → List Mark
 routine_marks t [] = []
 routine_marks t (b ∷ bs) = shift (t + 1 + 1 + 1) b.marks

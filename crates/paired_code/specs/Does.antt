@@ -1,7 +1,8 @@
 -- How a run of a piece meets what the source says.
 use Rattle.std.specs.Prelude.{ℕ, zero, suc, ◌+◌, ◌-◌, ◌*◌, ◌≤◌, Bool, true, false, List, [], ◌∷◌, ◌++◌}
+use Rattle.pisa_isa.specs.Machine.{Memory}
 use Rattle.paired_code.specs.declared.part.Symbol.{Symbol}
-use Rattle.paired_code.specs.Machine.{Memory, Image}
+use Rattle.paired_code.specs.Machine.{Image}
 use Rattle.paired_code.specs.Layout.{xor, branch_cells, check_cells}
 use Rattle.paired_code.specs.Pieces.{Outcome, Done, Trapped, Still, Will}
 
@@ -33,14 +34,16 @@ pub record Rates : Type 0 where
   pub steps : ℕ
 
 -- the run does what the source says with fuel n: within the rates b, and x steps more
-pub data Meets {A : Type 0} (R : A → Memory → Type 0) (b : Rates) (n x : ℕ) : Told A → Outcome → Type 0 where
+pub data Meets {A : Type 0} (R : A → Memory → Type 0) (b : Rates) (n x : ℕ) : Told A → Outcome
+    → Type 0 where
   fine : {a : A} {m : Memory} {c k : ℕ} → R a m → c ≤ b.counts * k → k ≤ b.steps * c + x
       → Meets R b n x (Fine a c) (Done m k)
   faults : {w c k : ℕ} → k ≤ b.steps * c + x → Meets R b n x (Fault w c) (Trapped w k)
   more : {k : ℕ} → n ≤ b.counts * (k + 1) → Meets R b n x More (Still k)
 
 -- from each related memory, the piece does what the source says
-pub record Does {A B : Type 0} (im : Image) (p : List Symbol) (d : Bool) (R : A → Memory → Type 0) (R' : B → Memory → Type 0) (b : Rates) (n x : ℕ) (f : A → Told B) : Type 0 where
+pub record Does {A B : Type 0} (im : Image) (p : List Symbol) (d : Bool) (R : A → Memory → Type 0)
+    (R' : B → Memory → Type 0) (b : Rates) (n x : ℕ) (f : A → Told B) : Type 0 where
   pub does : (a : A) (m : Memory) → R a m → Will im p d m (Meets R' b n x (f a))
 
 -- pieces in the order in which they are run
@@ -50,7 +53,8 @@ in_order false (p ∷ ps) = p ++ in_order false ps
 in_order true (p ∷ ps) = in_order true ps ++ p
 
 -- a value of 0 or 1 that is xored into a register, with what it costs: v is the register's value before
-pub record Tells {A : Type 0} (im : Image) (p : List Symbol) (d : Bool) (R : Bool → A → Memory → Type 0) (b : Rates) (x : ℕ) (t : ℕ → A → Told Bool) : Type 0 where
+pub record Tells {A : Type 0} (im : Image) (p : List Symbol) (d : Bool)
+    (R : Bool → A → Memory → Type 0) (b : Rates) (x : ℕ) (t : ℕ → A → Told Bool) : Type 0 where
   pub tells : (n : ℕ) (v : Bool) (a : A) (m : Memory) → R v a m
       → Will im p d m (Meets (λ w m1. R (xor v w) a m1) b n x (t n a))
 

@@ -3,8 +3,8 @@ use Rattle.std.specs.Prelude.{◌≡◌, ◌≢◌, ℕ, ◌+◌, ◌^◌, ◌<�
 use Rattle.pisa_isa.specs.declared.cell.Cell.{Cell}
 use Rattle.paired_code.specs.declared.part.Symbol.{Symbol}
 use Rattle.rpp_words.specs.Words.{difference_of}
-use Rattle.pisa_isa.specs.Machine.{has_cell}
-use Rattle.paired_code.specs.Machine.{Memory, state, Image, reg, with_reg, effect_along}
+use Rattle.pisa_isa.specs.Machine.{has_cell, Memory}
+use Rattle.paired_code.specs.Machine.{state, Image, reg, with_reg, effect_along}
 use Rattle.paired_code.specs.Layout.{xor, Frame, Stands, Routine, Tidy}
 use Rattle.paired_code.specs.Pieces.{Outcome, Done, Trapped, Bad, Still, Ends, near_end, far_end, Runs, after, IsOver, to_tail, to_head, then_do, around, around_no}
 
@@ -65,7 +65,8 @@ called d (Trapped v k) = Trapped v (lead d + k)
 called d (Bad v k) = Bad v (lead d + k)
 called d (Still k) = Still (lead d + k)
 
--- a call of routine r, forward or back: $2 is 0, and the body finds in it a word that is not 0, which it leaves there
+-- a call of routine r, forward or back: $2 is 0, and the body finds in it a word that is not 0,
+-- which it leaves there
 pub record EnterLaw (r : ℕ) (b : Bool) (all : List Symbol) : Type 0 where
   pub enters : (im : Image) (top : ℕ) (body : List Symbol) (d : Bool) (m : Memory) (o : ℕ → Outcome)
       → Routine im r top body → Tidy im → 2 < length m.regs → reg m 2 ≡ 0
@@ -75,12 +76,14 @@ pub record EnterLaw (r : ℕ) (b : Bool) (all : List Symbol) : Type 0 where
       × Ends im f d i (i + length all) (near_end d i (i + length all)) m
       (far_end d i (i + length all)) (called (xor b d) (o w))
 
--- what a call by a register leaves in $2, where the body left v in the register in place of s: 0 where they are one
+-- what a call by a register leaves in $2, where the body left v in the register in place of s: 0
+-- where they are one
 abbrev pub left_in : Bool → ℕ → ℕ → ℕ
 left_in false v s = difference_of v s
 left_in true v s = difference_of s v
 
--- a and s: the register and the routine's place; d: the way in which the body is run; e: the steps before and after
+-- a and s: the register and the routine's place; d: the way in which the body is run; e: the steps
+-- before and after
 abbrev pub called_at : ℕ → ℕ → Bool → ℕ → Outcome → Outcome
 called_at a s d e (Done m k) = Done (with_reg m 2 (left_in d (reg m a) s)) (k + e)
 called_at a s d e (Trapped v k) = Trapped v (k + e)
@@ -98,7 +101,8 @@ pub record EnterAtLaw (a : ℕ) (b : Bool) (all : List Symbol) : Type 0 where
       (far_end d i (i + length all)) (called_at a (top + 1) (xor b d) e (o w))
 
 -- how a loop goes from the beginning of head on
-pub data Rounds (im : Image) (r : ℕ) (head tail : List Symbol) (d : Bool) : Memory → Outcome → Type 0 where
+pub data Rounds (im : Image) (r : ℕ) (head tail : List Symbol) (d : Bool) : Memory → Outcome
+    → Type 0 where
   pause : {m : Memory} → Rounds im r head tail d m (Still 0)
   ends_in_head : {m : Memory} {o : Outcome} → Runs im head d m o → IsOver o → Rounds im r head tail d m o
   leaves : {m m1 : Memory} {k : ℕ} → Runs im head d m (Done m1 k) → reg m1 r ≢ 0

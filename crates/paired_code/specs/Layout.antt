@@ -5,8 +5,8 @@ use Rattle.paired_code.specs.Cells.{add, neg, addi, swapbr, bra, rbra, bgtz, blt
 use Rattle.paired_code.specs.declared.part.Symbol.{Symbol}
 use Rattle.paired_code.specs.declared.part.Symbol.TheVariants.{Own, Enter, Fixed, Aim, Turn}
 use Rattle.rpp_words.specs.Words.{negated}
-use Rattle.pisa_isa.specs.Machine.{State, fetch}
-use Rattle.paired_code.specs.Machine.{Memory, state, Image, is_routine, reversed}
+use Rattle.pisa_isa.specs.Machine.{State, fetch, Memory}
+use Rattle.paired_code.specs.Machine.{state, Image, is_routine, reversed}
 
 abbrev pub xor : Bool → Bool → Bool
 xor false b = b
@@ -111,7 +111,8 @@ abbrev pub check_cells : ℕ → ℕ → List Symbol
 check_cells r code = Own (bra (between 0 2)) ∷ Own (data_word code) ∷ Own (bra (between 2 0))
     ∷ Own (bgtz r (between 3 1)) ∷ Own (bltz r (between 4 1)) ∷ []
 
--- $2 is 0 before a call and holds no place of a routine, so that a call by it is never made; its cells are those of another
+-- $2 is 0 before a call and holds no place of a routine, so that a call by it is never made; its
+-- cells are those of another
 abbrev pub place_register : ℕ → ℕ
 place_register a = if nat_eq a 2 then 3 else a
 

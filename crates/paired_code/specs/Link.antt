@@ -3,14 +3,14 @@ use Rattle.std.specs.Prelude.{◌≡◌, ℕ, ◌+◌, ◌^◌, ◌<◌, ◌≤�
 use Rattle.pisa_isa.specs.declared.cell.Cell.{Cell}
 use Rattle.pisa_isa.specs.declared.machine.Stop.{Stop}
 use Rattle.pisa_isa.specs.declared.machine.Stop.TheVariants.{Finished, Trap, BadAddress}
-use Rattle.pisa_isa.specs.Machine.{State}
+use Rattle.pisa_isa.specs.Machine.{State, Memory}
 use Rattle.pisa_isa.specs.Runs.{run, steps, started}
 use Rattle.pisa_isa.specs.Ends.{MeetsEndsOnce}
 use Rattle.paired_code.specs.Cells.{neg, swapbr, bra, start, finish}
 use Rattle.paired_code.specs.declared.part.Symbol.{Symbol}
 use Rattle.paired_code.specs.declared.part.StaticWord.{StaticWord}
 use Rattle.paired_code.specs.declared.part.StaticWord.TheVariants.{Word, Routine as RoutinePlace}
-use Rattle.paired_code.specs.Machine.{Memory, state, Image}
+use Rattle.paired_code.specs.Machine.{state, Image}
 use Rattle.paired_code.specs.Layout.{base, between, code_line, Stands, Routine, Tidy}
 use Rattle.paired_code.specs.Literal.{InWords}
 use Rattle.paired_code.specs.Closed.{Shape, IsMade, AllMade, cells_of_shape, shapes_cells, routines_of, fine, any, Closed}

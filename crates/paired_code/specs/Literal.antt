@@ -2,10 +2,10 @@
 use Rattle.std.specs.Prelude.{◌≡◌, ℕ, zero, suc, ◌+◌, ◌-◌, ◌^◌, ◌<◌, Bool, List, length, Option, Some, None, ℤ}
 use Rattle.pisa_isa.specs.declared.cell.Cell.{Cell}
 use Rattle.paired_code.specs.declared.part.Symbol.{Symbol}
-use Rattle.pisa_isa.specs.Machine.{State, stop, next, fetch}
+use Rattle.pisa_isa.specs.Machine.{State, stop, next, fetch, Memory, memory_of}
 use Rattle.pisa_isa.specs.declared.machine.Stop.{Stop}
 use Rattle.pisa_isa.specs.declared.machine.Stop.TheVariants.{Trap, BadAddress}
-use Rattle.paired_code.specs.Machine.{Memory, mem_of, Image, change, Change, Same, Enters, Leaves}
+use Rattle.paired_code.specs.Machine.{Image, change, Change, Same, Enters, Leaves}
 use Rattle.paired_code.specs.Layout.{at, code_line, Stands}
 use Rattle.paired_code.specs.Pieces.{Outcome, Done, Trapped, Bad, Still, Runs, near_end, far_end}
 
@@ -27,7 +27,7 @@ pub record Coming (far : ℤ) (back : Bool) (e : ℕ) (s : State) : Type 0 where
 
 -- the run comes there first after k steps, with this memory
 abbrev pub Comes : Image → ℤ → Bool → ℕ → ℕ → State → Memory → Type 0
-Comes im far back zero e s m = Coming far back e s × (mem_of s ≡ m)
+Comes im far back zero e s m = Coming far back e s × (memory_of s ≡ m)
 Comes im far back (suc k) e s m = (¬ Coming far back e s) × (stop im.code s ≡ None)
     × Comes im far back k (opened (change_at im.routines (fetch im.code s.pc) s) e) (next im.code s) m
 
@@ -68,7 +68,8 @@ Said im a p d m (Trapped w k) = Traps im a p d m w k
 Said im a p d m (Bad w k) = Fails im a p d m w k
 Said im a p d m (Still k) = Goes_on_for im a p d m k
 
--- what the laws say of a piece's run is so in the words of the machine, wherever the piece stands in the code
+-- what the laws say of a piece's run is so in the words of the machine, wherever the piece stands
+-- in the code
 abbrev pub InWords : Image → Type 0
 InWords im = (p : List Symbol) (a : ℕ) (d : Bool) (m : Memory) (o : Outcome)
     → Stands im code_line a p → a + length p < 2 ^ 30 → Runs im p d m o → Said im a p d m o

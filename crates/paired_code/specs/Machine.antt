@@ -4,12 +4,7 @@ use Rattle.pisa_isa.specs.declared.cell.Op.{Op}
 use Rattle.pisa_isa.specs.declared.cell.Op.TheVariants.{Swapbr, Bra, Rbra, Beq, Bne, Bgez, Bgtz, Blez, Bltz, Start, Finish, DataWord}
 use Rattle.pisa_isa.specs.declared.cell.Cell.{Cell}
 use Rattle.pisa_isa.specs.Table.{inverse_op, inverse_word}
-use Rattle.pisa_isa.specs.Machine.{State, row_of, faced, effect, moved, is_zero}
-
--- registers and data cells
-pub record Memory : Type 0 where
-  pub regs : List ℕ
-  pub cells : List ℕ
+use Rattle.pisa_isa.specs.Machine.{State, row_of, faced, effect, moved, is_zero, Memory, memory_of}
 
 abbrev pub reg : Memory → ℕ → ℕ
 reg m d = slice_index m.regs d
@@ -21,9 +16,6 @@ with_reg m d w = record m { regs = slice_set m.regs d w }
 abbrev pub state : ℤ → ℕ → Bool → Memory → State
 state pc br back m = record { pc = pc; br = br; back = back; regs = m.regs; cells = m.cells }
 
-abbrev pub mem_of : State → Memory
-mem_of s = record { regs = s.regs; cells = s.cells }
-
 -- the word of the inverse; a number that is no word stays, so that this undoes itself on every number
 abbrev pub reversed_word : Op → ℕ → ℕ
 reversed_word op i = if nat_lt i (2 ^ 32) then inverse_word op i else i
@@ -34,7 +26,7 @@ reversed c = record c { op = inverse_op c.op; imm = reversed_word c.op c.imm }
 
 -- what a cell does to the memory in a direction
 abbrev pub effect_along : Bool → Cell → Memory → Memory
-effect_along d c m = mem_of (row_of (faced d c) (state (pos 0) 0 false m))
+effect_along d c m = memory_of (row_of (faced d c) (state (pos 0) 0 false m))
 
 -- a step at a cell that is no stop
 abbrev pub act : Cell → State → State

@@ -2,10 +2,10 @@
 use Rattle.std.specs.Prelude.{◌≡◌, ℕ, suc, ◌+◌, ◌^◌, ◌<◌, ◌≤◌, Bool, true, false, List, length, Some, None, ℤ}
 use Rattle.pisa_isa.specs.declared.cell.Cell.{Cell}
 use Rattle.paired_code.specs.declared.part.Symbol.{Symbol}
-use Rattle.pisa_isa.specs.Machine.{State, fetch, stop_at, stop}
+use Rattle.pisa_isa.specs.Machine.{State, fetch, stop_at, stop, Memory}
 use Rattle.pisa_isa.specs.declared.machine.Stop.{Stop}
 use Rattle.pisa_isa.specs.declared.machine.Stop.TheVariants.{Trap, BadAddress}
-use Rattle.paired_code.specs.Machine.{Memory, Image, act, change, is_end, Level}
+use Rattle.paired_code.specs.Machine.{Image, act, change, is_end, Level}
 use Rattle.paired_code.specs.Layout.{Frame, place, at, Stands}
 
 -- the place is that of a cell from a to b, or a routine is open, or a jump is under way
@@ -38,11 +38,13 @@ far_end false a b = b
 far_end true a b = a
 
 -- from gap i to gap j in the direction d, in k steps, each inside the cells from a to b
-pub record Way (im : Image) (f : Frame) (d : Bool) (a b k i : ℕ) (m : Memory) (j : ℕ) (m' : Memory) : Type 0 where
+pub record Way (im : Image) (f : Frame) (d : Bool) (a b k i : ℕ) (m : Memory) (j : ℕ)
+    (m' : Memory) : Type 0 where
   pub path : Path im f a b k 0 (at f d i m) 0 (at f d j m')
 
 -- from gap i the run makes k steps inside, and stops
-pub record Halts (im : Image) (f : Frame) (d : Bool) (a b k i : ℕ) (m : Memory) (why : Stop) : Type 0 where
+pub record Halts (im : Image) (f : Frame) (d : Bool) (a b k i : ℕ) (m : Memory)
+    (why : Stop) : Type 0 where
   pub last : State
   pub depth : ℕ
   pub path : Path im f a b k 0 (at f d i m) depth last
@@ -56,7 +58,8 @@ pub record Goes_on (im : Image) (f : Frame) (d : Bool) (a b k i : ℕ) (m : Memo
   pub path : Path im f a b k 0 (at f d i m) depth last
 
 -- from gap i, a run inside the cells from a to b goes so, and where it leaves, it leaves at gap j
-pub data Ends (im : Image) (f : Frame) (d : Bool) (a b i : ℕ) (m : Memory) (j : ℕ) : Outcome → Type 0 where
+pub data Ends (im : Image) (f : Frame) (d : Bool) (a b i : ℕ) (m : Memory) (j : ℕ) : Outcome
+    → Type 0 where
   finishes : {m' : Memory} {k : ℕ} → Way im f d a b k i m j m' → Ends im f d a b i m j (Done m' k)
   traps : {w k : ℕ} → Halts im f d a b k i m (Trap w) → Ends im f d a b i m j (Trapped w k)
   bad : {w k : ℕ} → Halts im f d a b k i m (BadAddress w) → Ends im f d a b i m j (Bad w k)
@@ -68,7 +71,8 @@ pub record Runs (im : Image) (p : List Symbol) (d : Bool) (m : Memory) (o : Outc
       → Ends im f d i (i + length p) (near_end d i (i + length p)) m (far_end d i (i + length p)) o
 
 -- wherever the piece stands, run along or back from this memory, it goes in one of these ways
-pub record Will (im : Image) (p : List Symbol) (d : Bool) (m : Memory) (Q : Outcome → Type 0) : Type 0 where
+pub record Will (im : Image) (p : List Symbol) (d : Bool) (m : Memory)
+    (Q : Outcome → Type 0) : Type 0 where
   pub will : (f : Frame) (i : ℕ) → i + length p < 2 ^ 30 → Stands im f i p → (o : Outcome)
       × Ends im f d i (i + length p) (near_end d i (i + length p)) m (far_end d i (i + length p)) o × Q o
 

@@ -7,8 +7,6 @@
 mod marking;
 mod part;
 mod piece;
-#[cfg(test)]
-mod tests;
 mod writer;
 
 pub use part::{StaticWord, Symbol};

@@ -98,7 +98,8 @@ joined before behind =
     record { marks = before.marks ++ behind.marks; names = before.names ++ behind.names }
 
 -- nothing, an instruction, STATIC and a word, MARK and three numbers, or NAME, a number and a name
-pub data ItemText (labels : Labels) (at : ℕ) (words : List (List ℕ)) (code : List Cell) (statics : List ℕ) (notes : NoteLists) : Type 0 where
+pub data ItemText (labels : Labels) (at : ℕ) (words : List (List ℕ)) (code : List Cell)
+    (statics : List ℕ) (notes : NoteLists) : Type 0 where
   nothing : words ≡ [] → code ≡ [] → statics ≡ [] → notes ≡ no_notes
       → ItemText labels at words code statics notes
   instruction : (cell : Cell) → InstructionText labels at words cell → code ≡ cell ∷ []
@@ -120,8 +121,10 @@ pub record LabeledLine (line : List ℕ) (names words : List (List ℕ)) : Type 
   pub are_names : All (λ name. is_name name ≡ true) names
   pub written : words_of (content_of line) ≡ map label_word names ++ words
 
--- lines, the first of which has this place for its cell, write these labels, code cells, static words and notes
-pub data LinesText (labels : Labels) : (at : ℕ) (lines : List (List ℕ)) (written : Labels) (code : List Cell) (statics : List ℕ) (notes : NoteLists) → Type 0 where
+-- lines, the first of which has this place for its cell, write these labels, code cells, static
+-- words and notes
+pub data LinesText (labels : Labels) : (at : ℕ) (lines : List (List ℕ)) (written : Labels)
+    (code : List Cell) (statics : List ℕ) (notes : NoteLists) → Type 0 where
   finish : (at : ℕ) → LinesText labels at [] [] [] [] no_notes
   one_line : (at : ℕ) (line : List ℕ) (lines names words : List (List ℕ)) (written : Labels)
       (cells code : List Cell) (words_here statics : List ℕ) (notes_here notes : NoteLists)

@@ -64,7 +64,8 @@ abbrev pub lines_by : {X : Type 0} → (X → List ℕ) → List X → List ℕ
 lines_by text [] = []
 lines_by text (x ∷ xs) = text x ++ 10 ∷ lines_by text xs
 
--- a line for each code cell, then one for each static word, then one for each mark, and then one for each name
+-- a line for each code cell, then one for each static word, then one for each mark, and then one
+-- for each name
 abbrev pub listing : NotedImage → List ℕ
 listing n = lines_by cell_text n.image.code ++ lines_by static_text n.image.statics
     ++ lines_by mark_text n.notes.marks ++ lines_by name_text n.notes.names

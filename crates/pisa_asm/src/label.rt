@@ -73,8 +73,10 @@ fn note_label(
     line: u32,
 ) -> Result<(), AsmError>
     ensures { MatchResult result
-        (λ _. label_at line name.now place labels.old.entries (place_of name.now labels.old.entries) ≡ Ok labels.new.entries)
-        (Refuses (label_at line name.now place labels.old.entries (place_of name.now labels.old.entries))) }
+        (λ _. label_at line name.now place labels.old.entries (place_of name.now labels.old.entries)
+        ≡ Ok labels.new.entries)
+        (Refuses (label_at line name.now place labels.old.entries
+        (place_of name.now labels.old.entries))) }
 {
     match labels.insert(Text::of(alloc, name)?, place)? {
         None => Ok(()),
@@ -91,7 +93,8 @@ pub fn note_labels(
     line: u32,
 ) -> Result<(), AsmError>
     ensures { MatchResult result
-        (λ _. labels_at line place labels.old.entries (label_names (words_of content.now)) ≡ Ok labels.new.entries)
+        (λ _. labels_at line place labels.old.entries (label_names (words_of content.now))
+        ≡ Ok labels.new.entries)
         (Refuses (labels_at line place labels.old.entries (label_names (words_of content.now)))) }
 {
     let mut rest = content;

@@ -9,12 +9,13 @@ ghost use Rattle.pisa_asm.specs.AssemblyText.{AssemblyText};
 
 /// The listing of an image with notes that fit it reads as that image with these notes.
 pub fn listing_reads_back()
-    ensures { (n : NotedImage) → IsImage n.image → All IsWord n.image.statics → fits n.image n.notes ≡ true
+    ensures { (n : NotedImage) → IsImage n.image → All IsWord n.image.statics
+        → fits n.image n.notes ≡ true
         → noted_of_text (listing n) ≡ Ok n }
 {}
 
-/// The image that is read of a text, with its notes, is the one that its lines write, and where no image is
-/// read, they write none.
+/// The image that is read of a text, with its notes, is the one that its lines write, and where no
+/// image is read, they write none.
 pub fn what_is_read_is_written()
     ensures sound { (lines : List (List ℕ)) (n : NotedImage) → noted_of_lines lines ≡ Ok n
         → AssemblyText lines n }

@@ -1,7 +1,8 @@
-//! Assembly text of the machine PISA: `assemble` reads an image with its notes from it or answers its first
-//! refusal, and `list` writes the one listing of an image with its notes. The layers above use these two
-//! calls, the errors, what lines write (specs/AssemblyText), the order of refusals (specs/Passes), the
-//! listing (specs/Listing), and the two laws: what is read is what is written, and a listing reads back.
+//! Assembly text of the machine PISA: `assemble` reads an image with its notes from it or answers
+//! its first refusal, and `list` writes the one listing of an image with its notes. The layers
+//! above use these two calls, the errors, what lines write (specs/AssemblyText), the order of
+//! refusals (specs/Passes), the listing (specs/Listing), and the two laws: what is read is what is
+//! written, and a listing reads back.
 #![tactic(auto)]
 
 mod assembler;
@@ -22,6 +23,3 @@ pub use assembler::{MOST_TEXT, assemble};
 pub use error::AsmError;
 pub use laws::{listing_reads_back, what_is_read_is_written};
 pub use listing::list;
-
-#[cfg(test)]
-mod tests;

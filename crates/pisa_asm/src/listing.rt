@@ -173,8 +173,8 @@ fn are_words(words: &[u32])
     ensures { All IsWord words.now }
 {}
 
-/// The listing of an image with its notes: a line for each code cell, then one for each static word, then one
-/// for each mark, and then one for each name.
+/// The listing of an image with its notes: a line for each code cell, then one for each static
+/// word, then one for each mark, and then one for each name.
 pub fn list(alloc: Global, noted: &Noted) -> Result<String, NoMemory>
     ensures listing { IfOk result (λ text. string_bytes text ≡ listing noted.now) }
 

@@ -30,7 +30,11 @@ impl Model for Survey {
 
     ghost Value = { Surveyed };
 
-    ghost view = { λ s. record { labels = s.labels.entries; cells = s.cells; statics = s.statics.items } };
+    ghost view = { λ s. record {
+      labels = s.labels.entries;
+      cells = s.cells;
+      statics = s.statics.items;
+    } };
 }
 
 impl Survey {

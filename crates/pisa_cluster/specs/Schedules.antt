@@ -12,7 +12,8 @@ use Rattle.pisa_cluster.specs.declared.cluster.Undone.{Undone}
 use Rattle.pisa_cluster.specs.declared.cluster.Undone.TheVariants.{Done, Nothing, Blocked}
 use Rattle.pisa_cluster.specs.Replay.{Joint, begun, processor_at, seen, touches, cstep, replay, AllGo, makers, start_of_joint}
 
--- what contracts see of a cluster: its state, its kept steps in order, and the serial number of the next one
+-- what contracts see of a cluster: its state, its kept steps in order, and the serial number of the
+-- next one
 pub record Schedule : Type 0 where
   pub joint : Joint
   pub kept : List Kept
@@ -27,8 +28,8 @@ abbrev pub AreSerials : (from below : ℕ) → List Kept → Type 0
 AreSerials from below [] = from ≤ below
 AreSerials from below (step ∷ rest) = (from ≤ step.serial) × AreSerials (step.serial + 1) below rest
 
--- what every cluster keeps: its state is the replay of its start over the kept steps in order, no step of the replay is a
--- stop, and each touches what is noted
+-- what every cluster keeps: its state is the replay of its start over the kept steps in order, no
+-- step of the replay is a stop, and each touches what is noted
 pub record IsCluster (c : Schedule) : Type 0 where
   pub images : All (λ (p : Processor). IsImage p.image) c.joint.processors
   pub follows : AllGo (start_of_joint c.joint) c.kept

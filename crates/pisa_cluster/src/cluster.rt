@@ -78,8 +78,8 @@ impl Model for Cluster {
 }
 
 impl Cluster {
-    /// Processors at the START of these images, with zero registers, on so many zero cells. The static words of the images
-    /// are not used.
+    /// Processors at the START of these images, with zero registers, on so many zero cells. The
+    /// static words of the images are not used.
     pub fn new(alloc: Global, images: Vec<Image>, cells: u32) -> Result<Cluster, NoMemory>
         requires some { 1 ≤ vec_len images }
         requires few { vec_len images ≤ 8 }
@@ -126,7 +126,8 @@ impl Cluster {
         }
     }
 
-    /// Takes back the last kept step of a processor, unless a later step of another touched the same cell.
+    /// Takes back the last kept step of a processor, unless a later step of another touched the
+    /// same cell.
     pub fn undo(&mut self, who: u32) -> Undone
         requires first { 1 ≤ who }
         requires last { who ≤ length self.old.joint.processors }
@@ -162,7 +163,8 @@ impl Cluster {
         count as u64
     }
 
-    /// Takes back a kept step that is its processor's last one, where no later step touched the same cell.
+    /// Takes back a kept step that is its processor's last one, where no later step touched the
+    /// same cell.
     fn take_back(&mut self, at: usize)
         requires there { at < length self.old.kept }
         requires free { IsFree at self.old.kept }

@@ -3,8 +3,9 @@ ghost use Rattle.std.specs.Prelude.{◌≡◌, List};
 ghost use Rattle.pisa_cluster.specs.Replay.{start_of_joint};
 ghost use Rattle.pisa_cluster.specs.Schedules.{Schedule, Move, Leads, IsCluster};
 
-/// After any list of steps, undoings and rewinds the state is the replay of the start over the kept steps in order, no step
-/// of that replay is a stop, and each touches what is noted. The start stays what it was.
+/// After any list of steps, undoings and rewinds the state is the replay of the start over the kept
+/// steps in order, no step of that replay is a stop, and each touches what is noted. The start
+/// stays what it was.
 pub fn schedules_replay()
     ensures keeps { (moves : List Move) (c d : Schedule) → IsCluster c → Leads moves c d → IsCluster d }
     ensures start { (moves : List Move) (c d : Schedule) → IsCluster c → Leads moves c d

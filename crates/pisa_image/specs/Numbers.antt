@@ -15,7 +15,8 @@ abbrev pub ◌>>=◌ : {E A B : Type 0} → Result A E → (A → Result B E) �
 (Ok x) >>= f = f x
 (Err e) >>= f = Err e
 
--- the number at the front and the bytes behind it, where these bytes stand at a place; else they are refused as cut at their end
+-- the number at the front and the bytes behind it, where these bytes stand at a place; else they
+-- are refused as cut at their end
 abbrev pub word_at : {E : Type 0} → (cut : ℕ → E) → (at : ℕ) → List ℕ → Result (ℕ × List ℕ) E
 word_at cut at bytes = if nat_lt (length bytes) 4 then Err (cut (at + length bytes))
     else Ok (from_le_bytes w32 (take 4 bytes), drop 4 bytes)

@@ -10,8 +10,6 @@ mod note_writing;
 mod ranges;
 mod reading;
 mod rows;
-#[cfg(test)]
-mod tests;
 mod writing;
 
 pub use error::ImageError;

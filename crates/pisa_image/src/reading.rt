@@ -30,10 +30,12 @@ pub fn read_image(alloc: Global, bytes: &[u8]) -> Result<Noted, ImageError>
     // What is read as an image is its bytes, or those without notes of the version before.
     ensures found { IfOk result (λ n. AreBytesOf n bytes.now) }
     // The bytes of an image with notes are read as it, unless memory runs out.
-    ensures only { (n : NotedImage) → IsImage n.image → IsTrue (fits n.image n.notes) → All IsWord n.image.statics → bytes.now ≡ image_bytes n
+    ensures only { (n : NotedImage) → IsImage n.image → IsTrue (fits n.image n.notes)
+        → All IsWord n.image.statics → bytes.now ≡ image_bytes n
         → Gives (λ n. n) result (Ok n) }
     // So are those of an image of the version before.
-    ensures old { (image : Segments) → IsImage image → All IsWord image.statics → bytes.now ≡ old_image_bytes image
+    ensures old { (image : Segments) → IsImage image → All IsWord image.statics
+        → bytes.now ≡ old_image_bytes image
         → Gives (λ n. n) result (Ok (noted no_notes image)) }
 {
     image_of(alloc, bytes)

@@ -1,4 +1,5 @@
--- The one START and the one FINISH cell: where they stand in code and in the flipped code, and what steps there do.
+-- The one START and the one FINISH cell: where they stand in code and in the flipped code, and what
+-- steps there do.
 use Rattle.std.proofs.Common.{◌≡◌, ◌∙◌, sym, ap, refl, ℕ, zero, suc, ◌-◌, ◌<◌, Bool, true, false, not, ◌&&◌, cond, arith, List, [], ◌∷◌, length, get_or, map, ℤ, pos, negsuc, Option, Some, None}
 use Rattle.std.specs.Prelude.{slice_get, filter, count_by}
 use Rattle.std.specs.List.{position_or_len}

@@ -26,7 +26,8 @@ begins code m = is_at_start code m && not m.back && is_zero m.br
 abbrev pub begins_backward : List Cell → State → Bool
 begins_backward code m = is_at_finish code m && m.back && is_zero m.br
 
--- the run of at most n steps finishes, it begins only with its first step, and nowhere does it begin backward
+-- the run of at most n steps finishes, it begins only with its first step, and nowhere does it
+-- begin backward
 pub record IsCleanFinish (code : List Cell) (n : ℕ) (m : State) : Type 0 where
   pub finished : (run code n m).why ≡ Finished
   pub begins_once : All (λ s. IsFalse (begins code s)) (drop 1 (visited code n m))

@@ -14,7 +14,8 @@ flipped code = reverse (map inverse_of code)
 abbrev pub flipped_image : Segments → Segments
 flipped_image image = record image { code = flipped image.code }
 
--- where a run ended so, the run of the flipped code from its registers and cells finishes cleanly, in as many steps, with these
+-- where a run ended so, the run of the flipped code from its registers and cells finishes cleanly,
+-- in as many steps, with these
 pub record Restores (code : List Cell) (end : End) (bound : ℕ) (regs cells : List ℕ) : Type 0 where
   pub clean : IsCleanFinish (flipped code) bound (started (flipped code) end.last.regs end.last.cells)
   pub in_as_many : (run (flipped code) bound

@@ -19,6 +19,14 @@ pub record State : Type 0 where
   pub regs : List ℕ
   pub cells : List ℕ
 
+-- the memory of a state: the registers and the data cells
+pub record Memory : Type 0 where
+  pub regs : List ℕ
+  pub cells : List ℕ
+
+abbrev pub memory_of : State → Memory
+memory_of m = record { regs = m.regs; cells = m.cells }
+
 abbrev pub reg : State → ℕ → ℕ
 reg m r = slice_index m.regs r
 

@@ -39,7 +39,8 @@ pub fn flipped_notes_fit()
 /// it began with. This holds for each bound that these steps are within.
 pub fn flipped_run_restores()
     ensures { (image : Segments) (n : ℕ) (regs cells : List ℕ) (bound : ℕ) → IsImage image
-        → IsState (started image.code regs cells) → IsCleanFinish image.code n (started image.code regs cells)
+        → IsState (started image.code regs cells)
+        → IsCleanFinish image.code n (started image.code regs cells)
         → (run image.code n (started image.code regs cells)).spent ≤ bound
         → Restores image.code (run image.code n (started image.code regs cells)) bound regs cells }
 {}

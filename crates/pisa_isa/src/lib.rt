@@ -1,6 +1,7 @@
 //! The reversible machine PISA: its instructions, one step forward and back, and images, the
-//! programs that it runs, with notes on where their cells come from. The definitions that the contracts of all layers above share stand here:
-//! the table of instructions, states, stops, steps, runs, and the memory that a run begins with.
+//! programs that it runs, with notes on where their cells come from. The definitions that the
+//! contracts of all layers above share stand here: the table of instructions, states, stops, steps,
+//! runs, and the memory that a run begins with.
 #![tactic(auto)]
 
 mod cell;

@@ -57,8 +57,8 @@ pub trait Cells {
         ensures word { word.new ≡ slice_index (words self.old) at };
 }
 
-/// Whether a place is in the code. A place below 0 is a large number when it is read without its sign, so that one test
-/// is enough.
+/// Whether a place is in the code. A place below 0 is a large number when it is read without its
+/// sign, so that one test is enough.
 fn is_in_code(code: &[Cell], pc: i64) -> bool
     requires { IsCode code.now }
     ensures answer { IsTrue result ↔ IsSome (fetch code.now pc) }
@@ -165,7 +165,8 @@ fn exchange<C: Cells>(core: &mut Core, a: usize, at: u32, cells: &mut C) -> Opti
     ensures stays { IsSome result → state_of core.new (C.words cells.new)
         ≡ state_of core.old (C.words cells.old) }
     ensures swaps { IsTrue (nat_lt at (length (C.words cells.old)))
-        → state_of core.new (C.words cells.new) ≡ exchanged_at (state_of core.old (C.words cells.old)) a at }
+        → state_of core.new (C.words cells.new)
+        ≡ exchanged_at (state_of core.old (C.words cells.old)) a at }
     ensures place { core.new.pc ≡ core.old.pc }
 {
     if at >= cells.len() {
@@ -202,8 +203,9 @@ fn offset_by(back: bool, i: u32) -> u32
     if back { wrap_sub(0, i) } else { i }
 }
 
-/// The effect of a row in a direction, where its first two registers hold `x` and `y`, or why the machine stops there, and
-/// then nothing changes. It is the whole work of a step but for the move, so that one look at the row decides both.
+/// The effect of a row in a direction, where its first two registers hold `x` and `y`, or why the
+/// machine stops there, and then nothing changes. It is the whole work of a step but for the move,
+/// so that one look at the row decides both.
 #[inline(always)]
 fn act<C: Cells>(
     core: &mut Core,
@@ -223,7 +225,8 @@ fn act<C: Cells>(
     ensures stays { IsSome result → state_of core.new (C.words cells.new)
         ≡ state_of core.old (C.words cells.old) }
     ensures acts { IsTrue (has_cell_at op y (state_of core.old (C.words cells.old)))
-        → state_of core.new (C.words cells.new) ≡ row_by op back a x y c i (state_of core.old (C.words cells.old)) }
+        → state_of core.new (C.words cells.new)
+        ≡ row_by op back a x y c i (state_of core.old (C.words cells.old)) }
     ensures place { core.new.pc ≡ core.old.pc }
 {
     let o = offset_by(back, i);
@@ -278,7 +281,8 @@ fn act_by<C: Cells>(core: &mut Core, cell: &Cell, back: bool, cells: &mut C) -> 
     ensures stays { IsSome result → state_of core.new (C.words cells.new)
         ≡ state_of core.old (C.words cells.old) }
     ensures acts { IsTrue (has_cell cell.now.op cell.now.b (state_of core.old (C.words cells.old)))
-        → state_of core.new (C.words cells.new) ≡ row_of (faced back cell.now) (state_of core.old (C.words cells.old)) }
+        → state_of core.new (C.words cells.new)
+        ≡ row_of (faced back cell.now) (state_of core.old (C.words cells.old)) }
     ensures place { core.new.pc ≡ core.old.pc }
 {
     let (a, c) = (cell.a as usize, cell.c as usize);
@@ -287,7 +291,8 @@ fn act_by<C: Cells>(core: &mut Core, cell: &Cell, back: bool, cells: &mut C) -> 
     act(core, cell.op, back, a, x, y, c, cell.imm, cells)
 }
 
-/// One step at a cell, where `back` says that the machine faces direction -1, or why it stops, and then nothing changes.
+/// One step at a cell, where `back` says that the machine faces direction -1, or why it stops, and
+/// then nothing changes.
 #[inline(always)]
 fn step_by<C: Cells>(core: &mut Core, cell: &Cell, back: bool, cells: &mut C) -> Option<Stop>
     requires cell { IsCell cell.now }
@@ -298,7 +303,8 @@ fn step_by<C: Cells>(core: &mut Core, cell: &Cell, back: bool, cells: &mut C) ->
     ensures stays { IsSome result → state_of core.new (C.words cells.new)
         ≡ state_of core.old (C.words cells.old) }
     ensures goes { IsNone result
-        → state_of core.new (C.words cells.new) ≡ moved (effect cell.now (state_of core.old (C.words cells.old))) }
+        → state_of core.new (C.words cells.new)
+        ≡ moved (effect cell.now (state_of core.old (C.words cells.old))) }
 {
     let pc = core.pc;
     let stop = act_by(core, cell, back, cells);
@@ -330,8 +336,9 @@ pub fn step<C: Cells>(core: &mut Core, code: &[Cell], cells: &mut C) -> Option<S
     }
 }
 
-/// Undoes a step that was made, where `back` says that it was made for direction 1: the move, and then the effect, each for
-/// the other direction. At the ends of a run the effect is nothing, so that it does not matter that `act` would stop there.
+/// Undoes a step that was made, where `back` says that it was made for direction 1: the move, and
+/// then the effect, each for the other direction. At the ends of a run the effect is nothing, so
+/// that it does not matter that `act` would stop there.
 #[inline(always)]
 fn unstep_by<C: Cells>(core: &mut Core, code: &[Cell], back: bool, cells: &mut C)
     requires code { IsCode code.now }

@@ -7,7 +7,7 @@ use Rattle.std.proofs.lemmas.List.{append-nil, nil_from_length}
 use Rattle.std.proofs.lemmas.List.Elements.{All-from_recursion, recursion_from_All}
 use Rattle.rpp_words.specs.Words.{IsWord}
 use Rattle.pisa_isa.specs.Image.{Segments}
-use Rattle.pisa_isa.specs.Machine.{IsState}
+use Rattle.pisa_isa.specs.Machine.{IsState, Memory}
 use Rattle.pisa_isa.proofs.Keeps.{steps-IsState}
 use Rattle.pisa_machine.specs.Position.{Position, IsMachine, first_position}
 use Rattle.pisa_image.specs.Numbers.{◌>>=◌, word_bytes, words_bytes, word_at, words_at}
@@ -16,7 +16,7 @@ use Rattle.pisa_image.proofs.Words.{word_takes, word_again}
 use Rattle.pisa_loader.specs.declared.state.TheConstants.{STATE_MARK, STATE_VERSION}
 use Rattle.pisa_loader.specs.declared.error.LoadError.{LoadError}
 use Rattle.pisa_loader.specs.declared.error.LoadError.TheVariants.{BadState, NoMemory}
-use Rattle.pisa_loader.specs.States.{Gives, Fails, Memory, memory, IsMemory, state_bytes, known_word, state_at, at_start}
+use Rattle.pisa_loader.specs.States.{Gives, Fails, memory, IsMemory, state_bytes, known_word, state_at, at_start}
 
 -- a refusal within is a refusal of the whole
 pub fails_with : {X Y : Type 0} (e : LoadError) (inner : Result X LoadError) (whole : Result Y LoadError) → ((r : LoadError) → inner ≡ Err r → whole ≡ Err r) → Fails e inner → Fails e whole

@@ -2,16 +2,12 @@
 use Rattle.std.specs.Prelude.{◌≡◌, ℕ, ◌+◌, ◌*◌, List, ◌++◌, All, length, codes, Result, Ok, Err, nat_eq, if◌then◌else◌}
 use Rattle.rpp_words.specs.Words.{IsWord}
 use Rattle.pisa_isa.specs.Image.{Segments}
+use Rattle.pisa_isa.specs.Machine.{Memory}
 use Rattle.pisa_machine.specs.Position.{Position, first_position}
 use Rattle.pisa_image.specs.Numbers.{◌>>=◌, word_bytes, words_bytes, word_at, words_at}
 use Rattle.pisa_loader.specs.declared.state.TheConstants.{STATE_MARK, STATE_VERSION}
 use Rattle.pisa_loader.specs.declared.error.LoadError.{LoadError}
 use Rattle.pisa_loader.specs.declared.error.LoadError.TheVariants.{BadState, NoMemory}
-
--- the registers and the data cells
-pub record Memory : Type 0 where
-  pub regs : List ℕ
-  pub cells : List ℕ
 
 abbrev pub memory : (regs cells : List ℕ) → Memory
 memory regs cells = record { regs = regs; cells = cells }

@@ -11,8 +11,6 @@ mod limits;
 mod lines;
 mod memory;
 mod state;
-#[cfg(test)]
-mod tests;
 
 pub use error::LoadError;
 pub use input::{InputField, MOST_INPUT, read_input};

@@ -22,7 +22,8 @@ pub fn load(alloc: Global, image: Image, limits: Limits, input: &Input) -> Resul
     requires limits { IsLimits limits }
     requires input { IsInputOf image.statics input.now.words.items }
     ensures machine { IfOk result (λ machine.
-        machine ≡ first_position image zero_registers (loaded image.statics limits input.now.words.items)) }
+        machine ≡ first_position image zero_registers
+        (loaded image.statics limits input.now.words.items)) }
     ensures image { IfOk result (λ machine. IsImage machine.image) }
 {
     load_more(alloc, image, limits, input, 0)
@@ -40,7 +41,8 @@ pub fn load_more(
     requires input { IsInputOf image.statics input.now.words.items }
     requires room { more ≤ 2 ^ 24 }
     ensures machine { IfOk result (λ machine.
-        machine ≡ first_position image zero_registers (loaded image.statics limits input.now.words.items ++ replicate more 0)) }
+        machine ≡ first_position image zero_registers
+        (loaded image.statics limits input.now.words.items ++ replicate more 0)) }
     ensures image { IfOk result (λ machine. IsImage machine.image) }
 {
     let cells = memory(alloc, image.statics(), limits, &input.words, more)?;

@@ -6,7 +6,8 @@ ghost use Rattle.pisa_image.specs.Numbers.{word_at, words_at, words_bytes};
 ghost use Rattle.pisa_loader.specs.declared.error.LoadError.TheVariants.{BadState};
 ghost use Rattle.pisa_loader.specs.Limiting.{memory_size};
 ghost use Rattle.rpp_words.specs.Limits.{IsLimits};
-ghost use Rattle.pisa_loader.specs.States.{Gives, Memory, memory, IsMemory, state_bytes, known_word, state_at, at_start};
+ghost use Rattle.pisa_isa.specs.Machine.{Memory};
+ghost use Rattle.pisa_loader.specs.States.{Gives, memory, IsMemory, state_bytes, known_word, state_at, at_start};
 
 use crate::error::LoadError;
 use crate::memory::memory_size;
@@ -40,7 +41,8 @@ pub fn load_state(
     ensures size { IfOk result (λ machine. length machine.state.cells
         ≡ memory_size (length image.statics) limits) }
     // The bytes of a memory of this size are read as it, unless memory runs out.
-    ensures only { (m : Memory) → IsMemory (memory_size (length image.statics) limits) m → bytes.now ≡ state_bytes m
+    ensures only { (m : Memory) → IsMemory (memory_size (length image.statics) limits) m
+        → bytes.now ≡ state_bytes m
         → Gives (λ machine. machine) result (Ok (first_position image m.regs m.cells)) }
 {
     machine_of(alloc, image, limits, bytes)

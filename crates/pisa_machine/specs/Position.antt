@@ -13,7 +13,8 @@ pub record Position : Type 0 where
 
 -- the first position of a run of an image
 abbrev pub first_position : Segments → (regs cells : List ℕ) → Position
-first_position image regs cells = record { image = image; state = started image.code regs cells; made = 0 }
+first_position image regs cells =
+    record { image = image; state = started image.code regs cells; made = 0 }
 
 -- what every machine keeps: its steps led to its state, and each can be taken back
 pub record IsMachine (position : Position) : Type 0 where

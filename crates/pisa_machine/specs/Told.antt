@@ -20,16 +20,20 @@ step_at m = record { place = place_of m.pc; back = m.back }
 abbrev pub counted_steps : List Cell → ℕ → State → List StepAt
 counted_steps code n m = map step_at (visited code n m)
 
--- No memory was found during a counted step: the machine stands after that step, each probe that is still in the list was told
--- all steps before it, and of that step a prefix of the list; each line that was added stays.
-pub record BreaksOff (bound : ℕ) (old new : Position) (count counted : ℕ) (watches left : List Watch) (before after : List (List ℕ)) : Type 0 where
+-- No memory was found during a counted step: the machine stands after that step, each probe that is
+-- still in the list was told all steps before it, and of that step a prefix of the list; each line
+-- that was added stays.
+pub record BreaksOff (bound : ℕ) (old new : Position) (count counted : ℕ)
+    (watches left : List Watch) (before after : List (List ℕ)) : Type 0 where
   pub whole : ℕ
   pub last : State
   pub within : whole < bound
-  pub visits : visited old.image.code (whole + 1) old.state ≡ visited old.image.code whole old.state ++ last ∷ []
+  pub visits : visited old.image.code (whole + 1) old.state
+      ≡ visited old.image.code whole old.state ++ last ∷ []
   pub stands : new.state ≡ (run old.image.code (whole + 1) old.state).last
   pub made : new.made ≡ old.made + made_in (run old.image.code (whole + 1) old.state)
   pub counter : counted ≡ count + (whole + 1)
   pub lines : List (List ℕ)
   pub lines_before : lines ≡ before ++ lines_after (counted_steps old.image.code whole old.state) watches
-  pub cut_short : IsCutShort (step_at last) (left_after (counted_steps old.image.code whole old.state) watches) left lines after
+  pub cut_short : IsCutShort (step_at last)
+      (left_after (counted_steps old.image.code whole old.state) watches) left lines after

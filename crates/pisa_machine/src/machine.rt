@@ -35,9 +35,19 @@ impl Model for Machine {
 
     ghost Value = { Position };
 
-    ghost view = { λ m. record { image = m.image; state = state_of m.core (words_of m.cells.pages.items m.cells.count); made = m.made } };
+    ghost view = { λ m. record {
+      image = m.image;
+      state = state_of m.core (words_of m.cells.pages.items m.cells.count);
+      made = m.made;
+    } };
 
-    ghost invariant = { λ m. IsMachine (record { image = m.image; state = state_of m.core (words_of m.cells.pages.items m.cells.count); made = m.made }) };
+    ghost invariant = { λ m. IsMachine
+        (record {
+          image = m.image;
+          state = state_of m.core
+              (words_of m.cells.pages.items m.cells.count);
+          made = m.made;
+        }) };
 }
 
 /// A slice holds words.
@@ -55,7 +65,12 @@ fn are_registers(regs: &[u32; 32])
 
 /// The registers at the start of a run.
 fn start_core(image: &Image, regs: [u32; 32]) -> Core
-    ensures core { result ≡ record { pc = pos (start_of image.now.code); br = 0; back = false; regs = regs } }
+    ensures core { result ≡ record {
+      pc = pos (start_of image.now.code);
+      br = 0;
+      back = false;
+      regs = regs;
+    } }
     ensures image { IsImage image.now }
 {
     Core {
@@ -80,8 +95,9 @@ fn place_of(code: &[Cell], pc: i64) -> u32
 }
 
 impl Machine {
-    /// A machine at the start of a run of an image, with these registers and data cells. The cells stand in pages of 4,096
-    /// words, which are reserved whole here, so that no call that runs the machine takes memory.
+    /// A machine at the start of a run of an image, with these registers and data cells. The cells
+    /// stand in pages of 4,096 words, which are reserved whole here, so that no call that runs the
+    /// machine takes memory.
     pub fn start_with(
         alloc: Global,
         image: Image,
@@ -123,8 +139,9 @@ impl Machine {
         end
     }
 
-    /// Makes steps in the direction that the machine has, as many as can be noted at most, up to and with the first that turns
-    /// it, and notes each as it stands before it is made. None of them is a stop.
+    /// Makes steps in the direction that the machine has, as many as can be noted at most, up to
+    /// and with the first that turns it, and notes each as it stands before it is made. None of
+    /// them is a stop.
     pub(crate) fn note_leg<L: Ledger>(
         &mut self,
         noted: &mut [StepAt],
@@ -153,7 +170,8 @@ impl Machine {
     /// The step that is next, where there is a cell at its place.
     #[inline(always)]
     pub(crate) fn next_step(&self) -> StepAt
-        ensures step { IsSome (fetch self.now.image.code self.now.state.pc) → result ≡ step_at self.now.state }
+        ensures step { IsSome (fetch self.now.image.code self.now.state.pc)
+            → result ≡ step_at self.now.state }
         ensures machine { IsMachine self.now }
     {
         StepAt {

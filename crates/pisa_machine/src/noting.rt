@@ -25,8 +25,8 @@ fn note(noted: &mut [StepAt], at: usize, pc: i64, back: bool)
     };
 }
 
-/// Makes steps in one direction, as many as can be noted at most, up to and with the first that turns it, and notes each as it
-/// stands before it is made. None of them is a stop.
+/// Makes steps in one direction, as many as can be noted at most, up to and with the first that
+/// turns it, and notes each as it stands before it is made. None of them is a stop.
 #[inline(always)]
 fn note_one_way<C: Cells, L: Ledger>(
     core: &mut Core,
@@ -40,7 +40,8 @@ fn note_one_way<C: Cells, L: Ledger>(
     requires back { back ≡ core.old.back }
     ensures makes { steps_made code.now result (state_of core.old (C.words cells.old))
         ≡ Some (state_of core.new (C.words cells.new)) }
-    ensures notes { take result noted.new ≡ counted_steps code.now result (state_of core.old (C.words cells.old)) }
+    ensures notes { take result noted.new
+        ≡ counted_steps code.now result (state_of core.old (C.words cells.old)) }
     ensures within { result ≤ length noted.old }
     ensures counter { steps.new ≡ steps.old + result }
 {
@@ -69,8 +70,8 @@ fn note_one_way<C: Cells, L: Ledger>(
     noted.len()
 }
 
-/// Makes steps in the direction that the machine has, as many as can be noted at most, up to and with the first that turns it,
-/// and notes each.
+/// Makes steps in the direction that the machine has, as many as can be noted at most, up to and
+/// with the first that turns it, and notes each.
 pub(crate) fn note_leg<C: Cells, L: Ledger>(
     core: &mut Core,
     code: &[Cell],
@@ -81,7 +82,8 @@ pub(crate) fn note_leg<C: Cells, L: Ledger>(
     requires { IsCode code.now }
     ensures makes { steps_made code.now result (state_of core.old (C.words cells.old))
         ≡ Some (state_of core.new (C.words cells.new)) }
-    ensures notes { take result noted.new ≡ counted_steps code.now result (state_of core.old (C.words cells.old)) }
+    ensures notes { take result noted.new
+        ≡ counted_steps code.now result (state_of core.old (C.words cells.old)) }
     ensures within { result ≤ length noted.old }
     ensures counter { steps.new ≡ steps.old + result }
 {

@@ -25,7 +25,8 @@ impl Page {
     #[tactic(auto, using(crate::proofs::Paging::filled))]
     fn of(alloc: Global, words: &[u32]) -> Result<Page, AllocError>
         requires { length words.now ≤ 4096 }
-        ensures { IfOk result (λ page. words_in page ≡ words.now ++ replicate (4096 - length words.now) 0) }
+        ensures { IfOk result (λ page.
+            words_in page ≡ words.now ++ replicate (4096 - length words.now) 0) }
     {
         let mut page = Vec::with_capacity(alloc, PAGE_WORDS)?;
         page.extend_from_slice(words)?;

@@ -1,4 +1,5 @@
-// The rows of a step on the parts of a core, so that a loop can hold the place and the branch register by themselves.
+// The rows of a step on the parts of a core, so that a loop can hold the place and the branch
+// register by themselves.
 ghost use Rattle.std.specs.Prelude.{◌≡◌, ◌<◌, ◌≤◌, ◌^◌, pos, ◌+ℤ◌, ◌≤ℤ◌, IsNone, IsSome, IsTrue, if◌then◌else◌, slice_index, length};
 ghost use Rattle.rpp_words.specs.Words.{sum_of};
 ghost use Rattle.pisa_isa.specs.Table.{IsCell};
@@ -128,8 +129,8 @@ impl Way {
     }
 }
 
-/// The effect of a row in a direction, where its first two registers hold `x` and `y`, or why the machine stops there, and
-/// then nothing changes.
+/// The effect of a row in a direction, where its first two registers hold `x` and `y`, or why the
+/// machine stops there, and then nothing changes.
 #[inline(always)]
 fn act<C: Cells>(
     regs: &mut [u32; 32],

@@ -48,8 +48,8 @@ pub(crate) struct Leg {
     pub(crate) stop: Option<Stop>,
 }
 
-/// Whether a place is in the code. A place below 0 is a large number when it is read without its sign, so that one test
-/// is enough.
+/// Whether a place is in the code. A place below 0 is a large number when it is read without its
+/// sign, so that one test is enough.
 pub(crate) fn is_in_code(code: &[Cell], pc: i64) -> bool
     requires { IsCode code.now }
     ensures answer { IsTrue result ↔ IsSome (fetch code.now pc) }
@@ -78,8 +78,9 @@ pub(crate) fn leave(core: &mut Core, way: &Way, back: bool)
     core.back = back;
 }
 
-/// Makes at most `bound` steps in one direction, up to and with the first that turns it. The place, the branch register and
-/// what is left of the bound stand in locals, and the core has them again at the end.
+/// Makes at most `bound` steps in one direction, up to and with the first that turns it. The place,
+/// the branch register and what is left of the bound stand in locals, and the core has them again
+/// at the end.
 #[inline(always)]
 fn run_one_way<C: Cells, L: Ledger>(
     core: &mut Core,
@@ -93,7 +94,8 @@ fn run_one_way<C: Cells, L: Ledger>(
     requires back { back ≡ core.old.back }
     ensures makes { steps_made code.now result.made (state_of core.old (C.words cells.old))
         ≡ Some (state_of core.new (C.words cells.new)) }
-    ensures stops { IsSome result.stop → result.stop ≡ stop code.now (state_of core.new (C.words cells.new)) }
+    ensures stops { IsSome result.stop
+        → result.stop ≡ stop code.now (state_of core.new (C.words cells.new)) }
     ensures within { result.made ≤ bound }
     ensures before { IsSome result.stop → result.made < bound }
     ensures goes { IsNone result.stop → 0 < bound → 0 < result.made }
@@ -133,7 +135,8 @@ fn run_one_way<C: Cells, L: Ledger>(
     }
 }
 
-/// Makes at most `bound` steps in the direction that the machine has, up to and with the first that turns it.
+/// Makes at most `bound` steps in the direction that the machine has, up to and with the first that
+/// turns it.
 fn run_leg<C: Cells, L: Ledger>(
     core: &mut Core,
     code: &[Cell],
@@ -144,7 +147,8 @@ fn run_leg<C: Cells, L: Ledger>(
     requires { IsCode code.now }
     ensures makes { steps_made code.now result.made (state_of core.old (C.words cells.old))
         ≡ Some (state_of core.new (C.words cells.new)) }
-    ensures stops { IsSome result.stop → result.stop ≡ stop code.now (state_of core.new (C.words cells.new)) }
+    ensures stops { IsSome result.stop
+        → result.stop ≡ stop code.now (state_of core.new (C.words cells.new)) }
     ensures within { result.made ≤ bound }
     ensures before { IsSome result.stop → result.made < bound }
     ensures goes { IsNone result.stop → 0 < bound → 0 < result.made }
@@ -178,7 +182,11 @@ pub(crate) fn run_from<C: Cells, L: Ledger>(
 ) -> RunEnd
     requires { IsCode code.now }
     ensures runs { run code.now bound (state_of core.old (C.words cells.old))
-        ≡ record { why = result.stop; spent = result.spent; last = state_of core.new (C.words cells.new) } }
+        ≡ record {
+          why = result.stop;
+          spent = result.spent;
+          last = state_of core.new (C.words cells.new);
+        } }
     ensures counter { steps.new ≡ steps.old + result.spent }
     ensures within { result.spent ≤ bound }
     ensures counts { counted result.stop ≤ result.spent }

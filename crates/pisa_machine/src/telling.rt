@@ -27,9 +27,11 @@ fn tell_stop<P: Probes>(
     step: StepAt,
     stop: Stop,
 ) -> Result<(), NoMemory>
-    ensures told { OnOk result (P.watches probes.new ≡ left_after (replicate (counted stop) step) (P.watches probes.old)) }
+    ensures told { OnOk result (P.watches probes.new
+        ≡ left_after (replicate (counted stop) step) (P.watches probes.old)) }
     ensures lines { OnOk result (map string_bytes lines.new.items ≡
-        map string_bytes lines.old.items ++ lines_after (replicate (counted stop) step) (P.watches probes.old)) }
+        map string_bytes lines.old.items
+        ++ lines_after (replicate (counted stop) step) (P.watches probes.old)) }
     ensures cut_short { IfErr result (λ _. IsCutShort step (P.watches probes.old) (P.watches probes.new)
         (map string_bytes lines.old.items) (map string_bytes lines.new.items)) }
     ensures counts { IfErr result (λ _. counted stop ≡ 1) }
@@ -60,15 +62,16 @@ impl Machine {
         ensures counter { steps.new ≡ steps.old + result }
         ensures told { P.watches probes.new ≡
             left_after (counted_steps self.old.image.code result self.old.state) (P.watches probes.old) }
-        ensures lines { lines_after (counted_steps self.old.image.code result self.old.state) (P.watches probes.old) ≡ [] }
+        ensures lines { lines_after (counted_steps self.old.image.code result self.old.state)
+            (P.watches probes.old) ≡ [] }
     {
         let made = self.note_leg(noted, steps);
         probes.tell_each(&noted[..made]);
         made
     }
 
-    // Makes at most `bound` steps of which the probes are sure that none ends them, as many as can be noted at most, and tells them
-    // together. It may make none.
+    // Makes at most `bound` steps of which the probes are sure that none ends them, as many as can
+    // be noted at most, and tells them together. It may make none.
     fn tell_sure<L: Ledger, P: Probes>(
         &mut self,
         bound: u64,
@@ -84,7 +87,8 @@ impl Machine {
         ensures counter { steps.new ≡ steps.old + result }
         ensures told { P.watches probes.new ≡
             left_after (counted_steps self.old.image.code result self.old.state) (P.watches probes.old) }
-        ensures lines { lines_after (counted_steps self.old.image.code result self.old.state) (P.watches probes.old) ≡ [] }
+        ensures lines { lines_after (counted_steps self.old.image.code result self.old.state)
+            (P.watches probes.old) ≡ [] }
     {
         let sure = probes.sure_steps().min(bound).min(noted.len() as u64);
         if sure == 0 {
@@ -93,8 +97,9 @@ impl Machine {
         self.tell_leg(probes, &mut noted[..sure as usize], steps) as u64
     }
 
-    /// Runs at most `bound` steps, and counts those that it makes, as `run` does; and tells the probes each counted step, in the
-    /// order of the list. A probe that ends with a step is dropped, and its line is added to `lines`; the others keep their order.
+    /// Runs at most `bound` steps, and counts those that it makes, as `run` does; and tells the
+    /// probes each counted step, in the order of the list. A probe that ends with a step is
+    /// dropped, and its line is added to `lines`; the others keep their order.
     /// After want of memory the machine stands after the step during which it came.
     pub fn run_told<L: Ledger, P: Probes>(
         &mut self,
@@ -113,9 +118,11 @@ impl Machine {
         ensures told { OnOk result (P.watches probes.new ≡
             left_after (counted_steps self.old.image.code bound self.old.state) (P.watches probes.old)) }
         ensures lines { OnOk result (map string_bytes lines.new.items ≡ map string_bytes lines.old.items
-            ++ lines_after (counted_steps self.old.image.code bound self.old.state) (P.watches probes.old)) }
+            ++ lines_after (counted_steps self.old.image.code bound self.old.state)
+            (P.watches probes.old)) }
         ensures broken_off { IfErr result (λ _. BreaksOff bound self.old self.new steps.old steps.new
-            (P.watches probes.old) (P.watches probes.new) (map string_bytes lines.old.items) (map string_bytes lines.new.items)) }
+            (P.watches probes.old) (P.watches probes.new) (map string_bytes lines.old.items)
+            (map string_bytes lines.new.items)) }
         ensures image { self.new.image ≡ self.old.image }
         ensures machine { IsMachine self.old }
     {

@@ -1,4 +1,5 @@
--- What the names of a class's fields count together, those of its ancestors included, is at most what all names of the source count.
+-- What the names of a class's fields count together, those of its ancestors included, is at most
+-- what all names of the source count.
 use Rattle.std.proofs.Common.{◌≡◌, ◌≢◌, ◌∙◌, sym, ap, subst, refl, ℕ, zero, suc, ◌+◌, ◌<◌, ◌≤◌, Bool, true, false, List, [], ◌∷◌, ◌++◌, length, map, Option, Some, None, arith, slice_get, length-append}
 use Rattle.std.specs.Prelude.{nat_eq, ◌||◌, sum, sum_by}
 use Rattle.std.specs.List.{flat_map}

@@ -1,4 +1,5 @@
--- An image that is linked of the code of `main` and of all routines stands for the program, with its marks.
+-- An image that is linked of the code of `main` and of all routines stands for the program, with
+-- its marks.
 use Rattle.std.proofs.Common.{◌≡◌, ◌∙◌, sym, ap, subst, ℕ, ◌+◌, ◌*◌, ◌≤◌, List, [], ◌∷◌, ◌++◌, length, map, arith}
 use Rattle.std.specs.List.{AllZip}
 use Rattle.std.specs.List.Sorted.{IsPermutation, IsNonDecreasingBy}

@@ -1,4 +1,5 @@
--- The piece of a block in the scope of its method, made the body of a routine, is the piece of the method's routine.
+-- The piece of a block in the scope of its method, made the body of a routine, is the piece of the
+-- method's routine.
 use Rattle.std.proofs.Common.{◌≡◌, ◌∙◌, ap, subst, refl, ℕ, ◌+◌, ◌*◌, ◌<◌, ◌≤◌, suc, List, [], ◌∷◌, length, Some, arith, slice_get}
 use Rattle.rpp_tree.specs.declared.tree.Program.{Program}
 use Rattle.rpp_tree.specs.declared.tree.Var.{Var}

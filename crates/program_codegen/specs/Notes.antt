@@ -1,4 +1,5 @@
--- What is noted of a program's image: the cells of each statement, and the cells of the main class's int fields.
+-- What is noted of a program's image: the cells of each statement, and the cells of the main
+-- class's int fields.
 use Rattle.std.specs.Prelude.{◌≡◌, ℕ, zero, suc, ◌+◌, ◌*◌, ◌≤◌, List, [], ◌∷◌, ◌++◌, length, if◌then◌else◌}
 use Rattle.std.specs.List.{AllZip}
 use Rattle.std.specs.List.Sorted.{IsPermutation, IsNonDecreasingBy}
@@ -48,8 +49,9 @@ unmarked_from marks cell zero = 0
 unmarked_from marks cell (suc count) =
     (if is_marked marks cell then 0 else 1) + unmarked_from marks (cell + 1) count
 
--- one for each statement of the program, nested as the statements are or else apart, in the order of their places;
--- the routines of the image have these places. At most 256 cells a method, and 8192, lie in no mark's range.
+-- one for each statement of the program, nested as the statements are or else apart, in the order
+-- of their places; the routines of the image have these places. At most 256 cells a method, and
+-- 8192, lie in no mark's range.
 pub record HasMarks (program : Source) (image : Segments) (marks : List Mark) : Type 0 where
   pub places : List ℕ
   pub ranges : List Mark

@@ -30,7 +30,8 @@ pub fn compile(alloc: Global, checked: &Checked) -> Result<Noted, NoMemory>
     ensures size { IfOk result (λ noted. length noted.image.code ≤ 200 * source_tokens
         (source_of checked.now) + 8192) }
 
-    // A mark for each statement of the program, over its code, and the names of the main class's int fields.
+    // A mark for each statement of the program, over its code, and the names of the main class's
+    // int fields.
     ensures notes { IfOk result (λ noted. AreNotes (source_of checked.now) noted.image noted.notes) }
 {
     let (image, notes) = linked(alloc, checked)?.into_parts();

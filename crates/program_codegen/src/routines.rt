@@ -52,7 +52,8 @@ fn class_routines(
     requires there { map procedure_of methods.now ≡ (class_at (source_of checked.now) class).methods }
     requires few { length methods.now ≤ 20000 }
     ensures { IfOk result (λ pieces.
-        AllZip (IsRoutine (source_of checked.now)) (entries_of class (map procedure_of methods.now)) pieces.items) }
+        AllZip (IsRoutine (source_of checked.now))
+        (entries_of class (map procedure_of methods.now)) pieces.items) }
 {
     let mut pieces = Vec::new(alloc);
     for (number, method) in methods.iter().enumerate() {
@@ -76,7 +77,8 @@ fn routine(
     requires there { slice_get (class_at (source_of checked.now) id.class).methods id.method
         ≡ Some (procedure_of method.now) }
     ensures { IfOk result (λ piece.
-        IsRoutine (source_of checked.now) (record { class = id.class; method = procedure_of method.now }) piece) }
+        IsRoutine (source_of checked.now)
+        (record { class = id.class; method = procedure_of method.now }) piece) }
 {
     let _program = checked.program();
     let mut scope = Scope::of_method(alloc, checked, id)?;

@@ -16,8 +16,8 @@ use paired_code::StaticWord;
 use rpp_words::NoMemory;
 use std::alloc::{AllocError, Global};
 
-/// The static cells of a program, wherever its routines stand: the main object, and the table of each class. Before the
-/// methods of each class stand so many.
+/// The static cells of a program, wherever its routines stand: the main object, and the table of
+/// each class. Before the methods of each class stand so many.
 pub fn statics(
     alloc: Global,
     checked: &Checked,
@@ -55,7 +55,8 @@ fn add_tables(
 ) -> Result<(), AllocError>
     requires firsts { firsts.now ≡ first_numbers (source_of checked.now) }
     ensures { OnOk result ((places : List ℕ) → map (static_word places) words.new.items
-        ≡ map (static_word places) words.old.items ++ tables 1 (table_places (source_of checked.now) FIRST_METHOD places)) }
+        ≡ map (static_word places) words.old.items
+        ++ tables 1 (table_places (source_of checked.now) FIRST_METHOD places)) }
 {
     for class in 0..checked.table().class_count() {
         words.push(StaticWord::Word(class + 1))?;
@@ -74,7 +75,8 @@ fn add_slots(
     requires firsts { firsts.now ≡ first_numbers (source_of checked.now) }
     requires inside { class < length (source_of checked.now).classes }
     ensures { OnOk result ((places : List ℕ) → map (static_word places) words.new.items
-        ≡ map (static_word places) words.old.items ++ slot_places (source_of checked.now) FIRST_METHOD places class) }
+        ≡ map (static_word places) words.old.items
+        ++ slot_places (source_of checked.now) FIRST_METHOD places class) }
 {
     let table = checked.table();
     for slot in 0..table.slot_count(class) {

@@ -1,4 +1,5 @@
--- A run of a program and the way back: what its report says, and that the flipped image restores every register and every cell.
+-- A run of a program and the way back: what its report says, and that the flipped image restores
+-- every register and every cell.
 use Rattle.std.proofs.Common.{◌≡◌, ◌∙◌, sym, ap, subst, ℕ, ◌≤◌, List, ◌++◌, length, Ok, Err}
 use Rattle.std.specs.Prelude.{Bool, Result, IfOk, OnOk}
 use Rattle.rpp_words.specs.declared.input.FieldWord.{FieldWord}
@@ -59,7 +60,8 @@ module _ (program : Source) (limits : Limits) (input : List FieldWord) (bound : 
   pub first_memory : (why : Stop) → HasRun program limits input bound end why spent → (cells : List ℕ) → cells ≡ first_cells → IsFirstMemoryOf program cells input
   first_memory why has cells is = record { image = end.image; limits = limits; statics = has.stands.statics; in_range = has.allowed; valid = has.valid; loads = is }
 
-  -- a plan that prints both reports, of the memory where the run finished and of the one where the way back did
+  -- a plan that prints both reports, of the memory where the run finished and of the one where the
+  -- way back did
   pub reports_turn : (has : HasRun program limits input bound end Finished spent) → (there here cells : List ℕ) (back count : ℕ) (p : Planned)
       → ((last : State) → IsMemoryOf program end.state.cells last → there ≡ run_report program last.store end.state.cells)
       → ((given : List FieldWord) → IsFirstMemoryOf program cells given → here ≡ run_report program (starting program given).store cells)

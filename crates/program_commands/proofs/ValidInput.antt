@@ -1,4 +1,5 @@
--- The words that are read from an input are a valid input of the program, and their fields are static cells.
+-- The words that are read from an input are a valid input of the program, and their fields are
+-- static cells.
 use Rattle.std.proofs.Common.{◌≡◌, ◌∙◌, sym, ap, subst, refl, ℕ, zero, suc, ◌+◌, ◌<◌, ◌≤◌, Bool, true, false, ◌||◌, List, [], ◌∷◌, length, arith, slice_get, length-append}
 use Rattle.std.specs.Prelude.{IsTrue, nat_eq, if◌then◌else◌}
 use Rattle.std.specs.List.{All, slice_index_or}

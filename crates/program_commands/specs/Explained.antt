@@ -28,7 +28,8 @@ use Rattle.program_commands.specs.ProgramPlans.{IsJudgedPlan}
 abbrev pub cost_line : ℕ → List ℕ
 cost_line cost = codes "cost " ++ decimal cost ++ line_end
 
--- what is printed of what the source does: the report of its store, or its fault, with the cost, or that the cost passes the fuel
+-- what is printed of what the source does: the report of its store, or its fault, with the cost, or
+-- that the cost passes the fuel
 abbrev pub explained : Source → Run State → Planned
 explained program (OverWith end cost) = prints Done (report program end.store ++ cost_line cost)
 explained program (Fault code cost) = prints Trapped (fault_line code ++ cost_line cost)

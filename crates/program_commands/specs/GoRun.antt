@@ -14,14 +14,17 @@ use Rattle.rpp_words.specs.Limits.{IsLimits}
 use Rattle.roopl_semantics.specs.StandsFor.{StandsFor, run_of}
 
 -- a machine stands where a run of an image begins that stands for the program, on this input
-pub record IsLoaded (program : Source) (limits : Limits) (input : List FieldWord) (start : Position) : Type 0 where
+pub record IsLoaded (program : Source) (limits : Limits) (input : List FieldWord)
+    (start : Position) : Type 0 where
   pub allowed : IsLimits limits
   pub valid : IsValid program input
   pub stands : StandsFor program start.image
   pub first : start ≡ first_position start.image zero_registers (loaded start.image.statics limits input)
 
--- a machine stands where a run of at most so many steps of an image that stands for the program ended, on this input
-pub record HasRun (program : Source) (limits : Limits) (input : List FieldWord) (bound : ℕ) (end : Position) (why : Stop) (spent : ℕ) : Type 0 where
+-- a machine stands where a run of at most so many steps of an image that stands for the program
+-- ended, on this input
+pub record HasRun (program : Source) (limits : Limits) (input : List FieldWord) (bound : ℕ)
+    (end : Position) (why : Stop) (spent : ℕ) : Type 0 where
   pub allowed : IsLimits limits
   pub valid : IsValid program input
   pub stands : StandsFor program end.image

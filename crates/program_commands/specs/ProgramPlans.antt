@@ -30,18 +30,22 @@ use Rattle.rpp_plan.specs.Texts.{steps_line, cells_line}
 use Rattle.machine_texts.specs.Stops.{fault_line}
 
 -- the source gives a store, and the plan reports it, as it stands in these cells
-pub record ReportsStore (program : Source) (limits : Limits) (input : List FieldWord) (cells : List ℕ) (spent : ℕ) (p : Planned) : Type 0 where
+pub record ReportsStore (program : Source) (limits : Limits) (input : List FieldWord)
+    (cells : List ℕ) (spent : ℕ) (p : Planned) : Type 0 where
   pub end : State
   pub gives : GivesDone program limits input end
   pub reported : p ≡ prints Done (run_report program end.store cells ++ steps_line spent)
 
 -- the source gives this fault, and the plan reports it
-pub record ReportsFault (program : Source) (limits : Limits) (input : List FieldWord) (code spent : ℕ) (p : Planned) : Type 0 where
+pub record ReportsFault (program : Source) (limits : Limits) (input : List FieldWord)
+    (code spent : ℕ) (p : Planned) : Type 0 where
   pub gives : GivesFault program limits input code
   pub reported : p ≡ prints Trapped (fault_line code ++ steps_line spent)
 
--- the bound ended the run, and the plan says so: the source ends at no cost for which so many steps are enough
-pub record ReportsBound (program : Source) (limits : Limits) (input : List FieldWord) (steps : ℕ) (p : Planned) : Type 0 where
+-- the bound ended the run, and the plan says so: the source ends at no cost for which so many steps
+-- are enough
+pub record ReportsBound (program : Source) (limits : Limits) (input : List FieldWord) (steps : ℕ)
+    (p : Planned) : Type 0 where
   pub early : (cost : ℕ) → EndsAt program limits input cost → steps < enough_steps cost
   pub reported : p ≡ prints Bound (codes "bound" ++ (line_end ++ steps_line steps))
 
@@ -52,8 +56,10 @@ back_lines spent report count =
     ++ (line_end ++ (report ++ (codes "restored "
     ++ (decimal count ++ (codes " cells" ++ line_end))))))
 
--- the source gives a store, and the plan reports it, and behind it the store where the source began, as it stands in the first cells
-pub record ReportsTurn (program : Source) (limits : Limits) (input : List FieldWord) (cells first : List ℕ) (spent : ℕ) (p : Planned) : Type 0 where
+-- the source gives a store, and the plan reports it, and behind it the store where the source
+-- began, as it stands in the first cells
+pub record ReportsTurn (program : Source) (limits : Limits) (input : List FieldWord)
+    (cells first : List ℕ) (spent : ℕ) (p : Planned) : Type 0 where
   pub end : State
   pub gives : GivesDone program limits input end
   pub reported : p ≡ prints Done ((run_report program end.store cells ++ steps_line spent)
@@ -84,9 +90,11 @@ abbrev pub ReportsEnd : (turns : Bool) → End → Source → Limits → List Fi
 ReportsEnd turns end program limits input first steps p =
     ReportsStop turns end.why program limits input end.last.cells first end.spent steps p
 
--- There is an image that stands for the program, and the plan reports its run, whose steps the source's cost bounds. After a
--- finish the flipped image restores every register and every cell, in as many steps.
-pub record RunsImage (turns : Bool) (program : Source) (limits : Limits) (input : List FieldWord) (steps : ℕ) (p : Planned) : Type 0 where
+-- There is an image that stands for the program, and the plan reports its run, whose steps the
+-- source's cost bounds. After a finish the flipped image restores every register and every cell, in
+-- as many steps.
+pub record RunsImage (turns : Bool) (program : Source) (limits : Limits) (input : List FieldWord)
+    (steps : ℕ) (p : Planned) : Type 0 where
   pub image : Segments
   pub is_image : IsImage image
   pub stands : StandsFor program image

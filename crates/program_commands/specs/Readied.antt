@@ -8,7 +8,8 @@ use Rattle.rpp_plan.specs.Plans.{Planned, planned}
 use Rattle.program_commands.specs.declared.setting.Ready.{Ready}
 use Rattle.program_commands.specs.declared.setting.Ready.TheVariants.{Refused, Runs}
 
--- a plan refuses them as R says, or there is a run of so many steps, and C holds of its program, sizes and input
+-- a plan refuses them as R says, or there is a run of so many steps, and C holds of its program,
+-- sizes and input
 abbrev pub IsReadied : (R : Planned → Type 0) → (C : Source → Limits → List FieldWord → Type 0)
     → (steps : ℕ) → Ready → Type 0
 IsReadied R C steps (Refused plan) = R (planned plan)

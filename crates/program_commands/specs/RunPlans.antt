@@ -1,5 +1,5 @@
--- The plans of the commands that run a program: `go`, `turn` and `profile`. Of probes that watch, `before` is the list as it is
--- handed in, and `after` as it is left.
+-- The plans of the commands that run a program: `go`, `turn` and `profile`. Of probes that watch,
+-- `before` is the list as it is handed in, and `after` as it is left.
 use Rattle.std.specs.Prelude.{◌≡◌, ◌⊎◌, ℕ, Bool, true, false, List, [], ◌++◌, None, Some, Result, Ok, Err, map}
 use Rattle.std.specs.declared.option.Option.{Option}
 use Rattle.rpp_words.specs.declared.input.FieldWord.{FieldWord}
@@ -45,14 +45,16 @@ RefusesRun text given heap deep p =
     IsJudgedPlan text (RefusesSizes (limits_refusal heap deep MOST_DEEP) given) p
 
 -- nothing of it is refused: the text is this program, which is run with these sizes on this input
-pub record CanRun (text given : List ℕ) (heap deep : ℕ) (program : Source) (limits : Limits) (input : List FieldWord) : Type 0 where
+pub record CanRun (text given : List ℕ) (heap deep : ℕ) (program : Source) (limits : Limits)
+    (input : List FieldWord) : Type 0 where
   pub judged : IsJudged text (Ok program)
   pub sizes : limits_refusal heap deep MOST_DEEP ≡ None
   pub limits_are : limits ≡ record { heap = heap; deep = deep }
   pub input_is : given_input program given ≡ Ok input
 
 -- a text can be run, and P holds of its run
-pub record RunsTo (text given : List ℕ) (heap deep : ℕ) (P : Source → Limits → List FieldWord → Type 0) : Type 0 where
+pub record RunsTo (text given : List ℕ) (heap deep : ℕ)
+    (P : Source → Limits → List FieldWord → Type 0) : Type 0 where
   pub program : Source
   pub limits : Limits
   pub input : List FieldWord
@@ -66,14 +68,17 @@ IsGoPlan text given heap deep steps p =
     ⊎ RunsTo text given heap deep (λ program limits input. RunsImage false program limits input
     steps p)
 
--- the steps that `turn` tells of: after a finish those of the run of the flipped image from there, and no others
+-- the steps that `turn` tells of: after a finish those of the run of the flipped image from there,
+-- and no others
 abbrev pub back_steps : Stop → List Cell → State → ℕ → List StepAt
 back_steps Finished code m steps =
     counted_steps (flipped code) steps (started (flipped code) m.regs m.cells)
 back_steps _ code m steps = []
 
--- the plan reports both runs of an image that stands for the program, and the probes were told the steps of the second one
-pub record TurnsImage (before after : List Watch) (program : Source) (limits : Limits) (input : List FieldWord) (steps : ℕ) (p : Planned) : Type 0 where
+-- the plan reports both runs of an image that stands for the program, and the probes were told the
+-- steps of the second one
+pub record TurnsImage (before after : List Watch) (program : Source) (limits : Limits)
+    (input : List FieldWord) (steps : ℕ) (p : Planned) : Type 0 where
   pub runs : RunsImage true program limits input steps p
   pub told : let end : End = run_of runs.image limits input steps in
       after ≡ left_after (back_steps end.why runs.image.code end.last steps) before
@@ -90,9 +95,11 @@ IsTurnPlan before after text given heap deep steps p =
 abbrev pub run_steps : Segments → Limits → List FieldWord → ℕ → List StepAt
 run_steps image limits input steps = counted_steps image.code steps (loaded_state image limits input)
 
--- The plan says what that of `go` says, and behind it stand the lines of the probes: of those that ended, in the order of their
--- ends, and then of the others. They were told the steps of the run of that image.
-pub record ProfilesImage (before after : List Watch) (program : Source) (limits : Limits) (input : List FieldWord) (steps : ℕ) (p : Planned) : Type 0 where
+-- The plan says what that of `go` says, and behind it stand the lines of the probes: of those that
+-- ended, in the order of their ends, and then of the others. They were told the steps of the run of
+-- that image.
+pub record ProfilesImage (before after : List Watch) (program : Source) (limits : Limits)
+    (input : List FieldWord) (steps : ℕ) (p : Planned) : Type 0 where
   pub said : Planned
   pub runs : RunsImage false program limits input steps said
   pub told : after ≡ left_after (run_steps runs.image limits input steps) before

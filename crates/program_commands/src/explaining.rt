@@ -35,7 +35,8 @@ pub fn explain<S: Shelf>(
 ) -> Result<Plan, NoPlan>
     ensures plan { GivesPlan (S.texts shelf.old)
         (Explains file.now (option_map string_bytes input.now) sizes.heap sizes.deep sizes.bound) result }
-    ensures reads { OnlyReads (S.texts shelf.old) (S.texts shelf.new) (S.faults shelf.old) (S.faults shelf.new)
+    ensures reads { OnlyReads (S.texts shelf.old) (S.texts shelf.new) (S.faults shelf.old)
+        (S.faults shelf.new)
         (source file.now ∷ input_files (option_map string_bytes input.now)) result }
 {
     let given = read_given(alloc, shelf, file, input)?;
@@ -63,8 +64,10 @@ fn explain_within(
     sizes: Sizes,
 ) -> Result<Plan, NoMemory>
     requires { length given.now ≤ MOST_INPUT }
-    ensures { IfOk result (λ plan. IsExplainedWithin (limits_refusal sizes.heap sizes.deep MOST_OPEN) given.now
-        (source_of checked.now) (record { heap = sizes.heap; deep = sizes.deep }) sizes.bound (planned plan)) }
+    ensures { IfOk result (λ plan.
+        IsExplainedWithin (limits_refusal sizes.heap sizes.deep MOST_OPEN) given.now
+        (source_of checked.now) (record { heap = sizes.heap; deep = sizes.deep }) sizes.bound
+        (planned plan)) }
 {
     match check_limits(sizes.heap, sizes.deep, MOST_OPEN) {
         Ok(limits) => explain_given(alloc, checked, given, limits, sizes.bound),
@@ -106,7 +109,8 @@ fn explain_run(
     requires limits { IsLimits limits }
     requires shallow { limits.deep ≤ MOST_OPEN }
     ensures { IfOk result (λ plan. planned plan
-        ≡ explained (source_of checked.now) (meaning (source_of checked.now) limits input.now.words.items fuel)) }
+        ≡ explained (source_of checked.now)
+        (meaning (source_of checked.now) limits input.now.words.items fuel)) }
 {
     let outcome = interpret(alloc, checked, input, limits, fuel)?;
     explain_outcome(alloc, checked, outcome)

@@ -41,7 +41,8 @@ pub fn go<S: Shelf, L: Ledger>(
     requires { sizes.bound < 2 ^ 63 }
     ensures plan { GivesPlan (S.texts shelf.old) (GoesOn file.now (option_map string_bytes input.now)
         sizes.heap sizes.deep sizes.bound) result }
-    ensures reads { OnlyReads (S.texts shelf.old) (S.texts shelf.new) (S.faults shelf.old) (S.faults shelf.new)
+    ensures reads { OnlyReads (S.texts shelf.old) (S.texts shelf.new) (S.faults shelf.old)
+        (S.faults shelf.new)
         (source file.now ∷ input_files (option_map string_bytes input.now)) result }
 {
     let given = read_given(alloc, shelf, file, input)?;
@@ -115,7 +116,8 @@ pub fn report_run(
         setting.now.input.words.items setting.now.bound machine.now end.stop end.spent }
     ensures { IfOk result (λ plan. ReportsStop false end.stop (source_of setting.now.checked)
         setting.now.limits setting.now.input.words.items machine.now.state.cells
-        (loaded machine.now.image.statics setting.now.limits setting.now.input.words.items) end.spent setting.now.bound (planned plan)) }
+        (loaded machine.now.image.statics setting.now.limits setting.now.input.words.items)
+        end.spent setting.now.bound (planned plan)) }
 {
     match end.stop {
         Stop::Finished => report_store(alloc, setting, machine, end.spent),

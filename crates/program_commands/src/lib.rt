@@ -1,5 +1,5 @@
-//! The commands on programs: `check`, `compile`, `explain`, `go`, `turn` and `profile`. Each reads its files and makes a plan; the
-//! top call carries it out.
+//! The commands on programs: `check`, `compile`, `explain`, `go`, `turn` and `profile`. Each reads
+//! its files and makes a plan; the top call carries it out.
 #![tactic(auto)]
 
 mod checking;

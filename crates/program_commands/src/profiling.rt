@@ -19,8 +19,8 @@ use rpp_words::NoMemory;
 use std::alloc::{AllocError, Global};
 use std::sync::ledger::Ledger;
 
-/// Compiles a file, runs the image, tells the probes each counted step, and reports; and shows the lines of the probes that ended,
-/// in the order of their ends, and then those of the others.
+/// Compiles a file, runs the image, tells the probes each counted step, and reports; and shows the
+/// lines of the probes that ended, in the order of their ends, and then those of the others.
 pub fn profile<S: Shelf, P: Probes, L: Ledger>(
     alloc: Global,
     shelf: &mut S,
@@ -31,7 +31,8 @@ pub fn profile<S: Shelf, P: Probes, L: Ledger>(
 ) -> Result<Plan, NoPlan>
     requires { sizes.bound < 2 ^ 63 }
     ensures plan { GivesPlan (S.texts shelf.old)
-        (ProfilesFile (P.watches probes.old) (P.watches probes.new) file.now sizes.heap sizes.deep sizes.bound) result }
+        (ProfilesFile (P.watches probes.old)
+        (P.watches probes.new) file.now sizes.heap sizes.deep sizes.bound) result }
     ensures reads { OnlyReads (S.texts shelf.old) (S.texts shelf.new) (S.faults shelf.old)
         (S.faults shelf.new) (source file.now ∷ []) result }
     ensures untold { IfErr result (UnreadCause (P.watches probes.new ≡ P.watches probes.old)) }
@@ -65,7 +66,8 @@ fn profile_program<P: Probes, L: Ledger>(
     probes: &mut P,
     steps: &mut Steps<L>,
 ) -> Result<Plan, NoMemory>
-    ensures { IfOk result (λ plan. ProfilesImage (P.watches probes.old) (P.watches probes.new) (source_of setting.now.checked)
+    ensures { IfOk result (λ plan.
+        ProfilesImage (P.watches probes.old) (P.watches probes.new) (source_of setting.now.checked)
         setting.now.limits setting.now.input.words.items setting.now.bound (planned plan)) }
 {
     let mut machine = loaded_program(alloc, setting)?;
@@ -78,7 +80,8 @@ fn profile_program<P: Probes, L: Ledger>(
 // The plan with the lines of the probes behind its text, those of the probes that ended first.
 fn with_probes<P: Probes>(said: Plan, ended: &[String], probes: &P) -> Result<Plan, NoMemory>
     ensures { IfOk result (λ plan. planned plan ≡ record (planned said) {
-      text = (string_bytes said.text ++ lines_shown (map string_bytes ended.now)) ++ lines_shown (map line_of (P.watches probes.now));
+      text = (string_bytes said.text ++ lines_shown (map string_bytes ended.now))
+          ++ lines_shown (map line_of (P.watches probes.now));
     }) }
 {
     let mut plan = said;

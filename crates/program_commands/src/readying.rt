@@ -44,9 +44,13 @@ fn ready_sized(
 ) -> Result<Ready, NoMemory>
     requires given { length given.now ≤ MOST_INPUT }
     requires bound { sizes.bound < 2 ^ 63 }
-    ensures { IfOk result (λ ready. IsReadied (RefusesSizes (limits_refusal sizes.heap sizes.deep MOST_DEEP) given.now (source_of checked))
-        (λ program limits input. (program ≡ source_of checked) × (limits_refusal sizes.heap sizes.deep MOST_DEEP ≡ None)
-        × (limits ≡ record { heap = sizes.heap; deep = sizes.deep }) × (given_input (source_of checked) given.now ≡ Ok input)) sizes.bound ready) }
+    ensures { IfOk result (λ ready.
+        IsReadied (RefusesSizes (limits_refusal sizes.heap sizes.deep MOST_DEEP) given.now
+        (source_of checked))
+        (λ program limits input. (program ≡ source_of checked)
+        × (limits_refusal sizes.heap sizes.deep MOST_DEEP ≡ None)
+        × (limits ≡ record { heap = sizes.heap; deep = sizes.deep })
+        × (given_input (source_of checked) given.now ≡ Ok input)) sizes.bound ready) }
 {
     match check_limits(sizes.heap, sizes.deep, MOST_DEEP) {
         Ok(limits) => ready_within(alloc, checked, given, limits, sizes.bound),
@@ -66,7 +70,8 @@ fn ready_within(
     requires limits { IsLimits limits }
     requires bound { bound < 2 ^ 63 }
     ensures { IfOk result (λ ready. IsReadied (RefusesInput (given_input (source_of checked) given.now))
-        (λ program within input. (program ≡ source_of checked) × (within ≡ limits) × (given_input (source_of checked) given.now ≡ Ok input)) bound ready) }
+        (λ program within input. (program ≡ source_of checked) × (within ≡ limits)
+        × (given_input (source_of checked) given.now ≡ Ok input)) bound ready) }
 {
     let fields = input_fields(alloc, &checked)?;
     match read_input(alloc, given, &fields) {

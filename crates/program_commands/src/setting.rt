@@ -20,7 +20,8 @@ pub struct Setting {
     ghost short: { bound < 2 ^ 63 },
 }
 
-/// What is found of texts that are to be run: a plan that tells why they are not, or what their run is made with.
+/// What is found of texts that are to be run: a plan that tells why they are not, or what their run
+/// is made with.
 #[derive(Drop)]
 pub enum Ready {
     Refused(Plan),

@@ -1,4 +1,5 @@
-// `turn F H D STEPS [INPUT]`: what `go` does, and then the flipped image runs from where the run finished, as probes watch.
+// `turn F H D STEPS [INPUT]`: what `go` does, and then the flipped image runs from where the run
+// finished, as probes watch.
 ghost use Rattle.std.specs.Prelude.{◌≡◌, true, ◌≤◌, ◌<◌, ◌^◌, ◌++◌, ◌∷◌, length, option_map, IfOk, IfErr, OnOk, string_bytes};
 ghost use Rattle.rpp_tree.specs.Views.{source_of};
 ghost use Rattle.rpp_tree.specs.declared.limits.TheConstants.{MOST_BYTES};
@@ -26,8 +27,8 @@ use std::alloc::{AllocError, Global};
 use std::sync::ledger::Ledger;
 use store_report::report;
 
-/// Does what `go` does; after a finish it runs the flipped image on from there, tells the probes each counted step of that run,
-/// and reports again. It prints no line of theirs.
+/// Does what `go` does; after a finish it runs the flipped image on from there, tells the probes
+/// each counted step of that run, and reports again. It prints no line of theirs.
 pub fn turn<S: Shelf, P: Probes, L: Ledger>(
     alloc: Global,
     shelf: &mut S,
@@ -41,7 +42,8 @@ pub fn turn<S: Shelf, P: Probes, L: Ledger>(
     ensures plan { GivesPlan (S.texts shelf.old) (TurnsFile (P.watches probes.old) (P.watches probes.new)
         file.now (option_map string_bytes input.now)
         sizes.heap sizes.deep sizes.bound) result }
-    ensures reads { OnlyReads (S.texts shelf.old) (S.texts shelf.new) (S.faults shelf.old) (S.faults shelf.new)
+    ensures reads { OnlyReads (S.texts shelf.old) (S.texts shelf.new) (S.faults shelf.old)
+        (S.faults shelf.new)
         (source file.now ∷ input_files (option_map string_bytes input.now)) result }
     ensures untold { IfErr result (UnreadCause (P.watches probes.new ≡ P.watches probes.old)) }
 {
@@ -76,7 +78,8 @@ fn turn_program<P: Probes, L: Ledger>(
     probes: &mut P,
     steps: &mut Steps<L>,
 ) -> Result<Plan, NoMemory>
-    ensures { IfOk result (λ plan. TurnsImage (P.watches probes.old) (P.watches probes.new) (source_of setting.now.checked)
+    ensures { IfOk result (λ plan.
+        TurnsImage (P.watches probes.old) (P.watches probes.new) (source_of setting.now.checked)
         setting.now.limits setting.now.input.words.items setting.now.bound (planned plan)) }
 {
     let mut machine = loaded_program(alloc, setting)?;
@@ -97,9 +100,11 @@ fn report_turn<P: Probes, L: Ledger>(
         setting.now.input.words.items setting.now.bound machine end.stop end.spent }
     ensures stop { IfOk result (λ plan. ReportsStop true end.stop (source_of setting.now.checked)
         setting.now.limits setting.now.input.words.items machine.state.cells
-        (loaded machine.image.statics setting.now.limits setting.now.input.words.items) end.spent setting.now.bound (planned plan)) }
+        (loaded machine.image.statics setting.now.limits setting.now.input.words.items) end.spent
+        setting.now.bound (planned plan)) }
     ensures told { OnOk result (P.watches probes.new ≡
-        left_after (back_steps end.stop machine.image.code machine.state setting.now.bound) (P.watches probes.old)) }
+        left_after (back_steps end.stop machine.image.code machine.state setting.now.bound)
+        (P.watches probes.old)) }
 {
     match end.stop {
         Stop::Finished => report_both(alloc, setting, machine, end.spent, probes, steps),
@@ -124,9 +129,11 @@ fn report_both<P: Probes, L: Ledger>(
         setting.now.input.words.items setting.now.bound machine Finished spent }
     ensures turn { IfOk result (λ plan. ReportsTurn (source_of setting.now.checked)
         setting.now.limits setting.now.input.words.items machine.state.cells
-        (loaded machine.image.statics setting.now.limits setting.now.input.words.items) spent (planned plan)) }
+        (loaded machine.image.statics setting.now.limits setting.now.input.words.items) spent
+        (planned plan)) }
     ensures told { OnOk result (P.watches probes.new ≡
-        left_after (back_steps Finished machine.image.code machine.state setting.now.bound) (P.watches probes.old)) }
+        left_after (back_steps Finished machine.image.code machine.state setting.now.bound)
+        (P.watches probes.old)) }
 {
     let there = report(alloc, &machine, &setting.checked)?;
     let text = with_steps(there, spent)?;
@@ -158,7 +165,8 @@ fn run_back<P: Probes, L: Ledger>(
         ≡ loaded machine.image.statics setting.now.limits setting.now.input.words.items) }
     ensures spent { IfOk result (λ back. back.spent ≡ _spent) }
     ensures told { OnOk result (P.watches probes.new ≡
-        left_after (back_steps Finished machine.image.code machine.state setting.now.bound) (P.watches probes.old)) }
+        left_after (back_steps Finished machine.image.code machine.state setting.now.bound)
+        (P.watches probes.old)) }
 {
     let flipped = flip(alloc, machine.image())?;
     let mut machine = machine.with_image(flipped);

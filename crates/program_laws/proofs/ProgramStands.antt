@@ -1,4 +1,5 @@
--- The place of a linked image is that of its program, its routines owe nothing, and so it follows the program.
+-- The place of a linked image is that of its program, its routines owe nothing, and so it follows
+-- the program.
 use Rattle.std.proofs.Common.{◌≡◌, ℕ, ◌+◌, ◌<◌, ◌≤◌, ◌^◌, true, List, [], ◌∷◌, length, Some, refl, sym, ap, ◌∙◌, subst, arith}
 use Rattle.std.specs.Prelude.{slice_get, slice_index}
 use Rattle.std.specs.Option.{unwrap_or}

@@ -7,14 +7,14 @@ use Rattle.rpp_tree.specs.Tree.{Source}
 use Rattle.pisa_isa.specs.declared.cell.Cell.{Cell}
 use Rattle.pisa_isa.specs.declared.machine.Stop.{Stop}
 use Rattle.pisa_isa.specs.declared.machine.Stop.TheVariants.{Finished, Returned, Trap, BadAddress, OffCode, Bound}
-use Rattle.pisa_isa.specs.Machine.{State as MachineState, fetch, stop, stop_at, next}
+use Rattle.pisa_isa.specs.Machine.{State as MachineState, fetch, stop, stop_at, next, Memory}
 use Rattle.pisa_isa.specs.Image.{Segments}
 use Rattle.pisa_isa.specs.Loaded.{loaded, loaded_state}
 use Rattle.pisa_isa.specs.Runs.{End, run, steps, unless_stop, after_step, at_bound}
 use Rattle.pisa_isa.specs.Ends.{MeetsEndsOnce}
 use Rattle.pisa_isa.proofs.Longer.{run-longer, clean_of_ends}
 use Rattle.paired_code.specs.declared.part.Symbol.{Symbol}
-use Rattle.paired_code.specs.Machine.{Memory, Image, state}
+use Rattle.paired_code.specs.Machine.{Image, state}
 use Rattle.paired_code.specs.Pieces.{Outcome, Done, Trapped, Bad, Still, Will}
 use Rattle.paired_code.specs.Link.{IsToldBy, Whole, Linked}
 use Rattle.paired_code.specs.Does.{Rates, Told, Fine, Fault, More, Meets, fine, faults, more}

@@ -64,7 +64,8 @@ AreRoutineCodes program (entry ∷ methods) (body ∷ bodies) =
     IsRoutineCode program entry body × AreRoutineCodes program methods bodies
 
 -- the codes of the first methods of a program, where these are left
-pub record AreFirstCodes (program : Source) (bodies : List (List Symbol)) (left : List Entry) : Type 0 where
+pub record AreFirstCodes (program : Source) (bodies : List (List Symbol))
+    (left : List Entry) : Type 0 where
   pub done : List Entry
   pub codes : AreRoutineCodes program done bodies
   pub all : done ++ left ≡ entries program
@@ -85,9 +86,11 @@ CodesAreMadeInOrder = (program : Source) → CodesAreMade program
 
 -- ---- the image
 
--- an image of an accepted program, linked of the code of `main`, of the heap's allocator, and of a routine for each method
+-- an image of an accepted program, linked of the code of `main`, of the heap's allocator, and of a
+-- routine for each method
 pub record IsProgramImage
-    (program : Source) (main allocator : List Symbol) (bodies : List (List Symbol)) (image : Segments) : Type 0 where
+    (program : Source) (main allocator : List Symbol) (bodies : List (List Symbol))
+    (image : Segments) : Type 0 where
   pub accepted : IsAccepted program
   pub main_code : MainCode (1 + main_routine program) main
   pub allocates : AllocatorLaw allocator

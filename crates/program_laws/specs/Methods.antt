@@ -1,4 +1,5 @@
--- The methods of a program in the order of its text, the numbers of their routines, and where class tables lead.
+-- The methods of a program in the order of its text, the numbers of their routines, and where class
+-- tables lead.
 use Rattle.std.specs.Prelude.{ℕ, zero, suc, ◌+◌, List, [], ◌∷◌, ◌++◌, length, map, slice_get, slice_index}
 use Rattle.std.specs.Option.{unwrap_or}
 use Rattle.rpp_tree.specs.declared.tree.Ident.{Ident}
@@ -36,7 +37,8 @@ abbrev pub entry_at : List Entry → ℕ → Entry
 entry_at methods number = unwrap_or (slice_get methods number)
     (record { class = 0; method = no_procedure })
 
--- what is visible at the beginning of a method: its parameters, the first of which is the innermost variable
+-- what is visible at the beginning of a method: its parameters, the first of which is the innermost
+-- variable
 abbrev pub scope_at : Entry → Scope
 scope_at entry = record { class = entry.class; vars = entry.method.params }
 
@@ -61,7 +63,8 @@ routine_in program class name =
 abbrev pub main_routine : Source → ℕ
 main_routine program = routine_of program (main_of program)
 
--- ---- the class tables, where all routines have these places, and so many stand before those of the methods
+-- ---- the class tables, where all routines have these places, and so many stand before those of
+-- the methods
 
 -- the place of a method
 abbrev pub method_place : Source → ℕ → List ℕ → MethodId → ℕ

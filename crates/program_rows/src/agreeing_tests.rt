@@ -9,7 +9,8 @@ const TWO: &str = "class P Q a Q b method main() new Q a new Q b class Q method 
 const NODES: &str =
     "class P Node a Node b method main() new Node a new Node b call a::link(b) call b::link(a) call a::drop(b) class Node Node next method link(Node o) copy Node o next method drop(Node o) uncopy Node next o";
 
-// A program with its heap and depth: each of the commands answers this status, and prints this in front of numbers.
+// A program with its heap and depth: each of the commands answers this status, and prints this in
+// front of numbers.
 fn agrees(
     rt: &impl Abort,
     alloc: Global,

@@ -3,7 +3,8 @@ use std::alloc::Global;
 use std::process::Abort;
 use std::test::Fail;
 
-// Each source with the rest of a line behind `explain F`, the status, and what is printed, in front of the cost's number.
+// Each source with the rest of a line behind `explain F`, the status, and what is printed, in front
+// of the cost's number.
 fn explained(rt: &impl Abort, alloc: Global, rows: &[(&str, &str, u8, &str)]) -> Result<(), Fail> {
     for (source, words, status, text) in rows {
         let files: [(&str, &[u8]); 2] = [("F", source.as_bytes()), ("I", b"x = 37\n")];

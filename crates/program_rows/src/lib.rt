@@ -1,5 +1,5 @@
-//! The worked programs of the language, run through the top call over files in memory. It holds tests alone: no layer
-//! uses it.
+//! The worked programs of the language, run through the top call over files in memory. It holds
+//! tests alone: no layer uses it.
 #![tactic(auto)]
 
 #[cfg(test)]

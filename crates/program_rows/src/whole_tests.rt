@@ -15,7 +15,8 @@ const NESTS: &str = "class P method main() call q() method q() call q()";
 const LOCALS: &str =
     "class P Q a Q b method main() local int t = 0 t += 1 delocal int t = 0 class Q int f method inc() f += 1 class R inherits Q method no() skip";
 
-// Each source with the words, the status, and what is printed up to the number of steps. The file I sets x to 1.
+// Each source with the words, the status, and what is printed up to the number of steps. The file I
+// sets x to 1.
 fn goes(rt: &impl Abort, alloc: Global, rows: &[(&str, &str, u8, &str)]) -> Result<(), Fail> {
     for (source, words, status, text) in rows {
         let files: [(&str, &[u8]); 2] = [("F", source.as_bytes()), ("I", b"x = 1\n")];

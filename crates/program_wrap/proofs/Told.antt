@@ -54,7 +54,8 @@ module _ (program : Source) (image : Segments) (cells : List ℕ) (wrapped : Lis
   abbrev all : ℕ → End
   all bound = wrapped_run image cells wrapped limits input bound
 
-  -- where the run finishes within the bound: with steps enough the wrapped run finishes, and with fewer it is not over
+  -- where the run finishes within the bound: with steps enough the wrapped run finishes, and with
+  -- fewer it is not over
   finishes_by : (m bound : ℕ) → (run_of image limits input m).why ≡ Finished → EndsAsSource program image cells limits input (all bound)
   finishes_by m bound fin =
       let total : ℕ = steps_wrapped (run_of image limits input m).spent cells in

@@ -16,7 +16,8 @@ use Rattle.roopl_semantics.specs.StandsFor.{StandsFor}
 use Rattle.bennett_wrap.specs.Wrapped.{Wrapped}
 use Rattle.program_wrap.specs.Programs.{IsStatic, FollowsWrapped, field_cell}
 
--- the wrapped code of an image that stands for a program, for at most 64 static cells, does what the program does
+-- the wrapped code of an image that stands for a program, for at most 64 static cells, does what
+-- the program does
 abbrev pub WrappedProgramsFollow : Type 0
 WrappedProgramsFollow =
     (program : Source) (image : Segments) (cells : List ℕ) (wrapped : List Cell) (limits : Limits)

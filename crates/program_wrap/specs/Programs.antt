@@ -29,17 +29,20 @@ abbrev pub wrapped_run : Segments → List ℕ → List Cell → Limits → List
 wrapped_run image cells wrapped limits input bound =
     run_on wrapped bound (with_zeros (loaded image.statics limits input) cells)
 
--- The source gives a store, and the machine ended with the first memory and, behind it, what the store's layout has in the
--- cells: the results alone are added.
-pub record EndsDone (program : Source) (image : Segments) (cells : List ℕ) (limits : Limits) (input : List FieldWord) (last : MachineState) : Type 0 where
+-- The source gives a store, and the machine ended with the first memory and, behind it, what the
+-- store's layout has in the cells: the results alone are added.
+pub record EndsDone (program : Source) (image : Segments) (cells : List ℕ) (limits : Limits)
+    (input : List FieldWord) (last : MachineState) : Type 0 where
   pub end : State
   pub gives : GivesDone program limits input end
   pub registers : last.regs ≡ zero_registers
   pub memory : last.cells
-      ≡ loaded image.statics limits input ++ values_at (layout program limits image.statics end.store end.log) cells
+      ≡ loaded image.statics limits input
+      ++ values_at (layout program limits image.statics end.store end.log) cells
 
 -- the run finished as the source is done, or trapped as it has a fault, or was not over
-pub record EndsAsSource (program : Source) (image : Segments) (cells : List ℕ) (limits : Limits) (input : List FieldWord) (e : End) : Type 0 where
+pub record EndsAsSource (program : Source) (image : Segments) (cells : List ℕ) (limits : Limits)
+    (input : List FieldWord) (e : End) : Type 0 where
   pub done : e.why ≡ Finished → EndsDone program image cells limits input e.last
   pub fault : (code : ℕ) → e.why ≡ Trap code → GivesFault program limits input code
   pub not_returned : e.why ≢ Returned
@@ -51,7 +54,8 @@ abbrev pub enough_wrapped : (cost : ℕ) → ℕ
 enough_wrapped cost = 2000 * cost + 5000
 
 -- what is known of the wrapped runs on an input: each ends as the source does, and in time
-pub record FollowsWrapped (program : Source) (image : Segments) (cells : List ℕ) (wrapped : List Cell) (limits : Limits) (input : List FieldWord) : Type 0 where
+pub record FollowsWrapped (program : Source) (image : Segments) (cells : List ℕ)
+    (wrapped : List Cell) (limits : Limits) (input : List FieldWord) : Type 0 where
   pub ends : (bound : ℕ) → EndsAsSource program image cells limits input
       (wrapped_run image cells wrapped limits input bound)
   pub in_time : (cost bound : ℕ) → EndsAt program limits input cost → enough_wrapped cost ≤ bound

@@ -1,4 +1,5 @@
--- The names that a report numbers are exactly the live ones but for the main object's, where every live object is reached.
+-- The names that a report numbers are exactly the live ones but for the main object's, where every
+-- live object is reached.
 use Rattle.std.proofs.Common.{◌≡◌, ◌≢◌, ◌∙◌, sym, ap, subst, refl, ℕ, zero, suc, ◌+◌, ◌<◌, ◌≤◌, Bool, true, false, List, [], ◌∷◌, ◌++◌, length, Option, Some, None, arith}
 use Rattle.std.proofs.lemmas.Bool.{eqb-true, or_left, or_right, or_parts}
 use Rattle.std.proofs.lemmas.List.{length-append}

@@ -30,7 +30,8 @@ array_of_element (kind.Class c) k h = absurd (cc)
 array_of_element kind.IntArray k h = (refl, let e : kind.Int ≡ k = cc in ap is_array (sym e))
 array_of_element (kind.ClassArray c) k h = (refl, let e : kind.Class c ≡ k = cc in ap is_array (sym e))
 
--- a place that a statement can name: the frame's or the present object's, or an element of an array that such a place holds
+-- a place that a statement can name: the frame's or the present object's, or an element of an array
+-- that such a place holds
 pub data IsVisible (program : Source) (shape : Locals) (st : State) (k : Kind) : Cell → Type 0 where
   own : (cell : Cell) → IsOwn st.self cell → IsVisible program shape st k cell
   element : (holder : Cell) (array : Kind) (n i : ℕ) → IsOwn st.self holder → cell_kind program shape st.store holder ≡ Some array → element_kind array ≡ Some k → read st holder ≡ Name n → IsVisible program shape st k (Part n i)

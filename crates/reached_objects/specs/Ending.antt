@@ -21,7 +21,8 @@ use Rattle.sound_execution.specs.Plain.{IsPlain}
 use Rattle.sound_execution.specs.Kept.{MeansSame}
 use Rattle.reached_objects.specs.Reached.{Reaches}
 
--- what is done by a checked block of an accepted program keeps every live object reached, whatever is held besides
+-- what is done by a checked block of an accepted program keeps every live object reached, whatever
+-- is held besides
 abbrev pub ExecutionReaches : Type 0
 ExecutionReaches =
     (program : Source) (limits : Limits) (fuel : ℕ) (extra : ℕ → ℕ) (locals shape : Locals) (class : ℕ)

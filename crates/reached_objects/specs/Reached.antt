@@ -1,4 +1,5 @@
--- What a state reaches: each live object is in every set of names that holds the roots and what cells of its objects hold.
+-- What a state reaches: each live object is in every set of names that holds the roots and what
+-- cells of its objects hold.
 use Rattle.std.specs.Prelude.{◌≡◌, ◌<◌, ℕ, Bool, true}
 use Rattle.roopl_semantics.specs.Store.{Value, Word, Nil, Name, State}
 use Rattle.roopl_semantics.specs.Value.{Cell, Slot, Part, read}

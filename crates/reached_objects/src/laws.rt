@@ -7,8 +7,9 @@ pub fn execution_reaches()
     ensures { ExecutionReaches }
 {}
 
-/// At the end of every run of an accepted program each live object and array is reached from the main object; so the store is
-/// plain, and the number in the report's last line is that of the objects which the report numbers.
+/// At the end of every run of an accepted program each live object and array is reached from the
+/// main object; so the store is plain, and the number in the report's last line is that of the
+/// objects which the report numbers.
 pub fn ends_reached()
     ensures { EndsReached }
 {}

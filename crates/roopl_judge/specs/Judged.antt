@@ -16,7 +16,8 @@ use Rattle.class_table.specs.Refusal.{Refusal}
 use Rattle.class_table.specs.Table.{HasClassTable, first_class_refusal}
 use Rattle.roopl_judge.specs.Errors.{lex_refusal, parse_refusal, class_refusal}
 
--- the first refusal of tokens: one of them is wrong and none before it passes a limit, or one passes a limit
+-- the first refusal of tokens: one of them is wrong and none before it passes a limit, or one
+-- passes a limit
 abbrev pub IsTreeRefusal : List Token → ℕ → ParseError → Type 0
 IsTreeRefusal tokens end (Syntax at) = IsWrongAt end tokens at × (first_limit tokens ≡ None)
 IsTreeRefusal tokens end (Limit which at) = (first_limit tokens ≡ Some (Limit which at))

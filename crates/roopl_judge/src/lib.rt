@@ -1,4 +1,5 @@
-//! The judgement of a text: the lexer, the parser, the class table and the types in their order. The layer above may use
+//! The judgement of a text: the lexer, the parser, the class table and the types in their order.
+//! The layer above may use
 //! `judge` and the law `one_judgement`.
 #![tactic(auto)]
 

@@ -58,7 +58,8 @@ pub record NothingBegins (rest : List ℕ) : Type 0 where
   pub no_comment : begins_comment rest ≡ false
   pub no_token : (kind : TokenKind) (len : ℕ) → len ≤ length rest → Spells kind (take len rest) → ⊥
 
--- the rest of a text, from a place on, is cut into these tokens, up to the first refusal where there is one
+-- the rest of a text, from a place on, is cut into these tokens, up to the first refusal where
+-- there is one
 pub data Cut : (at : ℕ) (rest : List ℕ) (tokens : List Token) (refusal : Option LexError) → Type 0 where
   finish : (at : ℕ) → Cut at [] [] None
   white : (at : ℕ) (rest : List ℕ) (tokens : List Token) (refusal : Option LexError)

@@ -77,7 +77,8 @@ stop_step at t ts n s vs e (Next m n' s' vs') w below h =
           r.dead more q b (subst Q w k);
     }
 
--- where reading without the limits stops: some value is read behind the tokens before, and none with the token
+-- where reading without the limits stops: some value is read behind the tokens before, and none
+-- with the token
 pub stop : (at : ℕ) (ts : List Token) (n : ℕ) (s : List Part) (vs : List Value) (e : ParseError) → scan false at ts n s vs ≡ Err e → Stop at ts n s vs e
 unfolding scan
 stop at [] n s vs e h = record {

@@ -85,7 +85,8 @@ unfolding scan walk ends
 run_param_wrong end [] n c s vs h = refl
 run_param_wrong end (t ∷ ts) n c s vs h = rw (wrong_type (field_parts s) n vs t.at _ t.kind h)
 
--- what a call gives serves where reading comes to its beginning with more on the stacks, and goes on from its end
+-- what a call gives serves where reading comes to its beginning with more on the stacks, and goes
+-- on from its end
 pub gives_through : {X : Type 0} (r : Result X ParseError) (first before : List Part → List Value → Result Value ParseError) (behind after : X → List Part → List Value → Result Value ParseError) (stack : List Part → List Part) (held : List Value → List Value) → ((s : List Part) (vs : List Value) → first s vs ≡ before (stack s) (held vs)) → ((x : X) (s : List Part) (vs : List Value) → behind x (stack s) (held vs) ≡ after x s vs) → Gives r before behind → Gives r first after
 gives_through (Ok x) first before behind after stack held come go gives = λ s vs. come s vs ∙ gives (stack s) (held vs) ∙ go x s vs
 gives_through (Err e) first before behind after stack held come go gives = λ known s vs. come s vs ∙ gives known (stack s) (held vs)

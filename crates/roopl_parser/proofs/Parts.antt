@@ -69,7 +69,8 @@ abbrev pub token_places : List Token → List ℕ
 token_places [] = []
 token_places (t ∷ ts) = t.at ∷ token_places ts
 
--- these names and numbers, places of this kind and as many printed tokens are those of the tokens before the rest
+-- these names and numbers, places of this kind and as many printed tokens are those of the tokens
+-- before the rest
 pub record Parts (P : ℕ → Type 0) (ts rest : List Token) (ns : List Ident) (ps ws : List ℕ) (n : ℕ) : Type 0 where
   pub names : token_names ts ≡ ns ++ token_names rest
   pub places : AllByRecursion P (token_places ts) → AllByRecursion P ps × AllByRecursion P (token_places rest)

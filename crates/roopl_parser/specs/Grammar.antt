@@ -166,7 +166,8 @@ mutual
     skip : {a : Span} {rest : List Token} → IsStatement (tok a (Word word.Skip) ∷ rest) rest (Skip a.at)
 
   -- two blocks and an expression, each behind its keyword
-  pub data IsBranches : Keyword → Keyword → Keyword → List Token → List Token → Statements → Statements → Expression → Type 0 where
+  pub data IsBranches : Keyword → Keyword → Keyword → List Token → List Token → Statements
+      → Statements → Expression → Type 0 where
     branches : {a b c : Span} {first second third : Keyword} {ts us vs rest : List Token}
         {taken other : Statements} {e : Expression} → IsBlock ts (tok b (Word second) ∷ us) taken
         → IsBlock us (tok c (Word third) ∷ vs) other → IsExpr 9 vs rest e

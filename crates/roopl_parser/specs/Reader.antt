@@ -75,7 +75,8 @@ pub data Rule : Type 0 where
   MakeClass : Rule
 
 -- what is still to come: a token, a symbol of the grammar with its counts, or a rule.
--- Counts: p open parentheses, i indexes round it, d statements round it, l locals round it, c that stand before it;
+-- Counts: p open parentheses, i indexes round it, d statements round it, l locals round it, c that
+-- stand before it;
 -- `Count n` sets the count of nodes.
 pub data Part : Type 0 where
   AWord : Keyword → Part
@@ -108,7 +109,8 @@ pub data Part : Type 0 where
   Procedures : Part
   Program : (c : ℕ) → Part
 
--- what a token does to the counts: none passes its limit, or one does, or the nodes do where `[` stands behind the token
+-- what a token does to the counts: none passes its limit, or one does, or the nodes do where `[`
+-- stands behind the token
 pub data Mark : Type 0 where
   Within : Mark
   Past : (which : LimitKind) → Mark

@@ -26,7 +26,8 @@ abbrev pub Behind : List Token → List Token → Type 0
 Behind [] more = more ≡ []
 Behind (t ∷ ts) more = (others : List Token) × (more ≡ t ∷ others)
 
--- no program's tokens begin with those up to the one at this place, itself counted, but some do with those before it
+-- no program's tokens begin with those up to the one at this place, itself counted, but some do
+-- with those before it
 pub record IsWrongAt (end : ℕ) (tokens : List Token) (at : ℕ) : Type 0 where
   pub front : List Token
   pub rest : List Token

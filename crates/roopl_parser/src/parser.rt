@@ -43,18 +43,22 @@ pub fn parse(alloc: Global, tokens: &[Token], end: u32) -> Result<Program, Parse
     requires { IsReadable tokens.now end }
     // What is read is the tree that the grammar gives, and no token passes a limit.
     ensures tree { IfOk result (λ b. Derives tokens.now (source_of b) × (first_limit tokens.now ≡ None)) }
-    // The tree keeps the limits that a tree shows, where the lexer lets the numbers of the tokens through.
+    // The tree keeps the limits that a tree shows, where the lexer lets the numbers of the tokens
+    // through.
     ensures limits { AreSmall tokens.now → IfOk result (λ b. IsWithinLimits (source_of b)) }
-    // What the grammar derives and passes no limit is read, unless memory runs out, and as this tree alone.
+    // What the grammar derives and passes no limit is read, unless memory runs out, and as this
+    // tree alone.
     ensures only { (x : Source) → Derives tokens.now x → first_limit tokens.now ≡ None
         → MatchResult result (λ b. source_of b ≡ x) (λ e. e ≡ ParseError.NoMemory) }
-    // A syntax error is at the first token with which no program's tokens begin so, and no token before it passes a limit;
+    // A syntax error is at the first token with which no program's tokens begin so, and no token
+    // before it passes a limit;
     ensures syntax { (at : ℕ) → result ≡ Err (ParseError.Syntax at) → IsWrongAt end tokens.now at
         × (first_limit tokens.now ≡ None) }
     // and it comes wherever that is so, unless memory runs out.
     ensures wrong { (at : ℕ) → IsWrongAt end tokens.now at → first_limit tokens.now ≡ None
         → MatchResult result (λ b. ⊥) (λ e. e ≢ ParseError.NoMemory → e ≡ ParseError.Syntax at) }
-    // A limit is that of tokens, or at the first token that passes one, and then a program's tokens begin so;
+    // A limit is that of tokens, or at the first token that passes one, and then a program's tokens
+    // begin so;
     ensures limit { (which : LimitKind) (at : ℕ) → result ≡ Err (ParseError.Limit which at)
         → (first_limit tokens.now ≡ Some (ParseError.Limit which at))
         × (which ≢ Tokens → IsReached tokens.now at) }

@@ -11,4 +11,3 @@ pub mod SameLimits
 pub mod LikeClasses
 pub mod ReadBack
 mod PrintRows
-pub mod SampleFits

@@ -1,5 +1,4 @@
 pub mod Laws
 pub mod Printable
 pub mod Printed
-pub mod Sample
 pub mod Spelled

@@ -14,6 +14,3 @@ mod whole;
 
 pub use again::reread;
 pub use whole::print;
-
-#[cfg(test)]
-mod tests;

@@ -51,7 +51,8 @@ element-swapped_with_itself : ending element-swapped_with_itself-text 3 1 [] 100
 unfolding digits
 element-swapped_with_itself = refl
 
--- class P Q[] qs int n method main() new Q[2] qs new Q qs[1] call qs[1]::inc(n) uncall qs[1]::inc(n) delete Q qs[1] delete Q[2] qs class Q int f method inc(int m) f += 7 m += 3
+-- class P Q[] qs int n method main() new Q[2] qs new Q qs[1] call qs[1]::inc(n) uncall
+-- qs[1]::inc(n) delete Q qs[1] delete Q[2] qs class Q int f method inc(int m) f += 7 m += 3
 abbrev element-text : Source
 element-text = program (class_text (named 6 (codes "P")) None ((var (kind.ClassArray (named 8 (codes "Q"))) (named 12 (codes "qs"))) ∷ (var kind.Int (named 19 (codes "n"))) ∷ []) (procedure (named 28 (codes "main")) [] (block ((New 35 (Objects (named 39 (codes "Q")) (Number 41 2)) (Whole (named 44 (codes "qs")))) ∷ (New 47 (AnObject (named 51 (codes "Q"))) (Item (named 53 (codes "qs")) (Number 56 1))) ∷ (Call 59 false (Some (Item (named 64 (codes "qs")) (Number 67 1))) (named 71 (codes "inc")) ((named 75 (codes "n")) ∷ [])) ∷ (Call 78 true (Some (Item (named 85 (codes "qs")) (Number 88 1))) (named 92 (codes "inc")) ((named 96 (codes "n")) ∷ [])) ∷ (Delete 99 (AnObject (named 106 (codes "Q"))) (Item (named 108 (codes "qs")) (Number 111 1))) ∷ (Delete 114 (Objects (named 121 (codes "Q")) (Number 123 2)) (Whole (named 126 (codes "qs")))) ∷ [])) ∷ []) ∷ class_text (named 135 (codes "Q")) None ((var kind.Int (named 141 (codes "f"))) ∷ []) (procedure (named 150 (codes "inc")) ((var kind.Int (named 158 (codes "m"))) ∷ []) (block ((Update 161 update.Add (Whole (named 161 (codes "f"))) (Number 166 7)) ∷ (Update 168 update.Add (Whole (named 168 (codes "m"))) (Number 173 3)) ∷ [])) ∷ []) ∷ [])
 

@@ -1,4 +1,5 @@
--- Worked programs for the order of checks and for costs, where the receiver of a call moves, and for what a local hides.
+-- Worked programs for the order of checks and for costs, where the receiver of a call moves, and
+-- for what a local hides.
 use Rattle.std.specs.Prelude.{◌≡◌, List, true, false, [], ◌∷◌, Some, None, codes}
 use Rattle.std.specs.Fmt.{digits}
 use Rattle.std.proofs.Common.{refl}

@@ -1,4 +1,5 @@
--- The memory of a program: it is loaded, and laid out, as the words of the main object's fields between the same two fronts and backs.
+-- The memory of a program: it is loaded, and laid out, as the words of the main object's fields
+-- between the same two fronts and backs.
 use Rattle.std.proofs.Common.{◌≡◌, ℕ, zero, suc, ◌+◌, ◌-◌, ◌*◌, ◌^◌, ◌<◌, ◌≤◌, List, [], ◌∷◌, ◌++◌, map, length, drop, replicate, refl, sym, ap, ◌∙◌, arith, true, false}
 use Rattle.std.specs.Prelude.{slice_get, slice_set, IsTrue}
 use Rattle.std.specs.List.{All, slice_index_or}
@@ -22,7 +23,8 @@ use Rattle.roopl_semantics.specs.Laws.{StartsLoaded}
 use Rattle.roopl_semantics.specs.Layout.{table_at, main_statics, tables, with_book, word_of, overlaid, static_words, layout}
 use Rattle.buddy_book.specs.Shown.{first_address}
 
--- what a program gives its memory: the address of the main object's table, the number of its fields, and the tables
+-- what a program gives its memory: the address of the main object's table, the number of its
+-- fields, and the tables
 pub record Shape : Type 0 where
   pub table : ℕ
   pub fields : ℕ

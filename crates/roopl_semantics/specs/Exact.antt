@@ -12,19 +12,23 @@ use Rattle.roopl_semantics.specs.Layout.{layout}
 use Rattle.roopl_semantics.specs.StandsFor.{run_of, StandsFor, IsFinalState}
 
 -- in some number of steps the image finishes with the memory of this state
-pub record FinishesWith (program : Source) (image : Segments) (limits : Limits) (input : List FieldWord) (end : State) : Type 0 where
+pub record FinishesWith (program : Source) (image : Segments) (limits : Limits)
+    (input : List FieldWord) (end : State) : Type 0 where
   pub steps : ℕ
   pub finishes : (run_of image limits input steps).why ≡ Finished
   pub cells : (run_of image limits input steps).last.cells
       ≡ layout program limits image.statics end.store end.log
 
 -- in some number of steps the image stops with this fault
-pub record TrapsWith (image : Segments) (limits : Limits) (input : List FieldWord) (code : ℕ) : Type 0 where
+pub record TrapsWith (image : Segments) (limits : Limits) (input : List FieldWord)
+    (code : ℕ) : Type 0 where
   pub steps : ℕ
   pub traps : (run_of image limits input steps).why ≡ Trap code
 
--- it finishes with a store exactly if the source gives that store, and stops with a fault exactly if the source does
-pub record EndsExactly (program : Source) (image : Segments) (limits : Limits) (input : List FieldWord) : Type 0 where
+-- it finishes with a store exactly if the source gives that store, and stops with a fault exactly
+-- if the source does
+pub record EndsExactly (program : Source) (image : Segments) (limits : Limits)
+    (input : List FieldWord) : Type 0 where
   pub finishes : (end : State) → GivesDone program limits input end
       → FinishesWith program image limits input end
   pub finished : (m : ℕ) → (run_of image limits input m).why ≡ Finished

@@ -237,7 +237,8 @@ module _ (setting : Setting) where
     _ ← fault_if delocal_fault (not (same_value (read end (Slot 0)) w))
     give (closed end)
 
-  -- after the first part of a loop's turn: the end where the exit holds, else the second part and the next turn
+  -- after the first part of a loop's turn: the end where the exit holds, else the second part and
+  -- the next turn
   abbrev pub turn_end : Runner → Expression → Statements → (State → Run State) → Bool → State → Run State
   turn_end run entry again next true st = give st
   turn_end run entry again next false st = do

@@ -59,7 +59,8 @@ abbrev pub holders : ℕ → Store → ℕ
 holders name [] = 0
 holders name ((n, object) ∷ store) = holders_among name object.cells + holders name store
 
--- where no call but `main` is open and its frame is empty: a count is the number of cells that hold the name
+-- where no call but `main` is open and its frame is empty: a count is the number of cells that hold
+-- the name
 pub record CountsReferences (store : Store) : Type 0 where
   pub main : (object : Object) → object_named store main_name ≡ Some object → object.count ≡ 1
   pub held : holders main_name store ≡ 0

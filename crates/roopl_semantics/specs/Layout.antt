@@ -117,7 +117,8 @@ placed_layout program limits statics store placing =
 abbrev pub no_placing : Placing
 no_placing = record { book = []; blocks = [] }
 
--- the memory that stands for a store after these requests, over the static cells of an image of the program
+-- the memory that stands for a store after these requests, over the static cells of an image of the
+-- program
 abbrev pub layout : Source → Limits → List ℕ → Store → Log → List ℕ
 layout program limits statics store log =
     placed_layout program limits statics store (unwrap_or (place limits.heap log) no_placing)

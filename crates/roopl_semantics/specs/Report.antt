@@ -31,11 +31,14 @@ abbrev pub walked : ℕ → Store → List ℕ → List ℕ → List ℕ
 walked zero store met pending = met
 walked (suc steps) store met [] = met
 walked (suc steps) store met (name ∷ pending) =
-    let new = newly_met met (object_at store name).cells in walked steps store (met ++ new) (pending ++ new)
+    let new = newly_met met (object_at store name).cells
+    in walked steps store (met ++ new) (pending ++ new)
 
 -- the names that are reached from the main object, in the order of their numbers, from #1 on
 abbrev pub numbered : Store → List ℕ
-numbered store = let first = newly_met [] (object_at store main_name).cells in walked (length store) store first first
+numbered store =
+    let first = newly_met [] (object_at store main_name).cells
+    in walked (length store) store first first
 
 -- the number of a name
 abbrev pub number_shown : List ℕ → ℕ → Text
@@ -89,7 +92,8 @@ object_lines program store names (name ∷ rest) =
 abbrev pub live_line : ℕ → Text
 live_line live = codes "live " ++ decimal live ++ line_end
 
--- the report but for its last line: the main object's fields, and the objects in the order of their numbers
+-- the report but for its last line: the main object's fields, and the objects in the order of their
+-- numbers
 abbrev pub objects_shown : Source → Store → Text
 objects_shown program store =
     let names = numbered store in

@@ -81,13 +81,15 @@ source program limits input fuel =
     (starting program input))
 
 -- the source gives this state: the run is done with it for some fuel
-pub record GivesDone (program : Source) (limits : Limits) (input : List FieldWord) (end : State) : Type 0 where
+pub record GivesDone (program : Source) (limits : Limits) (input : List FieldWord)
+    (end : State) : Type 0 where
   pub fuel : ℕ
   pub cost : ℕ
   pub done : source program limits input fuel ≡ Done end cost
 
 -- the source gives this fault: the run stops with it for some fuel
-pub record GivesFault (program : Source) (limits : Limits) (input : List FieldWord) (code : ℕ) : Type 0 where
+pub record GivesFault (program : Source) (limits : Limits) (input : List FieldWord)
+    (code : ℕ) : Type 0 where
   pub fuel : ℕ
   pub cost : ℕ
   pub faults : source program limits input fuel ≡ Fault code cost

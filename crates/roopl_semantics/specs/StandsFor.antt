@@ -20,7 +20,8 @@ abbrev pub run_of : Segments → Limits → List FieldWord → ℕ → End
 run_of image limits input m = run image.code m (loaded_state image limits input)
 
 -- the machine's last state is the source's final one: its memory is the layout, all registers are 0
-pub record IsFinalState (program : Source) (image : Segments) (limits : Limits) (input : List FieldWord) (last : MachineState) : Type 0 where
+pub record IsFinalState (program : Source) (image : Segments) (limits : Limits)
+    (input : List FieldWord) (last : MachineState) : Type 0 where
   pub end : State
   pub gives : GivesDone program limits input end
   pub cells : last.cells ≡ layout program limits image.statics end.store end.log
@@ -39,7 +40,8 @@ pub record EndsAt (program : Source) (limits : Limits) (input : List FieldWord) 
   pub over : cost_of (source program limits input fuel) ≡ Some cost
 
 -- so many steps, and more, are not too few for the run
-pub record IsEnough (image : Segments) (limits : Limits) (input : List FieldWord) (enough : ℕ) : Type 0 where
+pub record IsEnough (image : Segments) (limits : Limits) (input : List FieldWord)
+    (enough : ℕ) : Type 0 where
   pub ends : (m : ℕ) → enough ≤ m → (run_of image limits input m).why ≢ Bound
 
 -- the steps that are enough where the source ends at this cost
@@ -47,7 +49,8 @@ abbrev pub enough_steps : ℕ → ℕ
 enough_steps cost = 1000 * cost + 1000
 
 -- the runs of an image on an input do what the source does on it
-pub record Follows (program : Source) (image : Segments) (limits : Limits) (input : List FieldWord) : Type 0 where
+pub record Follows (program : Source) (image : Segments) (limits : Limits)
+    (input : List FieldWord) : Type 0 where
   pub finished : (m : ℕ) → (run_of image limits input m).why ≡ Finished
       → IsFinalState program image limits input (run_of image limits input m).last
   pub clean : (m : ℕ) → (run_of image limits input m).why ≡ Finished
@@ -61,7 +64,8 @@ pub record Follows (program : Source) (image : Segments) (limits : Limits) (inpu
       → IsEnough image limits input (enough_steps cost)
   pub meets_ends_once : (m : ℕ) → MeetsEndsOnce image.code m (loaded_state image limits input)
 
--- an image stands for a program: its static cells are the program's, and it follows it on every input, heap and depth
+-- an image stands for a program: its static cells are the program's, and it follows it on every
+-- input, heap and depth
 pub record StandsFor (program : Source) (image : Segments) : Type 0 where
   pub statics : HasStatics program image
   pub follows : (limits : Limits) (input : List FieldWord) → IsLimits limits → IsValid program input

@@ -36,7 +36,8 @@ pub record Binding : Type 0 where
   pub name : List ℕ
   pub value : Value
 
--- the variables of the open method, innermost first; its object; the number of open calls; the objects; the requests
+-- the variables of the open method, innermost first; its object; the number of open calls; the
+-- objects; the requests
 pub record State : Type 0 where
   pub frame : List Binding
   pub self : ℕ

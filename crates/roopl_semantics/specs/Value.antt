@@ -11,7 +11,8 @@ use Rattle.roopl_semantics.specs.Operators.{operated}
 use Rattle.roopl_semantics.specs.Run.{Run, after_cost, given}
 use Rattle.roopl_semantics.specs.Store.{Value, Word, Nil, Name, Binding, State, number_of, object_at, changed_at, class_of_head}
 
--- a cell that can be read and changed: a variable of the frame, or a field or element of an object or array
+-- a cell that can be read and changed: a variable of the frame, or a field or element of an object
+-- or array
 pub data Cell : Type 0 where
   Slot : (index : ℕ) → Cell
   Part : (name index : ℕ) → Cell

@@ -113,7 +113,8 @@ reached_order program cells (reference ∷ references) address =
     then Some (order_of_cells (length (types_at program cells reference)))
     else reached_order program cells references address
 
--- the order that a head word needs: a class's table's address is an object's, any other word an array's length
+-- the order that a head word needs: a class's table's address is an object's, any other word an
+-- array's length
 abbrev pub order_by_class : Source → ℕ → Option ℕ → ℕ
 order_by_class program head (Some class) = order_of_cells (length (class_fields program class))
 order_by_class program head None = order_of_cells head
@@ -162,7 +163,8 @@ count_taken (block ∷ blocks) = (if block.is_free then 0 else 1) + count_taken 
 abbrev pub counted : Source → List ℕ → ℕ
 counted program cells = count_taken (met_blocks program cells)
 
--- the number in the last line of a run's report: of live objects, or of what the cells let tell where they hide an array
+-- the number in the last line of a run's report: of live objects, or of what the cells let tell
+-- where they hide an array
 abbrev pub live_shown : Source → Store → List ℕ → ℕ
 live_shown program store cells = if is_plain program store then live_count store
     else counted program cells

@@ -91,7 +91,8 @@ profile_line_of (file ∷ heap ∷ deep ∷ steps ∷ []) =
     profile_with file (number_of heap) (number_of deep) (number_of steps)
 profile_line_of _ = None
 
--- a file, an order of the heap, a depth, a number of steps, the names of results, and the file of an input, if there is one
+-- a file, an order of the heap, a depth, a number of steps, the names of results, and the file of
+-- an input, if there is one
 abbrev pub wrap_with : List ℕ → Option ℕ → Option ℕ → Option ℕ → (names : List ℕ) → Option (List ℕ)
     → Option Asked
 wrap_with file (Some heap) (Some deep) (Some steps) names input =
@@ -105,7 +106,8 @@ wrap_line_of (file ∷ heap ∷ deep ∷ steps ∷ names ∷ input ∷ []) =
     wrap_with file (number_of heap) (number_of deep) (number_of steps) names (Some input)
 wrap_line_of _ = None
 
--- a file, an order of the heap, a depth, the most that a run may cost, and the file of an input, if there is one
+-- a file, an order of the heap, a depth, the most that a run may cost, and the file of an input, if
+-- there is one
 abbrev pub explain_with : List ℕ → Option ℕ → Option ℕ → Option ℕ → Option (List ℕ) → Option Asked
 explain_with file (Some heap) (Some deep) (Some fuel) input = Some (Explain file heap deep fuel input)
 explain_with file _ _ _ input = None
@@ -117,7 +119,8 @@ explain_line_of (file ∷ heap ∷ deep ∷ fuel ∷ input ∷ []) =
     explain_with file (number_of heap) (number_of deep) (number_of fuel) (Some input)
 explain_line_of _ = None
 
--- an image, an order of the heap, a depth, a number of steps, and the files of two states, if there are such
+-- an image, an order of the heap, a depth, a number of steps, and the files of two states, if there
+-- are such
 abbrev pub run_with : List ℕ → Option ℕ → Option ℕ → Option ℕ → (state save : Option (List ℕ))
     → Option Asked
 run_with image (Some heap) (Some deep) (Some steps) state save =
@@ -218,7 +221,8 @@ line_of (name ∷ args) =
     else if bytes_eq name (codes "cluster") then cluster_line_of args
     else source_line_of name args
 
--- the numbers of a line that are no sizes of texts have at most 18 digits; those of `cluster` are in their ranges
+-- the numbers of a line that are no sizes of texts have at most 18 digits; those of `cluster` are
+-- in their ranges
 abbrev pub HasShortNumbers : Asked → Type 0
 HasShortNumbers (Check file) = Unit {0}
 HasShortNumbers (Compile file image) = Unit {0}

@@ -14,7 +14,8 @@ use Rattle.trace_commands.specs.TracePlans.{Traces}
 use Rattle.text_commands.specs.TextPlans.{ShowsInverse, Generates}
 use Rattle.rpp_command.specs.Lines.{Asked, Check, Compile, Asm, ListImage, Flip, ShowInverse, Generate, Cluster, RunImage, Debug, Trace, Go, Turn, Profile, Wrap, Explain}
 
--- a plan of the line, where the shelf has these texts, and the list of probes is `before` as it is handed in and `after` as it is left
+-- a plan of the line, where the shelf has these texts, and the list of probes is `before` as it is
+-- handed in and `after` as it is left
 unfoldable pub IsPlan : Asked → (before after : List Watch) → Texts → Planned → Type 0
 IsPlan (Check file) before after = ChecksFile file
 IsPlan (Compile file image) before after = CompilesFile file image

@@ -85,7 +85,8 @@ fn from_file_to_file(rt: HostRuntime) -> Result<(), Fail> {
     Ok(())
 }
 
-// A compiled image is flipped twice, and listed and assembled, to itself; its int field is named at the end of its listing.
+// A compiled image is flipped twice, and listed and assembled, to itself; its int field is named at
+// the end of its listing.
 #[test]
 fn from_source_to_listing(rt: HostRuntime) -> Result<(), Fail> {
     let mut shelf = shelf_of(rt.alloc(), &[("F", FIRST.as_bytes())], &[])?;
@@ -111,7 +112,8 @@ fn from_source_to_listing(rt: HostRuntime) -> Result<(), Fail> {
     Ok(())
 }
 
-// An image of the version before is read as one without notes, and its listing is assembled to the version of today.
+// An image of the version before is read as one without notes, and its listing is assembled to the
+// version of today.
 #[test]
 fn the_version_before_is_read(rt: HostRuntime) -> Result<(), Fail> {
     let mut old = smallest(rt.alloc(), 4, 1)?;

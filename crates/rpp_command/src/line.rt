@@ -46,14 +46,15 @@ pub enum Line {
         size: u32,
         out: String,
     },
-    /// Carries out a script on several processors: its file, the number of their cells, and the files of their images.
+    /// Carries out a script on several processors: its file, the number of their cells, and the
+    /// files of their images.
     Cluster {
         script: String,
         cells: u32,
         images: Vec<String>,
     },
-    /// Runs an image: its file, the order of the heap, the depth, the number of steps, and the files of two states, if
-    /// there are such.
+    /// Runs an image: its file, the order of the heap, the depth, the number of steps, and the
+    /// files of two states, if there are such.
     Run {
         image: String,
         heap: u64,
@@ -61,15 +62,16 @@ pub enum Line {
         steps: u64,
         states: Option<StateNames>,
     },
-    /// Follows a script along the run of an image: its file, the order of the heap, the depth, and the file of the script.
+    /// Follows a script along the run of an image: its file, the order of the heap, the depth, and
+    /// the file of the script.
     Debug {
         image: String,
         heap: u64,
         deep: u64,
         script: String,
     },
-    /// Follows a script along the run of a program: its file, the order of the heap, the depth, the file of the script, and the
-    /// file of its input, if there is one.
+    /// Follows a script along the run of a program: its file, the order of the heap, the depth, the
+    /// file of the script, and the file of its input, if there is one.
     Trace {
         file: String,
         heap: u64,
@@ -94,15 +96,16 @@ pub enum Line {
         steps: u64,
         input: Option<String>,
     },
-    /// Compiles and runs a program as probes watch: its file, the order of the heap, the depth, and the number of steps.
+    /// Compiles and runs a program as probes watch: its file, the order of the heap, the depth, and
+    /// the number of steps.
     Profile {
         file: String,
         heap: u64,
         deep: u64,
         steps: u64,
     },
-    /// Compiles and wraps a program, and runs it: its file, the order of the heap, the depth, the number of steps, the names of
-    /// the results, and the file of its input, if there is one.
+    /// Compiles and wraps a program, and runs it: its file, the order of the heap, the depth, the
+    /// number of steps, the names of the results, and the file of its input, if there is one.
     Wrap {
         file: String,
         heap: u64,

@@ -1,4 +1,5 @@
-// Probes that watch: what `profile` says of them, what `turn` leaves of them, and that no other line tells them.
+// Probes that watch: what `profile` says of them, what `turn` leaves of them, and that no other
+// line tells them.
 ghost use Rattle.std.specs.Prelude.{true, [], ◌∷◌, codes};
 
 use super::*;
@@ -11,7 +12,8 @@ use std::test::Fail;
 
 const UNTOLD: &str = "forward 0 back 0\nplaces 0\ndeepest none\n";
 
-// The status of a line over the first program as probes watch, its text, and the lines of the probes that are left.
+// The status of a line over the first program as probes watch, its text, and the lines of the
+// probes that are left.
 fn answer_as_watch<P: Probes>(
     alloc: Global,
     words: &str,
@@ -85,7 +87,8 @@ fn probes_tell_of_the_whole_run(rt: HostRuntime) -> Result<(), Fail> {
     Ok(())
 }
 
-// What is printed in front of the numbers that the code decides, and the first line of those probes that are left.
+// What is printed in front of the numbers that the code decides, and the first line of those probes
+// that are left.
 #[test]
 fn probes_watch(rt: HostRuntime) -> Result<(), Fail> {
     let alloc = rt.alloc();

@@ -11,7 +11,8 @@ pub struct Answer {
     pub text: Vec<u8>,
 }
 
-// The answer to these words, over a shelf with these files, some of whose calls fail, and a sink likewise.
+// The answer to these words, over a shelf with these files, some of whose calls fail, and a sink
+// likewise.
 fn answer_over(
     alloc: Global,
     files: &[(&str, &[u8])],

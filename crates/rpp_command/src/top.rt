@@ -42,7 +42,8 @@ pub fn rooplpp<S: Shelf, K: Sink, P: Probes>(
     ensures no_line { line_of (map string_bytes words.now) ≡ None → result ≢ 2 → result ≢ 7 → result ≡ 1 }
 
     // 2 comes only where a count rose, or a told map lacks a file that is to be read.
-    ensures outside { result ≡ 2 → Unreadable (S.texts shelf.old) (needed (line_of (map string_bytes words.now)))
+    ensures outside { result ≡ 2 → Unreadable (S.texts shelf.old)
+        (needed (line_of (map string_bytes words.now)))
         (Rose (S.faults shelf.old) (S.faults shelf.new) ⊎ Rose (K.faults out.old) (K.faults out.new)) }
 
     // Where a told map lacks a file that is to be read, nothing else comes but want of memory.
@@ -52,12 +53,16 @@ pub fn rooplpp<S: Shelf, K: Sink, P: Probes>(
 
     // What 2 and 7 leave.
     ensures fault { result ≡ 2 → IfSome (S.texts shelf.old) (λ texts.
-        EndsEarly (line_of (map string_bytes words.now)) (P.watches probes.old) (P.watches probes.new) texts
-        (Rose (S.faults shelf.old) (S.faults shelf.new)) (Rose (K.faults out.old) (K.faults out.new)) (IsTrue (K.needs_memory out.old))
+        EndsEarly (line_of (map string_bytes words.now)) (P.watches probes.old)
+        (P.watches probes.new) texts
+        (Rose (S.faults shelf.old) (S.faults shelf.new))
+        (Rose (K.faults out.old) (K.faults out.new)) (IsTrue (K.needs_memory out.old))
         (S.texts shelf.new) (K.written out.old) (K.written out.new) Broken.Outside) }
     ensures memory { result ≡ 7 → IfSome (S.texts shelf.old) (λ texts.
-        EndsEarly (line_of (map string_bytes words.now)) (P.watches probes.old) (P.watches probes.new) texts
-        (Rose (S.faults shelf.old) (S.faults shelf.new)) (Rose (K.faults out.old) (K.faults out.new)) (IsTrue (K.needs_memory out.old))
+        EndsEarly (line_of (map string_bytes words.now)) (P.watches probes.old)
+        (P.watches probes.new) texts
+        (Rose (S.faults shelf.old) (S.faults shelf.new))
+        (Rose (K.faults out.old) (K.faults out.new)) (IsTrue (K.needs_memory out.old))
         (S.texts shelf.new) (K.written out.old) (K.written out.new) Broken.NoMemory) }
 
     // Whatever the status, each name keeps its text but the one that the line writes.
@@ -105,12 +110,15 @@ fn serve<S: Shelf, K: Sink, P: Probes, L: Ledger>(
     requires parts { blank.parts ≡ L.parts }
     requires has_a_part { 0 < L.parts }
     ensures carried { IfOk result (λ verdict. IfSome (S.texts shelf.old) (λ texts.
-        CarriesOut (asked line.now) (P.watches probes.old) (P.watches probes.new) texts (S.texts shelf.new) (code_of verdict) (K.written out.old) (K.written out.new))) }
-    ensures outside { IsErrOf result Broken.Outside → Unreadable (S.texts shelf.old) (files_of (asked line.now))
+        CarriesOut (asked line.now) (P.watches probes.old) (P.watches probes.new) texts
+        (S.texts shelf.new) (code_of verdict) (K.written out.old) (K.written out.new))) }
+    ensures outside { IsErrOf result Broken.Outside
+        → Unreadable (S.texts shelf.old) (files_of (asked line.now))
         (Rose (S.faults shelf.old) (S.faults shelf.new) ⊎ Rose (K.faults out.old) (K.faults out.new)) }
     ensures early { IfErr result (λ broken. IfSome (S.texts shelf.old) (λ texts.
         EndsEarly (Some (asked line.now)) (P.watches probes.old) (P.watches probes.new) texts
-        (Rose (S.faults shelf.old) (S.faults shelf.new)) (Rose (K.faults out.old) (K.faults out.new)) (IsTrue (K.needs_memory out.old))
+        (Rose (S.faults shelf.old) (S.faults shelf.new))
+        (Rose (K.faults out.old) (K.faults out.new)) (IsTrue (K.needs_memory out.old))
         (S.texts shelf.new) (K.written out.old) (K.written out.new) broken)) }
     ensures whole { OnOk result (IfSome (S.texts shelf.old)
         (λ texts. ¬ LacksOne texts (files_of (asked line.now)))) }

@@ -1,7 +1,8 @@
 use crate::image_tests::{FIRST, answer_on, shelf_of};
 use std::test::Fail;
 
-// Each source with its input, the words behind `wrap F`, the status, and what is printed up to the number of steps.
+// Each source with its input, the words behind `wrap F`, the status, and what is printed up to the
+// number of steps.
 #[test]
 fn wraps(rt: HostRuntime) -> Result<(), Fail> {
     for (source, input, words, status, text) in [

@@ -1,5 +1,6 @@
-//! Programs of any size for tests and measurements: each builds a list of items and a histogram of their values by
-//! calls, reads off their sum and number, and undoes the rest. The layer above may use `generate`.
+//! Programs of any size for tests and measurements: each builds a list of items and a histogram of
+//! their values by calls, reads off their sum and number, and undoes the rest. The layer above may
+//! use `generate`.
 #![tactic(auto)]
 
 ghost use Rattle.std.specs.Prelude.{◌≡◌, ◌+◌, ◌++◌, string_bytes, IfOk, OnOk};
@@ -40,8 +41,8 @@ value += v
 next <=> rest
 ";
 
-/// The text of the program with this seed and so many items; up to 800 items it keeps the limits of the language. The same
-/// seed and size give the same text. The only refusal is want of memory.
+/// The text of the program with this seed and so many items; up to 800 items it keeps the limits of
+/// the language. The same seed and size give the same text. The only refusal is want of memory.
 pub fn generate(alloc: Global, seed: u64, size: u32) -> Result<String, NoMemory>
     ensures { IfOk result (λ text. string_bytes text ≡ generated seed size) }
 {

@@ -36,7 +36,8 @@ value += v
 next <=> rest
 ";
 
-// The values are 31 * 7 + 17 * i, mod 100, for i from 1 on: 34, 51 and 68, of which 68 is a multiple of 4.
+// The values are 31 * 7 + 17 * i, mod 100, for i from 1 on: 34, 51 and 68, of which 68 is a
+// multiple of 4.
 #[test]
 fn three_items_of_seed_seven(rt: HostRuntime) -> Result<(), NoMemory> {
     let text = generate(rt.alloc(), 7, 3)?;

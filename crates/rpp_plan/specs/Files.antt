@@ -87,7 +87,8 @@ UnreadCause cause NoMemory = ⊤
 UnreadCause cause (Unread text) = cause
 
 -- a call that reads these files and changes nothing
-pub record OnlyReads {T : Type 0} (old new : Option Texts) (before now : ℕ) (files : List Needed) (result : Result T NoPlan) : Type 0 where
+pub record OnlyReads {T : Type 0} (old new : Option Texts) (before now : ℕ) (files : List Needed)
+    (result : Result T NoPlan) : Type 0 where
   pub kept : new ≡ old
   pub later : before ≤ now
   pub cause : IfErr result (UnreadCause (Unreadable old files (Rose before now)))

@@ -12,7 +12,8 @@ use rpp_tree::MOST_BYTES;
 use rpp_words::NoMemory;
 use std::alloc::{AllocError, Global};
 
-/// The file of the state that a run begins with, `-` for the loaded memory, and the file for the state where it ends.
+/// The file of the state that a run begins with, `-` for the loaded memory, and the file for the
+/// state where it ends.
 #[derive(Debug, Drop)]
 pub struct StateNames {
     pub state: String,
@@ -35,7 +36,8 @@ pub fn read_file<S: Shelf>(
     ensures text { IfOk result (λ bytes. IfSome (S.texts shelf.old)
         (λ texts. WithText texts name.now limit (λ text. bytes.items ≡ text))) }
     ensures within { IfOk result (λ bytes. length bytes.items ≤ limit) }
-    ensures reads { OnlyReads (S.texts shelf.old) (S.texts shelf.new) (S.faults shelf.old) (S.faults shelf.new)
+    ensures reads { OnlyReads (S.texts shelf.old) (S.texts shelf.new) (S.faults shelf.old)
+        (S.faults shelf.new)
         (record { name = name.now; limit = limit } ∷ []) result }
 {
     match shelf.read(name, limit) {
@@ -69,8 +71,10 @@ pub fn read_both<S: Shelf>(
         × (both.second.items ≡ other))))) }
     ensures within { IfOk result (λ both. length both.first.items ≤ most) }
     ensures within_second { IfOk result (λ both. length both.second.items ≤ most_second) }
-    ensures reads { OnlyReads (S.texts shelf.old) (S.texts shelf.new) (S.faults shelf.old) (S.faults shelf.new)
-        (record { name = first.now; limit = most } ∷ record { name = second.now; limit = most_second } ∷ []) result }
+    ensures reads { OnlyReads (S.texts shelf.old) (S.texts shelf.new) (S.faults shelf.old)
+        (S.faults shelf.new)
+        (record { name = first.now; limit = most }
+        ∷ record { name = second.now; limit = most_second } ∷ []) result }
 {
     let first = read_file(alloc, shelf, first, most)?;
     let second = read_file(alloc, shelf, second, most_second)?;

@@ -14,15 +14,22 @@ never tally = false
 
 -- the forward steps, and the backward ones
 abbrev pub steps_rule : List ℕ → StepAt → List ℕ
-steps_rule (forward ∷ back ∷ rest) step = if step.back then forward ∷ risen back ∷ [] else risen forward ∷ back ∷ []
+steps_rule (forward ∷ back ∷ rest) step =
+    if step.back then forward ∷ risen back ∷ [] else risen forward ∷ back ∷ []
 steps_rule tally step = tally
 
 abbrev pub steps_line : List ℕ → List ℕ
-steps_line (forward ∷ back ∷ rest) = codes "forward " ++ (decimal forward ++ (codes " back " ++ decimal back))
+steps_line (forward ∷ back ∷ rest) =
+    codes "forward " ++ (decimal forward ++ (codes " back " ++ decimal back))
 steps_line tally = []
 
 abbrev pub step_tally : (forward back : ℕ) → Watch
-step_tally forward back = record { tally = forward ∷ back ∷ []; rule = steps_rule; is_end = never; shown = steps_line }
+step_tally forward back = record {
+  tally = forward ∷ back ∷ [];
+  rule = steps_rule;
+  is_end = never;
+  shown = steps_line;
+}
 
 -- the greatest place with one more
 abbrev pub deepened : ℕ → List ℕ → List ℕ
@@ -38,7 +45,12 @@ deepest_line [] = codes "deepest none"
 deepest_line (deepest ∷ rest) = codes "deepest " ++ decimal deepest
 
 abbrev pub deepest_place : List ℕ → Watch
-deepest_place places = record { tally = places; rule = deepest_rule; is_end = never; shown = deepest_line }
+deepest_place places = record {
+  tally = places;
+  rule = deepest_rule;
+  is_end = never;
+  shown = deepest_line;
+}
 
 -- the marks with a place marked, where the table has it
 abbrev pub marked : ℕ → List ℕ → List ℕ
@@ -65,7 +77,12 @@ coverage_line (limit ∷ steps ∷ marks) = codes "places " ++ decimal (sum mark
 coverage_line tally = []
 
 abbrev pub coverage : (limit steps : ℕ) (marks : List ℕ) → Watch
-coverage limit steps marks = record { tally = limit ∷ steps ∷ marks; rule = coverage_rule; is_end = coverage_end; shown = coverage_line }
+coverage limit steps marks = record {
+  tally = limit ∷ steps ∷ marks;
+  rule = coverage_rule;
+  is_end = coverage_end;
+  shown = coverage_line;
+}
 
 -- no step was told, and none of the places of the table is marked
 pub record CoversNothing (limit : ℕ) (w : Watch) : Type 0 where

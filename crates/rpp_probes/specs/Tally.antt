@@ -3,7 +3,8 @@ use Rattle.std.specs.Prelude.{◌≡◌, ◌≤◌, ℕ, Bool, false, not, ◌||
 use Rattle.std.specs.List.{flat_map, All}
 use Rattle.rpp_probes.specs.declared.probe.StepAt.{StepAt}
 
--- a tally, and what never changes: the rule from a tally and a step to the next tally, the end test of a tally, and its line
+-- a tally, and what never changes: the rule from a tally and a step to the next tally, the end test
+-- of a tally, and its line
 pub record Watch : Type 0 where
   pub tally : List ℕ
   pub rule : List ℕ → StepAt → List ℕ
@@ -22,7 +23,8 @@ line_of w = w.shown w.tally
 abbrev pub told : StepAt → Watch → Watch
 told step w = record w { tally = w.rule w.tally step }
 
--- once the steps of a run are told: the fold of the rule over them, up to and with the first step after which the end test holds
+-- once the steps of a run are told: the fold of the rule over them, up to and with the first step
+-- after which the end test holds
 abbrev pub told_all : List StepAt → Watch → Watch
 told_all [] w = w
 told_all (step ∷ steps) w = if has_ended (told step w) then told step w else told_all steps (told step w)
@@ -61,8 +63,8 @@ abbrev pub lines_after : List StepAt → List Watch → List (List ℕ)
 lines_after [] ws = []
 lines_after (step ∷ steps) ws = lines_at step ws ++ lines_after steps (going step ws)
 
--- No memory was found for the line of a probe that ended with a step: those in front of it were told the step, and the lines
--- of those that ended are kept; those behind it were not told.
+-- No memory was found for the line of a probe that ended with a step: those in front of it were
+-- told the step, and the lines of those that ended are kept; those behind it were not told.
 pub record IsCutShort (step : StepAt) (old new : List Watch) (before after : List (List ℕ)) : Type 0 where
   pub front : List Watch
   pub ended : Watch

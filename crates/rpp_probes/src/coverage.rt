@@ -11,8 +11,8 @@ use std::alloc::{AllocError, Global};
 /// How many places the table has.
 pub const MOST_PLACES: u32 = 4_194_304;
 
-/// Marks the places below 4,194,304, and ends with the step with which it was told as many as its limit. Where the limit is 0,
-/// it never ends.
+/// Marks the places below 4,194,304, and ends with the step with which it was told as many as its
+/// limit. Where the limit is 0, it never ends.
 #[derive(Drop)]
 pub struct Coverage {
     limit: u64,

@@ -15,19 +15,21 @@ pub struct StepAt {
 
 /// Watches a run, step by step.
 pub trait Probe: Drop {
-    /// Its tally, which is a list of numbers, and what no call changes of it: the rule from a tally and a step to the next
-    /// tally, the end test of a tally, and the line of a tally. What the rule needs of the probe stands in the tally.
+    /// Its tally, which is a list of numbers, and what no call changes of it: the rule from a tally
+    /// and a step to the next tally, the end test of a tally, and the line of a tally. What the
+    /// rule needs of the probe stands in the tally.
     ghost watch: { Self → Watch };
 
-    /// Applies the rule for one step at a place, backward or not, and answers whether the probe goes on: false exactly where
-    /// the end test holds of the new tally.
+    /// Applies the rule for one step at a place, backward or not, and answers whether the probe
+    /// goes on: false exactly where the end test holds of the new tally.
     fn told(&mut self, pc: u32, back: bool) -> bool
         ensures told { watch self.new ≡ told (record { place = pc; back = back }) (watch self.old) }
         ensures goes_on { result ≡ not (has_ended (watch self.new)) };
 
     /// Appends the line of the tally, with no line feed. After want of memory the text is as before.
     fn line(&self, out: &mut String) -> Result<(), NoMemory>
-        ensures ok { OnOk result (string_bytes out.new ≡ string_bytes out.old ++ line_of (watch self.now)) }
+        ensures ok { OnOk result (string_bytes out.new
+            ≡ string_bytes out.old ++ line_of (watch self.now)) }
         ensures err { OnErr result (string_bytes out.new ≡ string_bytes out.old) };
 
     /// How many steps surely do not end it, whatever they are. A probe of which nothing is known says 0.

@@ -17,7 +17,8 @@ fn tell(probe: &mut Box<dyn Probe>, step: StepAt) -> bool
 
 // Appends the line of a probe.
 fn add_line(probe: &Box<dyn Probe>, out: &mut String) -> Result<(), NoMemory>
-    ensures ok { OnOk result (string_bytes out.new ≡ string_bytes out.old ++ line_shown (watch probe.now)) }
+    ensures ok { OnOk result (string_bytes out.new
+        ≡ string_bytes out.old ++ line_shown (watch probe.now)) }
     ensures err { OnErr result (string_bytes out.new ≡ string_bytes out.old) }
 {
     probe.line(out)
@@ -54,7 +55,8 @@ fn drop_at(
     at: usize,
 ) -> Result<(), NoMemory>
     requires { at < vec_len probes.old }
-    ensures dropped { IfOk result (λ _. DropsAt at (map watch probes.old.items) (map watch probes.new.items)
+    ensures dropped { IfOk result (λ _.
+        DropsAt at (map watch probes.old.items) (map watch probes.new.items)
         (map string_bytes lines.old.items) (map string_bytes lines.new.items)) }
     ensures count { OnOk result (vec_len probes.new + 1 ≡ vec_len probes.old) }
     ensures kept { OnErr result (map watch probes.new.items ≡ map watch probes.old.items) }
@@ -66,7 +68,8 @@ fn drop_at(
     Ok(())
 }
 
-// Tells each probe of a list a step, in the order of the list. It stands in the caller's loop, since it is told each step.
+// Tells each probe of a list a step, in the order of the list. It stands in the caller's loop,
+// since it is told each step.
 #[inline(always)]
 fn tell_all(
     alloc: Global,
@@ -77,7 +80,8 @@ fn tell_all(
     ensures told { OnOk result (map watch probes.new.items ≡ going step (map watch probes.old.items)) }
     ensures lines { OnOk result (map string_bytes lines.new.items ≡
         map string_bytes lines.old.items ++ lines_at step (map watch probes.old.items)) }
-    ensures cut_short { IfErr result (λ _. IsCutShort step (map watch probes.old.items) (map watch probes.new.items)
+    ensures cut_short { IfErr result
+        (λ _. IsCutShort step (map watch probes.old.items) (map watch probes.new.items)
         (map string_bytes lines.old.items) (map string_bytes lines.new.items)) }
 {
     let mut at = 0;
@@ -132,7 +136,8 @@ fn tell_each_of(probes: &mut [Box<dyn Probe>], steps: &[StepAt])
 
 // Appends the lines of the probes of a list, in its order, each with a line feed.
 fn add_lines(probes: &[Box<dyn Probe>], out: &mut String) -> Result<(), NoMemory>
-    ensures { OnOk result (string_bytes out.new ≡ string_bytes out.old ++ lines_shown (map line_shown (map watch probes.now))) }
+    ensures { OnOk result (string_bytes out.new
+        ≡ string_bytes out.old ++ lines_shown (map line_shown (map watch probes.now))) }
 {
     for probe in probes {
         add_line(probe, out)?;
@@ -141,13 +146,15 @@ fn add_lines(probes: &[Box<dyn Probe>], out: &mut String) -> Result<(), NoMemory
     Ok(())
 }
 
-/// Probes that watch a run together, in an order. A layer that tells them takes any such list, and never sees what it holds.
+/// Probes that watch a run together, in an order. A layer that tells them takes any such list, and
+/// never sees what it holds.
 pub trait Probes {
     /// The probes, in their order.
     ghost watches: { Self → List Watch };
 
-    /// Tells each probe a step. The line of each that ends with it is added to `lines`, and the probe is dropped; the others keep
-    /// their order. Where no memory is found for a line, its probe stays, and those behind it are not told.
+    /// Tells each probe a step. The line of each that ends with it is added to `lines`, and the
+    /// probe is dropped; the others keep their order. Where no memory is found for a line, its
+    /// probe stays, and those behind it are not told.
     fn tell(&mut self, alloc: Global, lines: &mut Vec<String>, step: StepAt) -> Result<(), NoMemory>
         ensures told { OnOk result (watches self.new ≡ going step (watches self.old)) }
         ensures lines { OnOk result (map string_bytes lines.new.items ≡
@@ -166,7 +173,8 @@ pub trait Probes {
 
     /// Appends the lines of the probes, each with a line feed.
     fn show(&self, out: &mut String) -> Result<(), NoMemory>
-        ensures { OnOk result (string_bytes out.new ≡ string_bytes out.old ++ lines_shown (map line_shown (watches self.now))) };
+        ensures { OnOk result (string_bytes out.new
+            ≡ string_bytes out.old ++ lines_shown (map line_shown (watches self.now))) };
 }
 
 impl Probes for Vec<Box<dyn Probe>> {

@@ -89,7 +89,8 @@ fn steps_are_told_together(rt: HostRuntime) -> Result<(), Fail> {
     Ok(())
 }
 
-// A coverage that is past its limit is sure of any steps, and one told together counts as one told step by step.
+// A coverage that is past its limit is sure of any steps, and one told together counts as one told
+// step by step.
 #[test]
 fn coverage_is_told_together(rt: HostRuntime) -> Result<(), Fail> {
     let alloc = rt.alloc();
@@ -115,7 +116,8 @@ fn coverage_is_told_together(rt: HostRuntime) -> Result<(), Fail> {
     Ok(())
 }
 
-// A probe of a caller's own, which says nothing of how long it goes on: it keeps the place of the last step.
+// A probe of a caller's own, which says nothing of how long it goes on: it keeps the place of the
+// last step.
 #[derive(Drop)]
 struct LastPlace {
     place: u32,

@@ -53,7 +53,8 @@ fn receiver_count(receiver: &Option<Place>) -> u64
 }
 
 /// How many expression nodes stand in a statement itself, and not in its inner statements: one for each
-/// literal, variable, element and operator, with those of indexes; an element receiver counts its index once.
+/// literal, variable, element and operator, with those of indexes; an element receiver counts its
+/// index once.
 pub fn nodes(s: &Stmt) -> u64
     requires { statement_nodes (statement_of s.now) < 2 ^ 64 }
     ensures { result ≡ statement_nodes (statement_of s.now) }

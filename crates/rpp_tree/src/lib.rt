@@ -1,5 +1,6 @@
 // The syntax tree of a program, with the names of the language and the limits of its sources.
-// The layers above build trees, copy and compare them, and state their rules over the plain trees of `specs/`.
+// The layers above build trees, copy and compare them, and state their rules over the plain trees
+// of `specs/`.
 #![tactic(auto)]
 
 mod alike_code;
@@ -24,6 +25,3 @@ pub use text::Text;
 pub use tree::{
     BinOp, Block, Class, Expr, Ident, Made, Method, Place, Program, Stmt, UpdateOp, Var, VarType,
 };
-
-#[cfg(test)]
-mod tests;

@@ -12,7 +12,8 @@ use Rattle.class_table.specs.Program.{check_method, setting_in}
 use Rattle.class_table.specs.Inheritance.{is_or_inherits, kind_of_var, HasFront}
 use Rattle.sound_execution.specs.Plain.{IsPlain}
 
--- the method that a call finds: it is checked in a class that the object's class is or inherits from, and has the types of parameters that the call was checked with
+-- the method that a call finds: it is checked in a class that the object's class is or inherits
+-- from, and has the types of parameters that the call was checked with
 pub record IsFound (program : Source) (own : ℕ) (method : Procedure) (params : List Var) : Type 0 where
   pub class : ℕ
   pub inside : class < length program.classes

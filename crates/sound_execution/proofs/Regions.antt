@@ -1,5 +1,5 @@
 -- The blocks of live objects and arrays do not meet and lie within the heap.
-use Rattle.std.proofs.Common.{◌≡◌, ◌≢◌, ◌∙◌, sym, ap, subst, refl, ℕ, zero, suc, ◌+◌, ◌-◌, ◌*◌, ◌^◌, ◌<◌, ◌≤◌, ◌⊎◌, inl, inr, Bool, true, false, List, [], ◌∷◌, ◌++◌, map, length, Option, Some, None, arith, length-append}
+use Rattle.std.proofs.Common.{◌≡◌, ◌≢◌, ◌∙◌, sym, ap, subst, refl, ℕ, ◌+◌, ◌-◌, ◌^◌, ◌<◌, ◌≤◌, ◌⊎◌, inl, inr, Bool, true, false, List, [], ◌∷◌, ◌++◌, map, length, Some, arith}
 use Rattle.std.proofs.lemmas.Bool.{eqb-true, ltb-true, ltb-false}
 use Rattle.std.specs.Prelude.{nat_eq, nat_lt, is_some, if◌then◌else◌}
 use Rattle.std.specs.Option.{option_map}
@@ -97,6 +97,11 @@ abbrev pub EntriesAre : Store → List (ℕ × ℕ) → List (ℕ × ℕ) → Ty
 EntriesAre store whole [] = Unit {0}
 EntriesAre store whole ((n, b) ∷ blocks) = (is_live store n ≡ true) × (block_of whole n ≡ b) × EntriesAre store whole blocks
 
+-- no entry's block is this
+abbrev pub NotAt : ℕ → List (ℕ × ℕ) → Type 0
+NotAt block [] = Unit {0}
+NotAt block ((m, b) ∷ rest) = (block ≢ b) × NotAt block rest
+
 -- an entry of a name is in a list
 abbrev pub has_entry : ℕ → List (ℕ × ℕ) → Bool
 has_entry n [] = false
@@ -123,6 +128,15 @@ names_of_both bound ((m, o) ∷ store) ((n, b) ∷ blocks) d e =
 
 pub blocks_descend : (setting : Setting) (store : Store) (log : Rattle.buddy_book.specs.Place.Log) (bound : ℕ) (p : IsPlaced setting store log) → Descending bound store → BlocksDescend bound p.at.blocks
 blocks_descend setting store log bound p d = names_of_both bound store p.at.blocks d p.names
+
+-- the block of a live name is that of no entry of the names below it
+pub block_apart : (setting : Setting) (store : Store) (log : Rattle.buddy_book.specs.Place.Log) (p : IsPlaced setting store log) (n bound : ℕ) (rest : List (ℕ × ℕ)) → is_live store n ≡ true → main_name < n → bound ≤ n → BlocksDescend bound rest → EntriesAre store p.at.blocks rest
+    → NotAt (block_of p.at.blocks n) rest
+block_apart setting store log p n bound [] live no_main l d e = tt
+block_apart setting store log p n bound ((m, b) ∷ rest) live no_main l d e =
+    let low = d.0 in
+    let high = d.1 in
+    ((λ q. p.apart n m live e.0 (λ z. omega arith) (λ z. omega arith) (λ z. omega arith) (q ∙ sym e.1)), block_apart setting store log p n m rest live no_main (omega arith) d.2 e.2)
 
 not_below : (bound : ℕ) (blocks : List (ℕ × ℕ)) (n : ℕ) → BlocksDescend bound blocks → bound ≤ n → has_entry n blocks ≡ false
 not_below bound [] n d h = refl

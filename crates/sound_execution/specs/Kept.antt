@@ -32,7 +32,8 @@ StartIsSound =
     → Sound (record { program = program; limits = limits }) main_alone [] (main_of program).class
     (starting program input)
 
--- what is done by a checked block of an accepted program keeps a sound state sound, and what is held besides
+-- what is done by a checked block of an accepted program keeps a sound state sound, and what is
+-- held besides
 abbrev pub ExecutionKeeps : Type 0
 ExecutionKeeps =
     (program : Source) (limits : Limits) (fuel : ℕ) (extra : ℕ → ℕ) (locals shape : Locals) (class : ℕ)

@@ -1,4 +1,5 @@
--- What a tree of Rust shows besides acceptance: the literals are words, and the names in calls on elements are not empty.
+-- What a tree of Rust shows besides acceptance: the literals are words, and the names in calls on
+-- elements are not empty.
 use Rattle.std.specs.Prelude.{◌≡◌, ◌^◌, ◌<◌, false, List, [], ◌∷◌, Option, Some, None}
 use Rattle.std.specs.List.{All}
 use Rattle.std.specs.Str.{bytes_eq}

@@ -93,8 +93,8 @@ Descending bound ((name, object) ∷ store) = (name < bound) × Descending name 
 abbrev pub entry_name : {A : Type 0} → ℕ × A → ℕ
 entry_name entry = entry.0
 
--- where the blocks stand: the book is in order, and each live object or array but the main object has a block of its own,
--- of the order that it needs
+-- where the blocks stand: the book is in order, and each live object or array but the main object
+-- has a block of its own, of the order that it needs
 pub record IsPlaced (setting : Setting) (store : Store) (log : Log) : Type 0 where
   pub at : Placing
   pub placed : place setting.limits.heap log ≡ Some at
@@ -102,13 +102,15 @@ pub record IsPlaced (setting : Setting) (store : Store) (log : Log) : Type 0 whe
   pub taken : TakenBlocks
   pub kept : IsKept (record { h = setting.limits.heap; base = 0; free = at.book; taken = taken })
   pub orders : (name : ℕ) (head : Head) → head_named store name ≡ Some head → name ≢ main_name
-      → order_in taken (block_of at.blocks name) ≡ Some (order_of_cells (length (cell_kinds setting.program head)))
+      → order_in taken (block_of at.blocks name)
+      ≡ Some (order_of_cells (length (cell_kinds setting.program head)))
   pub apart : (name other : ℕ) → is_live store name ≡ true → is_live store other ≡ true
       → name ≢ main_name → other ≢ main_name → name ≢ other
       → block_of at.blocks name ≢ block_of at.blocks other
 
 -- everything of a sound state but its counts: so are the states between the writes of one statement too
-pub record Typed (setting : Setting) (extra : ℕ → ℕ) (shape : Locals) (class : ℕ) (st : State) : Type 0 where
+pub record Typed (setting : Setting) (extra : ℕ → ℕ) (shape : Locals) (class : ℕ)
+    (st : State) : Type 0 where
   pub names : map name_of st.frame ≡ map local_name shape
   pub variables : AllFit setting.program st.store (map local_type shape) (map value_of st.frame)
   pub objects : (name : ℕ) (object : Object) → object_named st.store name ≡ Some object
@@ -121,14 +123,16 @@ pub record Typed (setting : Setting) (extra : ℕ → ℕ) (shape : Locals) (cla
   pub placed : IsPlaced setting st.store st.log
 
 -- What holds of a state inside a method of a class, with variables of these types, the innermost first.
--- `extra` tells how often a name is held besides: by the frames of the calls below, and as a receiver that moved into an
--- open call.
-pub record Sound (setting : Setting) (extra : ℕ → ℕ) (shape : Locals) (class : ℕ) (st : State) : Type 0 where
+-- `extra` tells how often a name is held besides: by the frames of the calls below, and as a
+-- receiver that moved into an open call.
+pub record Sound (setting : Setting) (extra : ℕ → ℕ) (shape : Locals) (class : ℕ)
+    (st : State) : Type 0 where
   pub names : map name_of st.frame ≡ map local_name shape
   pub variables : AllFit setting.program st.store (map local_type shape) (map value_of st.frame)
   pub objects : (name : ℕ) (object : Object) → object_named st.store name ≡ Some object
       → AllFit setting.program st.store (cell_kinds setting.program object.head) object.cells
-  pub counts : (name count : ℕ) → count_named st.store name ≡ Some count → count ≡ held name st + extra name
+  pub counts : (name count : ℕ)
+      → count_named st.store name ≡ Some count → count ≡ held name st + extra name
   pub lives : (name : ℕ) → 0 < extra name → is_live st.store name ≡ true
   pub self_is : named_fits setting.program (kind.Class class) (head_named st.store st.self) ≡ true
   pub self_held : 0 < extra st.self
@@ -137,7 +141,8 @@ pub record Sound (setting : Setting) (extra : ℕ → ℕ) (shape : Locals) (cla
   pub fresh : Descending (2 + count_taken st.log) st.store
   pub placed : IsPlaced setting st.store st.log
 
--- what stays between two states: the object, the depth, and what is held besides, which lives on as it was, at its block
+-- what stays between two states: the object, the depth, and what is held besides, which lives on as
+-- it was, at its block
 pub record Stays (setting : Setting) (extra : ℕ → ℕ) (st end : State) : Type 0 where
   pub self_same : end.self ≡ st.self
   pub depth_same : end.depth ≡ st.depth
@@ -147,7 +152,8 @@ pub record Stays (setting : Setting) (extra : ℕ → ℕ) (st end : State) : Ty
       ≡ block_in (place setting.limits.heap st.log) name
 
 -- a run leads to a state that is sound too
-pub record Keeps (setting : Setting) (extra : ℕ → ℕ) (shape : Locals) (class : ℕ) (st end : State) : Type 0 where
+pub record Keeps (setting : Setting) (extra : ℕ → ℕ) (shape : Locals) (class : ℕ)
+    (st end : State) : Type 0 where
   pub sound : Sound setting extra shape class end
   pub stays : Stays setting extra st end
 

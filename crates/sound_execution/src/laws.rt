@@ -12,7 +12,8 @@ pub fn start_is_sound()
     ensures { StartIsSound }
 {}
 
-/// What is done by a checked block of an accepted program, whatever its statements, keeps a sound state sound.
+/// What is done by a checked block of an accepted program, whatever its statements, keeps a sound
+/// state sound.
 pub fn execution_keeps()
     ensures { ExecutionKeeps }
 {}
@@ -22,7 +23,8 @@ pub fn end_is_sound()
     ensures { EndIsSound }
 {}
 
-/// At the end of every run of an accepted program the count of an object or array is the number of cells that hold its name.
+/// At the end of every run of an accepted program the count of an object or array is the number of
+/// cells that hold its name.
 pub fn counts_are_held()
     ensures { CountsAreReferences }
 {}

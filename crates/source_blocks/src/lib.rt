@@ -1,7 +1,7 @@
 //! The blocks of the source, the statements that hold blocks, and calls, in both directions. A layer
 //! above may use that a block ends in exactly what the meaning says with so much fuel: the state and
-//! the fuel that is left, the fault, or that no fuel is left; and that a watch sees exactly the points of the meaning, of which it
-//! can end the run at one.
+//! the fuel that is left, the fault, or that no fuel is left; and that a watch sees exactly the
+//! points of the meaning, of which it can end the run at one.
 #![tactic(auto)]
 
 mod blocks;

@@ -188,7 +188,8 @@ pub fn no_receiver() -> &'static [Cell]
     &[]
 }
 
-/// How many calls may be open, so that the machine's own stack is deep enough: one more counts as want of memory.
+/// How many calls may be open, so that the machine's own stack is deep enough: one more counts as
+/// want of memory.
 pub const MOST_CALLS: u32 = 100;
 
 /// Answers where the machine's own stack has room for one more open call.

@@ -20,13 +20,15 @@ use store_table::{Heap, Value};
 pub enum Watching {
     /// None.
     Nothing,
-    /// The first at the place, if one is given, that is behind `skip` points, or else the one behind `left`.
+    /// The first at the place, if one is given, that is behind `skip` points, or else the one
+    /// behind `left`.
     First {
         place: Option<i64>,
         skip: u64,
         left: u64,
     },
-    /// The one behind `left` points; meanwhile `latest` is how many were left at the last one at a place behind `skip` points.
+    /// The one behind `left` points; meanwhile `latest` is how many were left at the last one at a
+    /// place behind `skip` points.
     Latest {
         place: i64,
         skip: u64,
@@ -42,8 +44,8 @@ pub struct Variable {
     pub value: Value,
 }
 
-/// A point that was met: the statement's place, how many parameters the method has, its object, the number of open calls,
-/// and the method's variables, the innermost first.
+/// A point that was met: the statement's place, how many parameters the method has, its object, the
+/// number of open calls, and the method's variables, the innermost first.
 #[derive(Drop)]
 pub struct Arrival {
     pub place: u32,
@@ -53,7 +55,8 @@ pub struct Arrival {
     pub variables: Vec<Variable>,
 }
 
-/// How many blocks may be open at once, so that the machine's own stack is deep enough: one more counts as want of memory.
+/// How many blocks may be open at once, so that the machine's own stack is deep enough: one more
+/// counts as want of memory.
 pub const MOST_BLOCKS: u32 = 600;
 
 /// A watch along the points of a run, which ends the run at the point that it wants.
@@ -84,7 +87,8 @@ impl Watch {
 pub fn open_block(watch: &mut Watch) -> Result<(), Stop>
     ensures watching { watch.new.watching ≡ watch.old.watching }
     ensures arrival { watch.new.arrival ≡ watch.old.arrival }
-    ensures opened { OnOk result ((watch.old.blocks < MOST_BLOCKS) × (watch.new.blocks ≡ watch.old.blocks + 1)) }
+    ensures opened { OnOk result ((watch.old.blocks < MOST_BLOCKS)
+        × (watch.new.blocks ≡ watch.old.blocks + 1)) }
     ensures full { OnErr result (MOST_BLOCKS ≤ watch.old.blocks) }
     ensures memory { IfErr result (λ why. why ≡ Stop.NoMemory) }
 {
@@ -223,8 +227,10 @@ fn variables_in(alloc: Global, scope: &Scope, values: &[Value]) -> Result<Vec<Va
 
 // Where a run stands.
 fn stand(setting: &Setting, scope: &Scope, values: &[Value], at: u32) -> Result<Arrival, NoMemory>
-    ensures { IfOk result (λ arrival. (arrival.place ≡ at) × (arrival.params ≡ params_of scope.now) × (arrival.object ≡ setting.now.object)
-        × (arrival.depth ≡ setting.now.depth) × (map binding_of arrival.variables.items ≡ frame_of scope.now values.now)) }
+    ensures { IfOk result (λ arrival. (arrival.place ≡ at) × (arrival.params ≡ params_of scope.now)
+        × (arrival.object ≡ setting.now.object)
+        × (arrival.depth ≡ setting.now.depth)
+        × (map binding_of arrival.variables.items ≡ frame_of scope.now values.now)) }
 {
     let variables = variables_in(setting.alloc, scope, values)?;
     Ok(Arrival {

@@ -36,7 +36,8 @@ cells_named program (OfClass class) cells = fields_named (codes "  ") (class_fie
 cells_named program (OfInts length) cells = elements_named 0 cells
 cells_named program (OfObjects class length) cells = elements_named 0 cells
 
--- the line `#K HEAD count C` of an object or array, and those of its cells; a name that is not in the store has none
+-- the line `#K HEAD count C` of an object or array, and those of its cells; a name that is not in
+-- the store has none
 abbrev pub object_lines : Source → ℕ → Option Object → Text
 object_lines program name None = []
 object_lines program name (Some object) =
@@ -53,7 +54,8 @@ objects_from program store from (suc count) =
 
 -- a variable; the one that a call on an element means has no name, and no line
 abbrev pub variable_line : Binding → Text
-variable_line binding = if nat_lt 0 (length binding.name) then name_line binding.name binding.value else []
+variable_line binding = if nat_lt 0 (length binding.name) then name_line binding.name binding.value
+    else []
 
 -- parameters in their order
 abbrev pub params_named : List Binding → Text

@@ -31,7 +31,8 @@ line_at j (AtPoint point) ending =
 line_at j (AtEnd end) ending = Some (codes "at " ++ decimal j ++ codes " end" ++ ending_shown ending)
 line_at j Unknown ending = None
 
--- the fields of the object on which the point's method runs, and the method's variables; at the end the main object's fields
+-- the fields of the object on which the point's method runs, and the method's variables; at the end
+-- the main object's fields
 abbrev pub state_named : Source → ℕ → State → Text
 state_named program params st =
     fields_named [] (class_fields program (own_class st)) (object_at st.store st.self).cells

@@ -25,7 +25,8 @@ abbrev pub run_of : Standing → Trail
 run_of d = trail (source_of d.program) d.limits d.input MOST_COST
 
 -- commands lead from one standing to another, and print this
-pub record Leads (before : Standing) (commands : List Command) (after : Standing) (text : Text) : Type 0 where
+pub record Leads (before : Standing) (commands : List Command) (after : Standing)
+    (text : Text) : Type 0 where
   pub told : told (source_of before.program) (run_of before) commands before.position
       ≡ Some (record { position = after.position; text = text })
   pub same : after ≡ record before { position = after.position }

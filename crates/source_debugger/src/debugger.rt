@@ -16,7 +16,8 @@ use std::alloc::Global;
 use std::marker::Model;
 use two_way_debugger::Command;
 
-/// A debugger of a program's run on an input. It keeps a position, and no state: each command runs the program from its start.
+/// A debugger of a program's run on an input. It keeps a position, and no state: each command runs
+/// the program from its start.
 #[derive(Drop)]
 pub struct SourceDebugger {
     checked: Checked,
@@ -38,9 +39,15 @@ impl Model for SourceDebugger {
 
     ghost coded = { Prim.hlevel (codes, stmt.the_row.coded, expr.the_row.coded) };
 
-    ghost view = { λ d. record { program = d.checked; limits = d.limits; input = d.input.words.items; position = d.position } };
+    ghost view = { λ d. record {
+      program = d.checked;
+      limits = d.limits;
+      input = d.input.words.items;
+      position = d.position;
+    } };
 
-    ghost invariant = { λ d. IsValidRun (source_of d.checked) d.limits d.input.words.items × (d.position ≤ LAST_POSITION) };
+    ghost invariant = { λ d. IsValidRun (source_of d.checked) d.limits d.input.words.items
+        × (d.position ≤ LAST_POSITION) };
 }
 
 // What a command told: where it leads, and its text.
@@ -107,7 +114,8 @@ fn copy_input(alloc: Global, input: &Input) -> Result<Input, NoMemory>
 }
 
 impl SourceDebugger {
-    /// A debugger of the run of a program on an input, at position 0. The only error is that memory ran out.
+    /// A debugger of the run of a program on an input, at position 0. The only error is that memory
+    /// ran out.
     pub fn new(
         alloc: Global,
         checked: Checked,
@@ -131,7 +139,8 @@ impl SourceDebugger {
         })
     }
 
-    /// Carries out a command, and adds what it prints to a text. After want of memory the text and the position are as before.
+    /// Carries out a command, and adds what it prints to a text. After want of memory the text and
+    /// the position are as before.
     pub fn command(
         &mut self,
         alloc: Global,
@@ -156,7 +165,8 @@ impl SourceDebugger {
         Ok(())
     }
 
-    /// Carries out commands, one after the other, and adds what they print to a text. After want of memory the text is as before.
+    /// Carries out commands, one after the other, and adds what they print to a text. After want of
+    /// memory the text is as before.
     pub fn follow(
         &mut self,
         alloc: Global,

@@ -14,7 +14,8 @@ use source_steps::{Scope, Setting, Stop};
 use std::alloc::Global;
 use store_table::Heap;
 
-/// The most that a run costs that is looked at: longer ones would take centuries, and count as want of memory.
+/// The most that a run costs that is looked at: longer ones would take centuries, and count as want
+/// of memory.
 pub const MOST_COST: u64 = u64::MAX;
 
 /// A program's run on an input.
@@ -47,8 +48,8 @@ pub(crate) enum Ended {
     },
 }
 
-/// Runs a program from its start to the point that is wanted. The only error is that memory ran out, or that the run costs more
-/// than 2 ^ 64.
+/// Runs a program from its start to the point that is wanted. The only error is that memory ran
+/// out, or that the run costs more than 2 ^ 64.
 pub(crate) fn run_to(run: &Run, watching: Watching) -> Result<Ended, NoMemory>
     requires { IsValidRun (source_of run.now.checked.now) run.now.limits run.now.input.now.words.items }
     ensures { IfOk result (λ ended. IsEnded ended watching

@@ -38,9 +38,10 @@ StaysSo outcome.More program limits input fuel = Unit {0}
 StaysSo over program limits input fuel =
     (more : ℕ) → fuel ≤ more → IsOutcome over (source program limits input more)
 
--- The inverse of `main`'s body leads from the final state, whose store is the answered one, back to a state that agrees
--- with the start.
-pub record ComesBack (program : Source) (limits : Limits) (input : List FieldWord) (fuel : ℕ) (store : Store) (cost : ℕ) : Type 0 where
+-- The inverse of `main`'s body leads from the final state, whose store is the answered one, back to
+-- a state that agrees with the start.
+pub record ComesBack (program : Source) (limits : Limits) (input : List FieldWord) (fuel : ℕ)
+    (store : Store) (cost : ℕ) : Type 0 where
   pub end : EndsWith (source program limits input fuel) store cost
   pub leads : LeadsBack (record { program = program; limits = limits }) (main_body program)
       (starting program input) end.end cost

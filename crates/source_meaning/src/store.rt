@@ -43,7 +43,8 @@ impl Model for Store {
 
     ghost view = { λ t. t.heap.store };
 
-    ghost invariant = { λ t. AreNumbers t.heap t.objects.items × CountsReferences t.heap.store × (t.live ≡ live_count t.heap.store) };
+    ghost invariant = { λ t. AreNumbers t.heap t.objects.items × CountsReferences t.heap.store
+        × (t.live ≡ live_count t.heap.store) };
 }
 
 impl Store {
@@ -124,7 +125,8 @@ fn numbers(alloc: Global, values: &[Value]) -> Result<Vec<u32>, NoMemory>
     Ok(numbers)
 }
 
-// An object or array by its numbers; one with more references than a word can count takes too much memory.
+// An object or array by its numbers; one with more references than a word can count takes too much
+// memory.
 fn with_numbers(alloc: Global, object: &store_table::Object) -> Result<Object, NoMemory>
     ensures { IfOk result (λ shown. seen_object shown ≡ numbers_of (object_of object.now)) }
 {

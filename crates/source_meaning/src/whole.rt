@@ -40,7 +40,8 @@ fn set_input(cells: &mut Vec<Value>, words: &[FieldWord])
     }
 }
 
-/// The heap before a run: the main object alone, with the input's words. The only error is that memory ran out.
+/// The heap before a run: the main object alone, with the input's words. The only error is that
+/// memory ran out.
 pub fn start(
     alloc: Global,
     checked: &Checked,
@@ -48,7 +49,8 @@ pub fn start(
     input: &Input,
 ) -> Result<Heap, NoMemory>
     requires { IsLimits limits }
-    ensures { IfOk result (λ heap. IsStart (source_of checked.now) input.now.words.items limits.heap heap) }
+    ensures { IfOk result (λ heap.
+        IsStart (source_of checked.now) input.now.words.items limits.heap heap) }
 {
     let table = checked.table();
     let class = table.main().class;
@@ -173,7 +175,8 @@ pub fn interpret(
     ensures more { IfOk result (λ outcome. StaysSo outcome (source_of checked.now) limits
         input.now.words.items fuel) }
 
-    // Where it is done, the inverse of the body of `main` leads from the final state back to one that agrees with the start.
+    // Where it is done, the inverse of the body of `main` leads from the final state back to one
+    // that agrees with the start.
     ensures back { IfOk result (λ outcome. IsUndone outcome (source_of checked.now) limits
         input.now.words.items fuel) }
 {

@@ -18,7 +18,8 @@ pub record MoreFuelAdds : Type 0 where
       → exec setting n body st ≡ Done end cost
       → (points setting m params body st ≡ points setting n params body st)
       × (exec setting m body st ≡ Done end cost)
-  pub fault : (setting : Setting) (n m params : ℕ) (body : Statements) (st : State) (code cost : ℕ) → n ≤ m
+  pub fault : (setting : Setting) (n m params : ℕ) (body : Statements) (st : State) (code cost : ℕ)
+      → n ≤ m
       → exec setting n body st ≡ Fault code cost
       → (points setting m params body st ≡ points setting n params body st)
       × (exec setting m body st ≡ Fault code cost)

@@ -54,7 +54,8 @@ module _ (setting : Setting) where
   called_points list back method self receiver args st =
       let caller = moved_out (receiver ++ args) st in
       let frame = bound method.params (map (read st) args) in
-      list (length frame) (in_direction back method.body) (record { frame = frame; self = self; depth = 1 + st.depth; store = caller.store; log = caller.log })
+      list (length frame) (in_direction back method.body) (record
+      { frame = frame; self = self; depth = 1 + st.depth; store = caller.store; log = caller.log })
 
   -- the points of a block with a local variable
   abbrev pub local_points : Lister → ℕ → List ℕ → Expression → Statements → State → List Point

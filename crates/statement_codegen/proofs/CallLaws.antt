@@ -1,4 +1,5 @@
--- The code of calls that the rules of types pass, and of methods, wherever an image of the program is linked.
+-- The code of calls that the rules of types pass, and of methods, wherever an image of the program
+-- is linked.
 use Rattle.std.proofs.Common.{◌≡◌, ◌≢◌, ℕ, ◌^◌, ◌<◌, ◌≤◌, Bool, true, false, List, [], ◌∷◌, length, map, Some, None, refl, sym, ap, ◌∙◌, subst}
 use Rattle.std.proofs.lemmas.List.Elements.{All-head, All-tail}
 use Rattle.std.specs.Prelude.{Ok, nat_eq, ◌&&◌, Result, Err, IfOk}

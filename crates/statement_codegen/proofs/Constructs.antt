@@ -9,11 +9,11 @@ use Rattle.class_table.specs.Scope.{kind_of}
 use Rattle.class_table.specs.Table.{table_of, class_of}
 use Rattle.stmt_inverter.specs.Inverse.{inverse}
 use Rattle.stmt_inverter.proofs.Inverses.{inverse-joined}
+use Rattle.pisa_isa.specs.Machine.{Memory}
 use Rattle.paired_code.specs.declared.part.Symbol.{Symbol}
 use Rattle.paired_code.specs.Code.{Code}
 use Rattle.paired_code.specs.Does.{Told, told_then, Meets, in_order}
 use Rattle.paired_code.specs.Layout.{mirror_cells}
-use Rattle.paired_code.specs.Machine.{Memory}
 use Rattle.paired_code.specs.Pieces.{Will}
 use Rattle.paired_code.proofs.Does.{will_last}
 use Rattle.paired_code.proofs.Laws.{will_more}

@@ -1,4 +1,5 @@
--- The code of a call on an element that the rules of types pass, wherever an image of the program is linked.
+-- The code of a call on an element that the rules of types pass, wherever an image of the program
+-- is linked.
 use Rattle.std.proofs.Common.{◌≡◌, ℕ, suc, ◌+◌, ◌<◌, ◌≤◌, inr, Bool, List, [], ◌∷◌, ◌++◌, length, Option, Some, None, refl, sym, ap, ◌∙◌, subst, arith, append-nil}
 use Rattle.std.specs.Prelude.{Result, Ok, Err, IfOk, Box}
 use Rattle.std.specs.declared.alloc.Global.{Global}

@@ -1,5 +1,5 @@
--- What the rules of types say of a call on an element that they pass: they pass the exchange with a variable of the
--- element's class, whose name is empty, and the call on that variable.
+-- What the rules of types say of a call on an element that they pass: they pass the exchange with a
+-- variable of the element's class, whose name is empty, and the call on that variable.
 use Rattle.std.proofs.Common.{◌≡◌, ℕ, Bool, true, false, List, [], ◌∷◌, ◌++◌, length, Option, Some, None, refl, ap, ◌∙◌}
 use Rattle.std.specs.Prelude.{nat_eq, is_some, not, ◌||◌, if◌then◌else◌, Ok, Err}
 use Rattle.std.specs.Option.{unwrap_or}

@@ -1,5 +1,5 @@
--- What the rules of types say of a call that they pass: its class has the method, and its arguments are variables of the
--- types of the parameters, no two of one name.
+-- What the rules of types say of a call that they pass: its class has the method, and its arguments
+-- are variables of the types of the parameters, no two of one name.
 use Rattle.std.proofs.Common.{◌≡◌, ℕ, ◌<◌, Bool, true, List, [], ◌∷◌, length, map, Option, Some, None, refl, sym, ap, ◌∙◌, arith}
 use Rattle.std.proofs.lemmas.Bool.{eqb-true}
 use Rattle.std.specs.Prelude.{nat_eq, is_some, Ok}

@@ -1,5 +1,5 @@
--- The codes of updates, swaps, conditionals, loops and locals are those of their statements, where the rules of types pass
--- these and the limits let them through: the laws of the code ask for no more.
+-- The codes of updates, swaps, conditionals, loops and locals are those of their statements, where
+-- the rules of types pass these and the limits let them through: the laws of the code ask for no more.
 use Rattle.std.proofs.Common.{◌≡◌, ℕ, ◌+◌, ◌<◌, ◌≤◌, inl, inr, Bool, true, false, List, length, refl, sym, ap, ◌∙◌, subst, arith}
 use Rattle.std.specs.Prelude.{Ok, Option, Some, None, not, ◌&&◌, ◌||◌, if◌then◌else◌}
 use Rattle.std.specs.Option.{is_none}

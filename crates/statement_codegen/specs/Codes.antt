@@ -49,7 +49,8 @@ Passes v statement =
     check_statement (typing_in (source_of v.program) (scope_of v))
     (shape_of (source_of v.program) (scope_of v)) statement ≡ passed
 
--- a statement that the rules pass, whose literals are words, with few enough nodes, and locals beside what is visible
+-- a statement that the rules pass, whose literals are words, with few enough nodes, and locals
+-- beside what is visible
 pub record IsAllowed (v : Visible) (statement : Statement) : Type 0 where
   pub rules : Passes v statement
   pub has_words : StatementHasWords statement

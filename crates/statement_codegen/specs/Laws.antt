@@ -39,9 +39,10 @@ pub record FromLaw (known : Known) (entry exit : Expression) (p q all : List Sym
       → BlockLaw (world_of place) s first p → BlockLaw (world_of place) s again q
       → StmtLaw (world_of place) s (From at entry first again exit) all
 
--- A block with a local variable: its two values may be those of the variable. Where they are nil, so are the
--- blocks that `construct` and calls on elements mean.
-pub record LocalLaw (known : Known) (var : Var) (value last : Expression) (p all : List Symbol) : Type 0 where
+-- A block with a local variable: its two values may be those of the variable. Where they are nil,
+-- so are the blocks that `construct` and calls on elements mean.
+pub record LocalLaw (known : Known) (var : Var) (value last : Expression)
+    (p all : List Symbol) : Type 0 where
   pub law : (place : Place) → IsLaidOut place → (s : Scope) → known_of place.setting.program s ≡ known
       → (at : ℕ) (body : Statements) (end_var : Var) → end_var.name.text ≡ var.name.text
       → IsInit place.setting.program s var value → IsInit place.setting.program s var last
@@ -66,7 +67,8 @@ pub record SkipLaw (all : List Symbol) : Type 0 where
   pub law : (v : Visible) (at : ℕ) → IsStatementCode v (Skip at) all
 
 -- a call or uncall on the present object, or on the object of a variable, that the rules of types pass
-pub record CallLaw (v : Visible) (back : Bool) (receiver : Option Ident) (method : Ident) (args : List Ident) (all : List Symbol) : Type 0 where
+pub record CallLaw (v : Visible) (back : Bool) (receiver : Option Ident) (method : Ident)
+    (args : List Ident) (all : List Symbol) : Type 0 where
   pub law : (at : ℕ) → Passes v (Call at back (option_map Whole receiver) method args)
       → IsStatementCode v (Call at back (option_map Whole receiver) method args) all
 
@@ -74,8 +76,8 @@ pub record CallLaw (v : Visible) (back : Bool) (receiver : Option Ident) (method
 pub record RoutineLaw (v : Visible) (p all : List Symbol) : Type 0 where
   pub law : (method : Procedure) → IsBlockCode v method.body p → IsMethodCode v method all
 
--- `construct`, where the first piece is the code of `new`, and p that of its block: where the block ends, the first
--- piece stands mirrored, and so it is that of `delete`
+-- `construct`, where the first piece is the code of `new`, and p that of its block: where the block
+-- ends, the first piece stands mirrored, and so it is that of `delete`
 pub record ConstructLaw (v : Visible) (at : ℕ) (var : Var) (making p all : List Symbol) : Type 0 where
   pub law : (class : Ident) (body : Statements) (end : Ident) → var.kind ≡ type.Class class
       → length v.variables < MOST_VARIABLES
@@ -95,8 +97,10 @@ abbrev pub element_var : Visible → ℕ → Ident → Var
 element_var v at array =
     record { kind = element_type (kind_named (known_in v) array.text); name = element_name at }
 
--- what stands inside of it: the element moves into the variable, the method is called, and the element moves back
-pub record ExchangedCall (v : Visible) (at : ℕ) (back : Bool) (element : Lvalue) (method : Ident) (args : List Ident) (all : List Symbol) : Type 0 where
+-- what stands inside of it: the element moves into the variable, the method is called, and the
+-- element moves back
+pub record ExchangedCall (v : Visible) (at : ℕ) (back : Bool) (element : Lvalue) (method : Ident)
+    (args : List Ident) (all : List Symbol) : Type 0 where
   pub first : List Symbol
   pub call : List Symbol
   pub last : List Symbol
@@ -108,7 +112,8 @@ pub record ExchangedCall (v : Visible) (at : ℕ) (back : Bool) (element : Lvalu
       element last
 
 -- a call or uncall on an element, whose names are not empty, that the rules of types pass
-pub record ElementLaw (v : Visible) (at : ℕ) (back : Bool) (element : Lvalue) (method : Ident) (args : List Ident) (all : List Symbol) : Type 0 where
+pub record ElementLaw (v : Visible) (at : ℕ) (back : Bool) (element : Lvalue) (method : Ident)
+    (args : List Ident) (all : List Symbol) : Type 0 where
   pub law : (array : Ident) (index : Expression) → element ≡ Item array index
       → ReceiverIsPlain (Some element) args → IsAllowed v (Call at back (Some element) method args)
       → IsStatementCode v (Call at back (Some element) method args) all

@@ -16,9 +16,9 @@ use rpp_tree::tree::Expr;
 use rpp_words::NoMemory;
 use std::alloc::Global;
 
-/// The code of `if test then yes else no fi after`, over the pieces of its blocks. Where the two tests do not
-/// agree, it stops with fault 1. Each test has at most 1,000 elements and operators. The only error is that
-/// memory ran out.
+/// The code of `if test then yes else no fi after`, over the pieces of its blocks. Where the two
+/// tests do not agree, it stops with fault 1. Each test has at most 1,000 elements and operators.
+/// The only error is that memory ran out.
 pub fn if_code(
     alloc: Global,
     test: &Expr,
@@ -42,9 +42,9 @@ pub fn if_code(
     conditional(alloc, tested, yes, no, ended)
 }
 
-/// The code of `from entry do first loop again until exit`, over the pieces of its blocks. Where the entry does
-/// not hold at first, or holds again, it stops with fault 2. Each test stands in the code once. The only error
-/// is that memory ran out.
+/// The code of `from entry do first loop again until exit`, over the pieces of its blocks. Where
+/// the entry does not hold at first, or holds again, it stops with fault 2. Each test stands in the
+/// code once. The only error is that memory ran out.
 pub fn from_code(
     alloc: Global,
     entry: &Expr,

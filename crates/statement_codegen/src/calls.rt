@@ -163,11 +163,11 @@ fn code_on(
     call_on(alloc, back, spot, slot, &spots)
 }
 
-/// The code of a call or uncall of a method, on the present object, or on the object of the variable of a name,
-/// with the variables of these names as arguments: the method is the one in the slot that the variable's class
-/// has for its name, of the object's own class. It stops with fault 5 where the variable is nil, with fault 14
-/// where one more call may not be open, and with fault 15 where a variable is not 0 or nil when it is to come
-/// back. The only error is that memory ran out.
+/// The code of a call or uncall of a method, on the present object, or on the object of the
+/// variable of a name, with the variables of these names as arguments: the method is the one in the
+/// slot that the variable's class has for its name, of the object's own class. It stops with fault
+/// 5 where the variable is nil, with fault 14 where one more call may not be open, and with fault
+/// 15 where a variable is not 0 or nil when it is to come back. The only error is that memory ran out.
 pub fn call_code(
     alloc: Global,
     back: bool,
@@ -178,7 +178,8 @@ pub fn call_code(
 ) -> Result<Piece, NoMemory>
     requires few { length args.now ≤ 32 }
     ensures law { IfOk result (λ p.
-        CallLaw scope.now back (option_map (λ name. name.now) receiver.entry) method.now args.now p.cells) }
+        CallLaw scope.now back (option_map (λ name. name.now) receiver.entry) method.now args.now
+        p.cells) }
     ensures none { IfOk result (λ p. p.marks ≡ []) }
     ensures size { IfOk result (λ p. length p.cells ≤ 30 * length args.now + 161) }
 {
@@ -188,8 +189,8 @@ pub fn call_code(
     }
 }
 
-/// The code of a method, over the piece of its block, which is made in the method's scope: the body of its
-/// routine. The only error is that memory ran out.
+/// The code of a method, over the piece of its block, which is made in the method's scope: the body
+/// of its routine. The only error is that memory ran out.
 pub fn method_code(alloc: Global, body: Piece, _scope: &Scope) -> Result<Piece, NoMemory>
     ensures law { IfOk result (λ p. RoutineLaw _scope.now body.cells p.cells) }
     ensures held { IfOk result (λ p. Holds body p) }

@@ -103,11 +103,13 @@ fn exchanged_call(
     requires few { length call.now.args.now ≤ 32 }
     requires room { words_of_place (lvalue_of element.now) ≤ 1000 }
     ensures law { IfOk result (λ p.
-        ExchangedCall scope.now call.now.at call.now.back (lvalue_of element.now) call.now.method.now call.now.args.now
+        ExchangedCall scope.now call.now.at call.now.back
+        (lvalue_of element.now) call.now.method.now call.now.args.now
         p.cells) }
     ensures none { IfOk result (λ p. p.marks ≡ []) }
     ensures size { IfOk result (λ p.
-        length p.cells ≤ 160 * (2 + place_tokens (lvalue_of element.now)) + 30 * length call.now.args.now + 161) }
+        length p.cells ≤ 160 * (2 + place_tokens (lvalue_of element.now))
+        + 30 * length call.now.args.now + 161) }
 {
     let first = exchange_code(alloc, name, element, scope)?;
     let called = call_code(alloc, call.back, Some(name), call.method, call.args, scope)?;
@@ -115,9 +117,10 @@ fn exchanged_call(
     seq(first, seq(called, last)?)
 }
 
-/// The code of a call or uncall on an element: it moves into a variable without a name, on whose object the call is, and moves
-/// back. The variable has the first free word of the frame. It stops with the faults of the element, with those of a call on
-/// a variable, and with fault 3 where the variable does not end with nil. Where it is made, the scope is as before; after an
+/// The code of a call or uncall on an element: it moves into a variable without a name, on whose
+/// object the call is, and moves back. The variable has the first free word of the frame. It stops
+/// with the faults of the element, with those of a call on a variable, and with fault 3 where the
+/// variable does not end with nil. Where it is made, the scope is as before; after an
 /// error nothing is known of it. The only error is that memory ran out.
 pub fn element_call_code(
     alloc: Global,
@@ -129,11 +132,13 @@ pub fn element_call_code(
     requires free { length scope.old.variables < MOST_VARIABLES }
     requires room { words_of_place (lvalue_of element.now) ≤ 1000 }
     ensures law { IfOk result (λ p.
-        ElementLaw scope.old call.now.at call.now.back (lvalue_of element.now) call.now.method.now call.now.args.now
+        ElementLaw scope.old call.now.at call.now.back
+        (lvalue_of element.now) call.now.method.now call.now.args.now
         p.cells) }
     ensures none { IfOk result (λ p. p.marks ≡ []) }
     ensures size { IfOk result (λ p.
-        length p.cells ≤ 160 * (2 + place_tokens (lvalue_of element.now)) + 30 * length call.now.args.now + 297) }
+        length p.cells ≤ 160 * (2 + place_tokens (lvalue_of element.now))
+        + 30 * length call.now.args.now + 297) }
     ensures scope { OnOk result (scope.new ≡ scope.old) }
 {
     let var = element_var(alloc, call.at, &element.name, scope)?;

@@ -17,9 +17,9 @@ use rpp_tree::tree::{Expr, Var};
 use rpp_words::NoMemory;
 use std::alloc::Global;
 
-/// The code of `local var = value body delocal var = last`, over the piece of its block, which is made in the
-/// scope with the variable. The variable has the first free word of the frame; where it ends with another value
-/// than the last, it stops with fault 3. The only error is that memory ran out.
+/// The code of `local var = value body delocal var = last`, over the piece of its block, which is
+/// made in the scope with the variable. The variable has the first free word of the frame; where it
+/// ends with another value than the last, it stops with fault 3. The only error is that memory ran out.
 pub fn local_code(
     alloc: Global,
     _var: &Var,
@@ -56,9 +56,10 @@ fn between_piece(alloc: Global, making: Piece, body: Piece) -> Result<Piece, NoM
     seq(making, seq(body, ending)?)
 }
 
-/// The code of `construct class name body destruct name`, over the code of `new`, which is made in the scope with the
-/// variable, as the piece of the block is: the object is made, and where the block ends, it is deleted. The variable has the
-/// first free word of the frame; where it does not end with nil, it stops with fault 3. The only error is that memory ran
+/// The code of `construct class name body destruct name`, over the code of `new`, which is made in
+/// the scope with the variable, as the piece of the block is: the object is made, and where the
+/// block ends, it is deleted. The variable has the first free word of the frame; where it does not
+/// end with nil, it stops with fault 3. The only error is that memory ran
 /// out.
 pub fn construct_code(
     alloc: Global,

@@ -3,8 +3,8 @@ use Rattle.std.proofs.Common.{◌≡◌, ℕ, zero, suc, ◌+◌, ◌-◌, ◌�
 use Rattle.std.proofs.lemmas.Bool.{cases_lt}
 use Rattle.rpp_tree.specs.Tree.{Statement, Statements, End, Then}
 use Rattle.stmt_inverter.specs.Inverse.{inverse, inverse_statement}
+use Rattle.pisa_isa.specs.Machine.{Memory}
 use Rattle.paired_code.specs.declared.part.Symbol.{Symbol}
-use Rattle.paired_code.specs.Machine.{Memory}
 use Rattle.paired_code.specs.Pieces.{Done, Will}
 use Rattle.paired_code.specs.Does.{Told, told_then, Meets, fine, more, in_order}
 use Rattle.paired_code.proofs.Laws.{will_of, will_more}

@@ -1,9 +1,10 @@
 -- Instructions in a row, on registers that are known one by one.
 use Rattle.std.proofs.Common.{◌≡◌, ℕ, suc, ◌+◌, ◌^◌, ◌<◌, Bool, true, false, List, [], ◌∷◌, ◌++◌, refl, sym, ap, ◌∙◌, subst, arith, append-nil, append_assoc}
 use Rattle.pisa_isa.specs.declared.cell.Cell.{Cell}
+use Rattle.pisa_isa.specs.Machine.{Memory}
 use Rattle.paired_code.specs.declared.part.Symbol.{Symbol}
 use Rattle.paired_code.specs.declared.part.Symbol.TheVariants.{Own}
-use Rattle.paired_code.specs.Machine.{Memory, Image, is_single}
+use Rattle.paired_code.specs.Machine.{Image, is_single}
 use Rattle.paired_code.specs.Pieces.{Done, Will, after}
 use Rattle.paired_code.specs.Laws.{outcome_of}
 use Rattle.paired_code.specs.Does.{in_order}

@@ -1,8 +1,9 @@
 -- Rules by which pieces meet the source, where what the first part said is known to the second.
 use Rattle.std.proofs.Common.{◌≡◌, ℕ, ◌+◌, ◌-◌, ◌*◌, ◌≤◌, Bool, true, false, List, ◌∷◌, ◌++◌, refl, sym, ap, subst, arith, append_assoc}
 use Rattle.std.proofs.Math.Nat.{mul-add, mul-le-mul_right}
+use Rattle.pisa_isa.specs.Machine.{Memory}
 use Rattle.paired_code.specs.declared.part.Symbol.{Symbol}
-use Rattle.paired_code.specs.Machine.{Memory, Image}
+use Rattle.paired_code.specs.Machine.{Image}
 use Rattle.paired_code.specs.Layout.{mirror_cells}
 use Rattle.paired_code.specs.Pieces.{Outcome, Done, Trapped, Bad, Still, Will, after}
 use Rattle.paired_code.specs.Does.{Rates, Told, Fine, plus, told_then, Meets, fine, faults, more, in_order}

@@ -1,12 +1,14 @@
--- The form of a law of a piece of a program: what it does wherever it stands in an image, in both directions. Each crate
--- proves its own pieces against this form, from the laws of their parts, and knows no other crate's pieces.
+-- The form of a law of a piece of a program: what it does wherever it stands in an image, in both
+-- directions. Each crate proves its own pieces against this form, from the laws of their parts, and
+-- knows no other crate's pieces.
 use Rattle.std.specs.Prelude.{◌≡◌, ℕ, suc, bit_xor, ◌<◌, ◌^◌, Bool, true, false, List, [], ◌∷◌}
 use Rattle.rpp_tree.specs.declared.tree.Ident.{Ident}
 use Rattle.rpp_tree.specs.declared.tree.Var.{Var}
 use Rattle.rpp_tree.specs.Tree.{Expression, Statement, Statements, Procedure}
 use Rattle.stmt_inverter.specs.Inverse.{inverse_statement}
+use Rattle.pisa_isa.specs.Machine.{Memory}
 use Rattle.paired_code.specs.declared.part.Symbol.{Symbol}
-use Rattle.paired_code.specs.Machine.{Memory, Image}
+use Rattle.paired_code.specs.Machine.{Image}
 use Rattle.paired_code.specs.Layout.{xor}
 use Rattle.paired_code.specs.Pieces.{Will}
 use Rattle.paired_code.specs.Does.{Rates, Told, Fine, Fault, More, Meets, Does}
@@ -38,7 +40,8 @@ tested setting e st = evaluated setting.program e st >>= λ v. give (holds v)
 
 -- ---- where pieces run
 
--- what is known of a method when its code is made: its class, and the variables that are open, innermost first
+-- what is known of a method when its code is made: its class, and the variables that are open,
+-- innermost first
 pub record Scope : Type 0 where
   pub class : ℕ
   pub vars : List Var
@@ -69,13 +72,15 @@ pairs [] values = []
 pairs (name ∷ names) [] = []
 pairs (name ∷ names) (v ∷ values) = record { from = name; value = v } ∷ pairs names values
 
--- The program with its limits, the image, the rates of steps and counts, and how cells stand for an open frame.
+-- The program with its limits, the image, the rates of steps and counts, and how cells stand for an
+-- open frame.
 pub record World : Type 1 where
   pub setting : Setting
   pub im : Image
   pub rates : Rates
   pub routines : Routines
-  -- what stays while a frame is open: the frames below, its object with its class, its address, what is put by in it
+  -- what stays while a frame is open: the frames below, its object with its class, its address,
+  -- what is put by in it
   pub Under : Type 0
   pub object_of : Under → ℕ
   pub frame_of : Under → ℕ
@@ -90,8 +95,9 @@ pub record World : Type 1 where
   -- the word that stands for a value
   pub word_of : Under → State → Value → ℕ
 
--- The 32 registers: the link of a call in register 2, the addresses of the present object and of the open frame in 3 and 4,
--- two more addresses in 5 and 6, a word in 8, a flag in 11, a routine's place in 12. The rest is 0.
+-- The 32 registers: the link of a call in register 2, the addresses of the present object and of
+-- the open frame in 3 and 4, two more addresses in 5 and 6, a word in 8, a flag in 11, a routine's
+-- place in 12. The rest is 0.
 abbrev pub registers : (link object frame at at' word flag place : ℕ) → List ℕ
 registers link object frame at at' word flag place =
     0 ∷ 0 ∷ link ∷ object ∷ frame ∷ at ∷ at' ∷ 0 ∷ word ∷ 0 ∷ 0 ∷ flag ∷ place ∷ 0 ∷ 0 ∷ 0
@@ -103,7 +109,8 @@ pub record Open (w : World) (s : Scope) (u : w.Under) (st : State) (m : Memory) 
   pub open_frame : w.opens s u [] st m.cells
 
 -- at the ends of a routine's body: the link, and the place by which it was called
-pub record Entered (w : World) (s : Scope) (u : w.Under) (link place : ℕ) (st : State) (m : Memory) : Type 0 where
+pub record Entered (w : World) (s : Scope) (u : w.Under) (link place : ℕ) (st : State)
+    (m : Memory) : Type 0 where
   pub regs_are : m.regs ≡ registers link (w.object_of u) (w.frame_of u) 0 0 0 0 place
   pub open_frame : w.opens s u [] st m.cells
 
@@ -126,12 +133,14 @@ Owes w n =
     (k : ℕ) → k < n → (r : ℕ) → r < w.routines.count
     → RunsBody w (w.routines.scope r) (w.routines.method r) (w.routines.body r) k
 
--- The code of a statement. Run along it does what the source says of the statement, run back what the source says of its
--- inverse: it leaves at the far end with the state's memory, stops at the fault, or goes on.
+-- The code of a statement. Run along it does what the source says of the statement, run back what
+-- the source says of its inverse: it leaves at the far end with the state's memory, stops at the
+-- fault, or goes on.
 abbrev pub StmtLaw : World → Scope → Statement → List Symbol → Type 0
 StmtLaw w s stmt p =
     (n : ℕ) → Owes w (suc n) → (d : Bool) (u : w.Under)
-    → Does w.im p d (Open w s u) (Open w s u) w.rates (suc n) 0 (λ st. told (one w.setting n (turned d stmt) st))
+    → Does w.im p d (Open w s u) (Open w s u)
+    w.rates (suc n) 0 (λ st. told (one w.setting n (turned d stmt) st))
 
 -- the code of a block
 abbrev pub BlockLaw : World → Scope → Statements → List Symbol → Type 0
@@ -170,7 +179,8 @@ flagged w u v cells = record {
   cells = cells;
 }
 
--- the code of a test xors the truth of an expression into the flag, in both directions, and changes nothing else
+-- the code of a test xors the truth of an expression into the flag, in both directions, and changes
+-- nothing else
 abbrev pub TestLaw : World → Scope → Expression → List Symbol → Type 0
 TestLaw w s e p =
     (n : ℕ) (d : Bool) (u : w.Under) (v : Bool) (st : State) (cells : List ℕ) → w.reads s u st cells

@@ -117,7 +117,8 @@ module _ (setting : Setting) (statics : List ℕ) where
   AboveFits (v ∷ vals) depth = 1 + depth ≤ setting.limits.deep
 
   -- the memory of an open frame, and of the values that have moved from it into the frame above
-  pub record OpenFrame (s : Scope) (u : Under) (vals : List Value) (st : State) (cells : List ℕ) : Type 0 where
+  pub record OpenFrame (s : Scope) (u : Under) (vals : List Value) (st : State)
+      (cells : List ℕ) : Type 0 where
     pub at : Placing
     pub placed : place setting.limits.heap st.log ≡ Some at
     pub cells_are : cells ≡ memory at st.store (stack_words at u st.frame vals)

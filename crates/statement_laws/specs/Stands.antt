@@ -131,14 +131,17 @@ module _ (setting : Setting) (statics : List ℕ) where
   moved_values moved = map moved_value moved
 
   -- the memory of the open frame, with its types and live names: expressions can be read
-  pub record Reads (s : Scope) (u : Under) (moved : List Moved) (st : State) (cells : List ℕ) : Type 0 where
+  pub record Reads (s : Scope) (u : Under) (moved : List Moved) (st : State)
+      (cells : List ℕ) : Type 0 where
     pub frame : OpenFrame setting statics s u (moved_values moved) st cells
     pub keeps : Kept s u moved st
     -- every cell is a word
     pub words : (a : ℕ) → slice_index cells a < 2 ^ 32
 
-  -- with the counts: each is the number of cells that hold the name, of receivers that moved into open calls too
-  pub record Stands (s : Scope) (u : Under) (moved : List Moved) (st : State) (cells : List ℕ) : Type 0 where
+  -- with the counts: each is the number of cells that hold the name, of receivers that moved into
+  -- open calls too
+  pub record Stands (s : Scope) (u : Under) (moved : List Moved) (st : State)
+      (cells : List ℕ) : Type 0 where
     pub frame : OpenFrame setting statics s u (moved_values moved) st cells
     pub keeps : Kept s u moved st
     pub words : (a : ℕ) → slice_index cells a < 2 ^ 32

@@ -1,4 +1,5 @@
--- The worlds that contracts speak of, from plain data: a program with its limits, an image with its static cells, its routines.
+-- The worlds that contracts speak of, from plain data: a program with its limits, an image with its
+-- static cells, its routines.
 use Rattle.std.specs.Prelude.{◌≡◌, ℕ, ◌+◌, ◌*◌, ◌^◌, List, [], ◌∷◌, length, replicate, slice_index}
 use Rattle.std.specs.Option.{unwrap_or}
 use Rattle.buddy_book.specs.Place.{place}

@@ -1,5 +1,5 @@
 -- A heap has room for no more objects than it has words.
-use Rattle.std.proofs.Common.{◌≡◌, ◌≢◌, ◌∙◌, sym, ap, ℕ, suc, ◌+◌, ◌^◌, ◌<◌, ◌≤◌, true, List, [], ◌∷◌, ◌++◌, map, length, Some, arith}
+use Rattle.std.proofs.Common.{◌≡◌, ◌∙◌, sym, ap, ℕ, ◌+◌, ◌^◌, ◌≤◌, true, List, [], ◌∷◌, map, length, Some, arith}
 use Rattle.std.proofs.lemmas.List.{length-map, length-append}
 use Rattle.std.specs.Option.{option_map}
 use Rattle.buddy_book.specs.Place.{Log, block_of, count_taken}
@@ -11,12 +11,7 @@ use Rattle.roopl_semantics.specs.Store.{Store, main_name, object_at}
 use Rattle.roopl_semantics.specs.Execution.{Setting, order_of_cells}
 use Rattle.sound_execution.specs.Sound.{head_of, head_named, is_live, cell_kinds, Descending, entry_name, IsPlaced}
 use Rattle.sound_execution.proofs.Stores.{live_object}
-use Rattle.sound_execution.proofs.Regions.{BlocksDescend, EntriesAre, blocks_descend, entries_are}
-
--- no entry's block is this
-abbrev NotAt : ℕ → List (ℕ × ℕ) → Type 0
-NotAt block [] = Unit {0}
-NotAt block ((m, b) ∷ rest) = (block ≢ b) × NotAt block rest
+use Rattle.sound_execution.proofs.Regions.{BlocksDescend, EntriesAre, NotAt, block_apart, blocks_descend, entries_are}
 
 record HasOrder (taken : TakenBlocks) (block : ℕ) : Type 0 where
   pub order : ℕ
@@ -43,19 +38,12 @@ module _ (setting : Setting) (store : Store) (log : Log) (p : IsPlaced setting s
   live_head : (n : ℕ) → is_live store n ≡ true → head_named store n ≡ Some (object_at store n).head
   live_head n live = ap (option_map head_of) (live_object store n live)
 
-  apart_from : (n bound : ℕ) (rest : List (ℕ × ℕ)) → is_live store n ≡ true → main_name < n → bound ≤ n → BlocksDescend bound rest → EntriesAre store p.at.blocks rest → NotAt (block_of p.at.blocks n) rest
-  apart_from n bound [] live no_main l d e = tt
-  apart_from n bound ((m, b) ∷ rest) live no_main l d e =
-      let low = d.0 in
-      let high = d.1 in
-      ((λ q. p.apart n m live e.0 (λ z. omega arith) (λ z. omega arith) (λ z. omega arith) (q ∙ sym e.1)), apart_from n m rest live no_main (omega arith) d.2 e.2)
-
   are_taken : (bound : ℕ) (rest : List (ℕ × ℕ)) → BlocksDescend bound rest → EntriesAre store p.at.blocks rest → AreTaken p.taken rest
   are_taken bound [] d e = tt
   are_taken bound ((n, b) ∷ rest) d e =
       let high = d.1 in (
         record { order = order_of_cells (length (cell_kinds setting.program (object_at store n).head)); is = ap (order_in p.taken) (sym e.1) ∙ p.orders n (object_at store n).head (live_head n e.0) (λ z. omega arith) },
-        by (apart_from n n rest e.0 d.1 (omega arith) d.2 e.2),
+        by (block_apart setting store log p n n rest e.0 d.1 (omega arith) d.2 e.2),
         are_taken n rest d.2 e.2,
       )
     where

@@ -1,4 +1,5 @@
--- The memory of a final state tells of its store, and so its report; and so does the memory in which a run begins.
+-- The memory of a final state tells of its store, and so its report; and so does the memory in
+-- which a run begins.
 use Rattle.std.proofs.Common.{◌≡◌, ◌∙◌, sym, ap, refl, ℕ, ◌+◌, ◌<◌, ◌≤◌, Bool, true, false, List, [], length, Some, arith}
 use Rattle.std.proofs.lemmas.Option.{unwrap_or-slice_get}
 use Rattle.std.specs.Prelude.{slice_index, is_some}

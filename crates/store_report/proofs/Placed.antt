@@ -1,4 +1,5 @@
--- The tables of an accepted program stand where the class table says, and the code's report is the report that the cells tell.
+-- The tables of an accepted program stand where the class table says, and the code's report is the
+-- report that the cells tell.
 use Rattle.std.proofs.Common.{◌≡◌, ◌∙◌, sym, ap, ℕ, zero, suc, ◌+◌, ◌<◌, ◌≤◌, List, ◌++◌, ◌∷◌, [], length, arith}
 use Rattle.std.proofs.lemmas.List.{length-map}
 use Rattle.rpp_tree.specs.declared.tree.Var.{Var}

@@ -1,4 +1,5 @@
--- What the cells of a memory tell of the objects that are reached, and the report of them. Names are addresses here.
+-- What the cells of a memory tell of the objects that are reached, and the report of them. Names
+-- are addresses here.
 use Rattle.std.specs.Prelude.{ℕ, ◌+◌, nat_eq, List, [], ◌∷◌, ◌++◌, length, map, codes, if◌then◌else◌}
 use Rattle.std.specs.Option.{unwrap_or}
 use Rattle.std.specs.Fmt.{decimal}
@@ -30,7 +31,8 @@ values_told cells address [] = []
 values_told cells address (type ∷ types) =
     value_told type (word_at cells address) ∷ values_told cells (address + 1) types
 
--- what is reached by a reference of this type, by its head word: an object's is its class's table, an array's its length
+-- what is reached by a reference of this type, by its head word: an object's is its class's table,
+-- an array's its length
 abbrev pub head_told : Source → VarType → ℕ → Head
 head_told program kind.Int word = OfInts 0
 head_told program (kind.Class class) word = OfClass (unwrap_or (class_with_table program word) 0)

@@ -5,7 +5,8 @@ ghost use Rattle.store_report.specs.Leads.{lead_of as lead_told, is_reference, c
 use class_table::ClassTable;
 use rpp_tree::tree::VarType;
 
-/// What a cell leads to: nothing where it holds an int, an object, an array of ints, or an array of references to objects of a class.
+/// What a cell leads to: nothing where it holds an int, an object, an array of ints, or an array of
+/// references to objects of a class.
 #[derive(Clone, Copy)]
 pub enum Lead {
     Int,

@@ -1,5 +1,6 @@
-//! The printed reports: of a store, and of a machine's memory, by following the references in its cells. The layers above may
-//! use `report` and `report_store`, and `specs/Told.antt`, which says what any memory tells.
+//! The printed reports: of a store, and of a machine's memory, by following the references in its
+//! cells. The layers above may use `report` and `report_store`, and `specs/Told.antt`, which says
+//! what any memory tells.
 #![tactic(auto)]
 
 mod leads;
@@ -8,8 +9,6 @@ mod meeting;
 mod memories;
 mod stores;
 mod tables;
-#[cfg(test)]
-mod tests;
 mod walking;
 
 pub use memories::report;

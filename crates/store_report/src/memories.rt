@@ -31,21 +31,26 @@ use rpp_tree::tree::{Program, Var};
 use rpp_words::NoMemory;
 use std::alloc::{AllocError, Global};
 
-/// The report of a machine's memory, by following the references in its cells from the main object on: a line for each of its
-/// fields, the lines of each object and array that is reached, in the order in which they are met, and how many those are.
-/// A class is told by its table's address, an array by the type of the reference and its length; a word that is no table's
-/// address counts as the first class's. The time is linear in the cells that are met.
+/// The report of a machine's memory, by following the references in its cells from the main object
+/// on: a line for each of its fields, the lines of each object and array that is reached, in the
+/// order in which they are met, and how many those are.
+/// A class is told by its table's address, an array by the type of the reference and its length; a
+/// word that is no table's address counts as the first class's. The time is linear in the cells
+/// that are met.
 pub fn report(alloc: Global, machine: &Machine, checked: &Checked) -> Result<String, NoMemory>
     ensures lines { IfOk result (λ text. string_bytes text
         ≡ report_told (source_of checked.now) machine.now.state.cells) }
 
     // Of a memory where a run ended it is the report of the store that the source gives.
-    ensures last { IfOk result (λ text. (end : State) → IsMemoryOf (source_of checked.now) machine.now.state.cells end
+    ensures last { IfOk result (λ text. (end : State)
+        → IsMemoryOf (source_of checked.now) machine.now.state.cells end
         → string_bytes text ≡ run_report (source_of checked.now) end.store machine.now.state.cells) }
 
     // Of a memory where a run begins it is the report of the store that the source begins with.
-    ensures first { IfOk result (λ text. (input : List FieldWord) → IsFirstMemoryOf (source_of checked.now) machine.now.state.cells input
-        → string_bytes text ≡ run_report (source_of checked.now) (starting (source_of checked.now) input).store machine.now.state.cells) }
+    ensures first { IfOk result (λ text. (input : List FieldWord)
+        → IsFirstMemoryOf (source_of checked.now) machine.now.state.cells input
+        → string_bytes text ≡ run_report (source_of checked.now)
+        (starting (source_of checked.now) input).store machine.now.state.cells) }
 {
     let table = checked.table();
     let program = checked.program();
@@ -133,7 +138,8 @@ fn add_fields(
     requires few { length fields.now ≤ 64 }
     requires low { at < 2 ^ 40 }
     ensures { OnOk result (string_bytes out.new
-        ≡ string_bytes out.old ++ field_lines indent.now (addresses_of met.now.entries) fields.now (values_by memory.now.machine.now.state.cells at (leads_of memory.now.table.now fields.now))) }
+        ≡ string_bytes out.old ++ field_lines indent.now (addresses_of met.now.entries) fields.now
+        (values_by memory.now.machine.now.state.cells at (leads_of memory.now.table.now fields.now))) }
 {
     for (number, field) in fields.iter().enumerate() {
         add_field(
@@ -175,7 +181,8 @@ fn add_elements(
 ) -> Result<(), AllocError>
     requires low { at < 2 ^ 40 }
     ensures { OnOk result (string_bytes out.new
-        ≡ string_bytes out.old ++ element_lines (addresses_of met.now.entries) 0 (values_by machine.now.state.cells at (replicate count lead))) }
+        ≡ string_bytes out.old ++ element_lines (addresses_of met.now.entries) 0
+        (values_by machine.now.state.cells at (replicate count lead))) }
 {
     for index in 0..count {
         add_element(
@@ -203,7 +210,8 @@ fn add_head(out: &mut String, memory: &Memory, lead: Lead, word: u32) -> Result<
     requires few { length memory.now.tables.now ≤ 256 }
     requires names { (class : ℕ) → IsAscii (class_at (source_of memory.now.program.now) class).name.text }
     ensures { OnOk result (string_bytes out.new
-        ≡ string_bytes out.old ++ head_shown (source_of memory.now.program.now) (head_by memory.now.tables.now lead word)) }
+        ≡ string_bytes out.old ++ head_shown (source_of memory.now.program.now)
+        (head_by memory.now.tables.now lead word)) }
 {
     match lead {
         Lead::Int => {
@@ -231,7 +239,8 @@ fn add_cells(
     requires few { length memory.now.tables.now ≤ 256 }
     requires names { (class : ℕ) → All HasAsciiName (fields_in memory.now.table.now class) }
     ensures { OnOk result (string_bytes out.new
-        ≡ string_bytes out.old ++ cells_by memory.now.table.now memory.now.tables.now memory.now.machine.now.state.cells (addresses_of met.now.entries) at lead word) }
+        ≡ string_bytes out.old ++ cells_by memory.now.table.now memory.now.tables.now
+        memory.now.machine.now.state.cells (addresses_of met.now.entries) at lead word) }
 {
     let first = u64::from(at) + 2;
     match lead {
@@ -260,7 +269,9 @@ fn add_object(
     requires few { length memory.now.tables.now ≤ 256 }
     requires names { AreAscii (source_of memory.now.program.now) memory.now.table.now }
     ensures { OnOk result (string_bytes out.new
-        ≡ string_bytes out.old ++ object_by (source_of memory.now.program.now) memory.now.table.now memory.now.tables.now memory.now.machine.now.state.cells (addresses_of met.now.entries) (at, lead)) }
+        ≡ string_bytes out.old ++ object_by
+        (source_of memory.now.program.now) memory.now.table.now memory.now.tables.now
+        memory.now.machine.now.state.cells (addresses_of met.now.entries) (at, lead)) }
 {
     let head = word_at(memory.machine, u64::from(at));
     let count = word_at(memory.machine, u64::from(at) + 1);
@@ -280,7 +291,9 @@ fn add_objects(
     requires few { length memory.now.tables.now ≤ 256 }
     requires names { AreAscii (source_of memory.now.program.now) memory.now.table.now }
     ensures { OnOk result (string_bytes out.new
-        ≡ string_bytes out.old ++ objects_by (source_of memory.now.program.now) memory.now.table.now memory.now.tables.now memory.now.machine.now.state.cells (addresses_of met.now.entries) met.now.entries) }
+        ≡ string_bytes out.old ++ objects_by
+        (source_of memory.now.program.now) memory.now.table.now memory.now.tables.now
+        memory.now.machine.now.state.cells (addresses_of met.now.entries) met.now.entries) }
 {
     for number in 0..met.len() {
         let (at, lead) = match met.get_index(number) {
@@ -299,7 +312,8 @@ fn compose(alloc: Global, memory: &Memory, fields: &[Var]) -> Result<String, NoM
     requires names { AreAscii (source_of memory.now.program.now) memory.now.table.now }
     requires field_names { All HasAsciiName fields.now }
     ensures { IfOk result (λ text. string_bytes text
-        ≡ report_by (source_of memory.now.program.now) memory.now.table.now memory.now.tables.now fields.now memory.now.machine.now.state.cells) }
+        ≡ report_by (source_of memory.now.program.now) memory.now.table.now memory.now.tables.now
+        fields.now memory.now.machine.now.state.cells) }
 {
     let met = met_all(alloc, memory, fields)?;
     let mut out = String::new(alloc);

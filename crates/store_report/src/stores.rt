@@ -25,8 +25,8 @@ use source_meaning::Store;
 use std::alloc::{AllocError, Global};
 use store_table::{Head, Heap, Value};
 
-/// The report of a store of the program: a line for each field of the main object, the lines of each object and array that
-/// is reached from it, and the number of those that live.
+/// The report of a store of the program: a line for each field of the main object, the lines of
+/// each object and array that is reached from it, and the number of those that live.
 pub fn report_store(alloc: Global, store: &Store, checked: &Checked) -> Result<String, NoMemory>
     ensures { IfOk result (λ text. string_bytes text ≡ report_in (source_of checked.now) store.now) }
 {

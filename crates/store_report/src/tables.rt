@@ -4,6 +4,7 @@ ghost use Rattle.class_table.specs.First.{each_below};
 ghost use Rattle.store_report.specs.Tables.{table_in};
 
 use class_table::ClassTable;
+use roopl_semantics::FIRST_FIELD;
 use std::alloc::{AllocError, Global};
 
 /// The addresses of the classes' tables, in the order of the classes.
@@ -13,7 +14,7 @@ pub fn table_addresses(alloc: Global, table: &ClassTable) -> Result<Vec<u32>, Al
     ensures few { length table.now.names ≤ 256 }
 {
     let mut tables = Vec::new(alloc);
-    let mut at = 42 + table.fields(table.main().class).len() as u32;
+    let mut at = FIRST_FIELD + table.fields(table.main().class).len() as u32;
     for class in 0..table.class_count() {
         tables.push(at)?;
         at += 1 + table.slot_count(class);

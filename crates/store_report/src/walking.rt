@@ -14,7 +14,8 @@ use rpp_tree::tree::{Program, Var};
 use rpp_words::NoMemory;
 use std::alloc::Global;
 
-/// A machine's memory, the program that ran on it, the program's class table, and the addresses of its classes' tables.
+/// A machine's memory, the program that ran on it, the program's class table, and the addresses of
+/// its classes' tables.
 #[derive(Clone, Copy)]
 pub struct Memory<'a> {
     pub machine: &'a Machine,
@@ -104,7 +105,8 @@ fn meet_behind(
 ) -> Result<(), NoMemory>
     requires { length memory.now.tables.now ≤ 256 }
     ensures { OnOk result (met.new.entries
-        ≡ meets_behind memory.now.table.now memory.now.tables.now memory.now.machine.now.state.cells met.old.entries (at, lead)) }
+        ≡ meets_behind memory.now.table.now memory.now.tables.now memory.now.machine.now.state.cells
+        met.old.entries (at, lead)) }
 {
     let first = u64::from(at) + 2;
     let head = word_at(memory.machine, u64::from(at));
@@ -122,8 +124,8 @@ fn meet_behind(
     }
 }
 
-/// Walks what is met, from the main object's fields on: each address that is reached, with what stands there, in the order of
-/// the numbers.
+/// Walks what is met, from the main object's fields on: each address that is reached, with what
+/// stands there, in the order of the numbers.
 pub fn met_all(
     alloc: Global,
     memory: &Memory,
@@ -132,7 +134,8 @@ pub fn met_all(
     requires classes { length memory.now.tables.now ≤ 256 }
     requires few { length fields.now ≤ 64 }
     ensures { IfOk result (λ met. met.entries
-        ≡ met_all memory.now.table.now memory.now.tables.now fields.now memory.now.machine.now.state.cells) }
+        ≡ met_all memory.now.table.now memory.now.tables.now fields.now
+        memory.now.machine.now.state.cells) }
 {
     let mut met = IndexMap::new(alloc);
     meet_fields(

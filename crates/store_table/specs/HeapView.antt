@@ -75,8 +75,10 @@ pub record IsPlaced (book : Shown) (block_of_name : ℕ → Option (ℕ × ℕ))
   pub apart : (n m address size other : ℕ) → block_of_name n ≡ Some (address, size)
       → block_of_name m ≡ Some (address, other) → n ≡ m
 
--- what every heap keeps: the next name is the table's length, and each block stands where the requests place it
-pub record IsHeap (order : ℕ) (book : Shown) (table : List (Option Live)) (requests : List Asked) : Type 0 where
+-- what every heap keeps: the next name is the table's length, and each block stands where the
+-- requests place it
+pub record IsHeap (order : ℕ) (book : Shown) (table : List (Option Live))
+    (requests : List Asked) : Type 0 where
   pub same : book.h ≡ order
   pub next : length table ≡ 2 + count_taken (log_of requests)
   pub placed : IsPlaced book (block_at table) (log_of requests)

@@ -1,5 +1,5 @@
-//! The commands that write source texts: `generate` and `show-inverse`. Each reads its files and makes a plan; the top call
-//! carries it out.
+//! The commands that write source texts: `generate` and `show-inverse`. Each reads its files and
+//! makes a plan; the top call carries it out.
 #![tactic(auto)]
 
 mod generating;

@@ -23,8 +23,10 @@ use Rattle.rpp_plan.specs.Texts.{load_line, bad_command_line}
 use Rattle.program_commands.specs.Inputs.{given_input}
 use Rattle.program_commands.specs.ProgramPlans.{IsJudgedPlan}
 
--- the commands print this text along the run from its start on: there is fuel with which the run is known as far as they go
-pub record Follows (commands : List Command) (program : Source) (limits : Limits) (input : List FieldWord) (text : List ℕ) : Type 0 where
+-- the commands print this text along the run from its start on: there is fuel with which the run is
+-- known as far as they go
+pub record Follows (commands : List Command) (program : Source) (limits : Limits)
+    (input : List FieldWord) (text : List ℕ) : Type 0 where
   pub fuel : ℕ
   pub last : ℕ
   pub told : told program (trail program limits input fuel) commands 0

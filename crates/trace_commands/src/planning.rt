@@ -39,8 +39,8 @@ struct Read {
     given: Vec<u8>,
 }
 
-/// Follows the script in a file along the run of the program in a file, on an input where there is one, and tells what its
-/// commands print.
+/// Follows the script in a file along the run of the program in a file, on an input where there is
+/// one, and tells what its commands print.
 pub fn trace<S: Shelf>(
     alloc: Global,
     shelf: &mut S,
@@ -51,8 +51,10 @@ pub fn trace<S: Shelf>(
 ) -> Result<Plan, NoPlan>
     ensures plan { GivesPlan (S.texts shelf.old)
         (Traces file.now script.now (option_map string_bytes input.now) room.heap room.deep) result }
-    ensures reads { OnlyReads (S.texts shelf.old) (S.texts shelf.new) (S.faults shelf.old) (S.faults shelf.new)
-        (source file.now ∷ script_file script.now ∷ input_files (option_map string_bytes input.now)) result }
+    ensures reads { OnlyReads (S.texts shelf.old) (S.texts shelf.new) (S.faults shelf.old)
+        (S.faults shelf.new)
+        (source file.now ∷ script_file script.now ∷ input_files (option_map string_bytes input.now))
+        result }
 {
     let read = read_all(alloc, shelf, file, script, input)?;
     Ok(trace_text(alloc, &read, room)?)
@@ -75,8 +77,10 @@ fn read_all<S: Shelf>(
     ensures within { IfOk result (λ read. length read.text.items ≤ MOST_BYTES) }
     ensures within_script { IfOk result (λ read. length read.script.items ≤ MOST_SCRIPT) }
     ensures within_input { IfOk result (λ read. length read.given.items ≤ MOST_INPUT) }
-    ensures reads { OnlyReads (S.texts shelf.old) (S.texts shelf.new) (S.faults shelf.old) (S.faults shelf.new)
-        (source file.now ∷ script_file script.now ∷ input_files (option_map string_bytes input.now)) result }
+    ensures reads { OnlyReads (S.texts shelf.old) (S.texts shelf.new) (S.faults shelf.old)
+        (S.faults shelf.new)
+        (source file.now ∷ script_file script.now ∷ input_files (option_map string_bytes input.now))
+        result }
 {
     let text = read_file(alloc, shelf, file, MOST_BYTES as u64)?;
     let script = read_file(alloc, shelf, script, MOST_SCRIPT as u64)?;
@@ -112,7 +116,8 @@ fn trace_sized(
 ) -> Result<Plan, NoMemory>
     requires script { length script.now ≤ MOST_SCRIPT }
     requires given { length given.now ≤ MOST_INPUT }
-    ensures { IfOk result (λ plan. IsSizedPlan (limits_refusal room.heap room.deep MOST_DEEP) script.now given.now
+    ensures { IfOk result (λ plan.
+        IsSizedPlan (limits_refusal room.heap room.deep MOST_DEEP) script.now given.now
         (source_of checked) (record { heap = room.heap; deep = room.deep }) (planned plan)) }
 {
     match check_limits(room.heap, room.deep, MOST_DEEP) {

@@ -1,6 +1,7 @@
 // The commands of a debugger.
 
-/// A command of a debugger. Numbers of moves are the most that are made; a place is the number of a code cell.
+/// A command of a debugger. Numbers of moves are the most that are made; a place is the number of a
+/// code cell.
 #[derive(Clone, Copy, PartialEq, Eq, Debug)]
 pub enum Command {
     /// `step N`: makes steps.

@@ -75,8 +75,9 @@ impl Debugger {
         Debugger { machine }
     }
 
-    /// Carries out a command, and adds what it prints to a text. The counter rises by the steps of the machine, at most
-    /// one for each move that is wanted. After want of memory the moves were made, and the text is as before.
+    /// Carries out a command, and adds what it prints to a text. The counter rises by the steps of
+    /// the machine, at most one for each move that is wanted. After want of memory the moves were
+    /// made, and the text is as before.
     pub fn command<L: Ledger>(
         &mut self,
         alloc: Global,
@@ -96,8 +97,8 @@ impl Debugger {
         Ok(())
     }
 
-    /// Carries out commands, one after the other, and adds what they print to a text. After want of memory the text is
-    /// as before.
+    /// Carries out commands, one after the other, and adds what they print to a text. After want of
+    /// memory the text is as before.
     pub fn follow<L: Ledger>(
         &mut self,
         alloc: Global,

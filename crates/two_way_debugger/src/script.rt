@@ -14,8 +14,9 @@ pub const MOST_SCRIPT: usize = 65_536;
 /// The most cells that one command prints.
 const MOST_CELLS: u64 = 1000;
 
-/// The commands of a script. A line of it is blank, or `step N`, `back N`, `to P N`, `backto P N`, `regs` or `cells A N`, with
-/// one space between words; a carriage return before a line feed is dropped. The first line that is neither is refused.
+/// The commands of a script. A line of it is blank, or `step N`, `back N`, `to P N`, `backto P N`,
+/// `regs` or `cells A N`, with one space between words; a carriage return before a line feed is
+/// dropped. The first line that is neither is refused.
 pub fn read_script(alloc: Global, bytes: &[u8]) -> Result<Vec<Command>, ScriptError>
     requires { length bytes.now ≤ MOST_SCRIPT }
     ensures { Gives (λ commands. commands.items) result (script_of bytes.now) }

@@ -126,7 +126,8 @@ module _ (program : Source) (fields : List InputField) (limits : Limits) (input 
       ap length d.memory ∙ length-append (loaded image.statics limits input) values
       ∙ ap (λ n. length (loaded image.statics limits input) + n) (length-map (result_cells fields) (Rattle.std.specs.Prelude.slice_index lay) ∙ length-map fields (λ field. field_cell field.field))
 
-  -- a plan that prints the lines of the words behind the first memory tells the results of the source's store
+  -- a plan that prints the lines of the words behind the first memory tells the results of the
+  -- source's store
   pub tells_results : HasWrapped program fields limits input bound image end Finished spent → (initial : ℕ) (lines : List ℕ) (p : Planned)
       → initial ≡ length end.state.cells - length fields → lines ≡ word_lines fields end.state.cells initial
       → p ≡ prints Done ((lines ++ initial_line initial) ++ steps_line spent)

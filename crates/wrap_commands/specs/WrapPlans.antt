@@ -38,15 +38,19 @@ pub record AreResults (program : Source) (fields : List InputField) : Type 0 whe
   pub names : All HasAsciiName fields
   pub few : length fields ≤ 64
 
--- The source gives a store, and the plan tells the named fields of it. The final memory is the loaded one with the results
--- alone added.
-pub record TellsResults (program : Source) (image : Segments) (fields : List InputField) (limits : Limits) (input : List FieldWord) (last : MachineState) (spent : ℕ) (p : Planned) : Type 0 where
+-- The source gives a store, and the plan tells the named fields of it. The final memory is the
+-- loaded one with the results alone added.
+pub record TellsResults (program : Source) (image : Segments) (fields : List InputField)
+    (limits : Limits) (input : List FieldWord) (last : MachineState) (spent : ℕ)
+    (p : Planned) : Type 0 where
   pub done : EndsDone program image (result_cells fields) limits input last
   pub told : p ≡ prints Done ((result_lines fields (object_at done.end.store main_name).cells
       ++ initial_line (length (loaded image.statics limits input))) ++ steps_line spent)
 
--- the bound ended the run, and the plan says so: the source ends at no cost for which so many steps are enough
-pub record TellsBound (program : Source) (limits : Limits) (input : List FieldWord) (steps : ℕ) (p : Planned) : Type 0 where
+-- the bound ended the run, and the plan says so: the source ends at no cost for which so many steps
+-- are enough
+pub record TellsBound (program : Source) (limits : Limits) (input : List FieldWord) (steps : ℕ)
+    (p : Planned) : Type 0 where
   pub early : (cost : ℕ) → EndsAt program limits input cost → steps < enough_wrapped cost
   pub told : p ≡ prints Bound (codes "bound" ++ (line_end ++ steps_line steps))
 
@@ -66,9 +70,11 @@ abbrev pub TellsEnd : End → Source → Segments → List InputField → Limits
 TellsEnd end program image fields limits input steps p =
     TellsStop end.why program image fields limits input end.last end.spent steps p
 
--- There is an image that stands for the program, and one that is it wrapped for the cells of these fields, and the plan tells
--- how the run of that ended, of at most so many steps from the loaded memory with zeros behind it.
-pub record WrapsImage (program : Source) (fields : List InputField) (limits : Limits) (input : List FieldWord) (steps : ℕ) (p : Planned) : Type 0 where
+-- There is an image that stands for the program, and one that is it wrapped for the cells of these
+-- fields, and the plan tells how the run of that ended, of at most so many steps from the loaded
+-- memory with zeros behind it.
+pub record WrapsImage (program : Source) (fields : List InputField) (limits : Limits)
+    (input : List FieldWord) (steps : ℕ) (p : Planned) : Type 0 where
   pub image : Segments
   pub is_image : IsImage image
   pub stands : StandsFor program image

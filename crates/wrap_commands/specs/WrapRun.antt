@@ -14,8 +14,11 @@ use Rattle.program_wrap.specs.Programs.{FollowsWrapped, wrapped_run}
 use Rattle.wrap_commands.specs.WrapNames.{result_cells}
 use Rattle.wrap_commands.specs.WrapPlans.{AreResults}
 
--- a machine stands where a run of at most so many steps of the wrapped code of this image ended, whose runs follow the program
-pub record HasWrapped (program : Source) (fields : List InputField) (limits : Limits) (input : List FieldWord) (bound : ℕ) (image : Segments) (end : Position) (why : Stop) (spent : ℕ) : Type 0 where
+-- a machine stands where a run of at most so many steps of the wrapped code of this image ended,
+-- whose runs follow the program
+pub record HasWrapped (program : Source) (fields : List InputField) (limits : Limits)
+    (input : List FieldWord) (bound : ℕ) (image : Segments) (end : Position) (why : Stop)
+    (spent : ℕ) : Type 0 where
   pub accepted : IsAccepted program
   pub allowed : IsLimits limits
   pub valid : IsValid program input

@@ -1,5 +1,5 @@
-//! The command `wrap`: a program is run, named int fields of its main object are copied behind its memory, and it is run back. It
-//! reads its files and makes a plan; the top call carries it out.
+//! The command `wrap`: a program is run, named int fields of its main object are copied behind its
+//! memory, and it is run back. It reads its files and makes a plan; the top call carries it out.
 #![tactic(auto)]
 
 mod error;

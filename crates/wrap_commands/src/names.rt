@@ -8,8 +8,8 @@ use machine_texts::pieces;
 use pisa_loader::InputField;
 use std::alloc::{AllocError, Global};
 
-/// The fields that names joined by commas name, in the order of the names. The first name that no field has, or that an earlier
-/// one is, is refused.
+/// The fields that names joined by commas name, in the order of the names. The first name that no
+/// field has, or that an earlier one is, is refused.
 pub(crate) fn read_names(
     alloc: Global,
     names: &[u8],

@@ -27,7 +27,8 @@ use rpp_words::{Limits, MOST_DEEP, NoMemory};
 use std::alloc::Global;
 use std::sync::ledger::Ledger;
 
-/// What stands behind the sizes: the names of the results, joined by commas, and the file of the input, if there is one.
+/// What stands behind the sizes: the names of the results, joined by commas, and the file of the
+/// input, if there is one.
 #[derive(Debug, Drop)]
 pub struct Wanted {
     pub names: String,
@@ -53,8 +54,10 @@ pub fn wrap<S: Shelf, L: Ledger>(
 ) -> Result<Plan, NoPlan>
     requires { sizes.bound < 2 ^ 63 }
     ensures plan { GivesPlan (S.texts shelf.old)
-        (WrapsFile file.now (string_bytes wanted.now.names) (option_map string_bytes wanted.now.input) sizes.heap sizes.deep sizes.bound) result }
-    ensures reads { OnlyReads (S.texts shelf.old) (S.texts shelf.new) (S.faults shelf.old) (S.faults shelf.new)
+        (WrapsFile file.now (string_bytes wanted.now.names)
+        (option_map string_bytes wanted.now.input) sizes.heap sizes.deep sizes.bound) result }
+    ensures reads { OnlyReads (S.texts shelf.old) (S.texts shelf.new) (S.faults shelf.old)
+        (S.faults shelf.new)
         (source file.now ∷ input_files (option_map string_bytes wanted.now.input)) result }
 {
     let given = read_given(alloc, shelf, file, &wanted.input)?;
@@ -94,9 +97,11 @@ fn wrap_sized<L: Ledger>(
 ) -> Result<Plan, NoMemory>
     requires input { length request.now.input.items ≤ MOST_INPUT }
     requires bound { request.now.sizes.bound < 2 ^ 63 }
-    ensures { IfOk result (λ plan. IsSizedPlan (limits_refusal request.now.sizes.heap request.now.sizes.deep MOST_DEEP)
+    ensures { IfOk result (λ plan.
+        IsSizedPlan (limits_refusal request.now.sizes.heap request.now.sizes.deep MOST_DEEP)
         request.now.names.items request.now.input.items (source_of checked.now)
-        (record { heap = request.now.sizes.heap; deep = request.now.sizes.deep }) request.now.sizes.bound (planned plan)) }
+        (record { heap = request.now.sizes.heap; deep = request.now.sizes.deep })
+        request.now.sizes.bound (planned plan)) }
 {
     let sizes = request.sizes;
     match check_limits(sizes.heap, sizes.deep, MOST_DEEP) {
@@ -116,7 +121,8 @@ fn wrap_named<L: Ledger>(
     requires limits { IsLimits limits }
     requires input { length request.now.input.items ≤ MOST_INPUT }
     requires bound { request.now.sizes.bound < 2 ^ 63 }
-    ensures { IfOk result (λ plan. IsNamedPlan (results_of (fields_of (source_of checked.now)) request.now.names.items)
+    ensures { IfOk result (λ plan.
+        IsNamedPlan (results_of (fields_of (source_of checked.now)) request.now.names.items)
         request.now.input.items (source_of checked.now) limits request.now.sizes.bound (planned plan)) }
 {
     is_accepted(checked);
@@ -141,7 +147,8 @@ fn wrap_given<L: Ledger>(
     requires results { AreResults (source_of checked.now) results.items }
     requires input { length request.now.input.items ≤ MOST_INPUT }
     requires bound { request.now.sizes.bound < 2 ^ 63 }
-    ensures { IfOk result (λ plan. IsGivenPlan (given_input (source_of checked.now) request.now.input.items)
+    ensures { IfOk result (λ plan.
+        IsGivenPlan (given_input (source_of checked.now) request.now.input.items)
         (source_of checked.now) results.items limits request.now.sizes.bound (planned plan)) }
 {
     let fields = input_fields(alloc, checked)?;

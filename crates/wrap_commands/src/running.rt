@@ -26,8 +26,8 @@ use rpp_words::{Input, Limits, NoMemory};
 use std::alloc::{AllocError, Global};
 use std::sync::ledger::Ledger;
 
-/// What a wrapped run is made with: the sizes of heap and stack, the input, the fields whose words are its results, and the
-/// number of steps.
+/// What a wrapped run is made with: the sizes of heap and stack, the input, the fields whose words
+/// are its results, and the number of steps.
 #[derive(Drop)]
 pub(crate) struct Setting {
     pub limits: Limits,
@@ -36,7 +36,8 @@ pub(crate) struct Setting {
     pub bound: u64,
 }
 
-/// Compiles a program, wraps its image, loads that with an input and with cells for the results, runs it and tells how it ended.
+/// Compiles a program, wraps its image, loads that with an input and with cells for the results,
+/// runs it and tells how it ended.
 pub(crate) fn run_wrapped<L: Ledger>(
     alloc: Global,
     checked: &Checked,
@@ -96,10 +97,13 @@ fn report_run(
     machine: &Machine,
     end: RunEnd,
 ) -> Result<Plan, NoMemory>
-    requires { HasWrapped (source_of _checked.now) setting.now.results.items setting.now.limits setting.now.input.words.items setting.now.bound
+    requires { HasWrapped (source_of _checked.now) setting.now.results.items setting.now.limits
+        setting.now.input.words.items setting.now.bound
         _image.now machine.now end.stop end.spent }
-    ensures { IfOk result (λ plan. TellsStop end.stop (source_of _checked.now) _image.now setting.now.results.items
-        setting.now.limits setting.now.input.words.items machine.now.state end.spent setting.now.bound (planned plan)) }
+    ensures { IfOk result (λ plan.
+        TellsStop end.stop (source_of _checked.now) _image.now setting.now.results.items
+        setting.now.limits setting.now.input.words.items machine.now.state end.spent
+        setting.now.bound (planned plan)) }
 {
     match end.stop {
         Stop::Finished => report_results(alloc, _checked, setting, _image, machine, end.spent),
@@ -120,9 +124,11 @@ fn report_results(
     machine: &Machine,
     spent: u64,
 ) -> Result<Plan, NoMemory>
-    requires { HasWrapped (source_of _checked.now) setting.now.results.items setting.now.limits setting.now.input.words.items setting.now.bound
+    requires { HasWrapped (source_of _checked.now) setting.now.results.items setting.now.limits
+        setting.now.input.words.items setting.now.bound
         _image.now machine.now Stop.Finished spent }
-    ensures { IfOk result (λ plan. TellsResults (source_of _checked.now) _image.now setting.now.results.items
+    ensures { IfOk result (λ plan.
+        TellsResults (source_of _checked.now) _image.now setting.now.results.items
         setting.now.limits setting.now.input.words.items machine.now.state spent (planned plan)) }
 {
     let initial = machine.cells() - setting.results.len() as u32;

@@ -3,7 +3,8 @@ use Rattle.std.specs.Prelude.{string_bytes}
 use Rattle.two_way_debugger.specs.Shown.{position_after, shown, spent_in}
 use Rattle.two_way_debugger.proofs.debugger.Debugger.follow.Given as goal
 
--- what is left leads where the whole script does, and what is printed and what is left to print are the whole
+-- what is left leads where the whole script does, and what is printed and what is left to print are
+-- the whole
 abbrev pub invariant-loop-command : goal.invariant-loop-command
 invariant-loop-command g l = record {
   position : position_after (drop l.command-index l.script) l.self ≡ position_after l.script l.initial.self;

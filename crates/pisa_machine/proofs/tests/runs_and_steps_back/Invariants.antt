@@ -1,4 +1,0 @@
-use Rattle.pisa_machine.proofs.tests.runs_and_steps_back.Given as goal
-
-abbrev pub ghosts-walk : goal.ghosts-walk
-ghosts-walk g a = record { name = a.blank.name; parts = a.blank.parts }

@@ -1,4 +1,0 @@
-use Rattle.two_way_debugger.proofs.tests.told.Given as goal
-
-abbrev pub ghosts-session : goal.ghosts-session
-ghosts-session g a = record { name = a.blank.name; parts = a.blank.parts }
