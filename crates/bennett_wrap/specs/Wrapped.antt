@@ -1,5 +1,7 @@
 -- An image whose run computes, copies and computes back.
-use Rattle.std.specs.Prelude.{◌≡◌, ◌≤◌, ◌<◌, ◌+◌, ◌-◌, ◌*◌, ◌^◌, ℕ, List, [], ◌∷◌, ◌++◌, length, map, replicate, take, drop, slice_get, slice_index, Some, if◌then◌else◌}
+use Rattle.std.specs.Prelude.{◌≡◌, ◌≤◌, ◌<◌, ◌+◌, ◌-◌, ◌*◌, ◌^◌, ℕ, List, [], ◌∷◌, ◌++◌, length}
+use Rattle.std.specs.Prelude.{map, replicate, take, drop, slice_get, slice_index, Some}
+use Rattle.std.specs.Prelude.{if◌then◌else◌}
 use Rattle.std.specs.List.{All, position_or_len}
 use Rattle.rpp_words.specs.Words.{IsWord}
 use Rattle.pisa_isa.specs.declared.cell.Cell.{Cell}

@@ -9,7 +9,8 @@ use Rattle.rpp_tree.specs.declared.tree.Expr.{Expr}
 use Rattle.rpp_tree.specs.declared.tree.Place.{Place}
 use Rattle.rpp_tree.specs.declared.tree.Var.{Var}
 use Rattle.rpp_tree.specs.declared.tree.UpdateOp.{UpdateOp}
-use Rattle.rpp_tree.specs.Tree.{Expression, Lvalue, Whole, Item, Statement, Statements, Update, Swap, If, From, Local, Call, Skip, Source, nodes, index_nodes}
+use Rattle.rpp_tree.specs.Tree.{Expression, Lvalue, Whole, Item, Statement, Statements, Update, Swap, If, From, Local}
+use Rattle.rpp_tree.specs.Tree.{Call, Skip, Source, nodes, index_nodes}
 use Rattle.rpp_tree.specs.Views.{lvalue_with, expression_of, lvalue_of, source_of}
 use Rattle.rpp_tree.specs.Limits.{receiver_locals}
 use Rattle.rpp_tree.specs.Parts.{list_tokens}
@@ -17,21 +18,22 @@ use Rattle.class_table.specs.Overrides.{parameters_of}
 use Rattle.class_table.specs.Program.{IsAccepted}
 use Rattle.class_table.specs.Refusal.{wrong_arity}
 use Rattle.class_table.specs.Scope.{Setting, Locals}
-use Rattle.class_table.specs.Statements.{passed, required, each_passes, each_passes_after, argument_known, argument_new, arguments_fit, plain_receiver, receiver_class, slot_rules, call_rules}
+use Rattle.class_table.specs.Statements.{passed, required, each_passes, each_passes_after, argument_known, argument_new}
+use Rattle.class_table.specs.Statements.{arguments_fit, plain_receiver, receiver_class, slot_rules, call_rules}
 use Rattle.class_table.specs.Table.{slot_in, dispatch_in}
 use Rattle.class_table.proofs.PassedRules.{both_passed, handed_on, held}
 use Rattle.paired_code.specs.Code.{Code}
-use Rattle.sound_execution.specs.Plain.{ReceiverIsPlain}
-use Rattle.statement_laws.specs.Held.{Holds, HoldsBoth}
-use Rattle.statement_laws.specs.Stands.{shape_of}
-use Rattle.method_scope.specs.Visible.{Visible, spot_of, free_of, known_in, outer_of}
-use Rattle.method_scope.proofs.Parameters.{parameters_few}
+use Rattle.meaning_sound.specs.Plain.{ReceiverIsPlain}
+use Rattle.refine_form.specs.Held.{Holds, HoldsBoth}
+use Rattle.refine_form.specs.Stands.{shape_of}
+use Rattle.code_scope.specs.Visible.{Visible, spot_of, free_of, known_in, outer_of}
+use Rattle.code_scope.proofs.Parameters.{parameters_few}
 use Rattle.expr_uncompute.specs.Code.{words, place_words}
 use Rattle.expr_uncompute.specs.Promises as code
 use Rattle.expr_uncompute.specs.Steps.{tokens, place_tokens}
 use Rattle.expr_uncompute.specs.Sizes.{swap_size}
 use Rattle.expr_uncompute.proofs.Bounds.{words_most, place_words_most}
-use Rattle.expression_laws.specs.Typing.{typing_in}
+use Rattle.refine_expressions.specs.Typing.{typing_in}
 use Rattle.statement_codegen.specs.Codes.{scope_of, with_variable}
 use Rattle.statement_codegen.specs.Laws.{IfLaw, FromLaw, LocalLaw, SkipLaw, CallLaw, ElementLaw}
 use Rattle.statement_codegen.proofs.Stands.{update_stands, swap_stands}
@@ -44,14 +46,16 @@ if_ok (Err e) f h = h
 
 -- ---- room for the parts of expressions
 
-pub update_room : (v : Visible) (x : Statement) (at : ℕ) (op : UpdateOp) (target : Lvalue) (value : Expression) → x ≡ Update at op target value → StatementStands v x → place_words target + words value ≤ 1000
+pub update_room : (v : Visible) (x : Statement) (at : ℕ) (op : UpdateOp) (target : Lvalue) (value : Expression)
+    → x ≡ Update at op target value → StatementStands v x → place_words target + words value ≤ 1000
 update_room v x at op target value is h =
     let n : index_nodes target + nodes value ≤ 64 = (subst (StatementStands v) is h).allowed.few_nodes in
     let a = words_most value in
     let b = place_words_most target in
     omega (arith, n, a, b)
 
-pub swap_room : (v : Visible) (x : Statement) (at : ℕ) (left right : Lvalue) → x ≡ Swap at left right → StatementStands v x → place_words left + place_words right ≤ 1000
+pub swap_room : (v : Visible) (x : Statement) (at : ℕ) (left right : Lvalue) → x ≡ Swap at left right
+    → StatementStands v x → place_words left + place_words right ≤ 1000
 swap_room v x at left right is h =
     let n : index_nodes left + index_nodes right ≤ 64 = (subst (StatementStands v) is h).allowed.few_nodes in
     let a = place_words_most left in
@@ -61,18 +65,25 @@ swap_room v x at left right is h =
 few_words : (e f : Expression) → nodes e + nodes f ≤ 64 → (words e ≤ 1000) × (words f ≤ 1000)
 few_words e f n = let a = words_most e in let b = words_most f in (omega (arith, n, a), omega (arith, n, b))
 
-pub if_room : (v : Visible) (x : Statement) (at : ℕ) (test after : Expression) (taken other : Statements) → x ≡ If at test taken other after → StatementStands v x → (words test ≤ 1000) × (words after ≤ 1000)
+pub if_room : (v : Visible) (x : Statement) (at : ℕ) (test after : Expression) (taken other : Statements)
+    → x ≡ If at test taken other after → StatementStands v x → (words test ≤ 1000) × (words after ≤ 1000)
 if_room v x at test after taken other is h = few_words test after (subst (StatementStands v) is h).allowed.few_nodes
 
-pub from_room : (v : Visible) (x : Statement) (at : ℕ) (entry exit : Expression) (first again : Statements) → x ≡ From at entry first again exit → StatementStands v x → (words entry ≤ 1000) × (words exit ≤ 1000)
+pub from_room : (v : Visible) (x : Statement) (at : ℕ) (entry exit : Expression) (first again : Statements)
+    → x ≡ From at entry first again exit → StatementStands v x → (words entry ≤ 1000) × (words exit ≤ 1000)
 from_room v x at entry exit first again is h = few_words entry exit (subst (StatementStands v) is h).allowed.few_nodes
 
-pub local_room : (v : Visible) (x : Statement) (at : ℕ) (var : Var) (value : Expression) (body : Statements) (end_var : Var) (last : Expression) → x ≡ Local at var value body end_var last → StatementStands v x → (words value ≤ 1000) × (words last ≤ 1000)
-local_room v x at var value body end_var last is h = few_words value last (subst (StatementStands v) is h).allowed.few_nodes
+pub local_room : (v : Visible) (x : Statement) (at : ℕ) (var : Var) (value : Expression) (body : Statements)
+    (end_var : Var) (last : Expression) → x ≡ Local at var value body end_var last → StatementStands v x
+    → (words value ≤ 1000) × (words last ≤ 1000)
+local_room v x at var value body end_var last is h = few_words value last
+    (subst (StatementStands v) is h).allowed.few_nodes
 
 -- ---- a call has few arguments
 
-few_of : (program : Source) → IsAccepted program → (typing : Setting) → typing.program ≡ program → (shape : Locals) (at : ℕ) (receiver : Option Lvalue) (method : Ident) (args : List Ident) (class : ℕ) (slot : Option ℕ)
+few_of : (program : Source) → IsAccepted program → (typing : Setting) → typing.program ≡ program
+    → (shape : Locals) (at : ℕ) (receiver : Option Lvalue) (method : Ident) (args : List Ident) (class : ℕ)
+    (slot : Option ℕ)
     → slot_rules typing shape at receiver method args class slot ≡ passed → length args ≤ 32
 few_of program accepted typing is shape at receiver method args class None h = absurd (cc)
 few_of program accepted typing is shape at receiver method args class (Some slot) h =
@@ -80,19 +91,24 @@ few_of program accepted typing is shape at receiver method args class (Some slot
     let params = parameters_of typing.program id in
     let a = both_passed (each_passes (argument_known typing shape (is_none receiver) at) args) _ h in
     let b = both_passed (each_passes_after argument_new (plain_receiver receiver) args) _ a.1 in
-    let c = both_passed (required (nat_eq (length args) (length params)) (wrong_arity method.at)) (arguments_fit typing shape params args) b.1 in
+    let c = both_passed (required (nat_eq (length args) (length params)) (wrong_arity method.at))
+    (arguments_fit typing shape params args) b.1 in
     let e : length args ≡ length params = eqb-true (length args) (length params) (held _ (wrong_arity method.at) c.0) in
     let f : length (parameters_of program id) ≤ 16 = parameters_few program id accepted.limits in
     let g : length params ≤ 16 = subst (λ z. length (parameters_of z id) ≤ 16) (sym is) f in
     omega (arith, e, g)
 
-pub call_few : (v : Visible) (x : Statement) (at : ℕ) (back : Bool) (receiver : Option Lvalue) (method : Ident) (args : List Ident) → IsAccepted (source_of v.program) → x ≡ Call at back receiver method args → StatementStands v x → length args ≤ 32
+pub call_few : (v : Visible) (x : Statement) (at : ℕ) (back : Bool) (receiver : Option Lvalue) (method : Ident)
+    (args : List Ident) → IsAccepted (source_of v.program) → x ≡ Call at back receiver method args → StatementStands v x
+    → length args ≤ 32
 call_few v x at back receiver method args accepted is h =
     let typing = typing_in (source_of v.program) (scope_of v) in
     let shape = shape_of (source_of v.program) (scope_of v) in
-    let rules : call_rules typing shape at receiver method args ≡ passed = (subst (StatementStands v) is h).allowed.rules in
+    let rules : call_rules typing shape at receiver method args ≡ passed =
+    (subst (StatementStands v) is h).allowed.rules in
     let r = handed_on (receiver_class typing shape receiver) _ tt rules in
-    few_of (source_of v.program) accepted typing refl shape at receiver method args r.value (slot_in typing.table r.value method.text) r.goes
+    few_of (source_of v.program) accepted typing refl shape at receiver method args r.value
+    (slot_in typing.table r.value method.text) r.goes
 
 some_each : (args : List Ident) → length args ≤ list_tokens (λ name. 1) args
 some_each [] = omega arith
@@ -101,13 +117,18 @@ some_each (first ∷ second ∷ rest) = let a = some_each (second ∷ rest) in o
 
 -- ---- room for a call on an element
 
-pub element_free : (v : Visible) (at : ℕ) (back : Bool) (element : Lvalue) (array : Ident) (index : Expression) (method : Ident) (args : List Ident) → element ≡ Item array index → StatementStands v (Call at back (Some element) method args) → length v.variables < 48
+pub element_free : (v : Visible) (at : ℕ) (back : Bool) (element : Lvalue) (array : Ident) (index : Expression)
+    (method : Ident) (args : List Ident) → element ≡ Item array index
+    → StatementStands v (Call at back (Some element) method args) → length v.variables < 48
 element_free v at back element array index method args is h =
-    let f : length v.variables + 1 ≤ 48 = subst (λ e. length v.variables + receiver_locals (Some e) ≤ 48) is h.allowed.few_locals in
+    let f : length v.variables + 1 ≤ 48 = subst (λ e. length v.variables + receiver_locals (Some e) ≤ 48) is
+    h.allowed.few_locals in
     omega (arith, f)
 
-pub element_room : (v : Visible) (at : ℕ) (back : Bool) (element : Lvalue) (method : Ident) (args : List Ident) → StatementStands v (Call at back (Some element) method args) → place_words element ≤ 1000
-element_room v at back element method args h = let n : index_nodes element ≤ 64 = h.allowed.few_nodes in let a = place_words_most element in omega (arith, n, a)
+pub element_room : (v : Visible) (at : ℕ) (back : Bool) (element : Lvalue) (method : Ident) (args : List Ident)
+    → StatementStands v (Call at back (Some element) method args) → place_words element ≤ 1000
+element_room v at back element method args h = let n : index_nodes element ≤ 64 = h.allowed.few_nodes in let a =
+    place_words_most element in omega (arith, n, a)
 
 -- ---- what the arms answer
 
@@ -115,93 +136,143 @@ swap_few : (left right : Lvalue) → swap_size left right ≤ 102 * (place_token
 swap_few (Whole name) right = omega arith
 swap_few (Item name index) right = omega arith
 
-pub update_arm : {E : Type 0} (v : Visible) (x : Statement) (at : ℕ) (op : UpdateOp) (target : Lvalue) (value : Expression) (r : Result Code E) → x ≡ Update at op target value → StatementStands v x
-    → IfOk r (λ p. code.UpdateLaw (spot_of (known_in v)) (free_of (known_in v)) op target value p.cells) → IfOk r (λ p. p.marks ≡ []) → IfOk r (λ p. length p.cells ≤ 80 * (place_tokens target + 1 + tokens value)) → IfOk r (λ p. InnerPiece v x p)
+pub update_arm : {E : Type 0} (v : Visible) (x : Statement) (at : ℕ) (op : UpdateOp) (target : Lvalue)
+    (value : Expression) (r : Result Code E) → x ≡ Update at op target value → StatementStands v x
+    → IfOk r (λ p. code.UpdateLaw (spot_of (known_in v)) (free_of (known_in v)) op target value p.cells)
+    → IfOk r (λ p. p.marks ≡ []) → IfOk r (λ p. length p.cells ≤ 80 * (place_tokens target + 1 + tokens value))
+    → IfOk r (λ p. InnerPiece v x p)
 update_arm v x at op target value (Err e) is h law none size = tt
 update_arm v x at op target value (Ok p) is h law none size =
     let k = subst (StatementStands v) is h in
     let a = tokens_are value in
     let b = place_tokens_are target in
-    subst (λ z. InnerPiece v z p) (sym is) (plain_inner v (Update at op target value) p none refl (update_stands v at op target value p.cells law k.allowed) (omega (arith, size, a, b)))
+    subst (λ z. InnerPiece v z p) (sym is) (plain_inner v (Update at op target value) p none refl
+    (update_stands v at op target value p.cells law k.allowed) (omega (arith, size, a, b)))
 
-pub swap_arm : {E : Type 0} (v : Visible) (x : Statement) (at : ℕ) (left right : Lvalue) (r : Result Code E) → x ≡ Swap at left right → StatementStands v x
-    → IfOk r (λ p. code.SwapLaw (spot_of (known_in v)) (free_of (known_in v)) left right p.cells) → IfOk r (λ p. p.marks ≡ []) → IfOk r (λ p. length p.cells ≤ swap_size left right) → IfOk r (λ p. InnerPiece v x p)
+pub swap_arm : {E : Type 0} (v : Visible) (x : Statement) (at : ℕ) (left right : Lvalue) (r : Result Code E)
+    → x ≡ Swap at left right → StatementStands v x
+    → IfOk r (λ p. code.SwapLaw (spot_of (known_in v)) (free_of (known_in v)) left right p.cells)
+    → IfOk r (λ p. p.marks ≡ []) → IfOk r (λ p. length p.cells ≤ swap_size left right)
+    → IfOk r (λ p. InnerPiece v x p)
 swap_arm v x at left right (Err e) is h law none size = tt
 swap_arm v x at left right (Ok p) is h law none size =
     let k = subst (StatementStands v) is h in
     let a = place_tokens_are left in
     let b = place_tokens_are right in
     let c = swap_few left right in
-    subst (λ z. InnerPiece v z p) (sym is) (plain_inner v (Swap at left right) p none refl (swap_stands v at left right p.cells law k.allowed) (omega (arith, size, a, b, c)))
+    subst (λ z. InnerPiece v z p) (sym is) (plain_inner v (Swap at left right) p none refl
+    (swap_stands v at left right p.cells law k.allowed) (omega (arith, size, a, b, c)))
 
 pub skip_arm : {E : Type 0} (v : Visible) (x : Statement) (at : ℕ) (r : Result Code E) → x ≡ Skip at
-    → IfOk r (λ p. SkipLaw p.cells) → IfOk r (λ p. p.marks ≡ []) → IfOk r (λ p. length p.cells ≡ 1) → IfOk r (λ p. InnerPiece v x p)
+    → IfOk r (λ p. SkipLaw p.cells) → IfOk r (λ p. p.marks ≡ []) → IfOk r (λ p. length p.cells ≡ 1)
+    → IfOk r (λ p. InnerPiece v x p)
 skip_arm v x at (Err e) is law none size = tt
-skip_arm v x at (Ok p) is law none size = subst (λ z. InnerPiece v z p) (sym is) (plain_inner v (Skip at) p none refl (law.law v at) (omega (arith, size)))
+skip_arm v x at (Ok p) is law none size = subst (λ z. InnerPiece v z p) (sym is)
+    (plain_inner v (Skip at) p none refl (law.law v at) (omega (arith, size)))
 
-pub call_arm : {E : Type 0} (v : Visible) (x : Statement) (at : ℕ) (back : Bool) (receiver : Option Lvalue) (name : Option Ident) (method : Ident) (args : List Ident) (r : Result Code E) → x ≡ Call at back receiver method args → option_map Whole name ≡ receiver → StatementStands v x
-    → IfOk r (λ p. CallLaw v back name method args p.cells) → IfOk r (λ p. p.marks ≡ []) → IfOk r (λ p. length p.cells ≤ 30 * length args + 161) → IfOk r (λ p. InnerPiece v x p)
+pub call_arm : {E : Type 0} (v : Visible) (x : Statement) (at : ℕ) (back : Bool) (receiver : Option Lvalue)
+    (name : Option Ident) (method : Ident) (args : List Ident) (r : Result Code E)
+    → x ≡ Call at back receiver method args → option_map Whole name ≡ receiver → StatementStands v x
+    → IfOk r (λ p. CallLaw v back name method args p.cells) → IfOk r (λ p. p.marks ≡ [])
+    → IfOk r (λ p. length p.cells ≤ 30 * length args + 161) → IfOk r (λ p. InnerPiece v x p)
 call_arm v x at back receiver name method args (Err e) is same h law none size = tt
 call_arm v x at back receiver name method args (Ok p) is same h law none size =
-    let e : x ≡ Call at back (option_map Whole name) method args = is ∙ ap (λ z. Call at back z method args) (sym same) in
+    let e : x ≡ Call at back (option_map Whole name) method args = is
+    ∙ ap (λ z. Call at back z method args) (sym same) in
     let k = subst (StatementStands v) e h in
     let a = some_each args in
-    subst (λ z. InnerPiece v z p) (sym e) (plain_inner v (Call at back (option_map Whole name) method args) p none refl (law.law at k.allowed.rules) (omega (arith, size, a)))
+    subst (λ z. InnerPiece v z p) (sym e) (plain_inner v (Call at back (option_map Whole name) method args) p none refl
+    (law.law at k.allowed.rules) (omega (arith, size, a)))
 
-pub element_arm : {E : Type 0} (v : Visible) (at : ℕ) (back : Bool) (element : Lvalue) (array : Ident) (index : Expression) (method : Ident) (args : List Ident) (r : Result Code E) → element ≡ Item array index → StatementStands v (Call at back (Some element) method args)
-    → IfOk r (λ p. ElementLaw v at back element method args p.cells) → IfOk r (λ p. p.marks ≡ []) → IfOk r (λ p. length p.cells ≤ 160 * (2 + place_tokens element) + 30 * length args + 297) → IfOk r (λ p. InnerPiece v (Call at back (Some element) method args) p)
+pub element_arm : {E : Type 0} (v : Visible) (at : ℕ) (back : Bool) (element : Lvalue) (array : Ident)
+    (index : Expression) (method : Ident) (args : List Ident) (r : Result Code E) → element ≡ Item array index
+    → StatementStands v (Call at back (Some element) method args)
+    → IfOk r (λ p. ElementLaw v at back element method args p.cells) → IfOk r (λ p. p.marks ≡ [])
+    → IfOk r (λ p. length p.cells ≤ 160 * (2 + place_tokens element) + 30 * length args + 297)
+    → IfOk r (λ p. InnerPiece v (Call at back (Some element) method args) p)
 element_arm v at back element array index method args (Err e) is h law none size = tt
 element_arm v at back element array index method args (Ok p) is h law none size =
     let a = some_each args in
     let b = place_tokens_are element in
     let plain : ReceiverIsPlain (Some element) args = h.plain in
-    plain_inner v (Call at back (Some element) method args) p none refl (law.law array index is plain h.allowed) (omega (arith, size, a, b))
+    plain_inner v (Call at back (Some element) method args) p none refl (law.law array index is plain h.allowed)
+    (omega (arith, size, a, b))
 
 -- what a receiver shows
 pub shows_variable : (receiver : Place) → receiver.index ≡ None → lvalue_of receiver ≡ Whole receiver.name
 shows_variable receiver e = ap (lvalue_with receiver.name) e
 
-pub shows_element : (receiver : Place) (index : Box Expr Global) → receiver.index ≡ Some index → lvalue_of receiver ≡ Item receiver.name (expression_of index.value)
+pub shows_element : (receiver : Place) (index : Box Expr Global) → receiver.index ≡ Some index
+    → lvalue_of receiver ≡ Item receiver.name (expression_of index.value)
 shows_element receiver index e = ap (lvalue_with receiver.name) e
 
-pub whole_arm : {E : Type 0} (v : Visible) (at : ℕ) (back : Bool) (receiver : Lvalue) (name method : Ident) (args : List Ident) (r : Result Code E) → receiver ≡ Whole name → StatementStands v (Call at back (Some receiver) method args)
-    → IfOk r (λ p. CallLaw v back (Some name) method args p.cells) → IfOk r (λ p. p.marks ≡ []) → IfOk r (λ p. length p.cells ≤ 30 * length args + 161) → IfOk r (λ p. InnerPiece v (Call at back (Some receiver) method args) p)
-whole_arm v at back receiver name method args r is h law none size = call_arm v (Call at back (Some receiver) method args) at back (Some receiver) (Some name) method args r refl (ap (λ z. Some z) (sym is)) h law none size
+pub whole_arm : {E : Type 0} (v : Visible) (at : ℕ) (back : Bool) (receiver : Lvalue) (name method : Ident)
+    (args : List Ident) (r : Result Code E) → receiver ≡ Whole name
+    → StatementStands v (Call at back (Some receiver) method args)
+    → IfOk r (λ p. CallLaw v back (Some name) method args p.cells) → IfOk r (λ p. p.marks ≡ [])
+    → IfOk r (λ p. length p.cells ≤ 30 * length args + 161)
+    → IfOk r (λ p. InnerPiece v (Call at back (Some receiver) method args) p)
+whole_arm v at back receiver name method args r is h law none size =
+    call_arm v (Call at back (Some receiver) method args) at back (Some receiver) (Some name) method args r refl
+    (ap (λ z. Some z) (sym is)) h law none size
 
-pub if_arm : {E : Type 0} (v : Visible) (x : Statement) (at : ℕ) (test after : Expression) (taken other : Statements) (one two : Code) (r : Result Code E) → x ≡ If at test taken other after → StatementStands v x
+pub if_arm : {E : Type 0} (v : Visible) (x : Statement) (at : ℕ) (test after : Expression) (taken other : Statements)
+    (one two : Code) (r : Result Code E) → x ≡ If at test taken other after → StatementStands v x
     → BlockPiece v taken one → BlockPiece v other two
-    → IfOk r (λ p. IfLaw (known_in v) test after one.cells two.cells p.cells) → IfOk r (λ p. HoldsBoth two one p) → IfOk r (λ p. length p.cells ≤ 58 * (tokens test + tokens after) + length one.cells + length two.cells + 22) → IfOk r (λ p. InnerPiece v x p)
+    → IfOk r (λ p. IfLaw (known_in v) test after one.cells two.cells p.cells) → IfOk r (λ p. HoldsBoth two one p)
+    → IfOk r (λ p. length p.cells ≤ 58 * (tokens test + tokens after) + length one.cells + length two.cells + 22)
+    → IfOk r (λ p. InnerPiece v x p)
 if_arm v x at test after taken other one two (Err e) is h a b law holds size = tt
 if_arm v x at test after taken other one two (Ok p) is h a b law holds size =
-    subst (λ z. InnerPiece v z p) (sym is) (if_inner v at test after taken other one two p (subst (StatementStands v) is h) law holds size a b)
+    subst (λ z. InnerPiece v z p) (sym is) (if_inner v at test after taken other one two p
+    (subst (StatementStands v) is h) law holds size a b)
 
-pub from_arm : {E : Type 0} (v : Visible) (x : Statement) (at : ℕ) (entry exit : Expression) (first again : Statements) (one two : Code) (r : Result Code E) → x ≡ From at entry first again exit → StatementStands v x
+pub from_arm : {E : Type 0} (v : Visible) (x : Statement) (at : ℕ) (entry exit : Expression) (first again : Statements)
+    (one two : Code) (r : Result Code E) → x ≡ From at entry first again exit → StatementStands v x
     → BlockPiece v first one → BlockPiece v again two
-    → IfOk r (λ p. FromLaw (known_in v) entry exit one.cells two.cells p.cells) → IfOk r (λ p. HoldsBoth two one p) → IfOk r (λ p. length p.cells ≤ 58 * (tokens entry + tokens exit) + length one.cells + length two.cells + 22) → IfOk r (λ p. InnerPiece v x p)
+    → IfOk r (λ p. FromLaw (known_in v) entry exit one.cells two.cells p.cells) → IfOk r (λ p. HoldsBoth two one p)
+    → IfOk r (λ p. length p.cells ≤ 58 * (tokens entry + tokens exit) + length one.cells + length two.cells + 22)
+    → IfOk r (λ p. InnerPiece v x p)
 from_arm v x at entry exit first again one two (Err e) is h a b law holds size = tt
 from_arm v x at entry exit first again one two (Ok p) is h a b law holds size =
-    subst (λ z. InnerPiece v z p) (sym is) (from_inner v at entry exit first again one two p (subst (StatementStands v) is h) law holds size a b)
+    subst (λ z. InnerPiece v z p) (sym is) (from_inner v at entry exit first again one two p
+    (subst (StatementStands v) is h) law holds size a b)
 
-pub local_arm : {E : Type 0} (v : Visible) (x : Statement) (at : ℕ) (var : Var) (value : Expression) (body : Statements) (end_var : Var) (last : Expression) (inside : Code) (r : Result Code E) → x ≡ Local at var value body end_var last → StatementStands v x
+pub local_arm : {E : Type 0} (v : Visible) (x : Statement) (at : ℕ) (var : Var) (value : Expression) (body : Statements)
+    (end_var : Var) (last : Expression) (inside : Code) (r : Result Code E) → x ≡ Local at var value body end_var last
+    → StatementStands v x
     → BlockPiece (with_variable v var) body inside
-    → IfOk r (λ p. LocalLaw (known_in v) var value last inside.cells p.cells) → IfOk r (λ p. Holds inside p) → IfOk r (λ p. length p.cells ≤ 58 * (tokens value + tokens last) + length inside.cells + 20) → IfOk r (λ p. InnerPiece v x p)
+    → IfOk r (λ p. LocalLaw (known_in v) var value last inside.cells p.cells) → IfOk r (λ p. Holds inside p)
+    → IfOk r (λ p. length p.cells ≤ 58 * (tokens value + tokens last) + length inside.cells + 20)
+    → IfOk r (λ p. InnerPiece v x p)
 local_arm v x at var value body end_var last inside (Err e) is h a law holds size = tt
 local_arm v x at var value body end_var last inside (Ok p) is h a law holds size =
-    subst (λ z. InnerPiece v z p) (sym is) (local_inner v at var value body end_var last inside p (subst (StatementStands v) is h) law holds size a)
+    subst (λ z. InnerPiece v z p) (sym is) (local_inner v at var value body end_var last inside p
+    (subst (StatementStands v) is h) law holds size a)
 
 -- ---- the same, where the scope went on from one block to the next
 
-pub if_made : {E : Type 0} (v w u : Visible) (x : Statement) (at : ℕ) (test after : Expression) (taken other : Statements) (one two : Code) (r : Result Code E) → x ≡ If at test taken other after → StatementStands v x
+pub if_made : {E : Type 0} (v w u : Visible) (x : Statement) (at : ℕ) (test after : Expression)
+    (taken other : Statements) (one two : Code) (r : Result Code E) → x ≡ If at test taken other after
+    → StatementStands v x
     → w ≡ v → u ≡ w → BlockPiece v taken one → BlockPiece w other two
-    → IfOk r (λ p. IfLaw (known_in u) test after one.cells two.cells p.cells) → IfOk r (λ p. HoldsBoth two one p) → IfOk r (λ p. length p.cells ≤ 58 * (tokens test + tokens after) + length one.cells + length two.cells + 22) → IfOk r (λ p. InnerPiece v x p)
+    → IfOk r (λ p. IfLaw (known_in u) test after one.cells two.cells p.cells) → IfOk r (λ p. HoldsBoth two one p)
+    → IfOk r (λ p. length p.cells ≤ 58 * (tokens test + tokens after) + length one.cells + length two.cells + 22)
+    → IfOk r (λ p. InnerPiece v x p)
 if_made v w u x at test after taken other one two r is h e f a b law holds size =
-    if_arm v x at test after taken other one two r is h a (subst (λ z. BlockPiece z other two) e b) (subst (λ z. IfOk r (λ p. IfLaw (known_in z) test after one.cells two.cells p.cells)) (f ∙ e) law) holds size
+    if_arm v x at test after taken other one two r is h a (subst (λ z. BlockPiece z other two) e b)
+    (subst (λ z. IfOk r (λ p. IfLaw (known_in z) test after one.cells two.cells p.cells)) (f ∙ e) law) holds size
 
-pub from_made : {E : Type 0} (v w u : Visible) (x : Statement) (at : ℕ) (entry exit : Expression) (first again : Statements) (one two : Code) (r : Result Code E) → x ≡ From at entry first again exit → StatementStands v x
+pub from_made : {E : Type 0} (v w u : Visible) (x : Statement) (at : ℕ) (entry exit : Expression)
+    (first again : Statements) (one two : Code) (r : Result Code E) → x ≡ From at entry first again exit
+    → StatementStands v x
     → w ≡ v → u ≡ w → BlockPiece v first one → BlockPiece w again two
-    → IfOk r (λ p. FromLaw (known_in u) entry exit one.cells two.cells p.cells) → IfOk r (λ p. HoldsBoth two one p) → IfOk r (λ p. length p.cells ≤ 58 * (tokens entry + tokens exit) + length one.cells + length two.cells + 22) → IfOk r (λ p. InnerPiece v x p)
+    → IfOk r (λ p. FromLaw (known_in u) entry exit one.cells two.cells p.cells) → IfOk r (λ p. HoldsBoth two one p)
+    → IfOk r (λ p. length p.cells ≤ 58 * (tokens entry + tokens exit) + length one.cells + length two.cells + 22)
+    → IfOk r (λ p. InnerPiece v x p)
 from_made v w u x at entry exit first again one two r is h e f a b law holds size =
-    from_arm v x at entry exit first again one two r is h a (subst (λ z. BlockPiece z again two) e b) (subst (λ z. IfOk r (λ p. FromLaw (known_in z) entry exit one.cells two.cells p.cells)) (f ∙ e) law) holds size
+    from_arm v x at entry exit first again one two r is h a (subst (λ z. BlockPiece z again two) e b)
+    (subst (λ z. IfOk r (λ p. FromLaw (known_in z) entry exit one.cells two.cells p.cells)) (f ∙ e) law) holds size
 
 -- without the innermost variable
 abbrev popped : Visible → Visible
@@ -211,9 +282,14 @@ popped v = record v { variables = outer_of v.variables }
 pub popped_is : (v w u o : Visible) (var : Var) → w ≡ with_variable v var → u ≡ w → o ≡ popped u → o ≡ v
 popped_is v w u o var e f g = g ∙ ap popped (f ∙ e)
 
-pub local_made : {E : Type 0} (v w u o : Visible) (x : Statement) (at : ℕ) (var : Var) (value : Expression) (body : Statements) (end_var : Var) (last : Expression) (inside : Code) (r : Result Code E) → x ≡ Local at var value body end_var last → StatementStands v x
+pub local_made : {E : Type 0} (v w u o : Visible) (x : Statement) (at : ℕ) (var : Var) (value : Expression)
+    (body : Statements) (end_var : Var) (last : Expression) (inside : Code) (r : Result Code E)
+    → x ≡ Local at var value body end_var last → StatementStands v x
     → w ≡ with_variable v var → u ≡ w → o ≡ popped u → BlockPiece w body inside
-    → IfOk r (λ p. LocalLaw (known_in o) var value last inside.cells p.cells) → IfOk r (λ p. Holds inside p) → IfOk r (λ p. length p.cells ≤ 58 * (tokens value + tokens last) + length inside.cells + 20) → IfOk r (λ p. InnerPiece v x p)
+    → IfOk r (λ p. LocalLaw (known_in o) var value last inside.cells p.cells) → IfOk r (λ p. Holds inside p)
+    → IfOk r (λ p. length p.cells ≤ 58 * (tokens value + tokens last) + length inside.cells + 20)
+    → IfOk r (λ p. InnerPiece v x p)
 local_made v w u o x at var value body end_var last inside r is h e f g a law holds size =
     let back : o ≡ v = g ∙ ap popped (f ∙ e) in
-    local_arm v x at var value body end_var last inside r is h (subst (λ z. BlockPiece z body inside) e a) (subst (λ z. IfOk r (λ p. LocalLaw (known_in z) var value last inside.cells p.cells)) back law) holds size
+    local_arm v x at var value body end_var last inside r is h (subst (λ z. BlockPiece z body inside) e a)
+    (subst (λ z. IfOk r (λ p. LocalLaw (known_in z) var value last inside.cells p.cells)) back law) holds size

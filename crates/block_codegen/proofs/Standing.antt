@@ -6,16 +6,18 @@ use Rattle.std.proofs.lemmas.List.Elements.{All-take, All-drop}
 use Rattle.rpp_tree.specs.declared.tree.Ident.{Ident}
 use Rattle.rpp_tree.specs.declared.tree.Var.{Var}
 use Rattle.rpp_tree.specs.declared.tree.VarType.TheVariants as type
-use Rattle.rpp_tree.specs.Tree.{Expression, Statement, Statements, Update, Swap, If, From, Construct, Local, New, Delete, Copy, Uncopy, Call, Skip, Then}
+use Rattle.rpp_tree.specs.Tree.{Expression, Statement, Statements, Update, Swap, If, From, Construct, Local, New}
+use Rattle.rpp_tree.specs.Tree.{Delete, Copy, Uncopy, Call, Skip, Then}
 use Rattle.rpp_tree.specs.Places.{statement_place}
 use Rattle.rpp_tree.specs.Views.{source_of}
 use Rattle.rpp_tree.specs.Parts.{expression_places, var_places, statement_places, block_places}
 use Rattle.class_table.specs.Scope.{Setting, Locals}
-use Rattle.class_table.specs.Statements.{test_rules, local_rules, construct_rules, with_local, with_object, check_statement, check_statements}
+use Rattle.class_table.specs.Statements.{test_rules, local_rules, construct_rules, with_local, with_object}
+use Rattle.class_table.specs.Statements.{check_statement, check_statements}
 use Rattle.class_table.proofs.PassedRules.{both_passed}
-use Rattle.statement_laws.specs.Stands.{shape_of}
-use Rattle.method_scope.specs.Visible.{Visible}
-use Rattle.expression_laws.specs.Typing.{typing_in}
+use Rattle.refine_form.specs.Stands.{shape_of}
+use Rattle.code_scope.specs.Visible.{Visible}
+use Rattle.refine_expressions.specs.Typing.{typing_in}
 use Rattle.statement_codegen.specs.Codes.{scope_of, with_variable}
 use Rattle.block_codegen.specs.Pieces.{IsPlace, StatementStands, StandsIn}
 
@@ -43,10 +45,12 @@ own_place (Skip at) all = all 0 0 (omega arith)
 
 -- the places of two blocks between others
 first_of_two : (before one two after : List ℕ) → All IsPlace (before ++ one ++ two ++ after) → All IsPlace one
-first_of_two before one two after all = right IsPlace before one (left IsPlace (before ++ one) two (left IsPlace (before ++ one ++ two) after all))
+first_of_two before one two after all = right IsPlace before one
+    (left IsPlace (before ++ one) two (left IsPlace (before ++ one ++ two) after all))
 
 second_of_two : (before one two after : List ℕ) → All IsPlace (before ++ one ++ two ++ after) → All IsPlace two
-second_of_two before one two after all = right IsPlace (before ++ one) two (left IsPlace (before ++ one ++ two) after all)
+second_of_two before one two after all = right IsPlace (before ++ one) two
+    (left IsPlace (before ++ one ++ two) after all)
 
 -- ---- the parts
 
@@ -81,68 +85,88 @@ module _ (v : Visible) where
   }
 
   -- the two blocks of a conditional
-  pub taken_stands : (at : ℕ) (test : Expression) (taken other : Statements) (after : Expression) → StatementStands v (If at test taken other after) → StandsIn v taken
+  pub taken_stands : (at : ℕ) (test : Expression) (taken other : Statements) (after : Expression)
+      → StatementStands v (If at test taken other after) → StandsIn v taken
   taken_stands at test taken other after h = record {
-    rules = (both_passed (check_statements typing shape taken) (check_statements typing shape other) (both_passed (test_rules typing shape test after) _ h.allowed.rules).1).0;
+    rules = (both_passed (check_statements typing shape taken) (check_statements typing shape other)
+        (both_passed (test_rules typing shape test after) _ h.allowed.rules).1).0;
     has_words = h.allowed.has_words.1;
     plain = h.plain.1;
     small = h.inner_small.0;
-    places = first_of_two (at ∷ expression_places test) (block_places taken) (block_places other) (expression_places after) h.places;
+    places = first_of_two (at ∷ expression_places test) (block_places taken) (block_places other)
+        (expression_places after) h.places;
     room = let r = h.allowed.few_locals in omega (arith, r);
   }
 
-  pub other_stands : (at : ℕ) (test : Expression) (taken other : Statements) (after : Expression) → StatementStands v (If at test taken other after) → StandsIn v other
+  pub other_stands : (at : ℕ) (test : Expression) (taken other : Statements) (after : Expression)
+      → StatementStands v (If at test taken other after) → StandsIn v other
   other_stands at test taken other after h = record {
-    rules = (both_passed (check_statements typing shape taken) (check_statements typing shape other) (both_passed (test_rules typing shape test after) _ h.allowed.rules).1).1;
+    rules = (both_passed (check_statements typing shape taken) (check_statements typing shape other)
+        (both_passed (test_rules typing shape test after) _ h.allowed.rules).1).1;
     has_words = h.allowed.has_words.2;
     plain = h.plain.2;
     small = h.inner_small.1;
-    places = second_of_two (at ∷ expression_places test) (block_places taken) (block_places other) (expression_places after) h.places;
+    places = second_of_two (at ∷ expression_places test) (block_places taken) (block_places other)
+        (expression_places after) h.places;
     room = let r = h.allowed.few_locals in omega (arith, r);
   }
 
   -- those of a loop
-  pub entered_stands : (at : ℕ) (entry : Expression) (first again : Statements) (exit : Expression) → StatementStands v (From at entry first again exit) → StandsIn v first
+  pub entered_stands : (at : ℕ) (entry : Expression) (first again : Statements) (exit : Expression)
+      → StatementStands v (From at entry first again exit) → StandsIn v first
   entered_stands at entry first again exit h = record {
-    rules = (both_passed (check_statements typing shape first) (check_statements typing shape again) (both_passed (test_rules typing shape entry exit) _ h.allowed.rules).1).0;
+    rules = (both_passed (check_statements typing shape first) (check_statements typing shape again)
+        (both_passed (test_rules typing shape entry exit) _ h.allowed.rules).1).0;
     has_words = h.allowed.has_words.1;
     plain = h.plain.1;
     small = h.inner_small.0;
-    places = first_of_two (at ∷ expression_places entry) (block_places first) (block_places again) (expression_places exit) h.places;
+    places = first_of_two (at ∷ expression_places entry) (block_places first) (block_places again)
+        (expression_places exit) h.places;
     room = let r = h.allowed.few_locals in omega (arith, r);
   }
 
-  pub repeated_stands : (at : ℕ) (entry : Expression) (first again : Statements) (exit : Expression) → StatementStands v (From at entry first again exit) → StandsIn v again
+  pub repeated_stands : (at : ℕ) (entry : Expression) (first again : Statements) (exit : Expression)
+      → StatementStands v (From at entry first again exit) → StandsIn v again
   repeated_stands at entry first again exit h = record {
-    rules = (both_passed (check_statements typing shape first) (check_statements typing shape again) (both_passed (test_rules typing shape entry exit) _ h.allowed.rules).1).1;
+    rules = (both_passed (check_statements typing shape first) (check_statements typing shape again)
+        (both_passed (test_rules typing shape entry exit) _ h.allowed.rules).1).1;
     has_words = h.allowed.has_words.2;
     plain = h.plain.2;
     small = h.inner_small.1;
-    places = second_of_two (at ∷ expression_places entry) (block_places first) (block_places again) (expression_places exit) h.places;
+    places = second_of_two (at ∷ expression_places entry) (block_places first) (block_places again)
+        (expression_places exit) h.places;
     room = let r = h.allowed.few_locals in omega (arith, r);
   }
 
   -- the block of a local variable
-  pub inside_stands : (at : ℕ) (var : Var) (value : Expression) (body : Statements) (end_var : Var) (end_value : Expression) → StatementStands v (Local at var value body end_var end_value) → StandsIn (with_variable v var) body
+  pub inside_stands : (at : ℕ) (var : Var) (value : Expression) (body : Statements) (end_var : Var)
+      (end_value : Expression) → StatementStands v (Local at var value body end_var end_value)
+      → StandsIn (with_variable v var) body
   inside_stands at var value body end_var end_value h = record {
-    rules = (both_passed (local_rules typing shape at var value end_var end_value) (check_statements typing (with_local typing shape var) body) h.allowed.rules).1;
+    rules = (both_passed (local_rules typing shape at var value end_var end_value)
+        (check_statements typing (with_local typing shape var) body) h.allowed.rules).1;
     has_words = h.allowed.has_words.1;
     plain = h.plain.1;
     small = h.inner_small;
     places =
         right IsPlace (at ∷ var_places var ++ expression_places value) (block_places body)
         (left IsPlace (at ∷ var_places var ++ expression_places value ++ block_places body) (var_places end_var)
-        (left IsPlace (at ∷ var_places var ++ expression_places value ++ block_places body ++ var_places end_var) (expression_places end_value) h.places));
+        (left IsPlace (at ∷ var_places var ++ expression_places value ++ block_places body ++ var_places end_var)
+        (expression_places end_value) h.places));
     room = let r = h.allowed.few_locals in omega (arith, r);
   }
 
   -- the block of an object that is constructed
-  pub constructed_stands : (at : ℕ) (class name : Ident) (body : Statements) (end : Ident) → StatementStands v (Construct at class name body end) → StandsIn (with_variable v (record { kind = type.Class class; name = name })) body
+  pub constructed_stands : (at : ℕ) (class name : Ident) (body : Statements) (end : Ident)
+      → StatementStands v (Construct at class name body end)
+      → StandsIn (with_variable v (record { kind = type.Class class; name = name })) body
   constructed_stands at class name body end h = record {
-    rules = (both_passed (construct_rules typing shape class name end) (check_statements typing (with_object typing shape class name) body) h.allowed.rules).1;
+    rules = (both_passed (construct_rules typing shape class name end)
+        (check_statements typing (with_object typing shape class name) body) h.allowed.rules).1;
     has_words = h.allowed.has_words;
     plain = h.plain;
     small = h.inner_small;
-    places = right IsPlace (at ∷ class.at ∷ name.at ∷ []) (block_places body) (left IsPlace (at ∷ class.at ∷ name.at ∷ block_places body) (end.at ∷ []) h.places);
+    places = right IsPlace (at ∷ class.at ∷ name.at ∷ []) (block_places body)
+        (left IsPlace (at ∷ class.at ∷ name.at ∷ block_places body) (end.at ∷ []) h.places);
     room = let r = h.allowed.few_locals in omega (arith, r);
   }

@@ -2,21 +2,22 @@
 use Rattle.std.specs.Prelude.{◌≡◌, ℕ, ◌+◌, ◌*◌, ◌<◌, ◌≤◌, List, length, Option, All}
 use Rattle.rpp_tree.specs.declared.tree.Ident.{Ident}
 use Rattle.rpp_tree.specs.declared.limits.TheConstants.{MOST_BYTES}
-use Rattle.rpp_tree.specs.Tree.{Lvalue, Statement, Statements, If, From, Construct, Local, New, Delete, Copy, Uncopy, Call, Source}
+use Rattle.rpp_tree.specs.Tree.{Lvalue, Statement, Statements, If, From, Construct, Local, New}
+use Rattle.rpp_tree.specs.Tree.{Delete, Copy, Uncopy, Call, Source}
 use Rattle.rpp_tree.specs.Views.{source_of}
 use Rattle.rpp_tree.specs.Parts.{statement_places, block_places, statement_tokens, block_tokens}
 use Rattle.rpp_tree.specs.Limits.{locals, AreSmall, AreInnerSmall}
 use Rattle.class_table.specs.Statements.{passed, check_statements}
 use Rattle.paired_code.specs.declared.part.Symbol.{Symbol}
 use Rattle.paired_code.specs.Code.{Code}
-use Rattle.sound_execution.specs.Plain.{StatementIsPlain, BlockHasWords, IsPlain}
-use Rattle.statement_laws.specs.Form.{Scope, StmtLaw}
-use Rattle.statement_laws.specs.Stands.{shape_of}
-use Rattle.statement_laws.specs.Worlds.{Place, world_of}
-use Rattle.method_scope.specs.declared.known.TheConstants.{MOST_VARIABLES}
-use Rattle.method_scope.specs.Visible.{Visible}
-use Rattle.frame_facts.specs.Laws.{IsLinked}
-use Rattle.expression_laws.specs.Typing.{typing_in}
+use Rattle.meaning_sound.specs.Plain.{StatementIsPlain, BlockHasWords, IsPlain}
+use Rattle.refine_form.specs.Form.{Scope, StmtLaw}
+use Rattle.refine_form.specs.Stands.{shape_of}
+use Rattle.refine_form.specs.Worlds.{Place, world_of}
+use Rattle.code_conventions.specs.declared.memory.TheConstants.{MOST_VARIABLES}
+use Rattle.code_scope.specs.Visible.{Visible}
+use Rattle.refine_calls.specs.Laws.{IsLinked}
+use Rattle.refine_expressions.specs.Typing.{typing_in}
 use Rattle.statement_codegen.specs.declared.elements.CallParts.{CallParts}
 use Rattle.statement_codegen.specs.Codes.{scope_of, IsStatementCode, IsBlockCode, IsAllowed}
 use Rattle.block_codegen.specs.Rows.{inner_rows, block_rows}

@@ -1,5 +1,6 @@
 -- Marks of statements: one for each, over its cells, apart or nested as the statements are.
-use Rattle.std.specs.Prelude.{◌≡◌, ℕ, ◌-◌, ◌<◌, ◌≤◌, ◌⊎◌, Bool, true, ◌&&◌, nat_le, nat_lt, List, [], ◌∷◌, length, take, drop, All}
+use Rattle.std.specs.Prelude.{◌≡◌, ℕ, ◌-◌, ◌<◌, ◌≤◌, ◌⊎◌, Bool, true, ◌&&◌, nat_le, nat_lt, List}
+use Rattle.std.specs.Prelude.{[], ◌∷◌, length, take, drop, All}
 use Rattle.std.specs.List.{list_any, AllZip}
 use Rattle.std.specs.List.Sorted.{IsPermutation}
 use Rattle.rpp_tree.specs.Tree.{Statement}
@@ -7,7 +8,7 @@ use Rattle.rpp_tree.specs.Places.{statement_place}
 use Rattle.pisa_isa.specs.declared.notes.Mark.{Mark}
 use Rattle.paired_code.specs.declared.part.Symbol.{Symbol}
 use Rattle.paired_code.specs.Code.{Code}
-use Rattle.statement_laws.specs.Form.{Scope}
+use Rattle.refine_form.specs.Form.{Scope}
 use Rattle.block_codegen.specs.Rows.{Row}
 
 -- the second range lies in the first
@@ -18,14 +19,16 @@ LiesIn k j = (k.first ≤ j.first) × (j.end ≤ k.end)
 abbrev pub LiesApart : Mark → Mark → Type 0
 LiesApart k j = (k.end ≤ j.first) ⊎ (j.end ≤ k.first)
 
--- Behind each statement come those that stand in it, whose ranges lie in its own, and then others, whose
+-- Behind each statement come those that stand in it, whose ranges lie in its own, and then others,
+-- whose
 -- ranges lie apart.
 abbrev pub AreNested : List Row → List Mark → Type 0
 AreNested [] [] = Unit {0}
 AreNested [] (k ∷ ks) = ⊥
 AreNested (r ∷ rs) [] = ⊥
 AreNested (r ∷ rs) (k ∷ ks) =
-    (r.inside ≤ length ks) × All (LiesIn k) (take r.inside ks) × All (LiesApart k) (drop r.inside ks)
+    (r.inside ≤ length ks) × All (LiesIn k) (take r.inside ks)
+    × All (LiesApart k) (drop r.inside ks)
     × AreNested rs ks
 
 module _ (Law : Scope → Statement → List Symbol → Type 0) where

@@ -1,8 +1,9 @@
 -- The statements of a block in the order of the text, each in its scope.
 use Rattle.std.specs.Prelude.{ℕ, List, [], ◌∷◌, ◌++◌, length}
 use Rattle.rpp_tree.specs.declared.tree.VarType.TheVariants as type
-use Rattle.rpp_tree.specs.Tree.{Statement, Statements, Update, Swap, If, From, Construct, Local, New, Delete, Copy, Uncopy, Call, Skip, End, Then}
-use Rattle.statement_laws.specs.Form.{Scope, with_var}
+use Rattle.rpp_tree.specs.Tree.{Statement, Statements, Update, Swap, If, From, Construct, Local}
+use Rattle.rpp_tree.specs.Tree.{New, Delete, Copy, Uncopy, Call, Skip, End, Then}
+use Rattle.refine_form.specs.Form.{Scope, with_var}
 
 -- a statement, the scope in which it stands, and how many statements stand in it
 pub record Row : Type 0 where

@@ -11,7 +11,7 @@ ghost use Rattle.block_codegen.specs.Pieces.{StatementStands, StandsIn, HaveMark
 
 use crate::objects::{making_piece, object_var};
 use crate::plain::{place_of, plain_piece};
-use method_scope::Scope;
+use code_scope::Scope;
 use paired_code::{Piece, empty, marked, seq};
 use rpp_tree::tree::{Block, Stmt};
 use rpp_words::NoMemory;

@@ -3,11 +3,11 @@ ghost use Rattle.std.specs.Prelude.{◌≡◌, ◌≤◌, [], length, IfOk};
 ghost use Rattle.rpp_tree.specs.declared.tree.VarType.TheVariants.{Class};
 ghost use Rattle.rpp_tree.specs.Tree.{Object, Whole};
 ghost use Rattle.rpp_tree.specs.Views.{source_of, statement_of};
-ghost use Rattle.method_scope.specs.Visible.{spot_of, free_of, known_in};
+ghost use Rattle.code_scope.specs.Visible.{spot_of, free_of, known_in};
 ghost use Rattle.object_codegen.specs.Creations.{NewLaw, creation_size};
 ghost use Rattle.block_codegen.specs.Pieces.{StatementStands, IsOfObjects, InnerPiece};
 
-use method_scope::Scope;
+use code_scope::Scope;
 use object_codegen::{class_code, copy_code, new_code};
 use paired_code::{Piece, mirror};
 use rpp_tree::tree::{Ident, Place, Stmt, Var, VarType};

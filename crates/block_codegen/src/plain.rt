@@ -5,8 +5,8 @@ ghost use Rattle.rpp_tree.specs.Views.{lvalue_of, optional_lvalue_of, statement_
 ghost use Rattle.block_codegen.specs.Pieces.{call_on, StatementStands, HoldsNoBlock, InnerPiece};
 
 use crate::objects::object_piece;
+use code_scope::Scope;
 use expr_uncompute::{swap_code, update_code};
-use method_scope::Scope;
 use paired_code::Piece;
 use rpp_tree::tree::{Place, Stmt};
 use rpp_words::NoMemory;

@@ -8,8 +8,8 @@ use Rattle.paired_code.specs.Pieces.{Will}
 use Rattle.paired_code.specs.Does.{Meets}
 use Rattle.paired_code.proofs.Laws.{will_more}
 use Rattle.roopl_semantics.specs.Store.{State}
-use Rattle.statement_laws.specs.Form.{World, Scope, TestLaw, registers, bit, test_rates, test_slack, tested, told}
-use Rattle.statement_laws.proofs.Rules.{as_known, meets_as}
+use Rattle.refine_form.specs.Form.{World, Scope, TestLaw, registers, bit, test_rates, test_slack, tested, told}
+use Rattle.refine_form.proofs.Rules.{as_known, meets_as}
 
 abbrev pub mk : (link object frame at at' word flag place : ℕ) → List ℕ → Memory
 mk l o f a b c g p cs = record { regs = registers l o f a b c g p; cells = cs }
@@ -22,11 +22,14 @@ pub record Flagged (w : World) (s : Scope) (u : w.Under) (v : Bool) (st : State)
 -- the code of a test xors the truth into the flag, and the frame stays open
 abbrev pub FlagLaw : World → Scope → Expression → List Symbol → Type 0
 FlagLaw w s e p =
-    (n : ℕ) (d : Bool) (u : w.Under) (v : Bool) (st : State) (m : Memory) → Flagged w s u v st m → Will w.im p d m (Meets (λ t m1. Flagged w s u (xor v t) st m1) (test_rates w) n test_slack (told (tested w.setting e st)))
+    (n : ℕ) (d : Bool) (u : w.Under) (v : Bool) (st : State) (m : Memory) → Flagged w s u v st m
+    → Will w.im p d m (Meets (λ t m1. Flagged w s u (xor v t) st m1) (test_rates w) n test_slack
+    (told (tested w.setting e st)))
 
 pub test_flags : (w : World) (s : Scope) (e : Expression) (p : List Symbol) → TestLaw w s e p → FlagLaw w s e p
 test_flags w s e p h n d u v st m f =
-    subst (λ z. Will w.im p d z (Meets (λ t m1. Flagged w s u (xor v t) st m1) (test_rates w) n test_slack (told (tested w.setting e st)))) (sym (as_known m _ f.regs_are))
+    subst (λ z. Will w.im p d z (Meets (λ t m1. Flagged w s u (xor v t) st m1) (test_rates w) n test_slack
+    (told (tested w.setting e st)))) (sym (as_known m _ f.regs_are))
     (will_more w.im p d _ _ _ (λ o q. meets_as (λ t m1 c said is. record {
       regs_are = ap (λ z. z.regs) is;
       open_frame = subst (w.opens s u [] st) (sym (ap (λ z. z.cells) is)) f.open_frame;

@@ -1,5 +1,6 @@
 -- Loops in both directions, where each test stands once and is made once for each count.
-use Rattle.std.proofs.Common.{◌≡◌, ◌≢◌, ℕ, zero, suc, ◌+◌, ◌-◌, ◌*◌, ◌≤◌, inl, inr, Bool, true, false, List, [], ◌∷◌, ◌++◌, refl, sym, ap, ◌∙◌, subst, arith, append-nil, append_assoc}
+use Rattle.std.proofs.Common.{◌≡◌, ◌≢◌, ℕ, zero, suc, ◌+◌, ◌-◌, ◌*◌, ◌≤◌, inl, inr, Bool, true, false, List, [], ◌∷◌}
+use Rattle.std.proofs.Common.{◌++◌, refl, sym, ap, ◌∙◌, subst, arith, append-nil, append_assoc}
 use Rattle.std.specs.Prelude.{not}
 use Rattle.std.proofs.Math.Nat.{mul-add, mul-le-mul_right}
 use Rattle.rpp_tree.specs.Tree.{Expression, Number, Null, Variable, Element, Binary, Statements, From, nodes}
@@ -9,39 +10,53 @@ use Rattle.paired_code.specs.declared.part.Symbol.{Symbol}
 use Rattle.paired_code.specs.Machine.{Image, reg}
 use Rattle.paired_code.specs.Layout.{xor, check_cells, loop_cells}
 use Rattle.paired_code.specs.Pieces.{Outcome, Done, Trapped, Still, Will, after, to_tail, to_head}
-use Rattle.paired_code.specs.Does.{Rates, Told, Fine, Fault, More, plus, told_then, Meets, fine, faults, more, Does, in_order}
+use Rattle.paired_code.specs.Does.{Rates, Told, Fine, Fault, More, plus, told_then, Meets, fine, faults, more, Does}
+use Rattle.paired_code.specs.Does.{in_order}
 use Rattle.paired_code.proofs.Laws.{Next, will_of, will_more}
 use Rattle.paired_code.proofs.Small.{runs_check_zero, runs_check_other}
 use Rattle.paired_code.proofs.Does.{will_first, will_last, Quiet, quiet}
 use Rattle.paired_code.proofs.Loop.{Turns, turn, turns_more, will_loop, After_head}
-use Rattle.roopl_semantics.specs.Run.{Run, Done as DoneRun, Fault as FaultRun, More as MoreRun, ◌>>=◌, give, fault_if, given, after_cost}
+use Rattle.roopl_semantics.specs.Run.{Run, Done as DoneRun, Fault as FaultRun, More as MoreRun, ◌>>=◌, give, fault_if}
+use Rattle.roopl_semantics.specs.Run.{given, after_cost}
 use Rattle.roopl_semantics.specs.Store.{Value, State}
 use Rattle.roopl_semantics.specs.Value.{evaluated, value}
 use Rattle.roopl_semantics.specs.Execution.{Setting, exec, holds, loop_fault, turns, turn_end}
-use Rattle.statement_laws.specs.Form.{World, Scope, Open, Owes, StmtLaw, BlockLaw, TestLaw, test_rates, tested, told, one, turned}
+use Rattle.refine_form.specs.Form.{World, Scope, Open, Owes, StmtLaw, BlockLaw, TestLaw, test_rates, tested, told}
+use Rattle.refine_form.specs.Form.{one, turned}
 use Rattle.paired_code.specs.Rows.{line}
-use Rattle.statement_laws.specs.Cells.{around}
+use Rattle.refine_form.specs.Cells.{around}
 use Rattle.branch_codegen.specs.Branches.{flips, from_code}
 use Rattle.paired_code.proofs.Small.{runs_still}
-use Rattle.statement_laws.proofs.Told.{alone, told_after, told_bind, same_then, plus_none, plus_plus}
-use Rattle.statement_laws.proofs.Rules.{as_known, wraps_spent, meets_told}
-use Rattle.statement_laws.proofs.Rows.{here, next, will_row}
+use Rattle.refine_form.proofs.Told.{alone, told_after, told_bind, same_then, plus_none, plus_plus}
+use Rattle.refine_form.proofs.Rules.{as_known, wraps_spent, meets_told}
+use Rattle.refine_form.proofs.Rows.{here, next, will_row}
 use Rattle.branch_codegen.proofs.Flags.{Flagged, FlagLaw, test_flags, mk}
 use Rattle.branch_codegen.proofs.Choices.{told_holds}
 
 -- ---- rules that leave open what is to hold at the end
 
 -- a part that meets the source, and the others, by what is known where it is left
-pub step_then : {A : Type 0} (im : Image) (d : Bool) (R : A → Memory → Type 0) (b : Rates) (n x : ℕ) (p : List Symbol) (ps : List (List Symbol)) (m : Memory) (t : Told A) (Q : Outcome → Type 0) → Will im p d m (Meets R b n x t) → ((a : A) (m1 : Memory) (c k : ℕ) → t ≡ Fine a c → R a m1 → c ≤ b.counts * k → k ≤ b.steps * c + x → Will im (in_order d ps) d m1 (λ o. Q (after k o))) → ((v c k : ℕ) → t ≡ Fault v c → k ≤ b.steps * c + x → Q (Trapped v k)) → ((k : ℕ) → t ≡ More → n ≤ b.counts * (k + 1) → Q (Still k)) → Will im (in_order d (p ∷ ps)) d m Q
-step_then im d R b n x p ps m t Q w go trap stay = will_first im d p ps m Q (will_more im p d m _ _ (λ o h. by o t refl h) w)
+pub step_then : {A : Type 0} (im : Image) (d : Bool) (R : A → Memory → Type 0) (b : Rates) (n x : ℕ) (p : List Symbol)
+    (ps : List (List Symbol)) (m : Memory) (t : Told A) (Q : Outcome → Type 0) → Will im p d m (Meets R b n x t)
+    → ((a : A) (m1 : Memory) (c k : ℕ) → t ≡ Fine a c → R a m1 → c ≤ b.counts * k → k ≤ b.steps * c + x
+    → Will im (in_order d ps) d m1 (λ o. Q (after k o)))
+    → ((v c k : ℕ) → t ≡ Fault v c → k ≤ b.steps * c + x → Q (Trapped v k))
+    → ((k : ℕ) → t ≡ More → n ≤ b.counts * (k + 1) → Q (Still k)) → Will im (in_order d (p ∷ ps)) d m Q
+step_then im d R b n x p ps m t Q w go trap stay = will_first im d p ps m Q
+    (will_more im p d m _ _ (λ o h. by o t refl h) w)
   where
-    by : (o : Outcome) (t' : Told _) → t ≡ t' → Meets R b n x t' o → Next (λ m1 k. Will im (in_order d ps) d m1 (λ o. Q (after k o))) Q o
+    by : (o : Outcome) (t' : Told _) → t ≡ t' → Meets R b n x t' o
+        → Next (λ m1 k. Will im (in_order d ps) d m1 (λ o. Q (after k o))) Q o
     by _ _ e (fine {a = a} {m = m1} {c = c} {k = k} r l u) = go a m1 c k e r l u
     by _ _ e (faults {w = v} {c = c} {k = k} u) = trap v c k e u
     by _ _ e (more {k = k} l) = stay k e l
 
 -- the last part
-pub step_last : {A : Type 0} (im : Image) (d : Bool) (R : A → Memory → Type 0) (b : Rates) (n x : ℕ) (p : List Symbol) (m : Memory) (t : Told A) (Q : Outcome → Type 0) → Will im p d m (Meets R b n x t) → ((a : A) (m1 : Memory) (c k : ℕ) → t ≡ Fine a c → R a m1 → c ≤ b.counts * k → k ≤ b.steps * c + x → Q (Done m1 k)) → ((v c k : ℕ) → t ≡ Fault v c → k ≤ b.steps * c + x → Q (Trapped v k)) → ((k : ℕ) → t ≡ More → n ≤ b.counts * (k + 1) → Q (Still k)) → Will im (in_order d (p ∷ [])) d m Q
+pub step_last : {A : Type 0} (im : Image) (d : Bool) (R : A → Memory → Type 0) (b : Rates) (n x : ℕ) (p : List Symbol)
+    (m : Memory) (t : Told A) (Q : Outcome → Type 0) → Will im p d m (Meets R b n x t)
+    → ((a : A) (m1 : Memory) (c k : ℕ) → t ≡ Fine a c → R a m1 → c ≤ b.counts * k → k ≤ b.steps * c + x → Q (Done m1 k))
+    → ((v c k : ℕ) → t ≡ Fault v c → k ≤ b.steps * c + x → Q (Trapped v k))
+    → ((k : ℕ) → t ≡ More → n ≤ b.counts * (k + 1) → Q (Still k)) → Will im (in_order d (p ∷ [])) d m Q
 step_last im d R b n x p m t Q w go trap stay = will_last im d p m Q (will_more im p d m _ _ (λ o h. by o t refl h) w)
   where
     by : (o : Outcome) (t' : Told _) → t ≡ t' → Meets R b n x t' o → Q o
@@ -49,16 +64,21 @@ step_last im d R b n x p m t Q w go trap stay = will_last im d p m Q (will_more 
     by _ _ e (faults {w = v} {c = c} {k = k} u) = trap v c k e u
     by _ _ e (more {k = k} l) = stay k e l
 
-pub quiet_then : (im : Image) (d : Bool) (P : Memory → Type 0) (x : ℕ) (p : List Symbol) (ps : List (List Symbol)) (m : Memory) (Q : Outcome → Type 0) → Will im p d m (Quiet P x) → ((m1 : Memory) (k : ℕ) → P m1 → k ≤ x → Will im (in_order d ps) d m1 (λ o. Q (after k o))) → Will im (in_order d (p ∷ ps)) d m Q
+pub quiet_then : (im : Image) (d : Bool) (P : Memory → Type 0) (x : ℕ) (p : List Symbol) (ps : List (List Symbol))
+    (m : Memory) (Q : Outcome → Type 0) → Will im p d m (Quiet P x)
+    → ((m1 : Memory) (k : ℕ) → P m1 → k ≤ x → Will im (in_order d ps) d m1 (λ o. Q (after k o)))
+    → Will im (in_order d (p ∷ ps)) d m Q
 quiet_then im d P x p ps m Q w go = will_first im d p ps m Q (will_more im p d m _ _ (λ o h. by o h) w)
   where
     by : (o : Outcome) → Quiet P x o → Next (λ m1 k. Will im (in_order d ps) d m1 (λ o. Q (after k o))) Q o
     by _ (quiet {m = m1} {k = k} r l) = go m1 k r l
 
-then_at : {A B : Type 0} (t : Told A) (a : A) (c : ℕ) (g : A → Told B) → t ≡ Fine a c → told_then t (λ c a. g a) ≡ plus c (g a)
+then_at : {A B : Type 0} (t : Told A) (a : A) (c : ℕ) (g : A → Told B) → t ≡ Fine a c
+    → told_then t (λ c a. g a) ≡ plus c (g a)
 then_at t a c g e = ap (λ z. told_then z (λ c a. g a)) e
 
-then_fault : {A B : Type 0} (t : Told A) (v c : ℕ) (g : A → Told B) → t ≡ Fault v c → told_then t (λ c a. g a) ≡ Fault v c
+then_fault : {A B : Type 0} (t : Told A) (v c : ℕ) (g : A → Told B) → t ≡ Fault v c
+    → told_then t (λ c a. g a) ≡ Fault v c
 then_fault t v c g e = ap (λ z. told_then z (λ c a. g a)) e
 
 then_more : {A B : Type 0} (t : Told A) (g : A → Told B) → t ≡ More → told_then t (λ c a. g a) ≡ More
@@ -72,7 +92,8 @@ nodes_one (Variable name) = omega arith
 nodes_one (Element name index) = omega arith
 nodes_one (Binary at op left right) = omega arith
 
-pub test_costs : (setting : Setting) (e : Expression) (st : State) (b : Bool) (c : ℕ) → told (tested setting e st) ≡ Fine b c → 1 ≤ c
+pub test_costs : (setting : Setting) (e : Expression) (st : State) (b : Bool) (c : ℕ)
+    → told (tested setting e st) ≡ Fine b c → 1 ≤ c
 test_costs setting e st b c h = by (given (value setting.program st e)) h
   where
     by : (r : Run Value) → told (after_cost (nodes e) r >>= λ v. give (holds v)) ≡ Fine b c → 1 ≤ c
@@ -80,7 +101,8 @@ test_costs setting e st b c h = by (given (value setting.program st e)) h
     by (FaultRun v k) h = absurd (cc)
     by MoreRun h = absurd (cc)
 
-pub fault_costs : (setting : Setting) (e : Expression) (st : State) (x c : ℕ) → told (tested setting e st) ≡ Fault x c → 1 ≤ c
+pub fault_costs : (setting : Setting) (e : Expression) (st : State) (x c : ℕ) → told (tested setting e st) ≡ Fault x c
+    → 1 ≤ c
 fault_costs setting e st x c h = by (given (value setting.program st e)) h
   where
     by : (r : Run Value) → told (after_cost (nodes e) r >>= λ v. give (holds v)) ≡ Fault x c → 1 ≤ c
@@ -91,14 +113,16 @@ fault_costs setting e st x c h = by (given (value setting.program st e)) h
 -- ---- counts
 
 more_steps : (b c k k' : ℕ) → c ≤ b * k → k ≤ k' → c ≤ b * k'
-more_steps b c k k' h l = let g : b * k ≤ b * k' = (let q : k * b ≤ k' * b = mul-le-mul_right b l in grind (arith, q)) in omega (arith, h, g)
+more_steps b c k k' h l = let g : b * k ≤ b * k' = (let q : k * b ≤ k' * b = mul-le-mul_right b l in grind (arith, q))
+    in omega (arith, h, g)
 
 two_counts : (b c c' k k' : ℕ) → c ≤ b * k → c' ≤ b * k' → c + c' ≤ b * (k + k')
 two_counts b c c' k k' h g = omega (arith, h, g, mul-add b k k')
 
 -- ---- the turns
 
-module _ (w : World) (thousand : w.rates.steps ≡ 1000) (counts : 1 ≤ w.rates.counts) (s : Scope) (u : w.Under) (d : Bool) (e1 e2 : Expression) (first again : Statements) (n : ℕ) where
+module _ (w : World) (thousand : w.rates.steps ≡ 1000) (counts : 1 ≤ w.rates.counts) (s : Scope) (u : w.Under)
+    (d : Bool) (e1 e2 : Expression) (first again : Statements) (n : ℕ) where
   abbrev looped : Bool → Told State → Told State
   looped true t = Fault 2 0
   looped false t = t
@@ -111,31 +135,48 @@ module _ (w : World) (thousand : w.rates.steps ≡ 1000) (counts : 1 ≤ w.rates
   abbrev says : ℕ → State → Told State
   says zero st = More
   says (suc j) st =
-      told_then (told (exec w.setting n first st)) (λ c end. told_then (told (tested w.setting e2 end)) (λ c b. ended b (Fine end 0) (told_then (told (exec w.setting n again end)) (λ c end2. told_then (told (tested w.setting e1 end2)) (λ c b2. looped b2 (says j end2))))))
+      told_then (told (exec w.setting n first st)) (λ c end. told_then (told (tested w.setting e2 end))
+      (λ c b. ended b (Fine end 0) (told_then (told (exec w.setting n again end))
+      (λ c end2. told_then (told (tested w.setting e1 end2)) (λ c b2. looped b2 (says j end2))))))
 
-  looped_is : (j : ℕ) (b : Bool) (end : State) → told (turns w.setting j (exec w.setting n) e1 first again e2 end) ≡ says j end → told (fault_if loop_fault b >>= λ z. turns w.setting j (exec w.setting n) e1 first again e2 end) ≡ looped b (says j end)
+  looped_is : (j : ℕ) (b : Bool) (end : State) → told (turns w.setting j (exec w.setting n) e1 first again e2 end)
+      ≡ says j end → told (fault_if loop_fault b >>= λ z. turns w.setting j (exec w.setting n) e1 first again e2 end)
+      ≡ looped b (says j end)
   looped_is j true end ih = refl
-  looped_is j false end ih = told_after 0 (turns w.setting j (exec w.setting n) e1 first again e2 end) ∙ plus_none (told (turns w.setting j (exec w.setting n) e1 first again e2 end)) ∙ ih
+  looped_is j false end ih = told_after 0 (turns w.setting j (exec w.setting n) e1 first again e2 end)
+      ∙ plus_none (told (turns w.setting j (exec w.setting n) e1 first again e2 end)) ∙ ih
 
-  end_is : (j : ℕ) (b : Bool) (end : State) → ((st : State) → told (turns w.setting j (exec w.setting n) e1 first again e2 st) ≡ says j st) → told (turn_end w.setting (exec w.setting n) e1 again (turns w.setting j (exec w.setting n) e1 first again e2) b end) ≡ ended b (Fine end 0) (told_then (told (exec w.setting n again end)) (λ c end2. told_then (told (tested w.setting e1 end2)) (λ c b2. looped b2 (says j end2))))
+  end_is : (j : ℕ) (b : Bool) (end : State) → ((st : State)
+      → told (turns w.setting j (exec w.setting n) e1 first again e2 st) ≡ says j st)
+      → told (turn_end w.setting (exec w.setting n) e1 again (turns w.setting j (exec w.setting n) e1 first again e2) b
+      end) ≡ ended b (Fine end 0) (told_then (told (exec w.setting n again end))
+      (λ c end2. told_then (told (tested w.setting e1 end2)) (λ c b2. looped b2 (says j end2))))
   end_is j true end ih = refl
   end_is j false end ih =
-      let go : State → Value → Run State = λ end2 v. fault_if loop_fault (holds v) >>= λ z. turns w.setting j (exec w.setting n) e1 first again e2 end2 in
+      let go : State → Value → Run State = λ end2 v. fault_if loop_fault (holds v) >>= λ z. turns w.setting j
+      (exec w.setting n) e1 first again e2 end2 in
       told_bind (exec w.setting n again end) (λ end2. evaluated w.setting.program e1 end2 >>= go end2)
-      ∙ same_then (told (exec w.setting n again end)) (λ end2. told (evaluated w.setting.program e1 end2 >>= go end2)) (λ end2. told_then (told (tested w.setting e1 end2)) (λ c b2. looped b2 (says j end2))) (λ end2.
+      ∙ same_then (told (exec w.setting n again end)) (λ end2. told (evaluated w.setting.program e1 end2 >>= go end2))
+      (λ end2. told_then (told (tested w.setting e1 end2)) (λ c b2. looped b2 (says j end2))) (λ end2.
       told_bind (evaluated w.setting.program e1 end2) (go end2)
-      ∙ same_then (told (evaluated w.setting.program e1 end2)) (λ v. told (go end2 v)) (λ v. looped (holds v) (says j end2)) (λ v. looped_is j (holds v) end2 (ih end2))
+      ∙ same_then (told (evaluated w.setting.program e1 end2)) (λ v. told (go end2 v))
+      (λ v. looped (holds v) (says j end2)) (λ v. looped_is j (holds v) end2 (ih end2))
       ∙ sym (told_holds (evaluated w.setting.program e1 end2) (λ b2. looped b2 (says j end2))))
 
   pub told_turns : (j : ℕ) (st : State) → told (turns w.setting j (exec w.setting n) e1 first again e2 st) ≡ says j st
   told_turns zero st = refl
   told_turns (suc j) st =
-      let G : State → Bool → Told State = λ end b. ended b (Fine end 0) (told_then (told (exec w.setting n again end)) (λ c end2. told_then (told (tested w.setting e1 end2)) (λ c b2. looped b2 (says j end2)))) in
-      let K : State → Value → Run State = λ end v. turn_end w.setting (exec w.setting n) e1 again (turns w.setting j (exec w.setting n) e1 first again e2) (holds v) end in
+      let G : State → Bool → Told State = λ end b. ended b (Fine end 0)
+      (told_then (told (exec w.setting n again end)) (λ c end2. told_then (told (tested w.setting e1 end2))
+      (λ c b2. looped b2 (says j end2)))) in
+      let K : State → Value → Run State = λ end v. turn_end w.setting (exec w.setting n) e1 again
+      (turns w.setting j (exec w.setting n) e1 first again e2) (holds v) end in
       told_bind (exec w.setting n first st) (λ end. evaluated w.setting.program e2 end >>= K end)
-      ∙ same_then (told (exec w.setting n first st)) (λ end. told (evaluated w.setting.program e2 end >>= K end)) (λ end. told_then (told (tested w.setting e2 end)) (λ c b. G end b)) (λ end.
+      ∙ same_then (told (exec w.setting n first st)) (λ end. told (evaluated w.setting.program e2 end >>= K end))
+      (λ end. told_then (told (tested w.setting e2 end)) (λ c b. G end b)) (λ end.
       told_bind (evaluated w.setting.program e2 end) (K end)
-      ∙ same_then (told (evaluated w.setting.program e2 end)) (λ v. told (K end v)) (λ v. G end (holds v)) (λ v. end_is j (holds v) end (λ st. told_turns j st))
+      ∙ same_then (told (evaluated w.setting.program e2 end)) (λ v. told (K end v)) (λ v. G end (holds v))
+      (λ v. end_is j (holds v) end (λ st. told_turns j st))
       ∙ sym (told_holds (evaluated w.setting.program e2 end) (G end)))
 
   -- with the entry's test, which is to hold at the first entry and not later
@@ -143,7 +184,8 @@ module _ (w : World) (thousand : w.rates.steps ≡ 1000) (counts : 1 ≤ w.rates
   enters v j st = told_then (told (tested w.setting e1 st)) (λ c b. looped (xor v b) (says j st))
 
   abbrev after_first : ℕ → State → Told State
-  after_first j end = told_then (told (tested w.setting e2 end)) (λ c b. ended b (Fine end 0) (told_then (told (exec w.setting n again end)) (λ c end2. enters false j end2)))
+  after_first j end = told_then (told (tested w.setting e2 end))
+      (λ c b. ended b (Fine end 0) (told_then (told (exec w.setting n again end)) (λ c end2. enters false j end2)))
 
   flag_zero : (st : State) (m : Memory) → Flagged w s u false st m → reg m 11 ≡ 0
   flag_zero st m h = ap (λ z. reg z 11) (as_known m _ h.regs_are)
@@ -151,8 +193,10 @@ module _ (w : World) (thousand : w.rates.steps ≡ 1000) (counts : 1 ≤ w.rates
   flag_one : (st : State) (m : Memory) → Flagged w s u true st m → reg m 11 ≢ 0
   flag_one st m h e = let q : reg m 11 ≡ 1 = ap (λ z. reg z 11) (as_known m _ h.regs_are) in omega (arith, e, q)
 
-  check_passes : (st : State) (m : Memory) → Flagged w s u false st m → Will w.im (check_cells 11 2) d m (Quiet (Flagged w s u false st) 4)
-  check_passes st m h = will_of w.im _ d m _ _ (runs_check_zero w.im d 11 2 m (flag_zero st m h)) (quiet h (omega arith))
+  check_passes : (st : State) (m : Memory) → Flagged w s u false st m
+      → Will w.im (check_cells 11 2) d m (Quiet (Flagged w s u false st) 4)
+  check_passes st m h = will_of w.im _ d m _ _ (runs_check_zero w.im d 11 2 m (flag_zero st m h))
+      (quiet h (omega arith))
 
   turn_small : to_tail d + to_head d ≡ 6
   turn_small = go d
@@ -175,23 +219,41 @@ module _ (w : World) (thousand : w.rates.steps ≡ 1000) (counts : 1 ≤ w.rates
   Left j t o = Meets (Flagged w s u true) w.rates j 0 t o
 
   -- the rounds behind a turn
-  onward : {j : ℕ} {t : Told State} {o : Outcome} (c k0 : ℕ) → c ≤ w.rates.counts * k0 → 1 ≤ k0 → k0 ≤ 1000 * c → Left j t o → Left (suc j) (plus c t) (after k0 o)
+  onward : {j : ℕ} {t : Told State} {o : Outcome} (c k0 : ℕ) → c ≤ w.rates.counts * k0 → 1 ≤ k0 → k0 ≤ 1000 * c
+      → Left j t o → Left (suc j) (plus c t) (after k0 o)
   onward c k0 h one l (fine {c = c'} {k = k} g hc hk) =
       let hk' : k ≤ 1000 * c' = thousand_is k c' hk in
       fine g (two_counts w.rates.counts c c' k0 k h hc) (of_thousand (k0 + k) (c + c') 0 (omega (arith, l, hk')))
-  onward c k0 h one l (faults {c = c'} {k = k} hk) = let hk' : k ≤ 1000 * c' = thousand_is k c' hk in faults (of_thousand (k0 + k) (c + c') 0 (omega (arith, l, hk')))
-  onward {j = j} c k0 h one l (more {k = k} hk) = more (let q : 1 ≤ w.rates.counts * k0 = more_steps w.rates.counts 1 1 k0 (omega (arith, counts)) one in omega (arith, hk, q, mul-add w.rates.counts k0 k, mul-add w.rates.counts k 1, mul-add w.rates.counts (k0 + k) 1))
+  onward c k0 h one l (faults {c = c'} {k = k} hk) = let hk' : k ≤ 1000 * c' = thousand_is k c' hk in
+      faults (of_thousand (k0 + k) (c + c') 0 (omega (arith, l, hk')))
+  onward {j = j} c k0 h one l (more {k = k} hk) = more (let q : 1 ≤ w.rates.counts * k0 = more_steps w.rates.counts 1 1
+      k0 (omega (arith, counts)) one in omega (
+        arith,
+        hk,
+        q,
+        mul-add w.rates.counts k0 k,
+        mul-add w.rates.counts k 1,
+        mul-add w.rates.counts (k0 + k) 1,
+      ))
 
-  module _ (pa pb ps pt hd : List Symbol) (h1 : FlagLaw w s e1 pa) (h2 : FlagLaw w s e2 pb) (first_does : Does w.im ps d (Open w s u) (Open w s u) w.rates n 0 (λ st. told (exec w.setting n first st))) (again_does : Does w.im pt d (Open w s u) (Open w s u) w.rates n 0 (λ st. told (exec w.setting n again st))) (hd_is : in_order d (pa ∷ check_cells 11 2 ∷ ps ∷ check_cells 11 2 ∷ pb ∷ []) ≡ hd) where
+  module _ (pa pb ps pt hd : List Symbol) (h1 : FlagLaw w s e1 pa) (h2 : FlagLaw w s e2 pb)
+      (first_does : Does w.im ps d (Open w s u) (Open w s u) w.rates n 0 (λ st. told (exec w.setting n first st)))
+      (again_does : Does w.im pt d (Open w s u) (Open w s u) w.rates n 0 (λ st. told (exec w.setting n again st)))
+      (hd_is : in_order d (pa ∷ check_cells 11 2 ∷ ps ∷ check_cells 11 2 ∷ pb ∷ []) ≡ hd) where
     abbrev Rounds : ℕ → Type 0
-    Rounds j = (v : Bool) (st : State) (m : Memory) → Flagged w s u v st m → Turns w.im 11 hd pt d m (Left j (enters v j st))
+    Rounds j = (v : Bool) (st : State) (m : Memory) → Flagged w s u v st m
+        → Turns w.im 11 hd pt d m (Left j (enters v j st))
 
-    module _ (j : ℕ) (ih : Rounds j) (fuel : suc j ≤ n) (t : Told State) (c1 cs c2 k : ℕ) (st2 : State) (t_is : t ≡ plus (c1 + (cs + c2)) (told_then (told (exec w.setting n again st2)) (λ c end2. enters false j end2))) (some : 1 ≤ c1) (counted : c1 + (cs + c2) ≤ w.rates.counts * k) (moves : 1 ≤ k) (steps : k ≤ 400 * c1 + (1000 * cs + 400 * c2) + 108) where
+    module _ (j : ℕ) (ih : Rounds j) (fuel : suc j ≤ n) (t : Told State) (c1 cs c2 k : ℕ) (st2 : State)
+        (t_is : t ≡ plus (c1 + (cs + c2)) (told_then (told (exec w.setting n again st2))
+        (λ c end2. enters false j end2))) (some : 1 ≤ c1) (counted : c1 + (cs + c2) ≤ w.rates.counts * k)
+        (moves : 1 ≤ k) (steps : k ≤ 400 * c1 + (1000 * cs + 400 * c2) + 108) where
       abbrev Q : Outcome → Type 0
       Q o = Left (suc j) t o
 
       abbrev N : Outcome → Type 0
-      N o = Next (λ m2 k2. (reg m2 11 ≡ 0) × Turns w.im 11 hd pt d m2 (λ o. Q (after (k + to_tail d + (k2 + to_head d)) o))) (λ o. Q (after (k + to_tail d) o)) o
+      N o = Next (λ m2 k2. (reg m2 11 ≡ 0) × Turns w.im 11 hd pt d m2
+          (λ o. Q (after (k + to_tail d + (k2 + to_head d)) o))) (λ o. Q (after (k + to_tail d) o)) o
 
       small_tail : to_tail d ≤ 4
       small_tail = let q = turn_small in go d
@@ -200,28 +262,43 @@ module _ (w : World) (thousand : w.rates.steps ≡ 1000) (counts : 1 ≤ w.rates
           go false = omega arith
           go true = omega arith
 
-      tail_by : (o : Outcome) (t2 : Told State) → told (exec w.setting n again st2) ≡ t2 → Meets (Open w s u) w.rates n 0 t2 o → N o
+      tail_by : (o : Outcome) (t2 : Told State) → told (exec w.setting n again st2) ≡ t2
+          → Meets (Open w s u) w.rates n 0 t2 o → N o
       tail_by _ _ e (fine {a = end2} {m = m2} {c = ct} {k = kt} r l x) =
           let i : Flagged w s u false end2 m2 = record { regs_are = r.regs_are; open_frame = r.open_frame } in
-          let told_is : t ≡ plus (c1 + (cs + c2) + ct) (enters false j end2) = t_is ∙ ap (plus (c1 + (cs + c2))) (then_at _ end2 ct (λ end2. enters false j end2) e) ∙ plus_plus (c1 + (cs + c2)) ct (enters false j end2) in
+          let told_is : t ≡ plus (c1 + (cs + c2) + ct) (enters false j end2) = t_is
+          ∙ ap (plus (c1 + (cs + c2))) (then_at _ end2 ct (λ end2. enters false j end2) e)
+          ∙ plus_plus (c1 + (cs + c2)) ct (enters false j end2) in
           let k0 = k + to_tail d + (kt + to_head d) in
-          let paid : c1 + (cs + c2) + ct ≤ w.rates.counts * k0 = more_steps w.rates.counts (c1 + (cs + c2) + ct) (k + kt) k0 (two_counts w.rates.counts (c1 + (cs + c2)) ct k kt counted l) (omega arith) in
-          let x' : kt ≤ 1000 * ct = thousand_is kt ct x in
-          (flag_zero end2 m2 i, turns_more w.im d 11 hd pt m2 _ _ (λ o q. subst (λ z. Left (suc j) z (after k0 o)) (sym told_is) (onward (c1 + (cs + c2) + ct) k0 paid (omega (arith, moves)) (omega (arith, turn_small, x', steps, some)) q)) (ih false end2 m2 i))
+          let paid : c1 + (cs + c2) + ct ≤ w.rates.counts * k0 =
+          more_steps w.rates.counts (c1 + (cs + c2) + ct) (k + kt) k0
+          (two_counts w.rates.counts (c1 + (cs + c2)) ct k kt counted l) (omega arith) in
+          let x' : kt ≤ 1000 * ct = thousand_is kt ct x in (
+            flag_zero end2 m2 i,
+            turns_more w.im d 11 hd pt m2 _ _
+                (λ o q. subst (λ z. Left (suc j) z (after k0 o)) (sym told_is)
+                (onward (c1 + (cs + c2) + ct) k0 paid (omega (arith, moves))
+                (omega (arith, turn_small, x', steps, some)) q)) (ih false end2 m2 i),
+          )
       tail_by _ _ e (faults {w = v} {c = ct} {k = kt} x) =
-          let told_is : t ≡ Fault v (c1 + (cs + c2) + ct) = t_is ∙ ap (plus (c1 + (cs + c2))) (then_fault _ v ct (λ end2. enters false j end2) e) in
+          let told_is : t ≡ Fault v (c1 + (cs + c2) + ct) = t_is
+          ∙ ap (plus (c1 + (cs + c2))) (then_fault _ v ct (λ end2. enters false j end2) e) in
           let x' : kt ≤ 1000 * ct = thousand_is kt ct x in
-          meets_told _ _ (sym told_is) (faults (of_thousand (k + to_tail d + kt) (c1 + (cs + c2) + ct) 0 (omega (arith, small_tail, x', steps, some))))
+          meets_told _ _ (sym told_is) (faults (of_thousand (k + to_tail d + kt) (c1 + (cs + c2) + ct) 0
+          (omega (arith, small_tail, x', steps, some))))
       tail_by _ _ e (more {k = kt} l) =
           let told_is : t ≡ More = t_is ∙ ap (plus (c1 + (cs + c2))) (then_more _ (λ end2. enters false j end2) e) in
-          meets_told _ _ (sym told_is) (more (more_steps w.rates.counts (suc j) (kt + 1) (k + to_tail d + kt + 1) (omega (arith, fuel, l)) (omega arith)))
+          meets_told _ _ (sym told_is) (more (more_steps w.rates.counts (suc j) (kt + 1) (k + to_tail d + kt + 1)
+          (omega (arith, fuel, l)) (omega arith)))
 
       tail_does : (m : Memory) → Flagged w s u false st2 m → Will w.im pt d m N
       tail_does m h =
-          will_more w.im pt d m _ _ (λ o q. tail_by o _ refl q) (again_does.does st2 m (record { regs_are = h.regs_are; open_frame = h.open_frame }))
+          will_more w.im pt d m _ _ (λ o q. tail_by o _ refl q)
+          (again_does.does st2 m (record { regs_are = h.regs_are; open_frame = h.open_frame }))
 
     -- behind the first test, where the flag tells that it is as it is to be
-    module _ (v : Bool) (st : State) (c1 k1 : ℕ) (e1_is : told (tested w.setting e1 st) ≡ Fine v c1) (n1 : c1 ≤ w.rates.counts * k1) (l1 : k1 ≤ 400 * c1 + 50) where
+    module _ (v : Bool) (st : State) (c1 k1 : ℕ) (e1_is : told (tested w.setting e1 st) ≡ Fine v c1)
+        (n1 : c1 ≤ w.rates.counts * k1) (l1 : k1 ≤ 400 * c1 + 50) where
       xor_same : (v : Bool) → xor v v ≡ false
       xor_same true = refl
       xor_same false = refl
@@ -230,7 +307,8 @@ module _ (w : World) (thousand : w.rates.steps ≡ 1000) (counts : 1 ≤ w.rates
       some = test_costs w.setting e1 st v c1 e1_is
 
       enters_is : (j : ℕ) → enters v j st ≡ plus c1 (says j st)
-      enters_is j = then_at _ v c1 (λ b. looped (xor v b) (says j st)) e1_is ∙ ap (λ b. plus c1 (looped b (says j st))) (xor_same v)
+      enters_is j = then_at _ v c1 (λ b. looped (xor v b) (says j st)) e1_is
+          ∙ ap (λ b. plus c1 (looped b (says j st))) (xor_same v)
 
       module _ (j : ℕ) (ih : Rounds j) (fuel : suc j ≤ n) where
         abbrev QH : Outcome → Type 0
@@ -239,44 +317,83 @@ module _ (w : World) (thousand : w.rates.steps ≡ 1000) (counts : 1 ≤ w.rates
         abbrev P : Outcome → Type 0
         P o = Next (After_head w.im 11 hd pt d QH) QH o
 
-        heading : (a1 k2 a2 k3 cs c2 : ℕ) (st2 : State) (m3 : Memory) (b : Bool) → told (exec w.setting n first st) ≡ Fine st2 cs → told (tested w.setting e2 st2) ≡ Fine b c2 → Flagged w s u b st2 m3 → a1 ≤ 4 → a2 ≤ 4 → cs ≤ w.rates.counts * k2 → k2 ≤ 1000 * cs → c2 ≤ w.rates.counts * k3 → k3 ≤ 400 * c2 + 50 → P (Done m3 (k1 + (a1 + (k2 + (a2 + k3)))))
+        heading : (a1 k2 a2 k3 cs c2 : ℕ) (st2 : State) (m3 : Memory) (b : Bool)
+            → told (exec w.setting n first st) ≡ Fine st2 cs → told (tested w.setting e2 st2) ≡ Fine b c2
+            → Flagged w s u b st2 m3 → a1 ≤ 4 → a2 ≤ 4 → cs ≤ w.rates.counts * k2 → k2 ≤ 1000 * cs
+            → c2 ≤ w.rates.counts * k3 → k3 ≤ 400 * c2 + 50 → P (Done m3 (k1 + (a1 + (k2 + (a2 + k3)))))
         heading a1 k2 a2 k3 cs c2 st2 m3 true es e2_is h la lb n2 l2 n3 l3 =
-            let told_is : enters v (suc j) st ≡ Fine st2 (c1 + (cs + (c2 + 0))) = enters_is (suc j) ∙ ap (plus c1) (then_at _ st2 cs (after_first j) es ∙ ap (plus cs) (then_at _ true c2 (λ b. ended b (Fine st2 0) (told_then (told (exec w.setting n again st2)) (λ c end2. enters false j end2))) e2_is)) in
+            let told_is : enters v (suc j) st ≡ Fine st2 (c1 + (cs + (c2 + 0))) = enters_is (suc j)
+            ∙ ap (plus c1) (then_at _ st2 cs (after_first j) es
+            ∙ ap (plus cs) (then_at _ true c2 (λ b. ended b (Fine st2 0)
+            (told_then (told (exec w.setting n again st2)) (λ c end2. enters false j end2))) e2_is)) in
             let z : c2 + 0 ≤ w.rates.counts * k3 = omega (arith, n3) in
-            let paid = two_counts w.rates.counts c1 (cs + (c2 + 0)) k1 (k2 + k3) n1 (two_counts w.rates.counts cs (c2 + 0) k2 k3 n2 z) in
+            let paid = two_counts w.rates.counts c1 (cs + (c2 + 0)) k1 (k2 + k3) n1
+            (two_counts w.rates.counts cs (c2 + 0) k2 k3 n2 z) in
             inl (
               flag_one st2 m3 h,
-              meets_told _ _ (sym told_is) (fine h (more_steps w.rates.counts (c1 + (cs + (c2 + 0))) (k1 + (k2 + k3)) (k1 + (a1 + (k2 + (a2 + k3))) + 3) paid (omega arith)) (of_thousand _ (c1 + (cs + (c2 + 0))) 0 (omega (arith, some, la, lb, l1, l2, l3)))),
+              meets_told _ _ (sym told_is) (fine h (more_steps w.rates.counts (c1 + (cs + (c2 + 0))) (k1 + (k2 + k3))
+                  (k1 + (a1 + (k2 + (a2 + k3))) + 3) paid (omega arith))
+                  (of_thousand _ (c1 + (cs + (c2 + 0))) 0 (omega (arith, some, la, lb, l1, l2, l3)))),
             )
         heading a1 k2 a2 k3 cs c2 st2 m3 false es e2_is h la lb n2 l2 n3 l3 =
-            let told_is : enters v (suc j) st ≡ plus (c1 + (cs + c2)) (told_then (told (exec w.setting n again st2)) (λ c end2. enters false j end2)) = enters_is (suc j) ∙ ap (plus c1) (then_at _ st2 cs (after_first j) es ∙ ap (plus cs) (then_at _ false c2 (λ b. ended b (Fine st2 0) (told_then (told (exec w.setting n again st2)) (λ c end2. enters false j end2))) e2_is) ∙ plus_plus cs c2 _) ∙ plus_plus c1 (cs + c2) _ in
-            let paid = two_counts w.rates.counts c1 (cs + c2) k1 (k2 + k3) n1 (two_counts w.rates.counts cs c2 k2 k3 n2 n3) in
+            let told_is : enters v (suc j) st ≡ plus (c1 + (cs + c2))
+            (told_then (told (exec w.setting n again st2)) (λ c end2. enters false j end2)) = enters_is (suc j)
+            ∙ ap (plus c1) (then_at _ st2 cs (after_first j) es
+            ∙ ap (plus cs) (then_at _ false c2 (λ b. ended b (Fine st2 0)
+            (told_then (told (exec w.setting n again st2)) (λ c end2. enters false j end2))) e2_is)
+            ∙ plus_plus cs c2 _) ∙ plus_plus c1 (cs + c2) _ in
+            let paid = two_counts w.rates.counts c1 (cs + c2) k1 (k2 + k3) n1
+            (two_counts w.rates.counts cs c2 k2 k3 n2 n3) in
             let moves : 1 ≤ k1 = some_steps w.rates.counts c1 k1 some n1 in
             let k = k1 + (a1 + (k2 + (a2 + k3))) in
-            inr (flag_zero st2 m3 h, tail_does j ih fuel (enters v (suc j) st) c1 cs c2 k st2 told_is some (more_steps w.rates.counts (c1 + (cs + c2)) (k1 + (k2 + k3)) k paid (omega arith)) (omega (arith, moves)) (omega (arith, la, lb, l1, l2, l3)) m3 h)
+            inr (
+              flag_zero st2 m3 h,
+              tail_does j ih fuel (enters v (suc j) st) c1 cs c2 k st2 told_is some
+                  (more_steps w.rates.counts (c1 + (cs + c2)) (k1 + (k2 + k3)) k paid (omega arith))
+                  (omega (arith, moves)) (omega (arith, la, lb, l1, l2, l3)) m3 h,
+            )
 
-        rest_does : (m : Memory) → Flagged w s u false st m → Will w.im (in_order d (check_cells 11 2 ∷ ps ∷ check_cells 11 2 ∷ pb ∷ [])) d m (λ o. P (after k1 o))
+        rest_does : (m : Memory) → Flagged w s u false st m
+            → Will w.im (in_order d (check_cells 11 2 ∷ ps ∷ check_cells 11 2 ∷ pb ∷ [])) d m (λ o. P (after k1 o))
         rest_does m h =
-            quiet_then w.im d (Flagged w s u false st) 4 (check_cells 11 2) (ps ∷ check_cells 11 2 ∷ pb ∷ []) m (λ o. P (after k1 o)) (check_passes st m h) (λ m1 a1 i la.
-            step_then w.im d (Open w s u) w.rates n 0 ps (check_cells 11 2 ∷ pb ∷ []) m1 (told (exec w.setting n first st)) (λ o. P (after k1 (after a1 o))) (first_does.does st m1 (record { regs_are = i.regs_are; open_frame = i.open_frame }))
+            quiet_then w.im d (Flagged w s u false st) 4 (check_cells 11 2) (ps ∷ check_cells 11 2 ∷ pb ∷ []) m
+            (λ o. P (after k1 o)) (check_passes st m h) (λ m1 a1 i la.
+            step_then w.im d (Open w s u) w.rates n 0 ps (check_cells 11 2 ∷ pb ∷ []) m1
+            (told (exec w.setting n first st)) (λ o. P (after k1 (after a1 o)))
+            (first_does.does st m1 (record { regs_are = i.regs_are; open_frame = i.open_frame }))
             (λ st2 m2 cs k2 es o2 n2 l2.
-            quiet_then w.im d (Flagged w s u false st2) 4 (check_cells 11 2) (pb ∷ []) m2 (λ o. P (after k1 (after a1 (after k2 o)))) (check_passes st2 m2 (record { regs_are = o2.regs_are; open_frame = o2.open_frame })) (λ m3 a2 i3 lb.
-            step_last w.im d (λ b m4. Flagged w s u b st2 m4) (test_rates w) n 50 pb m3 (told (tested w.setting e2 st2)) (λ o. P (after k1 (after a1 (after k2 (after a2 o))))) (h2 n d u false st2 m3 i3)
-            (λ b m4 c2 k3 e2_is f4 n3 l3. heading a1 k2 a2 k3 cs c2 st2 m4 b es e2_is f4 la lb n2 (thousand_is k2 cs l2) n3 l3)
+            quiet_then w.im d (Flagged w s u false st2) 4 (check_cells 11 2) (pb ∷ []) m2
+            (λ o. P (after k1 (after a1 (after k2 o)))) (check_passes st2 m2
+            (record { regs_are = o2.regs_are; open_frame = o2.open_frame })) (λ m3 a2 i3 lb.
+            step_last w.im d (λ b m4. Flagged w s u b st2 m4) (test_rates w) n 50 pb m3 (told (tested w.setting e2 st2))
+            (λ o. P (after k1 (after a1 (after k2 (after a2 o))))) (h2 n d u false st2 m3 i3)
+            (λ b m4 c2 k3 e2_is f4 n3 l3. heading a1 k2 a2 k3 cs c2 st2 m4 b es e2_is f4 la lb n2 (thousand_is k2 cs l2)
+            n3 l3)
             (λ x c3 k e l.
-            let told_is : enters v (suc j) st ≡ Fault x (c1 + (cs + c3)) = enters_is (suc j) ∙ ap (plus c1) (then_at _ st2 cs (after_first j) es ∙ ap (plus cs) (then_fault _ x c3 (λ b. ended b (Fine st2 0) (told_then (told (exec w.setting n again st2)) (λ c end2. enters false j end2))) e)) in
+            let told_is : enters v (suc j) st ≡ Fault x (c1 + (cs + c3)) = enters_is (suc j)
+            ∙ ap (plus c1) (then_at _ st2 cs (after_first j) es
+            ∙ ap (plus cs) (then_fault _ x c3 (λ b. ended b (Fine st2 0)
+            (told_then (told (exec w.setting n again st2)) (λ c end2. enters false j end2))) e)) in
             let l2' = thousand_is k2 cs l2 in
-            meets_told _ _ (sym told_is) (faults (of_thousand _ (c1 + (cs + c3)) 0 (omega (arith, some, la, lb, l1, l2', l)))))
+            meets_told _ _ (sym told_is) (faults (of_thousand _ (c1 + (cs + c3)) 0
+            (omega (arith, some, la, lb, l1, l2', l)))))
             (λ k e l.
-            let told_is : enters v (suc j) st ≡ More = enters_is (suc j) ∙ ap (plus c1) (then_at _ st2 cs (after_first j) es ∙ ap (plus cs) (then_more _ (λ b. ended b (Fine st2 0) (told_then (told (exec w.setting n again st2)) (λ c end2. enters false j end2))) e)) in
-            meets_told _ _ (sym told_is) (more (more_steps w.rates.counts (suc j) (k + 1) (k1 + (a1 + (k2 + (a2 + k))) + 1) (omega (arith, fuel, l)) (omega arith))))))
+            let told_is : enters v (suc j) st ≡ More = enters_is (suc j)
+            ∙ ap (plus c1) (then_at _ st2 cs (after_first j) es
+            ∙ ap (plus cs) (then_more _ (λ b. ended b (Fine st2 0)
+            (told_then (told (exec w.setting n again st2)) (λ c end2. enters false j end2))) e)) in
+            meets_told _ _ (sym told_is) (more (more_steps w.rates.counts (suc j) (k + 1)
+            (k1 + (a1 + (k2 + (a2 + k))) + 1) (omega (arith, fuel, l)) (omega arith))))))
             (λ x cs k e l.
-            let told_is : enters v (suc j) st ≡ Fault x (c1 + cs) = enters_is (suc j) ∙ ap (plus c1) (then_fault _ x cs (after_first j) e) in
+            let told_is : enters v (suc j) st ≡ Fault x (c1 + cs) = enters_is (suc j)
+            ∙ ap (plus c1) (then_fault _ x cs (after_first j) e) in
             let l' = thousand_is k cs l in
             meets_told _ _ (sym told_is) (faults (of_thousand _ (c1 + cs) 0 (omega (arith, some, la, l1, l')))))
             (λ k e l.
-            let told_is : enters v (suc j) st ≡ More = enters_is (suc j) ∙ ap (plus c1) (then_more _ (after_first j) e) in
-            meets_told _ _ (sym told_is) (more (more_steps w.rates.counts (suc j) (k + 1) (k1 + (a1 + k) + 1) (omega (arith, fuel, l)) (omega arith)))))
+            let told_is : enters v (suc j) st ≡ More = enters_is (suc j)
+            ∙ ap (plus c1) (then_more _ (after_first j) e) in
+            meets_told _ _ (sym told_is) (more (more_steps w.rates.counts (suc j) (k + 1) (k1 + (a1 + k) + 1)
+            (omega (arith, fuel, l)) (omega arith)))))
 
     xor_false : (v b : Bool) → xor v b ≡ false → b ≡ v
     xor_false true true e = refl
@@ -292,24 +409,36 @@ module _ (w : World) (thousand : w.rates.steps ≡ 1000) (counts : 1 ≤ w.rates
       PA o = Next (After_head w.im 11 hd pt d QA) QA o
 
       abbrev Rest : Type 0
-      Rest = (c1 k1 : ℕ) → told (tested w.setting e1 st) ≡ Fine v c1 → c1 ≤ w.rates.counts * k1 → k1 ≤ 400 * c1 + 50 → (m : Memory) → Flagged w s u false st m → Will w.im (in_order d (check_cells 11 2 ∷ ps ∷ check_cells 11 2 ∷ pb ∷ [])) d m (λ o. PA (after k1 o))
+      Rest = (c1 k1 : ℕ) → told (tested w.setting e1 st) ≡ Fine v c1 → c1 ≤ w.rates.counts * k1 → k1 ≤ 400 * c1 + 50
+          → (m : Memory) → Flagged w s u false st m → Will w.im
+          (in_order d (check_cells 11 2 ∷ ps ∷ check_cells 11 2 ∷ pb ∷ [])) d m (λ o. PA (after k1 o))
 
-      tried : Rest → (f b : Bool) → xor v b ≡ f → (c1 k1 : ℕ) → told (tested w.setting e1 st) ≡ Fine b c1 → c1 ≤ w.rates.counts * k1 → k1 ≤ 400 * c1 + 50 → (m : Memory) → Flagged w s u (xor v b) st m → Will w.im (in_order d (check_cells 11 2 ∷ ps ∷ check_cells 11 2 ∷ pb ∷ [])) d m (λ o. PA (after k1 o))
+      tried : Rest → (f b : Bool) → xor v b ≡ f → (c1 k1 : ℕ) → told (tested w.setting e1 st) ≡ Fine b c1
+          → c1 ≤ w.rates.counts * k1 → k1 ≤ 400 * c1 + 50 → (m : Memory) → Flagged w s u (xor v b) st m
+          → Will w.im (in_order d (check_cells 11 2 ∷ ps ∷ check_cells 11 2 ∷ pb ∷ [])) d m (λ o. PA (after k1 o))
       tried go true b f_is c1 k1 e n1 l1 m h =
           let i : Flagged w s u true st m = subst (λ z. Flagged w s u z st m) f_is h in
           let k = runs_check_other w.im d 11 2 m (flag_one st m i) in
-          let told_is : enters v jj st ≡ Fault 2 (c1 + 0) = then_at _ b c1 (λ b. looped (xor v b) (says jj st)) e ∙ ap (λ z. plus c1 (looped z (says jj st))) f_is in
+          let told_is : enters v jj st ≡ Fault 2 (c1 + 0) = then_at _ b c1 (λ b. looped (xor v b) (says jj st)) e
+          ∙ ap (λ z. plus c1 (looped z (says jj st))) f_is in
           let some = test_costs w.setting e1 st b c1 e in
           let Q1 : Outcome → Type 0 = λ o. PA (after k1 o) in
-          let W1 : Memory → ℕ → Type 0 = λ m1 k. Will w.im (in_order d (ps ∷ check_cells 11 2 ∷ pb ∷ [])) d m1 (λ o. Q1 (after k o)) in
-          will_first w.im d (check_cells 11 2) (ps ∷ check_cells 11 2 ∷ pb ∷ []) m Q1 (will_of w.im _ d m (Trapped 2 k.0) (Next W1 Q1) k.2 (meets_told _ _ (sym told_is) (faults (of_thousand _ (c1 + 0) 0 (let q = k.1 in omega (arith, some, l1, q))))))
+          let W1 : Memory → ℕ → Type 0 = λ m1 k. Will w.im (in_order d (ps ∷ check_cells 11 2 ∷ pb ∷ [])) d m1
+          (λ o. Q1 (after k o)) in
+          will_first w.im d (check_cells 11 2) (ps ∷ check_cells 11 2 ∷ pb ∷ []) m Q1
+          (will_of w.im _ d m (Trapped 2 k.0) (Next W1 Q1) k.2
+          (meets_told _ _ (sym told_is) (faults (of_thousand _ (c1 + 0) 0
+          (let q = k.1 in omega (arith, some, l1, q))))))
       tried go false b f_is c1 k1 e n1 l1 m h =
-          go c1 k1 (subst (λ z. told (tested w.setting e1 st) ≡ Fine z c1) (xor_false v b f_is) e) n1 l1 m (subst (λ z. Flagged w s u z st m) f_is h)
+          go c1 k1 (subst (λ z. told (tested w.setting e1 st) ≡ Fine z c1) (xor_false v b f_is) e) n1 l1 m
+          (subst (λ z. Flagged w s u z st m) f_is h)
 
       begins : Rest → (m : Memory) → Flagged w s u v st m → Will w.im hd d m PA
       begins go m h =
           subst (λ z. Will w.im z d m PA) hd_is
-          (step_then w.im d (λ b m1. Flagged w s u (xor v b) st m1) (test_rates w) n 50 pa (check_cells 11 2 ∷ ps ∷ check_cells 11 2 ∷ pb ∷ []) m (told (tested w.setting e1 st)) PA (h1 n d u v st m h)
+          (step_then w.im d (λ b m1. Flagged w s u (xor v b) st m1) (test_rates w) n 50 pa
+          (check_cells 11 2 ∷ ps ∷ check_cells 11 2 ∷ pb ∷ []) m (told (tested w.setting e1 st)) PA
+          (h1 n d u v st m h)
           (λ b m1 c1 k1 e i n1 l1. tried go (xor v b) b refl c1 k1 e n1 l1 m1 i)
           (λ x c k e l.
           let told_is : enters v jj st ≡ Fault x c = then_fault _ x c (λ b. looped (xor v b) (says jj st)) e in
@@ -325,71 +454,110 @@ module _ (w : World) (thousand : w.rates.steps ≡ 1000) (counts : 1 ≤ w.rates
         let told_is : enters v zero st ≡ More = enters_is v st c1 k1 e n1 l1 zero in
         will_of w.im _ d m1 _ _ (runs_still w.im _ d m1) (meets_told _ _ (sym told_is) (more (omega arith)))) m h)
     rounds (suc j) l v st m h =
-        turn w.im d 11 hd pt m _ (begins (suc j) l v st (λ c1 k1 e n1 l1 m1 i. rest_does v st c1 k1 e n1 l1 j (rounds j (omega arith)) l m1 i) m h)
+        turn w.im d 11 hd pt m _ (begins (suc j) l v st (λ c1 k1 e n1 l1 m1 i. rest_does v st c1 k1 e n1 l1 j
+        (rounds j (omega arith)) l m1 i) m h)
 
     -- the loop, entered with the flag 1
-    loop_does : (st : State) (m : Memory) → Flagged w s u true st m → Will w.im (loop_cells 11 hd pt) d m (Meets (Flagged w s u true) w.rates n 3 (enters true n st))
-    loop_does st m h = will_loop w.im d 11 hd pt m _ (flag_one st m h) (turns_more w.im d 11 hd pt m _ _ (λ o q. entered q) (rounds n (omega arith) true st m h))
+    loop_does : (st : State) (m : Memory) → Flagged w s u true st m
+        → Will w.im (loop_cells 11 hd pt) d m (Meets (Flagged w s u true) w.rates n 3 (enters true n st))
+    loop_does st m h = will_loop w.im d 11 hd pt m _ (flag_one st m h)
+        (turns_more w.im d 11 hd pt m _ _ (λ o q. entered q) (rounds n (omega arith) true st m h))
       where
-        entered : {t : Told State} {o : Outcome} → Meets (Flagged w s u true) w.rates n 0 t o → Meets (Flagged w s u true) w.rates n 3 t (after 3 o)
+        entered : {t : Told State} {o : Outcome} → Meets (Flagged w s u true) w.rates n 0 t o
+            → Meets (Flagged w s u true) w.rates n 3 t (after 3 o)
         entered (fine {k = k} g x y) = fine g (omega (arith, mul-add w.rates.counts 3 k, x)) (omega (arith, y))
         entered (faults y) = faults (omega (arith, y))
-        entered (more {k = k} x) = more (omega (arith, mul-add w.rates.counts 3 k, mul-add w.rates.counts k 1, mul-add w.rates.counts (3 + k) 1, x))
+        entered (more {k = k} x) = more (omega (
+          arith,
+          mul-add w.rates.counts 3 k,
+          mul-add w.rates.counts k 1,
+          mul-add w.rates.counts (3 + k) 1,
+          x,
+        ))
 
-    pub whole_loop : (st : State) (m : Memory) → Open w s u st m → Will w.im (around (line (flips ∷ [])) (loop_cells 11 hd pt)) d m (Meets (Open w s u) w.rates (suc n) 0 (plus 1 (enters true n st)))
+    pub whole_loop : (st : State) (m : Memory) → Open w s u st m
+        → Will w.im (around (line (flips ∷ [])) (loop_cells 11 hd pt)) d m
+        (Meets (Open w s u) w.rates (suc n) 0 (plus 1 (enters true n st)))
     whole_loop st m h =
         let ob = w.object_of u in
         let fr = w.frame_of u in
         let cs = m.cells in
         let t = enters true n st in
-        let all = wraps_spent w.im d (line (flips ∷ [])) (loop_cells 11 hd pt) (mk 0 ob fr 0 0 0 0 0 cs) (mk 0 ob fr 0 0 0 1 0 cs) (Flagged w s u true) (Open w s u) w.rates n 3 1 1 1 0 t (λ a. Fine a 0) counts (omega arith) (omega (arith, thousand))
+        let all = wraps_spent w.im d (line (flips ∷ [])) (loop_cells 11 hd pt) (mk 0 ob fr 0 0 0 0 0 cs)
+        (mk 0 ob fr 0 0 0 1 0 cs) (Flagged w s u true) (Open w s u) w.rates n 3 1 1 1 0 t (λ a. Fine a 0) counts
+        (omega arith) (omega (arith, thousand))
         (will_row w.im false (flips ∷ []) 1 _ _ (next refl (omega arith) refl here))
         (loop_does st _ (record { regs_are = refl; open_frame = h.open_frame }))
-        (λ a m2 c e r. subst (λ z. Will w.im (line (flips ∷ [])) true z (Meets (Open w s u) w.rates (n - c) 1 (Fine a 0))) (sym (as_known m2 _ r.regs_are))
-        (will_more w.im _ true _ _ _ (λ o q. subst (Meets (Open w s u) w.rates (n - c) 1 (Fine a 0)) (sym q) (fine (record { regs_are = refl; open_frame = r.open_frame }) (omega arith) (omega arith))) (will_row w.im true (flips ∷ []) 1 _ _ (next refl (omega arith) refl here)))) in
+        (λ a m2 c e r. subst (λ z. Will w.im (line (flips ∷ [])) true z
+        (Meets (Open w s u) w.rates (n - c) 1 (Fine a 0))) (sym (as_known m2 _ r.regs_are))
+        (will_more w.im _ true _ _ _ (λ o q. subst (Meets (Open w s u) w.rates (n - c) 1 (Fine a 0)) (sym q)
+        (fine (record { regs_are = refl; open_frame = r.open_frame }) (omega arith) (omega arith)))
+        (will_row w.im true (flips ∷ []) 1 _ _ (next refl (omega arith) refl here)))) in
         let one_more : n + 1 ≡ suc n = omega arith in
-        subst (λ z. Will w.im (around (line (flips ∷ [])) (loop_cells 11 hd pt)) d z (Meets (Open w s u) w.rates (suc n) 0 (plus 1 t))) (sym (as_known m _ h.regs_are))
-        (will_more w.im _ d _ _ _ (λ o q. meets_told _ _ (ap (plus 1) (alone t)) (subst (λ k. Meets (Open w s u) w.rates k 0 (plus 1 (told_then t (λ c a. Fine a 0))) o) one_more q)) all)
+        subst (λ z. Will w.im (around (line (flips ∷ [])) (loop_cells 11 hd pt)) d z
+        (Meets (Open w s u) w.rates (suc n) 0 (plus 1 t))) (sym (as_known m _ h.regs_are))
+        (will_more w.im _ d _ _ _ (λ o q. meets_told _ _ (ap (plus 1) (alone t))
+        (subst (λ k. Meets (Open w s u) w.rates k 0 (plus 1 (told_then t (λ c a. Fine a 0))) o) one_more q))
+        all)
 
 -- ---- the law
 
-module _ (w : World) (thousand : w.rates.steps ≡ 1000) (counts : 1 ≤ w.rates.counts) (s : Scope) (at : ℕ) (entry : Expression) (first again : Statements) (exit : Expression) (pe pf pg px : List Symbol) (te : TestLaw w s entry pe) (tx : TestLaw w s exit px) (hf : BlockLaw w s first pf) (hg : BlockLaw w s again pg) where
-  he : FlagLaw w s entry pe
-  he = test_flags w s entry pe te
+module _ (w : World) (thousand : w.rates.steps ≡ 1000) (counts : 1 ≤ w.rates.counts) (s : Scope) (at : ℕ)
+    (entry : Expression) (first again : Statements) (exit : Expression) (pe pf pg px : List Symbol)
+    (te : TestLaw w s entry pe) (tx : TestLaw w s exit px) (hf : BlockLaw w s first pf) (hg : BlockLaw w s again pg)
+  where
+    he : FlagLaw w s entry pe
+    he = test_flags w s entry pe te
 
-  hx : FlagLaw w s exit px
-  hx = test_flags w s exit px tx
+    hx : FlagLaw w s exit px
+    hx = test_flags w s exit px tx
 
-  abbrev chk : List Symbol
-  chk = check_cells 11 2
+    abbrev chk : List Symbol
+    chk = check_cells 11 2
 
-  abbrev head_code : List Symbol
-  head_code = pe ++ (chk ++ (pf ++ (chk ++ px)))
+    abbrev head_code : List Symbol
+    head_code = pe ++ (chk ++ (pf ++ (chk ++ px)))
 
-  -- what one statement says
-  told_from : (n : ℕ) (d : Bool) (u : w.Under) (e1 e2 : Expression) (body1 body2 : Statements) (st : State) → told (one w.setting n (From at e1 body1 body2 e2) st) ≡ plus 1 (enters w thousand counts s u d e1 e2 body1 body2 n true n st)
-  told_from n d u e1 e2 body1 body2 st =
-      let go : Value → Run State = λ v. fault_if loop_fault (not (holds v)) >>= λ z. turns w.setting n (exec w.setting n) e1 body1 body2 e2 st in
-      told_after 1 (evaluated w.setting.program e1 st >>= go)
-      ∙ ap (plus 1) (
-      told_bind (evaluated w.setting.program e1 st) go
-      ∙ same_then (told (evaluated w.setting.program e1 st)) (λ v. told (go v)) (λ v. looped w thousand counts s u d e1 e2 body1 body2 n (not (holds v)) (says w thousand counts s u d e1 e2 body1 body2 n n st)) (λ v. looped_is w thousand counts s u d e1 e2 body1 body2 n n (not (holds v)) st (told_turns w thousand counts s u d e1 e2 body1 body2 n n st))
-      ∙ sym (told_holds (evaluated w.setting.program e1 st) (λ b. looped w thousand counts s u d e1 e2 body1 body2 n (not b) (says w thousand counts s u d e1 e2 body1 body2 n n st)))
-      )
+    -- what one statement says
+    told_from : (n : ℕ) (d : Bool) (u : w.Under) (e1 e2 : Expression) (body1 body2 : Statements) (st : State)
+        → told (one w.setting n (From at e1 body1 body2 e2) st)
+        ≡ plus 1 (enters w thousand counts s u d e1 e2 body1 body2 n true n st)
+    told_from n d u e1 e2 body1 body2 st =
+        let go : Value → Run State = λ v. fault_if loop_fault (not (holds v)) >>= λ z. turns w.setting n
+        (exec w.setting n) e1 body1 body2 e2 st in
+        told_after 1 (evaluated w.setting.program e1 st >>= go)
+        ∙ ap (plus 1) (
+        told_bind (evaluated w.setting.program e1 st) go
+        ∙ same_then (told (evaluated w.setting.program e1 st)) (λ v. told (go v))
+        (λ v. looped w thousand counts s u d e1 e2 body1 body2 n (not (holds v))
+        (says w thousand counts s u d e1 e2 body1 body2 n n st))
+        (λ v. looped_is w thousand counts s u d e1 e2 body1 body2 n n (not (holds v)) st
+        (told_turns w thousand counts s u d e1 e2 body1 body2 n n st))
+        ∙ sym (told_holds (evaluated w.setting.program e1 st)
+        (λ b. looped w thousand counts s u d e1 e2 body1 body2 n (not b)
+        (says w thousand counts s u d e1 e2 body1 body2 n n st)))
+        )
 
-  runs_from : (n : ℕ) → Owes w (suc n) → (d : Bool) (u : w.Under) (st : State) (m : Memory) → Open w s u st m → Will w.im (from_code pe pf pg px) d m (Meets (Open w s u) w.rates (suc n) 0 (told (one w.setting n (turned d (From at entry first again exit)) st)))
-  runs_from n owes false u st m h =
-      let less : Owes w n = λ k l. owes k (omega arith) in
-      let hd_is : in_order false (pe ∷ chk ∷ pf ∷ chk ∷ px ∷ []) ≡ head_code = ap (λ z. pe ++ (chk ++ (pf ++ (chk ++ z)))) (append-nil px) in
-      will_more w.im _ false m _ _ (λ o q. meets_told _ _ (sym (told_from n false u entry exit first again st)) q)
-      (whole_loop w thousand counts s u false entry exit first again n pe px pf pg head_code he hx (hf n less false u) (hg n less false u) hd_is st m h)
-  runs_from n owes true u st m h =
-      let less : Owes w n = λ k l. owes k (omega arith) in
-      let hd_is : in_order true (px ∷ chk ∷ pf ∷ chk ∷ pe ∷ []) ≡ head_code =
-      append_assoc ((pe ++ chk) ++ pf) chk px ∙ append_assoc (pe ++ chk) pf (chk ++ px) ∙ append_assoc pe chk (pf ++ (chk ++ px)) in
-      will_more w.im _ true m _ _ (λ o q. meets_told _ _ (sym (told_from n true u exit entry (inverse first) (inverse again) st)) q)
-      (whole_loop w thousand counts s u true exit entry (inverse first) (inverse again) n px pe pf pg head_code hx he (hf n less true u) (hg n less true u) hd_is st m h)
+    runs_from : (n : ℕ) → Owes w (suc n) → (d : Bool) (u : w.Under) (st : State) (m : Memory) → Open w s u st m
+        → Will w.im (from_code pe pf pg px) d m (Meets (Open w s u) w.rates (suc n) 0
+        (told (one w.setting n (turned d (From at entry first again exit)) st)))
+    runs_from n owes false u st m h =
+        let less : Owes w n = λ k l. owes k (omega arith) in
+        let hd_is : in_order false (pe ∷ chk ∷ pf ∷ chk ∷ px ∷ []) ≡ head_code =
+        ap (λ z. pe ++ (chk ++ (pf ++ (chk ++ z)))) (append-nil px) in
+        will_more w.im _ false m _ _ (λ o q. meets_told _ _ (sym (told_from n false u entry exit first again st)) q)
+        (whole_loop w thousand counts s u false entry exit first again n pe px pf pg head_code he hx (hf n less false u)
+        (hg n less false u) hd_is st m h)
+    runs_from n owes true u st m h =
+        let less : Owes w n = λ k l. owes k (omega arith) in
+        let hd_is : in_order true (px ∷ chk ∷ pf ∷ chk ∷ pe ∷ []) ≡ head_code =
+        append_assoc ((pe ++ chk) ++ pf) chk px ∙ append_assoc (pe ++ chk) pf (chk ++ px)
+        ∙ append_assoc pe chk (pf ++ (chk ++ px)) in
+        will_more w.im _ true m _ _ (λ o q. meets_told _ _ (sym
+        (told_from n true u exit entry (inverse first) (inverse again) st)) q)
+        (whole_loop w thousand counts s u true exit entry (inverse first) (inverse again) n px pe pf pg head_code hx he
+        (hf n less true u) (hg n less true u) hd_is st m h)
 
-  -- the code of a loop
-  pub from_law : StmtLaw w s (From at entry first again exit) (from_code pe pf pg px)
-  from_law n owes d u = record { does = λ st m h. runs_from n owes d u st m h }
+    -- the code of a loop
+    pub from_law : StmtLaw w s (From at entry first again exit) (from_code pe pf pg px)
+    from_law n owes d u = record { does = λ st m h. runs_from n owes d u st m h }

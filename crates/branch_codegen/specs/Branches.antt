@@ -6,7 +6,8 @@ use Rattle.paired_code.specs.declared.part.Symbol.{Symbol}
 use Rattle.paired_code.specs.Layout.{check_cells, loop_cells}
 use Rattle.paired_code.specs.Does.{if_cells}
 use Rattle.paired_code.specs.Rows.{within}
-use Rattle.branch_codegen.specs.declared.flag.TheConstants.{FLAG, LOOP_FAULT}
+use Rattle.code_conventions.specs.declared.faults.TheConstants.{LOOP}
+use Rattle.code_conventions.specs.declared.registers.TheConstants.{FLAG}
 
 -- the flag becomes 1 where it was 0, and 0 where it was 1
 abbrev pub flips : Cell
@@ -23,7 +24,7 @@ if_code test taken other after = if_cells FLAG test after (part_code taken) othe
 
 -- the flag, which is to be 0
 abbrev pub check : List Symbol
-check = check_cells FLAG LOOP_FAULT
+check = check_cells FLAG LOOP
 
 -- A turn of a loop, the second part aside: the flag is 1 at the first entry and 0 at each later
 -- one, so the entry's test makes it 0 where it is as it is to be; run back the exit's test does.

@@ -2,14 +2,15 @@
 use Rattle.std.specs.Prelude.{ℕ, List}
 use Rattle.rpp_tree.specs.Tree.{Expression, Statements, If, From}
 use Rattle.paired_code.specs.declared.part.Symbol.{Symbol}
-use Rattle.statement_laws.specs.Form.{Scope, TestLaw, BlockLaw, StmtLaw}
-use Rattle.statement_laws.specs.Worlds.{Place, world_of}
+use Rattle.refine_form.specs.Form.{Scope, TestLaw, BlockLaw, StmtLaw}
+use Rattle.refine_form.specs.Worlds.{Place, world_of}
 
 -- A conditional, wherever the tests and parts do what theirs are to do. Along, the test after is to
 -- agree with the one before, or it stops with fault 1; back it is the inverse statement, where the
 -- two tests change places.
 pub record IfCode (t p q a all : List Symbol) : Type 0 where
-  pub law : (place : Place) (s : Scope) (at : ℕ) (test after : Expression) (taken other : Statements)
+  pub law : (place : Place) (s : Scope) (at : ℕ) (test after : Expression)
+      (taken other : Statements)
       → TestLaw (world_of place) s test t → TestLaw (world_of place) s after a
       → BlockLaw (world_of place) s taken p → BlockLaw (world_of place) s other q
       → StmtLaw (world_of place) s (If at test taken other after) all
@@ -18,7 +19,8 @@ pub record IfCode (t p q a all : List Symbol) : Type 0 where
 -- first and not again, or it stops with fault 2; back it is the inverse statement, where the two
 -- tests change places.
 pub record FromCode (e p q x all : List Symbol) : Type 0 where
-  pub law : (place : Place) (s : Scope) (at : ℕ) (entry exit : Expression) (first again : Statements)
+  pub law : (place : Place) (s : Scope) (at : ℕ) (entry exit : Expression)
+      (first again : Statements)
       → TestLaw (world_of place) s entry e → TestLaw (world_of place) s exit x
       → BlockLaw (world_of place) s first p → BlockLaw (world_of place) s again q
       → StmtLaw (world_of place) s (From at entry first again exit) all

@@ -3,15 +3,16 @@ ghost use Rattle.std.specs.Prelude.{◌≡◌, ◌+◌, ◌∷◌, ◌++◌, Lis
 ghost use Rattle.paired_code.specs.Code.{unmarked};
 ghost use Rattle.paired_code.specs.Layout.{check_cells, branch_cells, loop_cells};
 ghost use Rattle.paired_code.specs.Rows.{line};
-ghost use Rattle.statement_laws.specs.Held.{Holds, HoldsBoth};
+ghost use Rattle.refine_form.specs.Held.{Holds, HoldsBoth};
 ghost use Rattle.branch_codegen.specs.Branches.{flips, part_code, if_code, check, turn_code, from_code};
 ghost use Rattle.branch_codegen.specs.Laws.{IfCode, FromCode};
 
-use crate::flag::{FI_FAULT, FLAG, LOOP_FAULT};
+use code_conventions::faults::{FI, LOOP};
+use code_conventions::registers::FLAG;
 use paired_code::{Piece, branch_if, check_zero, plain, seq, turn_while};
 use pisa_isa::{Cell, Op};
+use refine_form::around;
 use rpp_words::NoMemory;
-use statement_laws::around;
 use std::alloc::Global;
 
 /// The code of `if test then yes else no fi after`, over the pieces of its tests, which have no
@@ -74,7 +75,7 @@ fn part_piece(alloc: Global, part: Piece) -> Result<Piece, NoMemory>
     around(alloc, flip_piece(alloc)?, part)
 }
 
-#[tactic(auto, using(statement_laws::proofs::Holding::branch_clause))]
+#[tactic(auto, using(refine_form::proofs::Holding::branch_clause))]
 fn chosen_piece(alloc: Global, yes: Piece, no: Piece) -> Result<Piece, NoMemory>
     ensures cells { IfOk result (λ p. p.cells ≡ branch_cells FLAG (part_code yes.cells) no.cells) }
     ensures held { IfOk result (λ p. HoldsBoth no yes p) }
@@ -84,12 +85,12 @@ fn chosen_piece(alloc: Global, yes: Piece, no: Piece) -> Result<Piece, NoMemory>
 
 fn last_piece(alloc: Global, after: Piece) -> Result<Piece, NoMemory>
     requires none { after.marks ≡ [] }
-    ensures code { IfOk result (λ p. p ≡ unmarked (after.cells ++ check_cells FLAG FI_FAULT)) }
+    ensures code { IfOk result (λ p. p ≡ unmarked (after.cells ++ check_cells FLAG FI)) }
 {
-    seq(after, check_zero(alloc, FLAG, FI_FAULT)?)
+    seq(after, check_zero(alloc, FLAG, FI)?)
 }
 
-#[tactic(auto, using(statement_laws::proofs::Holding::both_before))]
+#[tactic(auto, using(refine_form::proofs::Holding::both_before))]
 fn ended_piece(alloc: Global, yes: Piece, no: Piece, last: Piece) -> Result<Piece, NoMemory>
     requires none { last.marks ≡ [] }
     ensures cells { IfOk result (λ p. p.cells ≡ branch_cells FLAG (part_code yes.cells) no.cells
@@ -99,7 +100,7 @@ fn ended_piece(alloc: Global, yes: Piece, no: Piece, last: Piece) -> Result<Piec
     seq(chosen_piece(alloc, yes, no)?, last)
 }
 
-#[tactic(auto, using(statement_laws::proofs::Holding::both_behind))]
+#[tactic(auto, using(refine_form::proofs::Holding::both_behind))]
 fn tested_piece(
     alloc: Global,
     test: Piece,
@@ -116,7 +117,7 @@ fn tested_piece(
     seq(test, ended_piece(alloc, yes, no, last)?)
 }
 
-#[tactic(auto, using(statement_laws::proofs::Holding::both_behind))]
+#[tactic(auto, using(refine_form::proofs::Holding::both_behind))]
 fn if_piece(
     alloc: Global,
     test: Piece,
@@ -131,17 +132,17 @@ fn if_piece(
 {
     let last = last_piece(alloc, after)?;
     let tested = tested_piece(alloc, test, yes, no, last)?;
-    seq(check_zero(alloc, FLAG, FI_FAULT)?, tested)
+    seq(check_zero(alloc, FLAG, FI)?, tested)
 }
 
 fn exit_piece(alloc: Global, exit: Piece) -> Result<Piece, NoMemory>
     requires none { exit.marks ≡ [] }
     ensures code { IfOk result (λ p. p ≡ unmarked (check ++ exit.cells)) }
 {
-    seq(check_zero(alloc, FLAG, LOOP_FAULT)?, exit)
+    seq(check_zero(alloc, FLAG, LOOP)?, exit)
 }
 
-#[tactic(auto, using(statement_laws::proofs::Holding::holds_left))]
+#[tactic(auto, using(refine_form::proofs::Holding::holds_left))]
 fn left_piece(alloc: Global, first: Piece, exit: Piece) -> Result<Piece, NoMemory>
     requires none { exit.marks ≡ [] }
     ensures cells { IfOk result (λ p. p.cells ≡ first.cells ++ (check ++ exit.cells)) }
@@ -154,10 +155,10 @@ fn entry_piece(alloc: Global, entry: Piece) -> Result<Piece, NoMemory>
     requires none { entry.marks ≡ [] }
     ensures code { IfOk result (λ p. p ≡ unmarked (entry.cells ++ check)) }
 {
-    seq(entry, check_zero(alloc, FLAG, LOOP_FAULT)?)
+    seq(entry, check_zero(alloc, FLAG, LOOP)?)
 }
 
-#[tactic(auto, using(statement_laws::proofs::Holding::behind_clause, crate::proofs::Clauses::turn_cells))]
+#[tactic(auto, using(refine_form::proofs::Holding::behind_clause, crate::proofs::Clauses::turn_cells))]
 fn turn_piece(alloc: Global, entry: Piece, first: Piece, exit: Piece) -> Result<Piece, NoMemory>
     requires entry_none { entry.marks ≡ [] }
     requires exit_none { exit.marks ≡ [] }
@@ -184,7 +185,7 @@ fn turns_piece(
     turn_while(alloc, FLAG, turn_piece(alloc, entry, first, exit)?, again)
 }
 
-#[tactic(auto, using(statement_laws::proofs::Holding::both_in))]
+#[tactic(auto, using(refine_form::proofs::Holding::both_in))]
 fn from_piece(
     alloc: Global,
     entry: Piece,

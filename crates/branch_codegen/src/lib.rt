@@ -5,6 +5,5 @@
 #![tactic(auto)]
 
 mod branches;
-mod flag;
 
 pub use branches::{conditional, repetition};

@@ -1,5 +1,6 @@
 -- The order that the book gives a request is the least one with room, and no other is.
-use Rattle.std.proofs.Common.{◌≡◌, ℕ, zero, suc, ◌+◌, ◌^◌, ◌≤◌, ◌<◌, true, false, nat_le, sym, subst, arith, le_antisymm, if◌then◌else◌}
+use Rattle.std.proofs.Common.{◌≡◌, ℕ, zero, suc, ◌+◌, ◌^◌, ◌≤◌, ◌<◌, true, false, nat_le, sym, subst, arith}
+use Rattle.std.proofs.Common.{le_antisymm, if◌then◌else◌}
 use Rattle.std.proofs.lemmas.Bool.Decides.{leb_tells}
 use Rattle.std.specs.Prelude.{◌⊎◌}
 use Rattle.std.proofs.Common.{inl, inr, eq-or-lt_of_le}
@@ -15,15 +16,27 @@ above words k least small j from room = above_by (eq-or-lt_of_le (least j from r
   above_by (inl e) = let h : words ≤ 2 ^ k = subst (λ i. words ≤ 2 ^ i) (sym e) room in absurd (omega arith)
   above_by (inr l) = omega arith
 
-order_by : (tries k words : ℕ) → 1 ≤ k → IsBelow words k → ((nat_le words (2 ^ k) ≡ true) × (words ≤ 2 ^ k)) ⊎ ((nat_le words (2 ^ k) ≡ false) × (2 ^ k < words))
-    → (2 ^ k < words → IsOrderFor words (order_from tries (suc k) words)) → IsOrderFor words (order_from (suc tries) k words)
-order_by tries k words from least (inl p) later = subst (λ t. IsOrderFor words (if t then k else order_from tries (suc k) words)) (sym p.0) (record { from_one = from; has_room = p.1; least = least })
-order_by tries k words from least (inr p) later = subst (λ t. IsOrderFor words (if t then k else order_from tries (suc k) words)) (sym p.0) (later p.1)
+order_by : (tries k words : ℕ) → 1 ≤ k → IsBelow words k
+    → ((nat_le words (2 ^ k) ≡ true) × (words ≤ 2 ^ k)) ⊎ ((nat_le words (2 ^ k) ≡ false) × (2 ^ k < words))
+    → (2 ^ k < words → IsOrderFor words (order_from tries (suc k) words))
+    → IsOrderFor words (order_from (suc tries) k words)
+order_by tries k words from least (inl p) later = subst
+    (λ t. IsOrderFor words (if t then k else order_from tries (suc k) words)) (sym p.0)
+    (record { from_one = from; has_room = p.1; least = least })
+order_by tries k words from least (inr p) later = subst
+    (λ t. IsOrderFor words (if t then k else order_from tries (suc k) words)) (sym p.0) (later p.1)
 
-order_is : (tries k words : ℕ) → 1 ≤ k → words ≤ 2 ^ (tries + k) → IsBelow words k → IsOrderFor words (order_from tries k words)
-order_is zero k words from room least = record { from_one = from; has_room = let e : 0 + k ≡ k = omega arith in subst (λ i. words ≤ 2 ^ i) e room; least = least }
+order_is : (tries k words : ℕ) → 1 ≤ k → words ≤ 2 ^ (tries + k) → IsBelow words k
+    → IsOrderFor words (order_from tries k words)
+order_is zero k words from room least = record {
+  from_one = from;
+  has_room = let e : 0 + k ≡ k = omega arith in
+      subst (λ i. words ≤ 2 ^ i) e room;
+  least = least;
+}
 order_is (suc tries) k words from room least =
-    order_by tries k words from least (leb_tells words (2 ^ k)) (λ h. let e : suc tries + k ≡ tries + suc k = omega arith in
+    order_by tries k words from least (leb_tells words (2 ^ k))
+    (λ h. let e : suc tries + k ≡ tries + suc k = omega arith in
     order_is tries (suc k) words (omega arith) (subst (λ i. words ≤ 2 ^ i) e room) (above words k least h))
 
 -- what the book's definition gives

@@ -23,5 +23,6 @@ apart = refl
 merged : give (give both_taken 1 0) 1 2 ≡ start 2
 merged = refl
 
-orders : order_for 1 ∷ order_for 2 ∷ order_for 3 ∷ order_for 4 ∷ order_for 5 ∷ order_for 2147483649 ∷ [] ≡ 1 ∷ 1 ∷ 2 ∷ 2 ∷ 3 ∷ 32 ∷ []
+orders : order_for 1 ∷ order_for 2 ∷ order_for 3 ∷ order_for 4 ∷ order_for 5 ∷ order_for 2147483649 ∷ []
+    ≡ 1 ∷ 1 ∷ 2 ∷ 2 ∷ 3 ∷ 32 ∷ []
 orders = refl

@@ -40,7 +40,8 @@ with_block name blocks (Some (block, book)) =
 
 abbrev pub after_request : Request → Option Placing → Option Placing
 after_request request None = None
-after_request (Taken name order) (Some placing) = with_block name placing.blocks (take placing.book order)
+after_request (Taken name order) (Some placing) =
+    with_block name placing.blocks (take placing.book order)
 after_request (Given name order) (Some placing) =
     Some (record {
       book = give placing.book order (block_of placing.blocks name);

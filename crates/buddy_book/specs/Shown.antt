@@ -1,9 +1,12 @@
 -- What contracts see of a book, and what every book keeps.
-use Rattle.std.specs.Prelude.{◌≡◌, ◌≤◌, ℕ, zero, suc, ◌+◌, ◌-◌, ◌*◌, ◌^◌, ◌%◌, min, Bool, true, ◌&&◌, nat_eq, nat_lt, nat_le, is_none, IsTrue, List, [], ◌∷◌, length, Option, Some, None, slice_get, if◌then◌else◌}
+use Rattle.std.specs.Prelude.{◌≡◌, ◌≤◌, ℕ, zero, suc, ◌+◌, ◌-◌, ◌*◌, ◌^◌, ◌%◌, min, Bool, true}
+use Rattle.std.specs.Prelude.{◌&&◌, nat_eq, nat_lt, nat_le, is_none, IsTrue, List, [], ◌∷◌, length}
+use Rattle.std.specs.Prelude.{Option, Some, None, slice_get, if◌then◌else◌}
 use Rattle.std.specs.Option.{option_map, unwrap_or}
 use Rattle.buddy_book.specs.Book.{Book, lower_half}
 
--- the taken blocks with their orders, in ascending order of the blocks, as distances from the heap's base
+-- the taken blocks with their orders, in ascending order of the blocks, as distances from the
+-- heap's base
 abbrev pub TakenBlocks : Type 0
 TakenBlocks = List (ℕ × ℕ)
 
@@ -55,7 +58,8 @@ without_taken block [] = []
 without_taken block ((b, order) ∷ taken) =
     if nat_eq b block then taken else (b, order) ∷ without_taken block taken
 
--- the taken blocks of a table that tells the order of the block which begins at each second word, or 0
+-- the taken blocks of a table that tells the order of the block which begins at each second word,
+-- or 0
 abbrev pub taken_from : ℕ → List ℕ → TakenBlocks
 taken_from block [] = []
 taken_from block (zero ∷ orders) = taken_from (2 + block) orders

@@ -1,6 +1,7 @@
 -- The lists of a book as they are stored: for each order a vector whose last element is the head of
 -- the list.
-use Rattle.std.specs.Prelude.{◌≡◌, ◌≤◌, ℕ, ◌-◌, ◌*◌, ◌^◌, List, length, map, reverse, Some, slice_get, Vec, vec_capacity}
+use Rattle.std.specs.Prelude.{◌≡◌, ◌≤◌, ℕ, ◌-◌, ◌*◌, ◌^◌, List, length, map, reverse, Some}
+use Rattle.std.specs.Prelude.{slice_get, Vec, vec_capacity}
 use Rattle.std.specs.declared.alloc.Global.{Global}
 use Rattle.buddy_book.specs.Book.{Book}
 use Rattle.buddy_book.specs.Shown.{Shown, taken_from, IsKept}

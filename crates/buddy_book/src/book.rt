@@ -131,6 +131,37 @@ mod tests {
         Ok(())
     }
 
+    /// Gives the taken block at an address back, where there is one.
+    fn give_at(book: &mut Book, at: u32)
+        ensures { book.new.h ≡ book.old.h }
+    {
+        match order_at(book, at) {
+            None => {}
+            Some(k) => book.give(k, at),
+        }
+    }
+
+    /// An upper half that comes back behind its lower half merges with it; a lower half that comes back behind its upper half
+    /// does not.
+    #[test]
+    fn either_half_comes_back_first(rt: HostRuntime) -> Result<(), Fail> {
+        let mut book = Book::new(rt.alloc(), 2, 40)?;
+        let taken = [book.take(1), book.take(1)];
+        assert_eq!(rt; taken, [Some(42), Some(40)], "upper half first");
+        give_at(&mut book, 40);
+        give_at(&mut book, 42);
+        assert_eq!(rt; book.head(1), None, "both halves merged");
+        assert_eq!(rt; book.head(2), Some(40), "the whole heap is free");
+        let mut other = Book::new(rt.alloc(), 2, 40)?;
+        let taken = [other.take(1), other.take(1)];
+        assert_eq!(rt; taken, [Some(42), Some(40)], "upper half first");
+        give_at(&mut other, 42);
+        give_at(&mut other, 40);
+        assert_eq!(rt; other.head(1), Some(40), "the one that came back last");
+        assert_eq!(rt; other.head(2), None, "no whole block is free");
+        Ok(())
+    }
+
     /// The plain lists of an empty heap of order 10, the head of each last.
     fn plain_start(alloc: Global) -> Result<Vec<Vec<u32>>, Fail> {
         let mut lists = Vec::new(alloc);

@@ -4,8 +4,10 @@ use Rattle.pisa_isa.specs.declared.cell.Cell.{Cell}
 use Rattle.paired_code.specs.Closed.{Shape, Nothing, One, Then, Turned, Loop, Check, IsMade, HasShape}
 use Rattle.paired_code.proofs.Undone.{AllPlain}
 use Rattle.buddy_pisa.specs.declared.rows.TheConstants.{FLAG, ZERO, HEAP_FULL}
-use Rattle.buddy_pisa.specs.Rows.{limits_row, over_row, order_row, bottom_row, first_row, some_row, up_row, above_row, take_row, merge_row, apart_row, half_row, allocator_cells}
-use Rattle.buddy_pisa.proofs.Flags.{plain_limits, plain_over, plain_order, plain_bottom, plain_first, plain_some, plain_up, plain_above, plain_take, plain_merge, plain_apart, plain_half}
+use Rattle.buddy_pisa.specs.Rows.{limits_row, over_row, order_row, bottom_row, first_row, some_row, up_row, above_row}
+use Rattle.buddy_pisa.specs.Rows.{take_row, merge_row, apart_row, half_row, allocator_cells}
+use Rattle.buddy_pisa.proofs.Flags.{plain_limits, plain_over, plain_order, plain_bottom, plain_first, plain_some}
+use Rattle.buddy_pisa.proofs.Flags.{plain_up, plain_above, plain_take, plain_merge, plain_apart, plain_half}
 
 abbrev line_shape : List Cell → Shape
 line_shape [] = Nothing
@@ -42,22 +44,31 @@ within_made row piece p made = (line_made row p, (made, line_made row p))
 
 search_made : IsMade search_shape
 search_made = (
-  (line_made bottom_row plain_bottom, within_made first_row (line_shape some_row) plain_first (line_made some_row plain_some)),
+  (
+    line_made bottom_row plain_bottom,
+    within_made first_row (line_shape some_row) plain_first
+        (line_made some_row plain_some),
+  ),
   (line_made up_row plain_up, within_made above_row check_shape plain_above tt),
 )
 
 halve_made : IsMade halve_shape
 halve_made = (
-  (within_made merge_row (line_shape apart_row) plain_merge (line_made apart_row plain_apart), line_made bottom_row plain_bottom),
+  (
+    within_made merge_row (line_shape apart_row) plain_merge (line_made apart_row plain_apart),
+    line_made bottom_row plain_bottom,
+  ),
   (line_made up_row plain_up, line_made half_row plain_half),
 )
 
 order_made : IsMade order_shape
-order_made = within_made order_row (Then search_shape (Then (line_shape take_row) halve_shape)) plain_order (search_made, (line_made take_row plain_take, halve_made))
+order_made = within_made order_row (Then search_shape (Then (line_shape take_row) halve_shape)) plain_order
+    (search_made, (line_made take_row plain_take, halve_made))
 
 pub has_shape : HasShape allocator_cells
 has_shape = record {
   shape = allocator_shape;
   is = refl;
-  made = within_made limits_row (Then (within_shape over_row check_shape) order_shape) plain_limits (within_made over_row check_shape plain_over tt, order_made);
+  made = within_made limits_row (Then (within_shape over_row check_shape) order_shape) plain_limits
+      (within_made over_row check_shape plain_over tt, order_made);
 }

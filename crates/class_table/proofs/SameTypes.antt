@@ -17,7 +17,8 @@ pub record TypesSame (table : Table) (a b : VarType) : Type 0 where
   pub known : type_known table a ≡ passed → type_known table b ≡ passed
   pub ints : is_type_int b ≡ is_type_int a
 
-class_known_as : (table : Table) (a b : Ident) → a.text ≡ b.text → class_known table a ≡ passed → class_known table b ≡ passed
+class_known_as : (table : Table) (a b : Ident) → a.text ≡ b.text → class_known table a ≡ passed
+    → class_known table b ≡ passed
 class_known_as table a b e h = required_passes _ _ (ap (λ n. is_some (class_of table n)) (sym e) ∙ held _ _ h)
 
 pub types_same : (table : Table) (a b : VarType) → same_type a b ≡ true → TypesSame table a b
@@ -28,7 +29,13 @@ types_same table type.Int (type.ClassArray y) h = absurd (cc)
 types_same table (type.Class x) type.Int h = absurd (cc)
 types_same table (type.Class x) (type.Class y) h =
     let e = same_name x.text y.text h in
-    record { kinds = ap (λ n. class_kind (class_of table n)) (sym e); turned = bytes_turned y.text x.text ∙ h; known = class_known_as table x y e; ints = refl }
+    record {
+      kinds = ap (λ n. class_kind (class_of table n)) (sym e);
+      turned = bytes_turned y.text x.text
+          ∙ h;
+      known = class_known_as table x y e;
+      ints = refl;
+    }
 types_same table (type.Class x) type.IntArray h = absurd (cc)
 types_same table (type.Class x) (type.ClassArray y) h = absurd (cc)
 types_same table type.IntArray type.Int h = absurd (cc)
@@ -40,4 +47,10 @@ types_same table (type.ClassArray x) (type.Class y) h = absurd (cc)
 types_same table (type.ClassArray x) type.IntArray h = absurd (cc)
 types_same table (type.ClassArray x) (type.ClassArray y) h =
     let e = same_name x.text y.text h in
-    record { kinds = ap (λ n. array_kind (class_of table n)) (sym e); turned = bytes_turned y.text x.text ∙ h; known = class_known_as table x y e; ints = refl }
+    record {
+      kinds = ap (λ n. array_kind (class_of table n)) (sym e);
+      turned = bytes_turned y.text x.text
+          ∙ h;
+      known = class_known_as table x y e;
+      ints = refl;
+    }

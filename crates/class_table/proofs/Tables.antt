@@ -12,5 +12,6 @@ pub table_reads : (program : Source) (class : ℕ) → class < length program.cl
 table_reads program class inside = record {
   fields = each_below-get (fields_of program) (length program.classes) class [] inside;
   slots = each_below-get (slots_of program) (length program.classes) class [] inside;
-  inherits = λ from. ap (λ line. list_any (λ above. nat_eq above from) (take (length line - 1) line)) (each_below-get (line_of program) (length program.classes) class [] inside);
+  inherits = λ from. ap (λ line. list_any (λ above. nat_eq above from) (take (length line - 1) line))
+      (each_below-get (line_of program) (length program.classes) class [] inside);
 }

@@ -1,5 +1,6 @@
 -- Classes, their fields, method slots, dispatch and inheritance, on the list of classes alone.
-use Rattle.std.specs.Prelude.{ℕ, ◌-◌, Bool, List, map, length, take, Option, slice_get, position, nat_eq}
+use Rattle.std.specs.Prelude.{ℕ, ◌-◌, Bool, List, map, length, take, Option, slice_get, position}
+use Rattle.std.specs.Prelude.{nat_eq}
 use Rattle.std.specs.List.{list_any}
 use Rattle.std.specs.Option.{unwrap_or}
 use Rattle.std.specs.Str.{bytes_eq}
@@ -40,7 +41,8 @@ dispatch program class slot = run_at (class_slots program class) slot
 
 -- the text of a method
 abbrev pub procedure_at : Source → MethodId → Procedure
-procedure_at program id = unwrap_or (slice_get (class_at program id.class).methods id.method) no_procedure
+procedure_at program id = unwrap_or (slice_get (class_at program id.class).methods id.method)
+    no_procedure
 
 -- the method of this name for an object of the class
 abbrev pub method_named : Source → ℕ → List ℕ → Procedure

@@ -48,7 +48,8 @@ pub record IsDispatched (program : Source) (own : ℕ) (method : Procedure)
   pub same_types : map (kind_of_var program) method.params ≡ map (kind_of_var program) params
   pub small : IsSmallMethod method
 
--- a call that is checked with the slot of a class finds a method for each object of a class below it
+-- a call that is checked with the slot of a class finds a method for each object of a class below
+-- it
 abbrev pub CallsFindMethods : Type 0
 CallsFindMethods =
     (program : Source) → IsAccepted program → (own class slot : ℕ) (name : List ℕ)

@@ -8,12 +8,13 @@ use Rattle.class_table.specs.Table.{table_of, fields_in, slots_in, inherits_in}
 use Rattle.class_table.specs.Classes.{class_fields, class_slots, inherits}
 
 -- the element at this number is refused so, and none before it
-pub record IsRefusedFirst {A E : Type 0} (rule : A → Option E) (xs : List A) (error : E) : Type 0 where
-  pub number : ℕ
-  pub element : A
-  pub there : slice_get xs number ≡ Some element
-  pub refused : rule element ≡ Some error
-  pub passed : (k : ℕ) (x : A) → k < number → slice_get xs k ≡ Some x → rule x ≡ None
+pub record IsRefusedFirst {A E : Type 0} (rule : A → Option E) (xs : List A) (error : E) : Type 0
+  where
+    pub number : ℕ
+    pub element : A
+    pub there : slice_get xs number ≡ Some element
+    pub refused : rule element ≡ Some error
+    pub passed : (k : ℕ) (x : A) → k < number → slice_get xs k ≡ Some x → rule x ≡ None
 
 -- what `first_in` names is refused first
 abbrev pub FirstIsFirst : Type 0
@@ -30,7 +31,8 @@ ChainEndsWithin = (program : Source) (class steps : ℕ) (line : List ℕ)
 pub record ReadsClasses (program : Source) (class : ℕ) : Type 0 where
   pub fields : fields_in (table_of program) class ≡ class_fields program class
   pub slots : slots_in (table_of program) class ≡ class_slots program class
-  pub inherits : (from : ℕ) → inherits_in (table_of program) class from ≡ inherits program class from
+  pub inherits : (from : ℕ) → inherits_in (table_of program) class from
+      ≡ inherits program class from
 
 abbrev pub TableReadsClasses : Type 0
 TableReadsClasses = (program : Source) (class : ℕ) → class < length program.classes

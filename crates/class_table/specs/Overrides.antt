@@ -1,5 +1,6 @@
 -- Methods that a class declares twice, or overrides with other parameters.
-use Rattle.std.specs.Prelude.{ℕ, ◌-◌, Bool, true, false, not, ◌&&◌, List, [], ◌∷◌, map, length, take, Option, Some, None, slice_get, position}
+use Rattle.std.specs.Prelude.{ℕ, ◌-◌, Bool, true, false, not, ◌&&◌, List, [], ◌∷◌, map, length}
+use Rattle.std.specs.Prelude.{take, Option, Some, None, slice_get, position}
 use Rattle.std.specs.Option.{unwrap_or, option_map}
 use Rattle.std.specs.Str.{bytes_eq}
 use Rattle.rpp_tree.specs.declared.tree.Var.{Var}
@@ -8,7 +9,8 @@ use Rattle.rpp_tree.specs.declared.tree.VarType.TheVariants as type
 use Rattle.rpp_tree.specs.Tree.{Procedure, ClassText, Source}
 use Rattle.class_table.specs.declared.method.MethodId.{MethodId}
 use Rattle.class_table.specs.declared.error.ClassError.{ClassError}
-use Rattle.class_table.specs.declared.error.ClassError.TheVariants.{DuplicateMethod, OverrideDiffers}
+use Rattle.class_table.specs.declared.error.ClassError.TheVariants.{DuplicateMethod}
+use Rattle.class_table.specs.declared.error.ClassError.TheVariants.{OverrideDiffers}
 use Rattle.class_table.specs.First.{refused_if, first_in, first_after, first_at}
 use Rattle.class_table.specs.Names.{has_name}
 use Rattle.class_table.specs.Chains.{line_of}

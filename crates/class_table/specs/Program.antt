@@ -7,7 +7,8 @@ use Rattle.class_table.specs.Members.{has_field}
 use Rattle.class_table.specs.Table.{Table, table_of, HasClassTable}
 use Rattle.class_table.specs.Refusal.{redeclared}
 use Rattle.class_table.specs.Scope.{Setting, Locals}
-use Rattle.class_table.specs.Statements.{Verdict, passed, required, in_turn, each_passes, each_passes_after, with_local, check_statements}
+use Rattle.class_table.specs.Statements.{Verdict, passed, required, in_turn, each_passes}
+use Rattle.class_table.specs.Statements.{each_passes_after, with_local, check_statements}
 
 -- 14: an earlier parameter has the name
 abbrev pub parameter_new : List Var → Var → Verdict
@@ -15,7 +16,8 @@ parameter_new before var = required (not (has_field before var.name.text)) (rede
 
 abbrev pub with_parameters : Setting → Locals → List Var → Locals
 with_parameters setting locals [] = locals
-with_parameters setting locals (var ∷ vars) = with_parameters setting (with_local setting locals var) vars
+with_parameters setting locals (var ∷ vars) =
+    with_parameters setting (with_local setting locals var) vars
 
 abbrev pub check_method : Setting → Procedure → Verdict
 check_method setting method =
@@ -39,7 +41,8 @@ check_classes program table number (class ∷ classes) =
 abbrev pub check_program : Source → Verdict
 check_program program = check_classes program (table_of program) 0 program.classes
 
--- the tree keeps the limits, and no rule of the class table and none of the types refuses the program
+-- the tree keeps the limits, and no rule of the class table and none of the types refuses the
+-- program
 pub record IsAccepted (program : Source) : Type 0 where
   pub limits : IsWithinLimits program
   pub classes : HasClassTable program

@@ -1,5 +1,6 @@
 -- The rules of statements in their order.
-use Rattle.std.specs.Prelude.{ℕ, Bool, true, false, not, is_some, ◌&&◌, ◌||◌, nat_eq, List, [], ◌∷◌, ◌++◌, length, Option, Some, None, Result, Ok, Err, if◌then◌else◌}
+use Rattle.std.specs.Prelude.{ℕ, Bool, true, false, not, is_some, ◌&&◌, ◌||◌, nat_eq, List, [], ◌∷◌}
+use Rattle.std.specs.Prelude.{◌++◌, length, Option, Some, None, Result, Ok, Err, if◌then◌else◌}
 use Rattle.std.specs.Option.{unwrap_or, is_none}
 use Rattle.std.specs.List.{list_any}
 use Rattle.std.specs.Str.{bytes_eq}
@@ -7,15 +8,20 @@ use Rattle.rpp_tree.specs.declared.tree.Ident.{Ident}
 use Rattle.rpp_tree.specs.declared.tree.Var.{Var}
 use Rattle.rpp_tree.specs.declared.tree.VarType.{VarType}
 use Rattle.rpp_tree.specs.declared.tree.VarType.TheVariants as type
-use Rattle.rpp_tree.specs.Tree.{Expression, Null, Lvalue, Whole, Item, Creation, Object, Ints, Objects, Statement, Statements, Update, Swap, If, From, Construct, Local, New, Delete, Copy, Uncopy, Call, Skip, End, Then}
+use Rattle.rpp_tree.specs.Tree.{Expression, Null, Lvalue, Whole, Item, Creation, Object, Ints}
+use Rattle.rpp_tree.specs.Tree.{Objects, Statement, Statements, Update, Swap, If, From, Construct}
+use Rattle.rpp_tree.specs.Tree.{Local, New, Delete, Copy, Uncopy, Call, Skip, End, Then}
 use Rattle.rpp_tree.specs.Places.{place_name}
 use Rattle.class_table.specs.Overrides.{is_type_int, same_type, parameters_of}
 use Rattle.class_table.specs.Table.{Table, class_of, slot_in, dispatch_in, inherits_in}
-use Rattle.class_table.specs.Refusal.{Refusal, unknown_name, redeclared, type_differs, self_update, same_argument, field_argument, wrong_arity, local_in_own_expression, not_class_type}
+use Rattle.class_table.specs.Refusal.{Refusal, unknown_name, redeclared, type_differs, self_update}
+use Rattle.class_table.specs.Refusal.{same_argument, field_argument, wrong_arity}
+use Rattle.class_table.specs.Refusal.{local_in_own_expression, not_class_type}
 use Rattle.class_table.specs.declared.kind.Kind.{Kind}
 use Rattle.class_table.specs.declared.kind.Kind.TheVariants as kind
 use Rattle.class_table.specs.Scope.{Setting, Locals, kind_of, local_kind, kind_in, class_kind}
-use Rattle.class_table.specs.Expressions.{and_then, is_int, type_of, place_type, occurs, occurs_in_index, first_token}
+use Rattle.class_table.specs.Expressions.{and_then, is_int, type_of, place_type, occurs}
+use Rattle.class_table.specs.Expressions.{occurs_in_index, first_token}
 
 -- passed, or the first refusal
 abbrev pub Verdict : Type 0
@@ -130,7 +136,8 @@ made_known table (Objects class length) = class_known table class
 
 abbrev pub length_is_int : Setting → Locals → Creation → Result Bool Refusal
 length_is_int setting locals (Object class) = Ok true
-length_is_int setting locals (Ints length) = and_then (type_of setting locals length) (λ l. Ok (is_int l))
+length_is_int setting locals (Ints length) = and_then (type_of setting locals length)
+    (λ l. Ok (is_int l))
 length_is_int setting locals (Objects class length) =
     and_then (type_of setting locals length) (λ l. Ok (is_int l))
 
@@ -162,7 +169,8 @@ takes table (Objects class length) place = takes_objects_of (class_of table clas
 abbrev pub make_rules : Setting → Locals → ℕ → Creation → Lvalue → Verdict
 make_rules setting locals at made place =
     in_turn (made_known setting.table made)
-    (and_then (place_type setting locals place) (λ p. and_then (length_is_int setting locals made) (λ int.
+    (and_then (place_type setting locals place) (λ p. and_then (length_is_int setting locals made)
+    (λ int.
     in_turn (required (int && takes setting.table made p) (type_differs at))
     (required (not (occurs_in_own_index place || occurs_in_length (place_name place).text made))
     (self_update at)))))
@@ -254,7 +262,8 @@ plain_receiver (Some (Whole name)) = name ∷ []
 plain_receiver (Some (Item name index)) = []
 
 -- the method; each argument; no argument twice; as many as parameters; of their types
-abbrev pub slot_rules : Setting → Locals → ℕ → Option Lvalue → Ident → List Ident → ℕ → Option ℕ → Verdict
+abbrev pub slot_rules : Setting → Locals → ℕ → Option Lvalue → Ident → List Ident → ℕ → Option ℕ
+    → Verdict
 slot_rules setting locals at receiver method arguments class None = Err (unknown_name method.at)
 slot_rules setting locals at receiver method arguments class (Some slot) =
     let parameters = parameters_of setting.program (dispatch_in setting.table class slot) in
@@ -281,7 +290,8 @@ with_object setting locals class name =
 -- a statement's own rules, and then those of the statements inside it
 abbrev mutual
   pub check_statement : Setting → Locals → Statement → Verdict
-  check_statement setting locals (Update at op place value) = update_rules setting locals at place value
+  check_statement setting locals (Update at op place value) =
+      update_rules setting locals at place value
   check_statement setting locals (Swap at left right) = swap_rules setting locals at left right
   check_statement setting locals (If at test taken other after) =
       in_turn (test_rules setting locals test after)

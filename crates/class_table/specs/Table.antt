@@ -1,5 +1,6 @@
 -- The class table of a program as plain data, and the first refusal of one.
-use Rattle.std.specs.Prelude.{◌≡◌, ℕ, Bool, None, List, [], ◌-◌, map, length, take, Option, slice_get, position, nat_eq}
+use Rattle.std.specs.Prelude.{◌≡◌, ℕ, Bool, None, List, [], ◌-◌, map, length, take, Option}
+use Rattle.std.specs.Prelude.{slice_get, position, nat_eq}
 use Rattle.std.specs.List.{list_any}
 use Rattle.std.specs.Option.{unwrap_or}
 use Rattle.std.specs.Str.{bytes_eq}
@@ -11,7 +12,8 @@ use Rattle.class_table.specs.First.{first_of}
 use Rattle.class_table.specs.Rules.{class_names, duplicate_class, unknown_class}
 use Rattle.class_table.specs.Chains.{lines, inheritance_cycle}
 use Rattle.class_table.specs.Overrides.{duplicate_method, differing_override, run_at}
-use Rattle.class_table.specs.Members.{Slots, field_name, fields, slots, duplicate_field, too_many_fields, too_many_slots}
+use Rattle.class_table.specs.Members.{Slots, field_name, fields, slots, duplicate_field}
+use Rattle.class_table.specs.Members.{too_many_fields, too_many_slots}
 use Rattle.class_table.specs.Mains.{mains, main_refusal, first_main}
 
 pub record Table : Type 0 where

@@ -1,15 +1,16 @@
 -- The plan of `cluster`.
 use Rattle.std.specs.Prelude.{◌≡◌, ℕ, List, [], ◌∷◌, length, map, Result, Ok, Err}
+use Rattle.std.specs.declared.option.Option.{Option}
 use Rattle.rpp_ports.specs.Ports.{Texts}
 use Rattle.pisa_isa.specs.Image.{Segments}
 use Rattle.pisa_isa.specs.Notes.{NotedImage}
 use Rattle.pisa_image.specs.declared.error.ImageError.{ImageError}
 use Rattle.pisa_image.specs.Reading.{image_at}
-use Rattle.rpp_plan.specs.declared.reading.TheConstants.{MOST_IMAGE}
-use Rattle.rpp_plan.specs.declared.plan.Verdict.TheVariants.{Done, ImageRefused, InputRefused}
-use Rattle.rpp_plan.specs.Files.{Needed, image_file}
-use Rattle.rpp_plan.specs.Plans.{Planned, prints, WithText}
-use Rattle.rpp_plan.specs.Texts.{bad_command_line, image_line}
+use Rattle.command_plan.specs.declared.reading.TheConstants.{MOST_IMAGE}
+use Rattle.command_plan.specs.declared.plan.Verdict.TheVariants.{Done, ImageRefused, InputRefused}
+use Rattle.command_plan.specs.Files.{Needed, image_file}
+use Rattle.command_plan.specs.Plans.{Planned, prints, WithText}
+use Rattle.command_plan.specs.Texts.{bad_command_line, image_line}
 use Rattle.cluster_commands.specs.declared.script.Event.{Event}
 use Rattle.cluster_commands.specs.declared.script.TheConstants.{MOST_SCRIPT}
 use Rattle.cluster_commands.specs.declared.error.ScriptError.{ScriptError}
@@ -37,7 +38,8 @@ images_at [] = Ok []
 images_at (bytes ∷ rest) = with_image (image_at bytes) (images_at rest)
 
 -- the first line that asks nothing is told, or what the events print
-abbrev pub IsEventsPlan : Result (List Event) ScriptError → List Segments → (cells : ℕ) → Planned → Type 0
+abbrev pub IsEventsPlan : Result (List Event) ScriptError → List Segments → (cells : ℕ) → Planned
+    → Type 0
 IsEventsPlan (Err (BadEvent line)) images cells p = p ≡ prints InputRefused (bad_command_line line)
 IsEventsPlan (Err script.NoMemory) images cells p = ⊥
 IsEventsPlan (Ok events) images cells p = (text : List ℕ) × IsShown images cells events text
@@ -47,17 +49,18 @@ IsEventsPlan (Ok events) images cells p = (text : List ℕ) × IsShown images ce
 abbrev pub IsClusterPlan : Result (List Segments) ImageError → (script : List ℕ) → (cells : ℕ)
     → Planned → Type 0
 IsClusterPlan (Err e) script cells p = p ≡ prints ImageRefused (image_line e)
-IsClusterPlan (Ok images) script cells p = IsEventsPlan (events_of (length images) script) images cells p
+IsClusterPlan (Ok images) script cells p = IsEventsPlan (events_of (length images) script) images
+    cells p
 
 -- P holds of the texts of these images
-abbrev pub WithImages : Texts → List (List ℕ) → (List (List ℕ) → Type 0) → Type 0
-WithImages texts [] P = P []
-WithImages texts (name ∷ names) P =
-    WithText texts name MOST_IMAGE (λ bytes. WithImages texts names (λ rest. P (bytes ∷ rest)))
+abbrev pub WithImages : Option Texts → List (List ℕ) → (List (List ℕ) → Type 0) → Type 0
+WithImages told [] P = P []
+WithImages told (name ∷ names) P =
+    WithText told name MOST_IMAGE (λ bytes. WithImages told names (λ rest. P (bytes ∷ rest)))
 
 -- the plan of `cluster` by this script over these images, on so many cells
-abbrev pub ClustersFiles : (script : List ℕ) → (cells : ℕ) → (images : List (List ℕ)) → Texts
+abbrev pub ClustersFiles : (script : List ℕ) → (cells : ℕ) → (images : List (List ℕ)) → Option Texts
     → Planned → Type 0
-ClustersFiles script cells images texts p =
-    WithText texts script MOST_SCRIPT
-    (λ text. WithImages texts images (λ bytes. IsClusterPlan (images_at bytes) text cells p))
+ClustersFiles script cells images told p =
+    WithText told script MOST_SCRIPT
+    (λ text. WithImages told images (λ bytes. IsClusterPlan (images_at bytes) text cells p))

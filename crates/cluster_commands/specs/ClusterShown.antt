@@ -1,12 +1,13 @@
 -- What a cluster prints: a line for each event, and then how it ends.
-use Rattle.std.specs.Prelude.{◌≡◌, ℕ, zero, suc, nat_eq, if◌then◌else◌, List, [], ◌∷◌, ◌++◌, length, Option, Some, None, codes}
+use Rattle.std.specs.Prelude.{◌≡◌, ℕ, zero, suc, nat_eq, if◌then◌else◌, List, [], ◌∷◌, ◌++◌, length}
+use Rattle.std.specs.Prelude.{Option, Some, None, codes}
 use Rattle.std.specs.Fmt.{decimal, signed_decimal}
 use Rattle.rpp_words.specs.Texts.{line_end}
 use Rattle.pisa_isa.specs.declared.machine.Stop.{Stop}
 use Rattle.pisa_isa.specs.declared.machine.Core.{Core}
 use Rattle.pisa_isa.specs.Image.{Segments}
-use Rattle.machine_texts.specs.Words.{word_shown, direction, cell_line}
-use Rattle.machine_texts.specs.Stops.{stop_line}
+use Rattle.pisa_scripts.specs.Words.{word_shown, direction, cell_line}
+use Rattle.pisa_scripts.specs.Stops.{stop_line}
 use Rattle.pisa_cluster.specs.declared.processor.Processor.{Processor}
 use Rattle.pisa_cluster.specs.declared.cluster.Moved.{Moved}
 use Rattle.pisa_cluster.specs.declared.cluster.Moved.TheVariants.{Made, Stopped}
@@ -22,7 +23,8 @@ abbrev pub AfterStep : ((made : ℕ) → Option Stop → (d e : Schedule) → Ty
 AfterStep More (Stopped why) made stop d e = (made ≡ 0) × (stop ≡ Some why) × (e ≡ d)
 AfterStep More (Made serial) made stop d e = (more : ℕ) × (made ≡ suc more) × More more stop d e
 
--- up to so many steps of a processor, up to a stop: how many were made, and why it stopped, if it did
+-- up to so many steps of a processor, up to a stop: how many were made, and why it stopped, if it
+-- did
 abbrev pub MakesSteps : (who wanted : ℕ) → (made : ℕ) → Option Stop → (c e : Schedule) → Type 0
 MakesSteps who zero made stop c e = (made ≡ 0) × (stop ≡ None) × (e ≡ c)
 MakesSteps who (suc wanted) made stop c e =

@@ -1,8 +1,8 @@
 // `cluster SCRIPT CELLS IMG {IMG}`: several processors on one memory, by a script.
-ghost use Rattle.std.specs.Prelude.{◌≡◌, ◌≤◌, ◌<◌, ◌+◌, ◌++◌, List, ℕ, map, length, vec_len, Ok, IfOk, IfSome, string_bytes, All};
+ghost use Rattle.std.specs.Prelude.{◌≡◌, ◌≤◌, ◌<◌, ◌+◌, ◌++◌, List, ℕ, map, length, vec_len, Ok, IfOk, string_bytes, All};
 ghost use Rattle.pisa_image.specs.Reading.{Gives};
-ghost use Rattle.rpp_plan.specs.Files.{OnlyReads, image_file};
-ghost use Rattle.rpp_plan.specs.Plans.{planned, GivesPlan};
+ghost use Rattle.command_plan.specs.Files.{OnlyReads, image_file};
+ghost use Rattle.command_plan.specs.Plans.{planned, GivesPlan};
 ghost use Rattle.cluster_commands.specs.ClusterScripts.{IsEvent, events_of};
 ghost use Rattle.cluster_commands.specs.ClusterShown.{IsShown};
 ghost use Rattle.pisa_cluster.specs.Schedules.{first_schedule};
@@ -12,10 +12,10 @@ use crate::error::ScriptError;
 use crate::following::follow;
 use crate::script::{Event, MOST_SCRIPT, read_events};
 use crate::shown::add_end;
+use command_plan::{MOST_IMAGE, NoPlan, Plan, Verdict, bad_command_line, image_line, read_file};
 use pisa_cluster::Cluster;
 use pisa_image::{ImageError, read_image};
 use pisa_isa::Image;
-use rpp_plan::{MOST_IMAGE, NoPlan, Plan, Verdict, bad_command_line, image_line, read_file};
 use rpp_ports::Shelf;
 use rpp_words::NoMemory;
 use std::alloc::Global;
@@ -53,8 +53,8 @@ fn read_images<S: Shelf>(
     texts: &mut Vec<Vec<u8>>,
 ) -> Result<(), NoPlan>
     ensures text { IfOk result (λ _.
-        IfSome (S.texts shelf.old) (λ told. WithImages told (map string_bytes names.now)
-        (λ read. map (λ v. v.items) texts.new.items ≡ map (λ v. v.items) texts.old.items ++ read))) }
+        WithImages (S.texts shelf.old) (map string_bytes names.now)
+        (λ read. map (λ v. v.items) texts.new.items ≡ map (λ v. v.items) texts.old.items ++ read)) }
     ensures reads { OnlyReads (S.texts shelf.old) (S.texts shelf.new) (S.faults shelf.old)
         (S.faults shelf.new)
         (map image_file (map string_bytes names.now)) result }

@@ -1,10 +1,10 @@
 // Reads scripts for several processors.
 ghost use Rattle.std.specs.Prelude.{◌≡◌, ◌≤◌, ◌+◌, ℕ, All, [], map, length, IfOk, OnOk, IfSome};
-ghost use Rattle.machine_texts.specs.Lines.{pieces as pieces_of, number_up_to as number_of};
+ghost use Rattle.pisa_scripts.specs.Lines.{pieces as pieces_of, number_up_to as number_of};
 ghost use Rattle.cluster_commands.specs.ClusterScripts.{IsEvent, from_one, event_of as event_of_words, step_event, undo_event, rewind_event, with_line, events_from, events_of, Gives};
 
 use crate::error::ScriptError;
-use machine_texts::{is_blank, number_up_to, pieces, without_returns};
+use pisa_scripts::{is_blank, number_up_to, pieces, without_returns};
 use std::alloc::Global;
 
 /// The most bytes of a script.

@@ -2,9 +2,9 @@
 ghost use Rattle.std.specs.Prelude.{◌≡◌, ◌<◌, ◌≤◌, ◌+◌, ◌^◌, ◌++◌, length, OnOk, string_bytes};
 ghost use Rattle.cluster_commands.specs.ClusterShown.{kept_line, processor_line, processor_lines, filled_line, filled_lines, end_shown};
 
-use machine_texts::{add_cell, direction};
 use pisa_cluster::Cluster;
 use pisa_isa::Core;
+use pisa_scripts::{add_cell, direction};
 use std::alloc::AllocError;
 
 // Adds the line on how many steps are kept.

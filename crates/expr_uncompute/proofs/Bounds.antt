@@ -3,16 +3,19 @@ use Rattle.std.proofs.Common.{◌≡◌, ℕ, ◌+◌, ◌*◌, ◌≤◌, List,
 use Rattle.rpp_tree.specs.declared.tree.BinOp.{BinOp}
 use Rattle.rpp_tree.specs.declared.tree.BinOp.TheVariants as op
 use Rattle.rpp_tree.specs.declared.tree.UpdateOp.{UpdateOp}
-use Rattle.rpp_tree.specs.Tree.{Expression, Number, Null, Variable, Element, Binary, Lvalue, Whole, Item, nodes, index_nodes}
+use Rattle.rpp_tree.specs.Tree.{Expression, Number, Null, Variable, Element, Binary, Lvalue, Whole, Item, nodes}
+use Rattle.rpp_tree.specs.Tree.{index_nodes}
 use Rattle.paired_code.specs.declared.part.Symbol.{Symbol}
 use Rattle.paired_code.specs.Layout.{mirror_cells, check_cells}
 use Rattle.paired_code.proofs.Mirrored.{length_mirror}
-use Rattle.statement_laws.specs.declared.spot.Spot.{Spot}
+use Rattle.refine_form.specs.declared.spot.Spot.{Spot}
 use Rattle.roopl_semantics.specs.Elements.{elements, index_elements, own_element, read_cost}
 use Rattle.expr_uncompute.specs.Number.{index_of}
 use Rattle.expr_uncompute.specs.Code
 use Rattle.expr_uncompute.specs.Sizes.{swap_size}
-use Rattle.expr_uncompute.specs.Steps.{operator_steps, operand_steps, open_steps, prepare_steps, parts_steps, value_steps, test_steps, fetch_steps, place_steps, compare_steps, apart_steps, both_apart_steps, update_steps, swap_steps, tokens, place_tokens}
+use Rattle.expr_uncompute.specs.Steps.{operator_steps, operand_steps, open_steps, prepare_steps, parts_steps}
+use Rattle.expr_uncompute.specs.Steps.{value_steps, test_steps, fetch_steps, place_steps, compare_steps, apart_steps}
+use Rattle.expr_uncompute.specs.Steps.{both_apart_steps, update_steps, swap_steps, tokens, place_tokens}
 use Rattle.expr_uncompute.specs.Found.{found_place_steps, found_value_steps, found_places_steps}
 
 -- ---- steps
@@ -52,14 +55,16 @@ open_most (Number at word) = omega arith
 open_most (Null at) = omega arith
 open_most (Variable name) = omega arith
 open_most (Element name index) = let a = operand_most index in omega arith
-open_most (Binary at o left right) = let a = operand_most left in let b = operand_most right in let c = operator_most o in omega arith
+open_most (Binary at o left right) = let a = operand_most left in let b = operand_most right in let c =
+    operator_most o in omega arith
 
 prepare_most : (e : Expression) → prepare_steps e ≤ 81 * nodes e
 prepare_most (Number at word) = omega arith
 prepare_most (Null at) = omega arith
 prepare_most (Variable name) = omega arith
 prepare_most (Element name index) = let a = open_most (Element name index) in let b = prepare_most index in omega arith
-prepare_most (Binary at o left right) = let a = open_most (Binary at o left right) in let b = prepare_most left in let c = prepare_most right in omega arith
+prepare_most (Binary at o left right) = let a = open_most (Binary at o left right) in let b = prepare_most left in
+    let c = prepare_most right in omega arith
 
 parts_most : (e : Expression) → parts_steps e + 81 ≤ 81 * nodes e
 parts_most (Number at word) = omega arith
@@ -79,7 +84,8 @@ fetch_most e = let a = parts_most e in let b = open_most e in omega arith
 
 pub place_most : (target : Lvalue) → place_steps target ≤ 152 * index_nodes target + 2
 place_most (Whole name) = omega arith
-place_most (Item name index) = let a = operand_most index in let b = prepare_most index in let c = some_nodes index in omega arith
+place_most (Item name index) = let a = operand_most index in let b = prepare_most index in let c = some_nodes index in
+    omega arith
 
 pub place_less : (target : Lvalue) → place_steps target ≤ 81 * index_nodes target + 73
 place_less (Whole name) = omega arith
@@ -100,7 +106,8 @@ index_compare_is (Whole name) = refl
 index_compare_is (Item name index) = compare_is index
 
 -- what an update compares, by what the source counts
-apart_is : (target : Lvalue) (e : Expression) → apart_steps target (index_of target) e ≡ 30 * read_cost (own_element target) (index_elements target ++ elements e)
+apart_is : (target : Lvalue) (e : Expression) → apart_steps target (index_of target) e
+    ≡ 30 * read_cost (own_element target) (index_elements target ++ elements e)
 apart_is (Whole name) e = refl
 apart_is (Item name index) e =
     let a = compare_is index in
@@ -108,7 +115,8 @@ apart_is (Item name index) e =
     omega (arith, length-append (elements index) (elements e))
 
 -- and what a swap compares: twice so much where both places are elements
-both_apart_most : (left right : Lvalue) → both_apart_steps left right ≤ 60 * read_cost (own_element left ++ own_element right) (index_elements left ++ index_elements right)
+both_apart_most : (left right : Lvalue) → both_apart_steps left right ≤ 60 * read_cost
+    (own_element left ++ own_element right) (index_elements left ++ index_elements right)
 both_apart_most (Whole name) (Whole other) = omega arith
 both_apart_most (Whole name) (Item other index) =
     let a = compare_is index in omega arith
@@ -118,11 +126,13 @@ both_apart_most (Item name index) right =
     let c = side right in
     omega (arith, length-append (elements index) (index_elements right))
   where
-    side : (right : Lvalue) → apart_steps right index (index_of right) ≤ compare_steps index + compare_steps (index_of right)
+    side : (right : Lvalue) → apart_steps right index (index_of right) ≤ compare_steps index + compare_steps
+        (index_of right)
     side (Whole other) = omega arith
     side (Item other k) = omega arith
 
-both_apart_least : (left right : Lvalue) → read_cost (own_element left ++ own_element right) (index_elements left ++ index_elements right) ≤ both_apart_steps left right
+both_apart_least : (left right : Lvalue) → read_cost (own_element left ++ own_element right)
+    (index_elements left ++ index_elements right) ≤ both_apart_steps left right
 both_apart_least (Whole name) (Whole other) = omega arith
 both_apart_least (Whole name) (Item other index) = let a = compare_is index in omega arith
 both_apart_least (Item name index) right =
@@ -131,21 +141,31 @@ both_apart_least (Item name index) right =
     omega (arith, length-append (elements index) (index_elements right))
 
 -- a statement counts 1 beside its nodes, and 1 for each element that it reads where it changes one
-pub update_most : (target : Lvalue) (e : Expression) → update_steps target e ≤ 162 * (1 + index_nodes target + nodes e + read_cost (own_element target) (index_elements target ++ elements e))
+pub update_most : (target : Lvalue) (e : Expression) → update_steps target e ≤ 162 *
+    (1 + index_nodes target + nodes e + read_cost (own_element target) (index_elements target ++ elements e))
 update_most target e = let a = place_less target in let b = fetch_most e in let c = apart_is target e in omega arith
 
-pub swap_most : (left right : Lvalue) → swap_steps left right ≤ 304 * (1 + index_nodes left + index_nodes right + read_cost (own_element left ++ own_element right) (index_elements left ++ index_elements right))
-swap_most left right = let a = place_most left in let b = place_most right in let c = both_apart_most left right in omega arith
+pub swap_most : (left right : Lvalue) → swap_steps left right ≤ 304 *
+    (1 + index_nodes left + index_nodes right + read_cost (own_element left ++ own_element right)
+    (index_elements left ++ index_elements right))
+swap_most left right = let a = place_most left in let b = place_most right in let c = both_apart_most left right in
+    omega arith
 
 -- what is found around a middle, there and back
-pub found_place_most : (target : Lvalue) → 2 * found_place_steps target ≤ 162 * (1 + index_nodes target + read_cost (own_element target) (index_elements target))
+pub found_place_most : (target : Lvalue) → 2 * found_place_steps target ≤ 162 *
+    (1 + index_nodes target + read_cost (own_element target) (index_elements target))
 found_place_most (Whole name) = omega arith
 found_place_most (Item name index) = let a = place_less (Item name index) in let b = compare_is index in omega arith
 
-pub found_value_most : (target : Lvalue) (e : Expression) → 2 * found_value_steps target e ≤ 162 * (1 + index_nodes target + nodes e + read_cost (own_element target) (index_elements target ++ elements e))
-found_value_most target e = let a = place_less target in let b = fetch_most e in let c = apart_is target e in omega arith
+pub found_value_most : (target : Lvalue) (e : Expression)
+    → 2 * found_value_steps target e ≤ 162 * (1 + index_nodes target + nodes e + read_cost (own_element target)
+    (index_elements target ++ elements e))
+found_value_most target e = let a = place_less target in let b = fetch_most e in let c = apart_is target e in
+    omega arith
 
-pub found_places_most : (source target : Lvalue) → 2 * found_places_steps source target ≤ 304 * (1 + index_nodes source + index_nodes target + read_cost (own_element target) (index_elements source ++ index_elements target))
+pub found_places_most : (source target : Lvalue) → 2 * found_places_steps source target ≤ 304 *
+    (1 + index_nodes source + index_nodes target + read_cost (own_element target)
+    (index_elements source ++ index_elements target))
 found_places_most source (Whole name) = let a = place_less source in omega arith
 found_places_most source (Item name index) =
     let a = place_less source in
@@ -155,11 +175,17 @@ found_places_most source (Item name index) =
     omega (arith, length-append (index_elements source) (elements index))
 
 -- so do faults of a shared array
-pub update_sharing_most : (target : Lvalue) (e : Expression) → place_steps target + fetch_steps e + apart_steps target (index_of target) e ≤ 162 * (1 + index_nodes target + nodes e + read_cost (own_element target) (index_elements target ++ elements e))
-update_sharing_most target e = let a = place_less target in let b = fetch_most e in let c = apart_is target e in omega arith
+pub update_sharing_most : (target : Lvalue) (e : Expression)
+    → place_steps target + fetch_steps e + apart_steps target (index_of target) e ≤ 162 *
+    (1 + index_nodes target + nodes e + read_cost (own_element target) (index_elements target ++ elements e))
+update_sharing_most target e = let a = place_less target in let b = fetch_most e in let c = apart_is target e in
+    omega arith
 
-pub swap_sharing_most : (left right : Lvalue) → place_steps left + place_steps right + both_apart_steps left right ≤ 304 * (1 + index_nodes left + index_nodes right + read_cost (own_element left ++ own_element right) (index_elements left ++ index_elements right))
-swap_sharing_most left right = let a = place_most left in let b = place_most right in let c = both_apart_most left right in omega arith
+pub swap_sharing_most : (left right : Lvalue) → place_steps left + place_steps right + both_apart_steps left right ≤ 304
+    * (1 + index_nodes left + index_nodes right + read_cost (own_element left ++ own_element right)
+    (index_elements left ++ index_elements right))
+swap_sharing_most left right = let a = place_most left in let b = place_most right in let c =
+    both_apart_most left right in omega arith
 
 -- an expression of few nodes needs few words of the frame
 pub words_most : (e : Expression) → Code.words e + 1 ≤ nodes e
@@ -184,7 +210,12 @@ tokens_most (Binary at o left right) = let a = tokens_most left in let b = token
 -- ---- cells
 
 pub length_around : (w mid : List Symbol) → length (Code.around w mid) ≡ length w + (length mid + length w)
-length_around w mid = omega (arith, length-append w (mid ++ mirror_cells w), length-append mid (mirror_cells w), length_mirror w)
+length_around w mid = omega (
+  arith,
+  length-append w (mid ++ mirror_cells w),
+  length-append mid (mirror_cells w),
+  length_mirror w,
+)
 
 module _ (spot : List ℕ → Spot) (free : ℕ) where
   copy_cells : (s : Spot) (into : ℕ) → length (Code.copy_cells s into) ≡ 7
@@ -194,8 +225,10 @@ module _ (spot : List ℕ → Spot) (free : ℕ) where
   operand_cells (Number at word) i into = omega arith
   operand_cells (Null at) i into = omega arith
   operand_cells (Variable name) i into = let h = copy_cells (spot name.text) into in omega arith
-  operand_cells (Element name index) i into = let h = copy_cells (Rattle.statement_laws.specs.declared.spot.Spot.TheVariants.Frame (free + i)) into in omega arith
-  operand_cells (Binary at o left right) i into = let h = copy_cells (Rattle.statement_laws.specs.declared.spot.Spot.TheVariants.Frame (free + i)) into in omega arith
+  operand_cells (Element name index) i into = let h = copy_cells
+      (Rattle.refine_form.specs.declared.spot.Spot.TheVariants.Frame (free + i)) into in omega arith
+  operand_cells (Binary at o left right) i into = let h =
+      copy_cells (Rattle.refine_form.specs.declared.spot.Spot.TheVariants.Frame (free + i)) into in omega arith
 
   operator_cells : (o : BinOp) → length (Code.operator_cells o) ≤ 5
   operator_cells op.Add = omega arith
@@ -225,7 +258,14 @@ module _ (spot : List ℕ → Spot) (free : ℕ) where
       let c = copy_cells (spot name) Code.right_operand in
       let p = Code.operand_cells spot free index i Code.left_operand in
       let r = Code.copy_cells (spot name) Code.right_operand in
-      omega (arith, length-append p (r ++ (Code.nil_check ++ Code.index_check)), length-append r (Code.nil_check ++ Code.index_check), length-append Code.nil_check Code.index_check, nil_cells, index_cells)
+      omega (
+        arith,
+        length-append p (r ++ (Code.nil_check ++ Code.index_check)),
+        length-append r (Code.nil_check ++ Code.index_check),
+        length-append Code.nil_check Code.index_check,
+        nil_cells,
+        index_cells,
+      )
 
   -- an element has at most 39 cells open, an operator 19, a leaf 3
   abbrev open_bound : Expression → ℕ
@@ -239,7 +279,11 @@ module _ (spot : List ℕ → Spot) (free : ℕ) where
   open_cells (Variable name) i = omega arith
   open_cells (Element name index) i =
       let a = checked_cells name.text index (i + 1) in
-      omega (arith, length-append (Code.checked_cells spot free name.text index (i + 1)) (Code.point_cells ++ Code.exch Code.item Code.right_operand ∷ []))
+      omega (
+        arith,
+        length-append (Code.checked_cells spot free name.text index (i + 1))
+            (Code.point_cells ++ Code.exch Code.item Code.right_operand ∷ []),
+      )
   open_cells (Binary at o left right) i =
       let a = operand_cells left (i + 1) Code.left_operand in
       let c = operand_cells right (i + 1 + Code.words left) Code.right_operand in
@@ -257,75 +301,131 @@ module _ (spot : List ℕ → Spot) (free : ℕ) where
   prepare_cells (Variable name) i = omega arith
   prepare_cells (Element name index) i =
       let whole : Expression = Element name index in
-      let s = Code.store_cells (Rattle.statement_laws.specs.declared.spot.Spot.TheVariants.Frame (free + i)) Code.item in
+      let s = Code.store_cells (Rattle.refine_form.specs.declared.spot.Spot.TheVariants.Frame (free + i)) Code.item
+      in
       let a = prepare_cells index (i + 1) in
       let c = open_cells whole i in
-      omega (arith, length-append (Code.prepare_cells spot free index (i + 1)) (Code.around (Code.open_cells spot free whole i) s), length_around (Code.open_cells spot free whole i) s, store_cells (Rattle.statement_laws.specs.declared.spot.Spot.TheVariants.Frame (free + i)) Code.item)
+      omega (
+        arith,
+        length-append (Code.prepare_cells spot free index (i + 1))
+            (Code.around (Code.open_cells spot free whole i) s),
+        length_around (Code.open_cells spot free whole i) s,
+        store_cells (Rattle.refine_form.specs.declared.spot.Spot.TheVariants.Frame (free + i)) Code.item,
+      )
   prepare_cells (Binary at o left right) i =
       let whole : Expression = Binary at o left right in
-      let s = Code.store_cells (Rattle.statement_laws.specs.declared.spot.Spot.TheVariants.Frame (free + i)) (Code.operator_result o) in
+      let s = Code.store_cells (Rattle.refine_form.specs.declared.spot.Spot.TheVariants.Frame (free + i))
+      (Code.operator_result o) in
       let p = Code.prepare_cells spot free left (i + 1) in
       let r = Code.prepare_cells spot free right (i + 1 + Code.words left) in
       let a = prepare_cells left (i + 1) in
       let d = prepare_cells right (i + 1 + Code.words left) in
       let c = open_cells whole i in
-      omega (arith, length-append (p ++ r) (Code.around (Code.open_cells spot free whole i) s), length-append p r, length_around (Code.open_cells spot free whole i) s, store_cells (Rattle.statement_laws.specs.declared.spot.Spot.TheVariants.Frame (free + i)) (Code.operator_result o))
+      omega (
+        arith,
+        length-append (p ++ r) (Code.around (Code.open_cells spot free whole i) s),
+        length-append p r,
+        length_around (Code.open_cells spot free whole i) s,
+        store_cells (Rattle.refine_form.specs.declared.spot.Spot.TheVariants.Frame (free + i))
+            (Code.operator_result o),
+      )
 
   -- the parts and the opened node, with room for nine cells
-  both_cells : (e : Expression) (i : ℕ) → length (Code.parts_cells spot free e i) + length (Code.open_cells spot free e i) + 9 ≤ 29 * tokens e
+  both_cells : (e : Expression) (i : ℕ) → length (Code.parts_cells spot free e i) + length
+      (Code.open_cells spot free e i) + 9 ≤ 29 * tokens e
   both_cells (Number at word) i = omega arith
   both_cells (Null at) i = omega arith
   both_cells (Variable name) i = omega arith
-  both_cells (Element name index) i = let a = prepare_cells index (i + 1) in let c = open_cells (Element name index) i in omega arith
+  both_cells (Element name index) i = let a = prepare_cells index (i + 1) in let c =
+      open_cells (Element name index) i in omega arith
   both_cells (Binary at o left right) i =
       let a = prepare_cells left (i + 1) in
       let d = prepare_cells right (i + 1 + Code.words left) in
       let c = open_cells (Binary at o left right) i in
-      omega (arith, length-append (Code.prepare_cells spot free left (i + 1)) (Code.prepare_cells spot free right (i + 1 + Code.words left)))
+      omega (
+        arith,
+        length-append (Code.prepare_cells spot free left (i + 1))
+            (Code.prepare_cells spot free right (i + 1 + Code.words left)),
+      )
 
   pub value_cells : (e : Expression) (into : ℕ) → length (Code.value_cells spot free e into) ≤ 58 * tokens e
   value_cells e into =
       let mid = Code.around (Code.open_cells spot free e 0) (Code.xor into (Code.result_of e) ∷ []) in
-      omega (arith, both_cells e 0, length_around (Code.parts_cells spot free e 0) mid, length_around (Code.open_cells spot free e 0) (Code.xor into (Code.result_of e) ∷ []))
+      omega (
+        arith,
+        both_cells e 0,
+        length_around (Code.parts_cells spot free e 0) mid,
+        length_around (Code.open_cells spot free e 0) (Code.xor into (Code.result_of e) ∷ []),
+      )
 
   pub test_cells : (e : Expression) (into : ℕ) → length (Code.test_cells spot free e into) ≤ 58 * tokens e
   test_cells e into =
       let w = Code.open_cells spot free e 0 ++ Code.truth_cells Code.truth (Code.result_of e) in
       let mid = Code.around w (Code.xor into Code.truth ∷ []) in
-      omega (arith, both_cells e 0, length_around (Code.parts_cells spot free e 0) mid, length_around w (Code.xor into Code.truth ∷ []), length-append (Code.open_cells spot free e 0) (Code.truth_cells Code.truth (Code.result_of e)))
+      omega (
+        arith,
+        both_cells e 0,
+        length_around (Code.parts_cells spot free e 0) mid,
+        length_around w (Code.xor into Code.truth ∷ []),
+        length-append (Code.open_cells spot free e 0)
+            (Code.truth_cells Code.truth (Code.result_of e)),
+      )
 
   -- and where it is opened twice
-  twice_open : (e : Expression) (i : ℕ) → length (Code.parts_cells spot free e i) + (length (Code.open_cells spot free e i) + (1 + length (Code.open_cells spot free e i))) ≤ 29 * tokens e
+  twice_open : (e : Expression) (i : ℕ) → length (Code.parts_cells spot free e i) +
+      (length (Code.open_cells spot free e i) + (1 + length (Code.open_cells spot free e i))) ≤ 29 * tokens e
   twice_open (Number at word) i = omega arith
   twice_open (Null at) i = omega arith
   twice_open (Variable name) i = omega arith
-  twice_open (Element name index) i = let a = prepare_cells index (i + 1) in let c = open_cells (Element name index) i in omega arith
+  twice_open (Element name index) i = let a = prepare_cells index (i + 1) in let c =
+      open_cells (Element name index) i in omega arith
   twice_open (Binary at o left right) i =
       let a = prepare_cells left (i + 1) in
       let d = prepare_cells right (i + 1 + Code.words left) in
       let c = open_cells (Binary at o left right) i in
-      omega (arith, length-append (Code.prepare_cells spot free left (i + 1)) (Code.prepare_cells spot free right (i + 1 + Code.words left)))
+      omega (
+        arith,
+        length-append (Code.prepare_cells spot free left (i + 1))
+            (Code.prepare_cells spot free right (i + 1 + Code.words left)),
+      )
 
   fetch_cells : (e : Expression) (i into : ℕ) → length (Code.fetch_cells spot free e i into) ≤ 29 * tokens e
   fetch_cells e i into =
       let mid = Code.around (Code.open_cells spot free e i) (Code.xor into (Code.result_of e) ∷ []) in
-      omega (arith, twice_open e i, length-append (Code.parts_cells spot free e i) mid, length_around (Code.open_cells spot free e i) (Code.xor into (Code.result_of e) ∷ []))
+      omega (
+        arith,
+        twice_open e i,
+        length-append (Code.parts_cells spot free e i) mid,
+        length_around (Code.open_cells spot free e i) (Code.xor into (Code.result_of e) ∷ []),
+      )
 
-  place_cells : (target : Lvalue) (i into : ℕ) → length (Code.place_cells spot free target i into) ≤ 29 * place_tokens target
+  place_cells : (target : Lvalue) (i into : ℕ) → length (Code.place_cells spot free target i into) ≤ 29 * place_tokens
+      target
   place_cells (Whole name) i into = omega arith
   place_cells (Item name index) i into =
       let w = Code.checked_cells spot free name.text index i ++ Code.point_cells in
       let mid = Code.xor into Code.right_operand ∷ [] in
       let a = checked_cells name.text index i in
       let c = prepare_cells index i in
-      omega (arith, length-append (Code.prepare_cells spot free index i) (Code.around w mid), length_around w mid, length-append (Code.checked_cells spot free name.text index i) Code.point_cells)
+      omega (
+        arith,
+        length-append (Code.prepare_cells spot free index i) (Code.around w mid),
+        length_around w mid,
+        length-append (Code.checked_cells spot free name.text index i) Code.point_cells,
+      )
 
   -- two arrays compared, 31 cells: an element has three tokens and those of its index
   compare_length : (x y : Spot) → length (Code.compare_cells x y) ≡ 31
   compare_length x y =
       let w = Code.copy_cells x Code.left_operand in
-      let r = Code.reach_cells y ++ Code.sltx Code.outcome Code.left_operand Code.content ∷ Code.sltx Code.outcome Code.content Code.left_operand ∷ Code.xori Code.outcome 1 ∷ [] in
-      omega (arith, length_around (w ++ r) (check_cells Code.outcome 16), length-append w r, copy_cells x Code.left_operand)
+      let r = Code.reach_cells y ++ Code.sltx Code.outcome Code.left_operand Code.content
+      ∷ Code.sltx Code.outcome Code.content Code.left_operand ∷ Code.xori Code.outcome 1 ∷ [] in
+      omega (
+        arith,
+        length_around (w ++ r) (check_cells Code.outcome 16),
+        length-append w r,
+        copy_cells x Code.left_operand,
+      )
 
   compare_all : (x : Spot) (e : Expression) → length (Code.compare_all spot x e) ≤ 11 * tokens e
   compare_all x (Number at word) = omega arith
@@ -333,7 +433,12 @@ module _ (spot : List ℕ → Spot) (free : ℕ) where
   compare_all x (Variable name) = omega arith
   compare_all x (Element name index) =
       let a = compare_all x index in
-      omega (arith, compare_length x (spot name.text), length-append (Code.compare_cells x (spot name.text)) (Code.compare_all spot x index))
+      omega (
+        arith,
+        compare_length x (spot name.text),
+        length-append (Code.compare_cells x (spot name.text))
+            (Code.compare_all spot x index),
+      )
   compare_all x (Binary at o left right) =
       let a = compare_all x left in
       let c = compare_all x right in
@@ -343,15 +448,21 @@ module _ (spot : List ℕ → Spot) (free : ℕ) where
   index_tokens (Whole name) = omega arith
   index_tokens (Item name index) = omega arith
 
-  apart_cells : (target : Lvalue) (e e' : Expression) → length (Code.apart_cells spot target e e') ≤ 11 * (tokens e + tokens e')
+  apart_cells : (target : Lvalue) (e e' : Expression) → length (Code.apart_cells spot target e e') ≤ 11 *
+      (tokens e + tokens e')
   apart_cells (Whole name) e e' = omega arith
   apart_cells (Item name index) e e' =
       let a = compare_all (spot name.text) e in
       let c = compare_all (spot name.text) e' in
-      omega (arith, length-append (Code.compare_all spot (spot name.text) e) (Code.compare_all spot (spot name.text) e'))
+      omega (
+        arith,
+        length-append (Code.compare_all spot (spot name.text) e)
+            (Code.compare_all spot (spot name.text) e'),
+      )
 
   -- and with a middle
-  pub place_around : (target : Lvalue) (mid : List Symbol) → length (Code.around (Code.found_place_cells spot free target) mid) ≤ length mid + 80 * (1 + place_tokens target)
+  pub place_around : (target : Lvalue) (mid : List Symbol)
+      → length (Code.around (Code.found_place_cells spot free target) mid) ≤ length mid + 80 * (1 + place_tokens target)
   place_around target mid =
       let p = Code.place_cells spot free target 0 Code.place in
       let k = Code.apart_cells spot target (index_of target) (Null 0) in
@@ -360,7 +471,9 @@ module _ (spot : List ℕ → Spot) (free : ℕ) where
       let t = index_tokens target in
       omega (arith, length_around (p ++ k) mid, length-append p k)
 
-  pub value_around : (target : Lvalue) (e : Expression) (mid : List Symbol) → length (Code.around (Code.found_value_cells spot free target e) mid) ≤ length mid + 80 * (place_tokens target + tokens e)
+  pub value_around : (target : Lvalue) (e : Expression) (mid : List Symbol)
+      → length (Code.around (Code.found_value_cells spot free target e) mid) ≤ length mid + 80 *
+      (place_tokens target + tokens e)
   value_around target e mid =
       let p = Code.place_cells spot free target 0 Code.place in
       let v = Code.fetch_cells spot free e (Code.place_words target) Code.amount in
@@ -371,7 +484,9 @@ module _ (spot : List ℕ → Spot) (free : ℕ) where
       let t = index_tokens target in
       omega (arith, length_around ((p ++ v) ++ k) mid, length-append (p ++ v) k, length-append p v)
 
-  pub places_around : (source target : Lvalue) (mid : List Symbol) → length (Code.around (Code.found_places_cells spot free source target) mid) ≤ length mid + 80 * (place_tokens source + place_tokens target)
+  pub places_around : (source target : Lvalue) (mid : List Symbol)
+      → length (Code.around (Code.found_places_cells spot free source target) mid) ≤ length mid + 80 *
+      (place_tokens source + place_tokens target)
   places_around source target mid =
       let p = Code.place_cells spot free source 0 Code.place in
       let v = Code.place_cells spot free target (Code.place_words source) Code.other_place in
@@ -383,11 +498,13 @@ module _ (spot : List ℕ → Spot) (free : ℕ) where
       let u = index_tokens target in
       omega (arith, length_around ((p ++ v) ++ k) mid, length-append (p ++ v) k, length-append p v)
 
-  pub update_cells : (o : UpdateOp) (target : Lvalue) (e : Expression) → length (Code.update_cells spot free o target e) ≤ 80 * (place_tokens target + 1 + tokens e)
+  pub update_cells : (o : UpdateOp) (target : Lvalue) (e : Expression)
+      → length (Code.update_cells spot free o target e) ≤ 80 * (place_tokens target + 1 + tokens e)
   update_cells o target e =
       let p = Code.place_cells spot free target 0 Code.place in
       let v = Code.fetch_cells spot free e (Code.place_words target) Code.amount in
-      let mid = Code.exch Code.content Code.place ∷ Code.update_cell o Code.content Code.amount ∷ Code.exch Code.content Code.place ∷ [] in
+      let mid = Code.exch Code.content Code.place ∷ Code.update_cell o Code.content Code.amount
+      ∷ Code.exch Code.content Code.place ∷ [] in
       let a = place_cells target 0 Code.place in
       let c = fetch_cells e (Code.place_words target) Code.amount in
       let k = Code.apart_cells spot target (index_of target) e in
@@ -399,7 +516,8 @@ module _ (spot : List ℕ → Spot) (free : ℕ) where
   swap_cells (Whole name) right =
       let p = Code.place_cells spot free (Whole name) 0 Code.place in
       let v = Code.place_cells spot free right (Code.place_words (Whole name)) Code.other_place in
-      let mid = Code.exch Code.first_word Code.place ∷ Code.exch Code.second_word Code.other_place ∷ Code.exch Code.second_word Code.place ∷ Code.exch Code.first_word Code.other_place ∷ [] in
+      let mid = Code.exch Code.first_word Code.place ∷ Code.exch Code.second_word Code.other_place
+      ∷ Code.exch Code.second_word Code.place ∷ Code.exch Code.first_word Code.other_place ∷ [] in
       let c = place_cells right (Code.place_words (Whole name)) Code.other_place in
       let l = Code.apart_cells spot right (index_of (Whole name)) (index_of right) in
       let e = apart_cells right (index_of (Whole name)) (index_of right) in
@@ -409,7 +527,8 @@ module _ (spot : List ℕ → Spot) (free : ℕ) where
       let left : Lvalue = Item name index in
       let p = Code.place_cells spot free left 0 Code.place in
       let v = Code.place_cells spot free right (Code.place_words left) Code.other_place in
-      let mid = Code.exch Code.first_word Code.place ∷ Code.exch Code.second_word Code.other_place ∷ Code.exch Code.second_word Code.place ∷ Code.exch Code.first_word Code.other_place ∷ [] in
+      let mid = Code.exch Code.first_word Code.place ∷ Code.exch Code.second_word Code.other_place
+      ∷ Code.exch Code.second_word Code.place ∷ Code.exch Code.first_word Code.other_place ∷ [] in
       let a = place_cells left 0 Code.place in
       let c = place_cells right (Code.place_words left) Code.other_place in
       let k = Code.apart_cells spot left (index_of left) (index_of right) in
@@ -418,7 +537,13 @@ module _ (spot : List ℕ → Spot) (free : ℕ) where
       let e = apart_cells right (index_of left) (index_of right) in
       let t = index_tokens left in
       let u = index_tokens right in
-      omega (arith, length_around ((p ++ v) ++ (k ++ l)) mid, length-append (p ++ v) (k ++ l), length-append p v, length-append k l)
+      omega (
+        arith,
+        length_around ((p ++ v) ++ (k ++ l)) mid,
+        length-append (p ++ v) (k ++ l),
+        length-append p v,
+        length-append k l,
+      )
 
 -- ---- and how many at least: a step stands for three counts at most
 
@@ -446,18 +571,24 @@ pub place_least : (target : Lvalue) → index_nodes target ≤ place_steps targe
 place_least (Whole name) = omega arith
 place_least (Item name index) = let a = prepare_least index in omega arith
 
-pub update_least : (target : Lvalue) (e : Expression) → 1 + index_nodes target + nodes e + read_cost (own_element target) (index_elements target ++ elements e) ≤ update_steps target e
+pub update_least : (target : Lvalue) (e : Expression) → 1 + index_nodes target + nodes e + read_cost
+    (own_element target) (index_elements target ++ elements e) ≤ update_steps target e
 update_least target e = let a = place_least target in let b = parts_least e in let c = apart_is target e in omega arith
 
 -- what is found around a middle
-pub found_place_least : (target : Lvalue) → index_nodes target + read_cost (own_element target) (index_elements target) ≤ found_place_steps target
+pub found_place_least : (target : Lvalue) → index_nodes target + read_cost (own_element target) (index_elements target)
+    ≤ found_place_steps target
 found_place_least (Whole name) = omega arith
 found_place_least (Item name index) = let a = place_least (Item name index) in let b = compare_is index in omega arith
 
-pub found_value_least : (target : Lvalue) (e : Expression) → index_nodes target + nodes e + read_cost (own_element target) (index_elements target ++ elements e) ≤ found_value_steps target e + 3
-found_value_least target e = let a = place_least target in let b = parts_least e in let c = apart_is target e in omega arith
+pub found_value_least : (target : Lvalue) (e : Expression)
+    → index_nodes target + nodes e + read_cost (own_element target) (index_elements target ++ elements e) ≤
+    found_value_steps target e + 3
+found_value_least target e = let a = place_least target in let b = parts_least e in let c = apart_is target e in
+    omega arith
 
-pub found_places_least : (source target : Lvalue) → index_nodes source + index_nodes target + read_cost (own_element target) (index_elements source ++ index_elements target) ≤ found_places_steps source target
+pub found_places_least : (source target : Lvalue) → index_nodes source + index_nodes target + read_cost
+    (own_element target) (index_elements source ++ index_elements target) ≤ found_places_steps source target
 found_places_least source (Whole name) = let a = place_least source in omega arith
 found_places_least source (Item name index) =
     let a = place_least source in
@@ -466,5 +597,7 @@ found_places_least source (Item name index) =
     let d = compare_is index in
     omega (arith, length-append (index_elements source) (elements index))
 
-pub swap_least : (left right : Lvalue) → 1 + index_nodes left + index_nodes right + read_cost (own_element left ++ own_element right) (index_elements left ++ index_elements right) ≤ swap_steps left right
-swap_least left right = let a = place_least left in let b = place_least right in let c = both_apart_least left right in omega arith
+pub swap_least : (left right : Lvalue) → 1 + index_nodes left + index_nodes right + read_cost
+    (own_element left ++ own_element right) (index_elements left ++ index_elements right) ≤ swap_steps left right
+swap_least left right = let a = place_least left in let b = place_least right in let c = both_apart_least left right in
+    omega arith

@@ -1,5 +1,6 @@
 -- What the machine's comparisons give for the operators.
-use Rattle.std.proofs.Common.{◌≡◌, ◌≢◌, ℕ, ◌+◌, ◌%◌, ◌^◌, ◌<◌, ◌≤◌, Bool, true, false, refl, sym, ap, ◌∙◌, arith, ⊎_elim}
+use Rattle.std.proofs.Common.{◌≡◌, ◌≢◌, ℕ, ◌+◌, ◌%◌, ◌^◌, ◌<◌, ◌≤◌, Bool, true, false, refl, sym, ap, ◌∙◌, arith}
+use Rattle.std.proofs.Common.{⊎_elim}
 use Rattle.std.specs.Prelude.{not, ◌&&◌, ◌||◌, nat_eq, nat_lt, bit_xor, bit_and, bit_or}
 use Rattle.std.proofs.lemmas.Bool.Decides.{nat_tests}
 use Rattle.std.proofs.lemmas.Bool.{cases_lt, cases_eq}
@@ -26,18 +27,23 @@ both : (x y p q : Bool) → x ≡ p → y ≡ q → bit_xor (word_of x) (word_of
 both x y p q e f = ap (λ z. bit_xor (word_of z) (word_of y)) e ∙ ap (λ z. bit_xor (word_of p) (word_of z)) f
 
 -- both orders together say whether two words differ
-pub differ : (a b : ℕ) → a < 2 ^ 32 → b < 2 ^ 32 → bit_xor (word_of (is_less a b)) (word_of (is_less b a)) ≡ truth_word (not (nat_eq a b))
+pub differ : (a b : ℕ) → a < 2 ^ 32 → b < 2 ^ 32 → bit_xor (word_of (is_less a b)) (word_of (is_less b a))
+    ≡ truth_word (not (nat_eq a b))
 differ a b h k = ⊎_elim (λ e. same e) (λ n. other n) (cases_eq a b)
   where
     same : a ≡ b → bit_xor (word_of (is_less a b)) (word_of (is_less b a)) ≡ truth_word (not (nat_eq a b))
     same e =
         let t : nat_eq a b ≡ true = grind (arith, nat_tests) in
-        both _ _ false false (less_no a b h k (omega arith)) (less_no b a k h (omega arith)) ∙ ap (λ z. truth_word (not z)) (sym t)
+        both _ _ false false (less_no a b h k (omega arith)) (less_no b a k h (omega arith))
+        ∙ ap (λ z. truth_word (not z)) (sym t)
 
     other : a ≢ b → bit_xor (word_of (is_less a b)) (word_of (is_less b a)) ≡ truth_word (not (nat_eq a b))
     other n =
         let t : nat_eq a b ≡ false = grind (arith, nat_tests) in
-        ⊎_elim (λ l. both _ _ true false (less_yes a b h k l) (less_no b a k h (omega arith)) ∙ ap (λ z. truth_word (not z)) (sym t)) (λ g. both _ _ false true (less_no a b h k (omega arith)) (less_yes b a k h (omega arith)) ∙ ap (λ z. truth_word (not z)) (sym t)) (cases_lt ((a + 2 ^ 31) % 2 ^ 32) ((b + 2 ^ 31) % 2 ^ 32))
+        ⊎_elim (λ l. both _ _ true false (less_yes a b h k l) (less_no b a k h (omega arith))
+        ∙ ap (λ z. truth_word (not z)) (sym t)) (λ g. both _ _ false true (less_no a b h k (omega arith))
+        (less_yes b a k h (omega arith)) ∙ ap (λ z. truth_word (not z)) (sym t))
+        (cases_lt ((a + 2 ^ 31) % 2 ^ 32) ((b + 2 ^ 31) % 2 ^ 32))
 
 turned : (x : ℕ) → not (nat_eq 0 x) ≡ is_true x
 turned x = grind (arith, nat_tests)
@@ -55,8 +61,10 @@ not_not true = refl
 not_not false = refl
 
 -- and the other way
-pub equal : (a b : ℕ) → a < 2 ^ 32 → b < 2 ^ 32 → bit_xor (bit_xor (word_of (is_less a b)) (word_of (is_less b a))) 1 ≡ truth_word (nat_eq a b)
-equal a b h k = ap (λ z. bit_xor z 1) (differ a b h k) ∙ flipped (not (nat_eq a b)) ∙ ap truth_word (not_not (nat_eq a b))
+pub equal : (a b : ℕ) → a < 2 ^ 32 → b < 2 ^ 32 → bit_xor (bit_xor (word_of (is_less a b)) (word_of (is_less b a))) 1
+    ≡ truth_word (nat_eq a b)
+equal a b h k = ap (λ z. bit_xor z 1) (differ a b h k) ∙ flipped (not (nat_eq a b))
+    ∙ ap truth_word (not_not (nat_eq a b))
 
 pub not_less : (b : Bool) → bit_xor (word_of b) 1 ≡ truth_word (not b)
 not_less true = refl
@@ -88,23 +96,33 @@ pub not_above : is_less 0 0 ≡ false
 not_above = refl
 
 -- a length is not below 0, so an index without sign is below it exactly where one of these two tells it
-pub past_end : (i n : ℕ) → i < 2 ^ 32 → n < 2 ^ 31 → bit_xor (bit_xor (word_of (is_less i n)) (word_of (is_less i 0))) 1 ≡ truth_word (not (nat_lt i n))
-past_end i n h k = ⊎_elim (λ l. ⊎_elim (λ m. inside l m) (λ g. beyond l g) (cases_lt i n)) (λ g. negative g) (cases_lt i (2 ^ 31))
+pub past_end : (i n : ℕ) → i < 2 ^ 32 → n < 2 ^ 31 → bit_xor (bit_xor (word_of (is_less i n)) (word_of (is_less i 0))) 1
+    ≡ truth_word (not (nat_lt i n))
+past_end i n h k = ⊎_elim (λ l. ⊎_elim (λ m. inside l m) (λ g. beyond l g) (cases_lt i n)) (λ g. negative g)
+    (cases_lt i (2 ^ 31))
   where
-    table : (x y p q : Bool) → x ≡ p → y ≡ q → bit_xor (bit_xor (word_of x) (word_of y)) 1 ≡ bit_xor (bit_xor (word_of p) (word_of q)) 1
-    table x y p q e f = ap (λ z. bit_xor (bit_xor (word_of z) (word_of y)) 1) e ∙ ap (λ z. bit_xor (bit_xor (word_of p) (word_of z)) 1) f
+    table : (x y p q : Bool) → x ≡ p → y ≡ q → bit_xor (bit_xor (word_of x) (word_of y)) 1
+        ≡ bit_xor (bit_xor (word_of p) (word_of q)) 1
+    table x y p q e f = ap (λ z. bit_xor (bit_xor (word_of z) (word_of y)) 1) e
+        ∙ ap (λ z. bit_xor (bit_xor (word_of p) (word_of z)) 1) f
 
-    inside : i < 2 ^ 31 → i < n → bit_xor (bit_xor (word_of (is_less i n)) (word_of (is_less i 0))) 1 ≡ truth_word (not (nat_lt i n))
+    inside : i < 2 ^ 31 → i < n → bit_xor (bit_xor (word_of (is_less i n)) (word_of (is_less i 0))) 1
+        ≡ truth_word (not (nat_lt i n))
     inside l m =
         let t : nat_lt i n ≡ true = grind (arith, nat_tests) in
-        table _ _ true false (less_yes i n h (omega arith) (omega arith)) (less_no i 0 h (omega arith) (omega arith)) ∙ ap (λ z. truth_word (not z)) (sym t)
+        table _ _ true false (less_yes i n h (omega arith) (omega arith)) (less_no i 0 h (omega arith) (omega arith))
+        ∙ ap (λ z. truth_word (not z)) (sym t)
 
-    beyond : i < 2 ^ 31 → n ≤ i → bit_xor (bit_xor (word_of (is_less i n)) (word_of (is_less i 0))) 1 ≡ truth_word (not (nat_lt i n))
+    beyond : i < 2 ^ 31 → n ≤ i → bit_xor (bit_xor (word_of (is_less i n)) (word_of (is_less i 0))) 1
+        ≡ truth_word (not (nat_lt i n))
     beyond l g =
         let t : nat_lt i n ≡ false = grind (arith, nat_tests) in
-        table _ _ false false (less_no i n h (omega arith) (omega arith)) (less_no i 0 h (omega arith) (omega arith)) ∙ ap (λ z. truth_word (not z)) (sym t)
+        table _ _ false false (less_no i n h (omega arith) (omega arith)) (less_no i 0 h (omega arith) (omega arith))
+        ∙ ap (λ z. truth_word (not z)) (sym t)
 
-    negative : 2 ^ 31 ≤ i → bit_xor (bit_xor (word_of (is_less i n)) (word_of (is_less i 0))) 1 ≡ truth_word (not (nat_lt i n))
+    negative : 2 ^ 31 ≤ i → bit_xor (bit_xor (word_of (is_less i n)) (word_of (is_less i 0))) 1
+        ≡ truth_word (not (nat_lt i n))
     negative g =
         let t : nat_lt i n ≡ false = grind (arith, nat_tests) in
-        table _ _ true true (less_yes i n h (omega arith) (omega arith)) (less_yes i 0 h (omega arith) (omega arith)) ∙ ap (λ z. truth_word (not z)) (sym t)
+        table _ _ true true (less_yes i n h (omega arith) (omega arith)) (less_yes i 0 h (omega arith) (omega arith))
+        ∙ ap (λ z. truth_word (not z)) (sym t)

@@ -2,7 +2,7 @@
 use Rattle.std.proofs.Common.{ℕ, List}
 use Rattle.rpp_tree.specs.declared.tree.UpdateOp.{UpdateOp}
 use Rattle.rpp_tree.specs.Tree.{Expression, Lvalue}
-use Rattle.statement_laws.specs.declared.spot.Spot.{Spot}
+use Rattle.refine_form.specs.declared.spot.Spot.{Spot}
 use Rattle.expr_uncompute.specs.Code.{Target, value_cells, test_cells, update_cells, swap_cells}
 use Rattle.expr_uncompute.specs.Promises.{ValueLaw, TestLaw, UpdateLaw, SwapLaw}
 use Rattle.expr_uncompute.proofs.Whole
@@ -15,18 +15,26 @@ module _ (spot : List ℕ → Spot) (free : ℕ) where
   pub test_law : (into : ℕ) (e : Expression) → Target into → TestLaw spot free into e (test_cells spot free e into)
   test_law into e t = record { xors = λ im d m r s. Whole.test_law spot free into e m t r s im d }
 
-  pub update_law : (op : UpdateOp) (target : Lvalue) (value : Expression) → UpdateLaw spot free op target value (update_cells spot free op target value)
+  pub update_law : (op : UpdateOp) (target : Lvalue) (value : Expression)
+      → UpdateLaw spot free op target value (update_cells spot free op target value)
   update_law op target value = record {
-    updates = λ im d m r a v na nv h s. Statements.update_law spot free m op target value r.ready r.first r.second im d a v na nv h s;
-    place_faults = λ im d m r c n. Statements.update_place_fault spot free m op target value r.ready r.first r.second im d c n;
-    value_faults = λ im d m r a c na n. Statements.update_value_fault spot free m op target value r.ready r.first r.second im d a c na n;
-    sharing_faults = λ im d m r a v na nv h. Statements.update_sharing_fault spot free m op target value r.ready r.first r.second im d a v na nv h;
+    updates = λ im d m r a v na nv h s. Statements.update_law spot free m op target value r.ready r.first r.second im d
+        a v na nv h s;
+    place_faults = λ im d m r c n. Statements.update_place_fault spot free m op target value r.ready r.first r.second im
+        d c n;
+    value_faults = λ im d m r a c na n. Statements.update_value_fault spot free m op target value r.ready r.first
+        r.second im d a c na n;
+    sharing_faults = λ im d m r a v na nv h. Statements.update_sharing_fault spot free m op target value r.ready r.first
+        r.second im d a v na nv h;
   }
 
   pub swap_law : (left right : Lvalue) → SwapLaw spot free left right (swap_cells spot free left right)
   swap_law left right = record {
-    swaps = λ im d m r p q np nq h s. Statements.swap_law spot free m left right r.ready r.first r.second im d p q np nq h s;
+    swaps = λ im d m r p q np nq h s. Statements.swap_law spot free m left right r.ready r.first r.second im d p q np nq
+        h s;
     left_faults = λ im d m r c n. Statements.swap_left_fault spot free m left right r.ready r.first r.second im d c n;
-    right_faults = λ im d m r p c np n. Statements.swap_right_fault spot free m left right r.ready r.first r.second im d p c np n;
-    sharing_faults = λ im d m r p q np nq h. Statements.swap_sharing_fault spot free m left right r.ready r.first r.second im d p q np nq h;
+    right_faults = λ im d m r p c np n. Statements.swap_right_fault spot free m left right r.ready r.first r.second im d
+        p c np n;
+    sharing_faults = λ im d m r p q np nq h. Statements.swap_sharing_fault spot free m left right r.ready r.first
+        r.second im d p q np nq h;
   }

@@ -1,17 +1,22 @@
 -- A changed element's array is none of those of which elements are read, or fault 16.
-use Rattle.std.proofs.Common.{◌≡◌, ℕ, ◌+◌, ◌^◌, ◌<◌, ◌≤◌, Bool, true, false, List, [], ◌∷◌, ◌++◌, length, refl, ap, ◌∙◌, arith}
+use Rattle.std.proofs.Common.{◌≡◌, ℕ, ◌+◌, ◌^◌, ◌<◌, ◌≤◌, Bool, true, false, List, [], ◌∷◌, ◌++◌, length, refl, ap, ◌∙◌}
+use Rattle.std.proofs.Common.{arith}
 use Rattle.std.specs.Prelude.{slice_index, slice_set, nat_eq, ◌||◌}
 use Rattle.pisa_isa.specs.Machine.{Memory}
 use Rattle.rpp_words.specs.Words.{is_less}
 use Rattle.rpp_tree.specs.Tree.{Expression, Number, Null, Variable, Element, Binary, Lvalue, Whole, Item}
 use Rattle.pisa_isa.specs.Table.{word_of as word_of_truth}
 use Rattle.roopl_semantics.specs.Operators.{truth_word}
-use Rattle.statement_laws.specs.declared.spot.Spot.{Spot}
-use Rattle.expr_uncompute.specs.Number.{Bases, address_of, word_of, read_of, index_of, reads_array, shares, swap_shares, Sees}
-use Rattle.expr_uncompute.specs.Code.{content, outcome, left_operand, reach_cells, copy_cells, compare_cells, compare_all, apart_cells, both_apart_cells, sltx, xori}
+use Rattle.refine_form.specs.declared.spot.Spot.{Spot}
+use Rattle.expr_uncompute.specs.Number.{Bases, address_of, word_of, read_of, index_of, reads_array, shares, swap_shares}
+use Rattle.expr_uncompute.specs.Number.{Sees}
+use Rattle.expr_uncompute.specs.Code.{content, outcome, left_operand, reach_cells, copy_cells, compare_cells}
+use Rattle.expr_uncompute.specs.Code.{compare_all, apart_cells, both_apart_cells, sltx, xori}
 use Rattle.expr_uncompute.specs.Steps.{compare_steps, apart_steps, both_apart_steps}
 use Rattle.expr_uncompute.proofs.Comparing.{equal}
-use Rattle.expr_uncompute.proofs.Goes.{Goes, Traps, nothing, goes_cons, goes_seq, goes_around, goes_set, goes_xor, goes_xor_to, goes_check, traps_check, traps_mid, traps_then, traps_first, traps_more}
+use Rattle.expr_uncompute.proofs.Goes.{Goes, Traps, nothing, goes_cons, goes_seq, goes_around, goes_set, goes_xor}
+use Rattle.expr_uncompute.proofs.Goes.{goes_xor_to, goes_check, traps_check, traps_mid, traps_then, traps_first}
+use Rattle.expr_uncompute.proofs.Goes.{traps_more}
 use Rattle.expr_uncompute.proofs.Numbers.{Agree, AllWords}
 use Rattle.expr_uncompute.proofs.Reading.{reach_goes, copy_goes, left_takes}
 use Rattle.expr_uncompute.proofs.Scratch.{keeping, mem}
@@ -25,33 +30,47 @@ neither true y e = absurd (cc)
 
 module _ (spot : List ℕ → Spot) (b : Bases) (low : ℕ) where
   -- what is read stands below an address: there the words decide
-  pub reads_same : (zs zs' : List ℕ) → Agree low zs zs' → (y : ℕ) (e : Expression) → Sees spot b low zs e → reads_array spot b zs' y e ≡ reads_array spot b zs y e
+  pub reads_same : (zs zs' : List ℕ) → Agree low zs zs' → (y : ℕ) (e : Expression) → Sees spot b low zs e
+      → reads_array spot b zs' y e ≡ reads_array spot b zs y e
   reads_same zs zs' ag y (Number at word) s = refl
   reads_same zs zs' ag y (Null at) s = refl
   reads_same zs zs' ag y (Variable name) s = refl
   reads_same zs zs' ag y (Element name index) s =
-      ap (λ z. nat_eq y z || reads_array spot b zs' y index) (ag _ s.0) ∙ ap (λ t. nat_eq y (word_of spot b zs name.text) || t) (reads_same zs zs' ag y index s.2)
+      ap (λ z. nat_eq y z || reads_array spot b zs' y index) (ag _ s.0)
+      ∙ ap (λ t. nat_eq y (word_of spot b zs name.text) || t) (reads_same zs zs' ag y index s.2)
   reads_same zs zs' ag y (Binary at op left right) s =
-      ap (λ t. t || reads_array spot b zs' y right) (reads_same zs zs' ag y left s.0) ∙ ap (λ t. reads_array spot b zs y left || t) (reads_same zs zs' ag y right s.1)
+      ap (λ t. t || reads_array spot b zs' y right) (reads_same zs zs' ag y left s.0)
+      ∙ ap (λ t. reads_array spot b zs y left || t) (reads_same zs zs' ag y right s.1)
 
-  pub shares_same : (zs zs' : List ℕ) → Agree low zs zs' → (target : Lvalue) (e e' : Expression) → Sees spot b low zs (read_of target) → Sees spot b low zs e → Sees spot b low zs e' → shares spot b zs' target e e' ≡ shares spot b zs target e e'
+  pub shares_same : (zs zs' : List ℕ) → Agree low zs zs' → (target : Lvalue) (e e' : Expression)
+      → Sees spot b low zs (read_of target) → Sees spot b low zs e → Sees spot b low zs e'
+      → shares spot b zs' target e e' ≡ shares spot b zs target e e'
   shares_same zs zs' ag (Whole name) e e' s t t' = refl
   shares_same zs zs' ag (Item name index) e e' s t t' =
       ap (λ y. reads_array spot b zs' y e || reads_array spot b zs' y e') (ag _ s.0)
-      ∙ ap (λ t. t || reads_array spot b zs' (word_of spot b zs name.text) e') (reads_same zs zs' ag (word_of spot b zs name.text) e t)
-      ∙ ap (λ t. reads_array spot b zs (word_of spot b zs name.text) e || t) (reads_same zs zs' ag (word_of spot b zs name.text) e' t')
+      ∙ ap (λ t. t || reads_array spot b zs' (word_of spot b zs name.text) e')
+      (reads_same zs zs' ag (word_of spot b zs name.text) e t)
+      ∙ ap (λ t. reads_array spot b zs (word_of spot b zs name.text) e || t)
+      (reads_same zs zs' ag (word_of spot b zs name.text) e' t')
 
   -- the index of a place is seen with it
-  pub index_seen : (target : Lvalue) (zs : List ℕ) → Sees spot b low zs (read_of target) → Sees spot b low zs (index_of target)
+  pub index_seen : (target : Lvalue) (zs : List ℕ) → Sees spot b low zs (read_of target)
+      → Sees spot b low zs (index_of target)
   index_seen (Whole name) zs s = tt
   index_seen (Item name index) zs s = s.2
 
-  pub swap_shares_same : (zs zs' : List ℕ) → Agree low zs zs' → (left right : Lvalue) → Sees spot b low zs (read_of left) → Sees spot b low zs (read_of right) → swap_shares spot b zs' left right ≡ swap_shares spot b zs left right
+  pub swap_shares_same : (zs zs' : List ℕ) → Agree low zs zs' → (left right : Lvalue)
+      → Sees spot b low zs (read_of left) → Sees spot b low zs (read_of right)
+      → swap_shares spot b zs' left right ≡ swap_shares spot b zs left right
   swap_shares_same zs zs' ag left right s t =
-      ap (λ z. z || shares spot b zs' right (index_of left) (index_of right)) (shares_same zs zs' ag left (index_of left) (index_of right) s (index_seen left zs s) (index_seen right zs t))
-      ∙ ap (λ z. shares spot b zs left (index_of left) (index_of right) || z) (shares_same zs zs' ag right (index_of left) (index_of right) t (index_seen left zs s) (index_seen right zs t))
+      ap (λ z. z || shares spot b zs' right (index_of left) (index_of right))
+      (shares_same zs zs' ag left (index_of left) (index_of right) s (index_seen left zs s) (index_seen right zs t))
+      ∙ ap (λ z. shares spot b zs left (index_of left) (index_of right) || z)
+      (shares_same zs zs' ag right (index_of left) (index_of right) t (index_seen left zs s)
+      (index_seen right zs t))
 
-  module _ (f : ℕ → ℕ) (v p q : ℕ) (zs : List ℕ) (words : AllWords zs) (fits : low ≤ length zs) (small : length zs ≤ 2 ^ 31) where
+  module _ (f : ℕ → ℕ) (v p q : ℕ) (zs : List ℕ) (words : AllWords zs) (fits : low ≤ length zs)
+      (small : length zs ≤ 2 ^ 31) where
     abbrev here : Memory
     here = mem b f (keeping v p q) zs
 
@@ -60,28 +79,47 @@ module _ (spot : List ℕ → Spot) (b : Bases) (low : ℕ) where
 
     -- ---- two words
 
-    compare_row : (x y : Spot) (t : Bool) → address_of b x < length zs → address_of b y < length zs → nat_eq (slice_index zs (address_of b x)) (slice_index zs (address_of b y)) ≡ t
-        → Goes (copy_cells x left_operand ++ (reach_cells y ++ sltx outcome left_operand content ∷ sltx outcome content left_operand ∷ xori outcome 1 ∷ [])) 13 (mem b f (keeping v p q) zs) (mem b f (record (keeping v p q) { a = slice_index zs (address_of b x); address = address_of b y; content = slice_index zs (address_of b y); outcome = truth_word t }) (slice_set zs (address_of b y) 0))
+    compare_row : (x y : Spot) (t : Bool) → address_of b x < length zs → address_of b y < length zs
+        → nat_eq (slice_index zs (address_of b x)) (slice_index zs (address_of b y)) ≡ t
+        → Goes (copy_cells x left_operand ++ (reach_cells y ++ sltx outcome left_operand content
+        ∷ sltx outcome content left_operand ∷ xori outcome 1 ∷ [])) 13 (mem b f (keeping v p q) zs)
+        (mem b f (record (keeping v p q) {
+          a = slice_index zs (address_of b x);
+          address = address_of b y;
+          content = slice_index zs (address_of b y);
+          outcome = truth_word t;
+        })
+        (slice_set zs (address_of b y) 0))
     compare_row x y t h k e =
         let u : ℕ = slice_index zs (address_of b x) in
         let w : ℕ = slice_index zs (address_of b y) in
-        let put : ℕ → Memory = λ z. mem b f (record (keeping v p q) { a = u; address = address_of b y; content = w; outcome = z }) (slice_set zs (address_of b y) 0) in
+        let put : ℕ → Memory = λ z. mem b f (record (keeping v p q)
+        { a = u; address = address_of b y; content = w; outcome = z }) (slice_set zs (address_of b y) 0) in
         goes_seq (copy_goes b zs x h small refl (left_takes b f (keeping v p q) u))
         (goes_seq (reach_goes b f (record (keeping v p q) { a = u }) zs y k small)
         (goes_cons (goes_set _ put (word_of_truth (is_less u w)) refl (omega arith) (λ z. refl) (λ z. refl))
-        (goes_cons (goes_xor _ put (word_of_truth (is_less u w)) (word_of_truth (is_less w u)) refl (omega arith) (λ z. refl) (λ z. refl))
-        (goes_xor_to _ put _ 1 _ (equal u w (words (address_of b x)) (words (address_of b y)) ∙ ap truth_word e) refl (omega arith) (λ z. refl) (λ z. refl)))))
+        (goes_cons (goes_xor _ put (word_of_truth (is_less u w)) (word_of_truth (is_less w u)) refl (omega arith)
+        (λ z. refl) (λ z. refl))
+        (goes_xor_to _ put _ 1 _ (equal u w (words (address_of b x)) (words (address_of b y)) ∙ ap truth_word e) refl
+        (omega arith) (λ z. refl) (λ z. refl)))))
 
-    compare_goes : (x y : Spot) → address_of b x < length zs → address_of b y < length zs → nat_eq (slice_index zs (address_of b x)) (slice_index zs (address_of b y)) ≡ false → Goes (compare_cells x y) 30 (mem b f (keeping v p q) zs) (mem b f (keeping v p q) zs)
-    compare_goes x y h k e = goes_around (compare_row x y false h k e) (goes_check outcome 16 _ refl) (compare_row x y false h k e)
+    compare_goes : (x y : Spot) → address_of b x < length zs → address_of b y < length zs
+        → nat_eq (slice_index zs (address_of b x)) (slice_index zs (address_of b y)) ≡ false
+        → Goes (compare_cells x y) 30 (mem b f (keeping v p q) zs) (mem b f (keeping v p q) zs)
+    compare_goes x y h k e = goes_around (compare_row x y false h k e) (goes_check outcome 16 _ refl)
+        (compare_row x y false h k e)
 
-    compare_traps : (x y : Spot) → address_of b x < length zs → address_of b y < length zs → nat_eq (slice_index zs (address_of b x)) (slice_index zs (address_of b y)) ≡ true → Traps (compare_cells x y) 17 16 (mem b f (keeping v p q) zs)
+    compare_traps : (x y : Spot) → address_of b x < length zs → address_of b y < length zs
+        → nat_eq (slice_index zs (address_of b x)) (slice_index zs (address_of b y)) ≡ true
+        → Traps (compare_cells x y) 17 16 (mem b f (keeping v p q) zs)
     compare_traps x y h k e = traps_mid (compare_row x y true h k e) (traps_check outcome 16 _ one_is_not)
 
     -- ---- all elements that an expression reads
 
     module _ (x : Spot) (there : address_of b x < length zs) where
-      all_go : (e : Expression) → Sees spot b low zs e → reads_array spot b zs (slice_index zs (address_of b x)) e ≡ false → Goes (compare_all spot x e) (compare_steps e) (mem b f (keeping v p q) zs) (mem b f (keeping v p q) zs)
+      all_go : (e : Expression) → Sees spot b low zs e → reads_array spot b zs (slice_index zs (address_of b x)) e
+          ≡ false → Goes (compare_all spot x e) (compare_steps e) (mem b f (keeping v p q) zs)
+          (mem b f (keeping v p q) zs)
       all_go (Number at word) s h = nothing _
       all_go (Null at) s h = nothing _
       all_go (Variable name) s h = nothing _
@@ -94,59 +132,89 @@ module _ (spot : List ℕ → Spot) (b : Bases) (low : ℕ) where
           goes_seq (all_go left s.0 n.0) (all_go right s.1 n.1)
 
       -- the first decides, or the rest
-      element_by : (y : Spot) (rest : Expression) → address_of b y < length zs → (t : Bool) → nat_eq (slice_index zs (address_of b x)) (slice_index zs (address_of b y)) ≡ t → (t || reads_array spot b zs (slice_index zs (address_of b x)) rest) ≡ true
-          → (reads_array spot b zs (slice_index zs (address_of b x)) rest ≡ true → Traps (compare_all spot x rest) (compare_steps rest) 16 (mem b f (keeping v p q) zs))
-          → Traps (compare_cells x y ++ compare_all spot x rest) (30 + compare_steps rest) 16 (mem b f (keeping v p q) zs)
-      element_by y rest k true e h r = traps_more (omega arith) (traps_first (compare_all spot x rest) (compare_traps x y there k e))
+      element_by : (y : Spot) (rest : Expression) → address_of b y < length zs → (t : Bool)
+          → nat_eq (slice_index zs (address_of b x)) (slice_index zs (address_of b y)) ≡ t
+          → (t || reads_array spot b zs (slice_index zs (address_of b x)) rest) ≡ true
+          → (reads_array spot b zs (slice_index zs (address_of b x)) rest ≡ true
+          → Traps (compare_all spot x rest) (compare_steps rest) 16 (mem b f (keeping v p q) zs))
+          → Traps (compare_cells x y ++ compare_all spot x rest) (30 + compare_steps rest) 16
+          (mem b f (keeping v p q) zs)
+      element_by y rest k true e h r = traps_more (omega arith)
+          (traps_first (compare_all spot x rest) (compare_traps x y there k e))
       element_by y rest k false e h r = traps_then (compare_goes x y there k e) (r h)
 
-      sides_by : (left right : Expression) → Sees spot b low zs left → (t : Bool) → reads_array spot b zs (slice_index zs (address_of b x)) left ≡ t → (t || reads_array spot b zs (slice_index zs (address_of b x)) right) ≡ true
-          → (reads_array spot b zs (slice_index zs (address_of b x)) left ≡ true → Traps (compare_all spot x left) (compare_steps left) 16 (mem b f (keeping v p q) zs))
-          → (reads_array spot b zs (slice_index zs (address_of b x)) right ≡ true → Traps (compare_all spot x right) (compare_steps right) 16 (mem b f (keeping v p q) zs))
-          → Traps (compare_all spot x left ++ compare_all spot x right) (compare_steps left + compare_steps right) 16 (mem b f (keeping v p q) zs)
+      sides_by : (left right : Expression) → Sees spot b low zs left → (t : Bool)
+          → reads_array spot b zs (slice_index zs (address_of b x)) left ≡ t
+          → (t || reads_array spot b zs (slice_index zs (address_of b x)) right) ≡ true
+          → (reads_array spot b zs (slice_index zs (address_of b x)) left ≡ true
+          → Traps (compare_all spot x left) (compare_steps left) 16 (mem b f (keeping v p q) zs))
+          → (reads_array spot b zs (slice_index zs (address_of b x)) right ≡ true
+          → Traps (compare_all spot x right) (compare_steps right) 16 (mem b f (keeping v p q) zs))
+          → Traps (compare_all spot x left ++ compare_all spot x right) (compare_steps left + compare_steps right) 16
+          (mem b f (keeping v p q) zs)
       sides_by left right s true e h l r = traps_more (omega arith) (traps_first (compare_all spot x right) (l e))
       sides_by left right s false e h l r = traps_then (all_go left s e) (r h)
 
-      all_trap : (e : Expression) → Sees spot b low zs e → reads_array spot b zs (slice_index zs (address_of b x)) e ≡ true → Traps (compare_all spot x e) (compare_steps e) 16 (mem b f (keeping v p q) zs)
+      all_trap : (e : Expression) → Sees spot b low zs e → reads_array spot b zs (slice_index zs (address_of b x)) e
+          ≡ true → Traps (compare_all spot x e) (compare_steps e) 16 (mem b f (keeping v p q) zs)
       all_trap (Number at word) s h = absurd (cc)
       all_trap (Null at) s h = absurd (cc)
       all_trap (Variable name) s h = absurd (cc)
       all_trap (Element name index) s h =
           let l = s.0 in
-          element_by (spot name.text) index (omega arith) (nat_eq (slice_index zs (address_of b x)) (word_of spot b zs name.text)) refl h (λ r. all_trap index s.2 r)
+          element_by (spot name.text) index (omega arith) (nat_eq (slice_index zs (address_of b x))
+          (word_of spot b zs name.text)) refl h (λ r. all_trap index s.2 r)
       all_trap (Binary at op left right) s h =
-          sides_by left right s.0 (reads_array spot b zs (slice_index zs (address_of b x)) left) refl h (λ l. all_trap left s.0 l) (λ r. all_trap right s.1 r)
+          sides_by left right s.0 (reads_array spot b zs (slice_index zs (address_of b x)) left) refl h
+          (λ l. all_trap left s.0 l) (λ r. all_trap right s.1 r)
 
     -- ---- the check of a place
 
-    pub apart_goes : (target : Lvalue) (e e' : Expression) → Sees spot b low zs (read_of target) → Sees spot b low zs e → Sees spot b low zs e' → shares spot b zs target e e' ≡ false → Goes (apart_cells spot target e e') (apart_steps target e e') (mem b f (keeping v p q) zs) (mem b f (keeping v p q) zs)
+    pub apart_goes : (target : Lvalue) (e e' : Expression) → Sees spot b low zs (read_of target) → Sees spot b low zs e
+        → Sees spot b low zs e' → shares spot b zs target e e' ≡ false
+        → Goes (apart_cells spot target e e') (apart_steps target e e') (mem b f (keeping v p q) zs)
+        (mem b f (keeping v p q) zs)
     apart_goes (Whole name) e e' s t t' h = nothing _
     apart_goes (Item name index) e e' s t t' h =
         let n = neither (reads_array spot b zs (word_of spot b zs name.text) e) _ h in
         let l = s.0 in
         goes_seq (all_go (spot name.text) (omega arith) e t n.0) (all_go (spot name.text) (omega arith) e' t' n.1)
 
-    pub apart_traps : (target : Lvalue) (e e' : Expression) → Sees spot b low zs (read_of target) → Sees spot b low zs e → Sees spot b low zs e' → shares spot b zs target e e' ≡ true → Traps (apart_cells spot target e e') (apart_steps target e e') 16 (mem b f (keeping v p q) zs)
+    pub apart_traps : (target : Lvalue) (e e' : Expression) → Sees spot b low zs (read_of target) → Sees spot b low zs e
+        → Sees spot b low zs e' → shares spot b zs target e e' ≡ true
+        → Traps (apart_cells spot target e e') (apart_steps target e e') 16 (mem b f (keeping v p q) zs)
     apart_traps (Whole name) e e' s t t' h = absurd (cc)
     apart_traps (Item name index) e e' s t t' h =
         let l = s.0 in
-        sides_by (spot name.text) (omega arith) e e' t (reads_array spot b zs (word_of spot b zs name.text) e) refl h (λ l. all_trap (spot name.text) (omega arith) e t l) (λ r. all_trap (spot name.text) (omega arith) e' t' r)
+        sides_by (spot name.text) (omega arith) e e' t (reads_array spot b zs (word_of spot b zs name.text) e) refl h
+        (λ l. all_trap (spot name.text) (omega arith) e t l) (λ r. all_trap (spot name.text) (omega arith) e' t' r)
 
     -- of both places of a swap
-    pub both_apart_go : (left right : Lvalue) → Sees spot b low zs (read_of left) → Sees spot b low zs (read_of right) → swap_shares spot b zs left right ≡ false → Goes (both_apart_cells spot left right) (both_apart_steps left right) (mem b f (keeping v p q) zs) (mem b f (keeping v p q) zs)
+    pub both_apart_go : (left right : Lvalue) → Sees spot b low zs (read_of left) → Sees spot b low zs (read_of right)
+        → swap_shares spot b zs left right ≡ false → Goes (both_apart_cells spot left right)
+        (both_apart_steps left right) (mem b f (keeping v p q) zs) (mem b f (keeping v p q) zs)
     both_apart_go left right s t h =
         let n = neither (shares spot b zs left (index_of left) (index_of right)) _ h in
         let i = index_seen left zs s in
         let j = index_seen right zs t in
-        goes_seq (apart_goes left (index_of left) (index_of right) s i j n.0) (apart_goes right (index_of left) (index_of right) t i j n.1)
+        goes_seq (apart_goes left (index_of left) (index_of right) s i j n.0)
+        (apart_goes right (index_of left) (index_of right) t i j n.1)
 
-    both_by : (left right : Lvalue) → Sees spot b low zs (read_of left) → Sees spot b low zs (read_of right) → (u : Bool) → shares spot b zs left (index_of left) (index_of right) ≡ u → (u || shares spot b zs right (index_of left) (index_of right)) ≡ true → Traps (both_apart_cells spot left right) (both_apart_steps left right) 16 (mem b f (keeping v p q) zs)
+    both_by : (left right : Lvalue) → Sees spot b low zs (read_of left) → Sees spot b low zs (read_of right)
+        → (u : Bool) → shares spot b zs left (index_of left) (index_of right) ≡ u
+        → (u || shares spot b zs right (index_of left) (index_of right)) ≡ true
+        → Traps (both_apart_cells spot left right) (both_apart_steps left right) 16 (mem b f (keeping v p q) zs)
     both_by left right s t true e h =
-        traps_more (omega arith) (traps_first (apart_cells spot right (index_of left) (index_of right)) (apart_traps left (index_of left) (index_of right) s (index_seen left zs s) (index_seen right zs t) e))
+        traps_more (omega arith) (traps_first (apart_cells spot right (index_of left) (index_of right))
+        (apart_traps left (index_of left) (index_of right) s (index_seen left zs s) (index_seen right zs t) e))
     both_by left right s t false e h =
         let i = index_seen left zs s in
         let j = index_seen right zs t in
-        traps_then (apart_goes left (index_of left) (index_of right) s i j e) (apart_traps right (index_of left) (index_of right) t i j h)
+        traps_then (apart_goes left (index_of left) (index_of right) s i j e)
+        (apart_traps right (index_of left) (index_of right) t i j h)
 
-    pub both_apart_traps : (left right : Lvalue) → Sees spot b low zs (read_of left) → Sees spot b low zs (read_of right) → swap_shares spot b zs left right ≡ true → Traps (both_apart_cells spot left right) (both_apart_steps left right) 16 (mem b f (keeping v p q) zs)
-    both_apart_traps left right s t h = both_by left right s t (shares spot b zs left (index_of left) (index_of right)) refl h
+    pub both_apart_traps : (left right : Lvalue) → Sees spot b low zs (read_of left)
+        → Sees spot b low zs (read_of right) → swap_shares spot b zs left right ≡ true
+        → Traps (both_apart_cells spot left right) (both_apart_steps left right) 16 (mem b f (keeping v p q) zs)
+    both_apart_traps left right s t h = both_by left right s t (shares spot b zs left (index_of left) (index_of right))
+        refl h

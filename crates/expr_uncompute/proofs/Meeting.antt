@@ -12,7 +12,7 @@ use Rattle.roopl_semantics.specs.Operators.{is_true, truth_word}
 use Rattle.roopl_semantics.specs.Store.{Value, State}
 use Rattle.roopl_semantics.specs.Value.{value}
 use Rattle.roopl_semantics.specs.Execution.{holds}
-use Rattle.statement_laws.specs.declared.spot.Spot.{Spot}
+use Rattle.refine_form.specs.declared.spot.Spot.{Spot}
 use Rattle.expr_uncompute.specs.Code.{words}
 use Rattle.expr_uncompute.specs.Steps.{value_steps, test_steps}
 use Rattle.expr_uncompute.specs.Laws.{bases_of, Ready, Xored, truth_of}
@@ -31,19 +31,38 @@ abbrev pub told_test : ℕ → Result Value ℕ → Told Bool
 told_test c (Ok v) = Fine (holds v) c
 told_test c (Err f) = Fault f c
 
-module _ (address slot : ℕ → ℕ) (program : Source) (spot : List ℕ → Spot) (free : ℕ) (b : Rates) (few : 3 ≤ b.counts) (many : 162 ≤ b.steps) (into : ℕ) (e : Expression) (p : List Symbol) (im : Image) (d : Bool) (m : Memory) (st : State) (ready : Ready free (words e) m) (sees : SeesIn spot free m e) (means : Means address slot program st spot (bases_of m) m.cells e) (n : ℕ) where
+module _ (address slot : ℕ → ℕ) (program : Source) (spot : List ℕ → Spot) (free : ℕ) (b : Rates) (few : 3 ≤ b.counts)
+    (many : 162 ≤ b.steps) (into : ℕ) (e : Expression) (p : List Symbol) (im : Image) (d : Bool) (m : Memory)
+    (st : State) (ready : Ready free (words e) m) (sees : SeesIn spot free m e)
+    (means : Means address slot program st spot (bases_of m) m.cells e) (n : ℕ) where
   -- the value xored into the register
-  pub value_meets : ValueLaw spot free into e p → Will im p d m (Meets (λ v m1. m1 ≡ with_reg m into (bit_xor (reg m into) (shown address slot v))) b n 0 (told_value (nodes e) (value program st e)))
-  value_meets law = by (value program st e) (source_value address slot program spot free into e p law im d m st ready sees means)
+  pub value_meets : ValueLaw spot free into e p → Will im p d m
+      (Meets (λ v m1. m1 ≡ with_reg m into (bit_xor (reg m into) (shown address slot v))) b n 0
+      (told_value (nodes e) (value program st e)))
+  value_meets law = by (value program st e) (source_value address slot program spot free into e p law im d m st ready
+      sees means)
     where
-      by : (r : Result Value ℕ) → Xored into (value_steps e) m (shown_result address slot r) im p d → Will im p d m (Meets (λ v m1. m1 ≡ with_reg m into (bit_xor (reg m into) (shown address slot v))) b n 0 (told_value (nodes e) r))
-      by (Ok v) r = will_of im p d m _ _ r (fine refl (rated 3 b.counts (nodes e) (value_steps e) few (value_least e)) (let h = rated 162 b.steps (value_steps e) (nodes e) many (value_most e) in omega arith))
-      by (Err c) r = will_of im p d m _ _ r.2 (faults (let h = rated 162 b.steps (value_steps e) (nodes e) many (value_most e) in omega (arith, r.1)))
+      by : (r : Result Value ℕ) → Xored into (value_steps e) m (shown_result address slot r) im p d
+          → Will im p d m (Meets (λ v m1. m1 ≡ with_reg m into (bit_xor (reg m into) (shown address slot v))) b n 0
+          (told_value (nodes e) r))
+      by (Ok v) r = will_of im p d m _ _ r (fine refl (rated 3 b.counts (nodes e) (value_steps e) few (value_least e))
+          (let h = rated 162 b.steps (value_steps e) (nodes e) many (value_most e) in omega arith))
+      by (Err c) r = will_of im p d m _ _ r.2 (faults (let h = rated 162 b.steps (value_steps e) (nodes e) many
+          (value_most e) in omega (arith, r.1)))
 
   -- the truth of it
-  pub test_meets : IsInt address slot (value program st e) → TestLaw spot free into e p → Will im p d m (Meets (λ t m1. m1 ≡ with_reg m into (bit_xor (reg m into) (truth_word t))) b n 0 (told_test (nodes e) (value program st e)))
-  test_meets int law = by (value program st e) int (source_test address slot program spot free into e p law im d m st ready sees means)
+  pub test_meets : IsInt address slot (value program st e) → TestLaw spot free into e p
+      → Will im p d m (Meets (λ t m1. m1 ≡ with_reg m into (bit_xor (reg m into) (truth_word t))) b n 0
+      (told_test (nodes e) (value program st e)))
+  test_meets int law = by (value program st e) int (source_test address slot program spot free into e p law im d m st
+      ready sees means)
     where
-      by : (r : Result Value ℕ) → IsInt address slot r → Xored into (test_steps e) m (truth_of (shown_result address slot r)) im p d → Will im p d m (Meets (λ t m1. m1 ≡ with_reg m into (bit_xor (reg m into) (truth_word t))) b n 0 (told_test (nodes e) r))
-      by (Ok v) i r = will_of im p d m _ _ r (fine (ap (λ x. with_reg m into (bit_xor (reg m into) (truth_word (is_true x)))) (sym i)) (rated 3 b.counts (nodes e) (test_steps e) few (let l = test_least e in omega arith)) (let h = rated 162 b.steps (test_steps e) (nodes e) many (test_most e) in omega arith))
-      by (Err c) i r = will_of im p d m _ _ r.2 (faults (let h = rated 162 b.steps (test_steps e) (nodes e) many (test_most e) in omega (arith, r.1)))
+      by : (r : Result Value ℕ) → IsInt address slot r → Xored into (test_steps e) m
+          (truth_of (shown_result address slot r)) im p d → Will im p d m
+          (Meets (λ t m1. m1 ≡ with_reg m into (bit_xor (reg m into) (truth_word t))) b n 0 (told_test (nodes e) r))
+      by (Ok v) i r = will_of im p d m _ _ r (fine (ap (λ x. with_reg m into
+          (bit_xor (reg m into) (truth_word (is_true x)))) (sym i))
+          (rated 3 b.counts (nodes e) (test_steps e) few (let l = test_least e in omega arith))
+          (let h = rated 162 b.steps (test_steps e) (nodes e) many (test_most e) in omega arith))
+      by (Err c) i r = will_of im p d m _ _ r.2 (faults (let h = rated 162 b.steps (test_steps e) (nodes e) many
+          (test_most e) in omega (arith, r.1)))

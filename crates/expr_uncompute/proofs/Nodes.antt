@@ -1,13 +1,14 @@
 -- One node computed into its word of the frame.
-use Rattle.std.proofs.Common.{◌≡◌, ◌≢◌, ℕ, ◌+◌, ◌^◌, ◌<◌, ◌≤◌, List, length, length-set, refl, sym, ap, ◌∙◌, subst, arith}
+use Rattle.std.proofs.Common.{◌≡◌, ◌≢◌, ℕ, ◌+◌, ◌^◌, ◌<◌, ◌≤◌, List, length, length-set, refl, sym, ap, ◌∙◌, subst}
+use Rattle.std.proofs.Common.{arith}
 use Rattle.std.specs.Prelude.{slice_index, slice_set, Result, Ok, Err}
 use Rattle.std.proofs.lemmas.List.{get_or-set_other, set_comm}
 use Rattle.rpp_tree.specs.declared.tree.BinOp.{BinOp}
 use Rattle.rpp_tree.specs.declared.tree.BinOp.TheVariants as op
 use Rattle.rpp_tree.specs.declared.tree.Ident.{Ident}
 use Rattle.rpp_tree.specs.Tree.{Expression, Element, Binary}
-use Rattle.statement_laws.specs.declared.spot.Spot.{Spot}
-use Rattle.statement_laws.specs.declared.spot.Spot.TheVariants.{Frame}
+use Rattle.refine_form.specs.declared.spot.Spot.{Spot}
+use Rattle.refine_form.specs.declared.spot.Spot.TheVariants.{Frame}
 use Rattle.expr_uncompute.specs.Code.{words, content, item, around, open_cells, store_cells, operator_result}
 use Rattle.expr_uncompute.specs.Number.{Bases, given, word_of, number, element_at, Sees}
 use Rattle.expr_uncompute.specs.Steps.{open_steps, around_steps}
@@ -36,7 +37,8 @@ module _ (spot : List ℕ → Spot) (free : ℕ) (b : Bases) where
   given_ok (Err c) x e = absurd (cc)
 
   -- the address of an element that is there is below
-  pub place_low : (name : Ident) (index : Expression) (v : ℕ) (zs : List ℕ) → Sees spot b low zs (Element name index) → number spot b zs (Element name index) ≡ Ok v → element_place spot free b zs name.text index < low
+  pub place_low : (name : Ident) (index : Expression) (v : ℕ) (zs : List ℕ) → Sees spot b low zs (Element name index)
+      → number spot b zs (Element name index) ≡ Ok v → element_place spot free b zs name.text index < low
   place_low name index v zs s e =
       let a = address_of_word zs (element_at zs (word_of spot b zs name.text) (number spot b zs index)) v e in
       let n = inside_of zs (word_of spot b zs name.text) (number spot b zs index) a.0 a.1 in
@@ -56,32 +58,57 @@ module _ (spot : List ℕ → Spot) (free : ℕ) (b : Bases) where
     away a n = get_or-set_other zs (home spot free b i) a v 0 n
 
     room_after : (e : Expression) → Room spot free b e i zs → Room spot free b e i (slice_set zs (home spot free b i) v)
-    room_after e r = record { fits = rw (length-set zs (home spot free b i) v) r.fits; small = rw (length-set zs (home spot free b i) v) r.small }
+    room_after e r = record {
+      fits = rw (length-set zs (home spot free b i) v) r.fits;
+      small = rw (length-set zs (home spot free b i) v) r.small;
+    }
 
-    value_after : (e : Expression) → Sees spot b low zs e → given (number spot b (slice_set zs (home spot free b i) v) e) ≡ given (number spot b zs e)
+    value_after : (e : Expression) → Sees spot b low zs e
+        → given (number spot b (slice_set zs (home spot free b i) v) e) ≡ given (number spot b zs e)
     value_after e s = ap given (number_same spot b low zs _ agrees e s)
 
-    part_reads : (d : Expression) (j : ℕ) → i < j → Sees spot b low zs d → Reads spot free b zs d j (given (number spot b zs d)) → Reads spot free b (slice_set zs (home spot free b i) v) d j (given (number spot b (slice_set zs (home spot free b i) v) d))
+    part_reads : (d : Expression) (j : ℕ) → i < j → Sees spot b low zs d
+        → Reads spot free b zs d j (given (number spot b zs d))
+        → Reads spot free b (slice_set zs (home spot free b i) v) d j
+        (given (number spot b (slice_set zs (home spot free b i) v) d))
     part_reads d j l s r =
-        subst (Reads spot free b (slice_set zs (home spot free b i) v) d j) (sym (value_after d s)) (reads_same spot free b d j _ zs _ s agrees (λ a lo hi. away a (λ e. omega arith)) r)
+        subst (Reads spot free b (slice_set zs (home spot free b i) v) d j) (sym (value_after d s))
+        (reads_same spot free b d j _ zs _ s agrees (λ a lo hi. away a (λ e. omega arith)) r)
 
-    pub binary_node : (at : ℕ) (o : BinOp) (left right : Expression) → Sees spot b low zs (Binary at o left right) → Room spot free b (Binary at o left right) i zs → Parted spot free b zs (Binary at o left right) i → number spot b zs (Binary at o left right) ≡ Ok v → slice_index zs (home spot free b i) ≡ 0
-        → Goes (around (open_cells spot free (Binary at o left right) i) (store_cells (Frame (free + i)) (operator_result o))) (around_steps (open_steps (Binary at o left right)) 7) (mem b f (keeping m p q) zs) (mem b f (keeping m p q) (slice_set zs (home spot free b i) v))
+    pub binary_node : (at : ℕ) (o : BinOp) (left right : Expression) → Sees spot b low zs (Binary at o left right)
+        → Room spot free b (Binary at o left right) i zs → Parted spot free b zs (Binary at o left right) i
+        → number spot b zs (Binary at o left right) ≡ Ok v → slice_index zs (home spot free b i) ≡ 0
+        → Goes (around (open_cells spot free (Binary at o left right) i)
+        (store_cells (Frame (free + i)) (operator_result o)))
+        (around_steps (open_steps (Binary at o left right)) 7) (mem b f (keeping m p q) zs)
+        (mem b f (keeping m p q) (slice_set zs (home spot free b i) v))
     binary_node at o left right s r k e z =
         let whole : Expression = Binary at o left right in
         let h : home spot free b i < length zs = let l = r.fits in omega arith in
         let first = open_goes spot free b m p q f whole i v zs w s r k e in
-        let sink = content_goes b (operator_result o) (operator_apart o) (result_has spot free b m p q f whole) f (opened spot free b m p q zs whole) v (λ zs'. open_gives spot free b m p q f whole v zs zs' e) in
-        let store = store_goes b (operator_result o) v f (opened spot free b m p q zs whole) zs (Frame (free + i)) h r.small z sink in
+        let sink = content_goes b (operator_result o) (operator_apart o) (result_has spot free b m p q f whole) f
+        (opened spot free b m p q zs whole) v (λ zs'. open_gives spot free b m p q f whole v zs zs' e) in
+        let store = store_goes b (operator_result o) v f (opened spot free b m p q zs whole) zs (Frame (free + i)) h
+        r.small z sink in
         let zs2 : List ℕ = slice_set zs (home spot free b i) v in
         let s2 = sees_same spot b low zs zs2 agrees whole s in
-        let parts2 : Parted spot free b zs2 whole i = (part_reads left (i + 1) (omega arith) s.0 k.0, part_reads right (i + 1 + words left) (omega arith) s.1 k.1) in
-        let last = open_goes spot free b m p q f whole i v zs2 (words_set zs (home spot free b i) v w vw) s2 (room_after whole r) parts2 (number_same spot b low zs zs2 agrees whole s ∙ e) in
-        let same : opened spot free b m p q zs2 whole ≡ opened spot free b m p q zs whole = ap (λ x. operated_scratch m p q o x (given (number spot b zs2 right))) (value_after left s.0) ∙ ap (operated_scratch m p q o (given (number spot b zs left))) (value_after right s.1) in
+        let parts2 : Parted spot free b zs2 whole i = (
+          part_reads left (i + 1) (omega arith) s.0 k.0,
+          part_reads right (i + 1 + words left) (omega arith) s.1 k.1,
+        ) in
+        let last = open_goes spot free b m p q f whole i v zs2 (words_set zs (home spot free b i) v w vw) s2
+        (room_after whole r) parts2 (number_same spot b low zs zs2 agrees whole s ∙ e) in
+        let same : opened spot free b m p q zs2 whole ≡ opened spot free b m p q zs whole =
+        ap (λ x. operated_scratch m p q o x (given (number spot b zs2 right))) (value_after left s.0)
+        ∙ ap (operated_scratch m p q o (given (number spot b zs left))) (value_after right s.1) in
         goes_around first store (goes_to refl refl (ap (λ t. mem b f t zs2) same) last)
 
-    pub element_node : (name : Ident) (index : Expression) → Sees spot b low zs (Element name index) → Room spot free b (Element name index) i zs → Parted spot free b zs (Element name index) i → number spot b zs (Element name index) ≡ Ok v → slice_index zs (home spot free b i) ≡ 0
-        → Goes (around (open_cells spot free (Element name index) i) (store_cells (Frame (free + i)) item)) (around_steps (open_steps (Element name index)) 7) (mem b f (keeping m p q) zs) (mem b f (keeping m p q) (slice_set zs (home spot free b i) v))
+    pub element_node : (name : Ident) (index : Expression) → Sees spot b low zs (Element name index)
+        → Room spot free b (Element name index) i zs → Parted spot free b zs (Element name index) i
+        → number spot b zs (Element name index) ≡ Ok v → slice_index zs (home spot free b i) ≡ 0
+        → Goes (around (open_cells spot free (Element name index) i) (store_cells (Frame (free + i)) item))
+        (around_steps (open_steps (Element name index)) 7) (mem b f (keeping m p q) zs)
+        (mem b f (keeping m p q) (slice_set zs (home spot free b i) v))
     element_node name index s r k e z =
         let whole : Expression = Element name index in
         let pl : ℕ = element_place spot free b zs name.text index in
@@ -93,16 +120,27 @@ module _ (spot : List ℕ → Spot) (free : ℕ) (b : Bases) where
         let small1 : length zs1 ≤ 2 ^ 31 = rw (length-set zs pl 0) r.small in
         let z1 : slice_index zs1 (home spot free b i) ≡ 0 = get_or-set_other zs pl (home spot free b i) 0 0 n ∙ z in
         let first = open_goes spot free b m p q f whole i v zs w s r k e in
-        let sink = content_goes b item (λ q. omega arith) (result_has spot free b m p q f whole) f (opened spot free b m p q zs whole) v (λ zs'. open_gives spot free b m p q f whole v zs zs' e) in
-        let store = store_goes b item v f (opened spot free b m p q zs whole) zs1 (Frame (free + i)) h1 small1 z1 sink in
+        let sink = content_goes b item (λ q. omega arith) (result_has spot free b m p q f whole) f
+        (opened spot free b m p q zs whole) v (λ zs'. open_gives spot free b m p q f whole v zs zs' e) in
+        let store = store_goes b item v f (opened spot free b m p q zs whole) zs1 (Frame (free + i)) h1 small1 z1 sink
+        in
         let zs2 : List ℕ = slice_set zs (home spot free b i) v in
         let s2 = sees_same spot b low zs zs2 agrees whole s in
-        let last = open_goes spot free b m p q f whole i v zs2 (words_set zs (home spot free b i) v w vw) s2 (room_after whole r) (part_reads index (i + 1) (omega arith) s.2 k) (number_same spot b low zs zs2 agrees whole s ∙ e) in
+        let last = open_goes spot free b m p q f whole i v zs2 (words_set zs (home spot free b i) v w vw) s2
+        (room_after whole r) (part_reads index (i + 1) (omega arith) s.2 k)
+        (number_same spot b low zs zs2 agrees whole s ∙ e) in
         let arr : word_of spot b zs2 name.text ≡ word_of spot b zs name.text = agrees _ s.0 in
-        let pl2 : element_place spot free b zs2 name.text index ≡ pl = ap (λ y. y + given (number spot b zs2 index) + 2) arr ∙ ap (λ x. word_of spot b zs name.text + x + 2) (value_after index s.2) in
+        let pl2 : element_place spot free b zs2 name.text index ≡ pl =
+        ap (λ y. y + given (number spot b zs2 index) + 2) arr
+        ∙ ap (λ x. word_of spot b zs name.text + x + 2) (value_after index s.2) in
         let same : opened spot free b m p q zs2 whole ≡ opened spot free b m p q zs whole =
-        ap (λ x. record (operands m p q x (element_place spot free b zs2 name.text index)) { item = slice_index zs2 (element_place spot free b zs2 name.text index) }) (value_after index s.2)
+        ap (λ x. record (operands m p q x (element_place spot free b zs2 name.text index))
+        { item = slice_index zs2 (element_place spot free b zs2 name.text index) }) (value_after index s.2)
         ∙ ap (λ y. record (operands m p q (given (number spot b zs index)) y) { item = slice_index zs2 y }) pl2
         ∙ ap (λ y. record (operands m p q (given (number spot b zs index)) pl) { item = y }) (agrees pl below) in
-        let cells : slice_set zs2 (element_place spot free b zs2 name.text index) 0 ≡ slice_set zs1 (home spot free b i) v = ap (λ y. slice_set zs2 y 0) pl2 ∙ set_comm zs (home spot free b i) pl v 0 n in
-        goes_around first store (goes_to refl refl (ap (λ t. mem b f t (slice_set zs2 (element_place spot free b zs2 name.text index) 0)) same ∙ ap (mem b f (opened spot free b m p q zs whole)) cells) last)
+        let cells : slice_set zs2 (element_place spot free b zs2 name.text index) 0
+        ≡ slice_set zs1 (home spot free b i) v = ap (λ y. slice_set zs2 y 0) pl2
+        ∙ set_comm zs (home spot free b i) pl v 0 n in
+        goes_around first store (goes_to refl refl (ap (λ t. mem b f t
+        (slice_set zs2 (element_place spot free b zs2 name.text index) 0)) same
+        ∙ ap (mem b f (opened spot free b m p q zs whole)) cells) last)

@@ -4,19 +4,23 @@ use Rattle.std.specs.Prelude.{slice_index, slice_set, Result, Ok, Err}
 use Rattle.rpp_tree.specs.Tree.{Expression, Number, Null, Variable, Element, Binary}
 use Rattle.paired_code.specs.Machine.{reg}
 use Rattle.roopl_semantics.specs.Operators.{operated}
-use Rattle.statement_laws.specs.declared.spot.Spot.{Spot}
-use Rattle.statement_laws.specs.declared.spot.Spot.TheVariants.{Frame}
-use Rattle.expr_uncompute.specs.Code.{words, left_operand, right_operand, content, item, operand_cells, checked_cells, open_cells, point_cells, exch, result_of}
+use Rattle.refine_form.specs.declared.spot.Spot.{Spot}
+use Rattle.refine_form.specs.declared.spot.Spot.TheVariants.{Frame}
+use Rattle.expr_uncompute.specs.Code.{words, left_operand, right_operand, content, item, operand_cells, checked_cells}
+use Rattle.expr_uncompute.specs.Code.{open_cells, point_cells, exch, result_of}
 use Rattle.expr_uncompute.specs.Number.{Bases, address_of, given, word_of, number, element_at, IsArray, Sees}
 use Rattle.expr_uncompute.specs.Steps.{operand_steps, checked_steps, open_steps}
-use Rattle.expr_uncompute.proofs.Goes.{Goes, Traps, nothing, goes_seq, goes_to, goes_set, goes_exch, traps_first, traps_then, traps_more}
+use Rattle.expr_uncompute.proofs.Goes.{Goes, Traps, nothing, goes_seq, goes_to, goes_set, goes_exch, traps_first}
+use Rattle.expr_uncompute.proofs.Goes.{traps_then, traps_more}
 use Rattle.expr_uncompute.proofs.Scratch.{Scratch, keeping, mem}
 use Rattle.expr_uncompute.proofs.Operators.{operands, operated_scratch, operator_goes, operator_gives, operator_has}
-use Rattle.expr_uncompute.proofs.Reading.{HasResult, in_content, in_item, Takes, left_takes, right_takes, copy_goes, reach_goes}
+use Rattle.expr_uncompute.proofs.Reading.{HasResult, in_content, in_item, Takes, left_takes, right_takes, copy_goes}
+use Rattle.expr_uncompute.proofs.Reading.{reach_goes}
 use Rattle.expr_uncompute.proofs.Checks.{nil_goes, nil_traps, index_goes, index_traps, point_goes}
 use Rattle.expr_uncompute.proofs.Numbers.{AllWords, number_word}
 use Rattle.expr_uncompute.proofs.Stored.{home, Reads}
-use Rattle.expr_uncompute.proofs.Ways.{ok_is, both_ok, inside_of, fault_of, address_of_word, fault_of_word, IsFault, by_index, by_nil, by_end}
+use Rattle.expr_uncompute.proofs.Ways.{ok_is, both_ok, inside_of, fault_of, address_of_word, fault_of_word, IsFault}
+use Rattle.expr_uncompute.proofs.Ways.{by_index, by_nil, by_end}
 
 module _ (spot : List ℕ → Spot) (free : ℕ) (b : Bases) where
   abbrev low : ℕ
@@ -27,47 +31,72 @@ module _ (spot : List ℕ → Spot) (free : ℕ) (b : Bases) where
     pub fits : home spot free b (i + words e) ≤ length zs
     pub small : length zs ≤ 2 ^ 31
 
-  pub operand_goes : {into v : ℕ} {f f' : ℕ → ℕ} {s s' : Scratch} (e : Expression) (i : ℕ) (zs : List ℕ) → Sees spot b low zs e → Room e i zs → Reads spot free b zs e i v → Takes b into v f f' s s'
-      → Goes (operand_cells spot free e i into) (operand_steps e) (mem b f (record s { address = 0; content = 0 }) zs) (mem b f' (record s' { address = 0; content = 0 }) zs)
+  pub operand_goes : {into v : ℕ} {f f' : ℕ → ℕ} {s s' : Scratch} (e : Expression) (i : ℕ) (zs : List ℕ)
+      → Sees spot b low zs e → Room e i zs → Reads spot free b zs e i v → Takes b into v f f' s s'
+      → Goes (operand_cells spot free e i into) (operand_steps e) (mem b f (record s { address = 0; content = 0 }) zs)
+      (mem b f' (record s' { address = 0; content = 0 }) zs)
   operand_goes {into = into} {v = v} {f = f} {f' = f'} {s = s} {s' = s'} (Number at word) i zs h k r t =
-      subst (λ w. Goes (Rattle.expr_uncompute.specs.Code.xori into w ∷ []) 1 (mem b f (record s { address = 0; content = 0 }) zs) (mem b f' (record s' { address = 0; content = 0 }) zs)) (sym r) (t.by_number (subst (λ z. z < 2 ^ 32) r h) zs)
-  operand_goes {f = f} {s = s} (Null at) i zs h k r t = goes_to refl refl (t.by_nothing (sym r) zs) (nothing (mem b f (record s { address = 0; content = 0 }) zs))
-  operand_goes (Variable name) i zs h k r t = let l = k.fits in copy_goes b zs (spot name.text) (omega arith) k.small r t
-  operand_goes (Element name index) i zs h k r t = let l = k.fits in copy_goes b zs (Frame (free + i)) (omega arith) k.small r t
-  operand_goes (Binary at op left right) i zs h k r t = let l = k.fits in copy_goes b zs (Frame (free + i)) (omega arith) k.small r t
+      subst (λ w. Goes (Rattle.expr_uncompute.specs.Code.xori into w ∷ []) 1
+      (mem b f (record s { address = 0; content = 0 }) zs) (mem b f' (record s' { address = 0; content = 0 }) zs))
+      (sym r) (t.by_number (subst (λ z. z < 2 ^ 32) r h) zs)
+  operand_goes {f = f} {s = s} (Null at) i zs h k r t = goes_to refl refl (t.by_nothing (sym r) zs)
+      (nothing (mem b f (record s { address = 0; content = 0 }) zs))
+  operand_goes (Variable name) i zs h k r t = let l = k.fits in
+      copy_goes b zs (spot name.text) (omega arith) k.small r t
+  operand_goes (Element name index) i zs h k r t = let l = k.fits in
+      copy_goes b zs (Frame (free + i)) (omega arith) k.small r t
+  operand_goes (Binary at op left right) i zs h k r t = let l = k.fits in
+      copy_goes b zs (Frame (free + i)) (omega arith) k.small r t
 
   -- an element's index and array in their registers, both checked
-  module _ (m p q : ℕ) (f : ℕ → ℕ) (name : List ℕ) (index : Expression) (i x : ℕ) (zs : List ℕ) (all : AllWords zs) (at_name : address_of b (spot name) < low) (array : IsArray spot b low zs (word_of spot b zs name)) (sees : Sees spot b low zs index) (room : Room index i zs) (gives : number spot b zs index ≡ Ok x) (reads : Reads spot free b zs index i x) where
+  module _ (m p q : ℕ) (f : ℕ → ℕ) (name : List ℕ) (index : Expression) (i x : ℕ) (zs : List ℕ) (all : AllWords zs)
+      (at_name : address_of b (spot name) < low) (array : IsArray spot b low zs (word_of spot b zs name))
+      (sees : Sees spot b low zs index) (room : Room index i zs) (gives : number spot b zs index ≡ Ok x)
+      (reads : Reads spot free b zs index i x) where
     abbrev array_at : ℕ
     array_at = word_of spot b zs name
 
     x_word : x < 2 ^ 32
     x_word = number_word spot b low zs all index sees x gives
 
-    index_there : Goes (operand_cells spot free index i left_operand) (operand_steps index) (mem b f (keeping m p q) zs) (mem b f (operands m p q x 0) zs)
+    index_there : Goes (operand_cells spot free index i left_operand) (operand_steps index) (mem b f (keeping m p q) zs)
+        (mem b f (operands m p q x 0) zs)
     index_there = operand_goes index i zs sees room reads (left_takes b f (keeping m p q) x)
 
-    array_there : Goes (Rattle.expr_uncompute.specs.Code.copy_cells (spot name) right_operand) 7 (mem b f (operands m p q x 0) zs) (mem b f (operands m p q x (word_of spot b zs name)) zs)
-    array_there = let l = room.fits in copy_goes b zs (spot name) (omega arith) room.small refl (right_takes b f (operands m p q x 0) (word_of spot b zs name))
+    array_there : Goes (Rattle.expr_uncompute.specs.Code.copy_cells (spot name) right_operand) 7
+        (mem b f (operands m p q x 0) zs) (mem b f (operands m p q x (word_of spot b zs name)) zs)
+    array_there = let l = room.fits in copy_goes b zs (spot name) (omega arith) room.small refl
+        (right_takes b f (operands m p q x 0) (word_of spot b zs name))
 
-    pub checked_goes : word_of spot b zs name ≢ 0 → x < slice_index zs (word_of spot b zs name) → Goes (checked_cells spot free name index i) (checked_steps index) (mem b f (keeping m p q) zs) (mem b f (operands m p q x (word_of spot b zs name)) zs)
+    pub checked_goes : word_of spot b zs name ≢ 0 → x < slice_index zs (word_of spot b zs name)
+        → Goes (checked_cells spot free name index i) (checked_steps index) (mem b f (keeping m p q) zs)
+        (mem b f (operands m p q x (word_of spot b zs name)) zs)
     checked_goes n l =
         let r = array.room n in
         let z = room.fits in
-        goes_seq index_there (goes_seq array_there (goes_seq (nil_goes m p q b f zs x array_at (omega arith) n) (index_goes m p q b f zs x array_at (slice_index zs array_at) (omega arith) refl (array.short n) l)))
+        goes_seq index_there (goes_seq array_there (goes_seq (nil_goes m p q b f zs x array_at (omega arith) n)
+        (index_goes m p q b f zs x array_at (slice_index zs array_at) (omega arith) refl (array.short n) l)))
 
-    pub checked_nil : word_of spot b zs name ≡ 0 → Traps (checked_cells spot free name index i) (checked_steps index) 5 (mem b f (keeping m p q) zs)
+    pub checked_nil : word_of spot b zs name ≡ 0 → Traps (checked_cells spot free name index i) (checked_steps index) 5
+        (mem b f (keeping m p q) zs)
     checked_nil e =
-        traps_more (omega arith) (traps_then index_there (traps_then array_there (traps_first Rattle.expr_uncompute.specs.Code.index_check (nil_traps m p q b f zs x array_at e))))
+        traps_more (omega arith) (traps_then index_there (traps_then array_there
+        (traps_first Rattle.expr_uncompute.specs.Code.index_check (nil_traps m p q b f zs x array_at e))))
 
-    pub checked_past : word_of spot b zs name ≢ 0 → slice_index zs (word_of spot b zs name) ≤ x → Traps (checked_cells spot free name index i) (checked_steps index) 9 (mem b f (keeping m p q) zs)
+    pub checked_past : word_of spot b zs name ≢ 0 → slice_index zs (word_of spot b zs name) ≤ x
+        → Traps (checked_cells spot free name index i) (checked_steps index) 9 (mem b f (keeping m p q) zs)
     checked_past n l =
         let r = array.room n in
         let z = room.fits in
-        traps_more (omega arith) (traps_then index_there (traps_then array_there (traps_then (nil_goes m p q b f zs x array_at (omega arith) n) (index_traps m p q b f zs x array_at (slice_index zs array_at) x_word (omega arith) refl (array.short n) l))))
+        traps_more (omega arith) (traps_then index_there (traps_then array_there
+        (traps_then (nil_goes m p q b f zs x array_at (omega arith) n)
+        (index_traps m p q b f zs x array_at (slice_index zs array_at) x_word (omega arith) refl
+        (array.short n) l))))
 
     -- the element's address
-    pub pointed_goes : word_of spot b zs name ≢ 0 → x < slice_index zs (word_of spot b zs name) → Goes point_cells 2 (mem b f (operands m p q x (word_of spot b zs name)) zs) (mem b f (operands m p q x (word_of spot b zs name + x + 2)) zs)
+    pub pointed_goes : word_of spot b zs name ≢ 0 → x < slice_index zs (word_of spot b zs name)
+        → Goes point_cells 2 (mem b f (operands m p q x (word_of spot b zs name)) zs)
+        (mem b f (operands m p q x (word_of spot b zs name + x + 2)) zs)
     pointed_goes n l =
         let r = array.room n in
         let s = array.short n in
@@ -81,7 +110,8 @@ module _ (spot : List ℕ → Spot) (free : ℕ) (b : Bases) where
   abbrev pub Parted : List ℕ → Expression → (i : ℕ) → Type 0
   Parted zs (Element name index) i = Reads spot free b zs index (i + 1) (given (number spot b zs index))
   Parted zs (Binary at op left right) i =
-      Reads spot free b zs left (i + 1) (given (number spot b zs left)) × Reads spot free b zs right (i + 1 + words left) (given (number spot b zs right))
+      Reads spot free b zs left (i + 1) (given (number spot b zs left))
+      × Reads spot free b zs right (i + 1 + words left) (given (number spot b zs right))
   Parted zs e i = Unit {0}
 
   -- the address of an element, where it has one
@@ -99,28 +129,38 @@ module _ (spot : List ℕ → Spot) (free : ℕ) (b : Bases) where
     abbrev pub opened : List ℕ → Expression → Scratch
     opened zs (Number at word) = record (keeping m p q) { content = word }
     opened zs (Null at) = keeping m p q
-    opened zs (Variable name) = record (keeping m p q) { address = address_of b (spot name.text); content = word_of spot b zs name.text }
+    opened zs (Variable name) = record (keeping m p q) {
+      address = address_of b (spot name.text);
+      content = word_of spot b zs name.text;
+    }
     opened zs (Element name index) =
-        record (operands m p q (given (number spot b zs index)) (element_place zs name.text index)) { item = slice_index zs (element_place zs name.text index) }
-    opened zs (Binary at op left right) = operated_scratch m p q op (given (number spot b zs left)) (given (number spot b zs right))
+        record (operands m p q (given (number spot b zs index)) (element_place zs name.text index))
+        { item = slice_index zs (element_place zs name.text index) }
+    opened zs (Binary at op left right) = operated_scratch m p q op (given (number spot b zs left))
+        (given (number spot b zs right))
 
     module _ (f : ℕ → ℕ) where
       given_ok : (r : Result ℕ ℕ) (x : ℕ) → r ≡ Ok x → r ≡ Ok (given r)
       given_ok (Ok y) x e = refl
       given_ok (Err c) x e = absurd (cc)
 
-      pub open_goes : (e : Expression) (i v : ℕ) (zs : List ℕ) → AllWords zs → Sees spot b low zs e → Room e i zs → Parted zs e i → number spot b zs e ≡ Ok v
-          → Goes (open_cells spot free e i) (open_steps e) (mem b f (keeping m p q) zs) (mem b f (opened zs e) (emptied e zs))
-      open_goes (Number at word) i v zs w s r k e = goes_set _ (λ z. mem b f (record (keeping m p q) { content = z }) zs) word refl s (λ z. refl) (λ z. refl)
+      pub open_goes : (e : Expression) (i v : ℕ) (zs : List ℕ) → AllWords zs → Sees spot b low zs e → Room e i zs
+          → Parted zs e i → number spot b zs e ≡ Ok v
+          → Goes (open_cells spot free e i) (open_steps e) (mem b f (keeping m p q) zs)
+          (mem b f (opened zs e) (emptied e zs))
+      open_goes (Number at word) i v zs w s r k e = goes_set _
+          (λ z. mem b f (record (keeping m p q) { content = z }) zs) word refl s (λ z. refl) (λ z. refl)
       open_goes (Null at) i v zs w s r k e = nothing _
-      open_goes (Variable name) i v zs w s r k e = let l = r.fits in reach_goes b f (keeping m p q) zs (spot name.text) (omega arith) r.small
+      open_goes (Variable name) i v zs w s r k e = let l = r.fits in
+          reach_goes b f (keeping m p q) zs (spot name.text) (omega arith) r.small
       open_goes (Element name index) i v zs w s r k e =
           let a = address_of_word zs (element_at zs (word_of spot b zs name.text) (number spot b zs index)) v e in
           let n = inside_of zs (word_of spot b zs name.text) (number spot b zs index) a.0 a.1 in
           let x : ℕ = given (number spot b zs index) in
           let g : number spot b zs index ≡ Ok x = given_ok _ n.x n.index in
           let same : n.x ≡ x = ok_is (sym n.index ∙ g) in
-          let l : x < slice_index zs (word_of spot b zs name.text) = subst (λ z. z < slice_index zs (word_of spot b zs name.text)) same n.below in
+          let l : x < slice_index zs (word_of spot b zs name.text) =
+          subst (λ z. z < slice_index zs (word_of spot b zs name.text)) same n.below in
           let room : Room index (i + 1) zs = record { fits = let h = r.fits in omega arith; small = r.small } in
           let block = s.1.room n.array_is in
           let short = s.1.short n.array_is in
@@ -128,7 +168,9 @@ module _ (spot : List ℕ → Spot) (free : ℕ) (b : Bases) where
           let small = r.small in
           goes_seq (checked_goes m p q f name.text index (i + 1) x zs w s.0 s.1 s.2 room g k n.array_is l)
           (goes_seq (pointed_goes m p q f name.text index (i + 1) x zs w s.0 s.1 s.2 room g k n.array_is l)
-          (goes_exch _ (λ z zs'. mem b f (record (operands m p q x (element_place zs name.text index)) { item = z }) zs') (element_place zs name.text index) 0 zs (omega arith) refl (omega arith) (λ z zs'. refl) (λ z zs'. refl)))
+          (goes_exch _ (λ z zs'. mem b f (record (operands m p q x (element_place zs name.text index)) { item = z })
+          zs') (element_place zs name.text index) 0 zs (omega arith) refl (omega arith) (λ z zs'. refl)
+          (λ z zs'. refl)))
       open_goes (Binary at o left right) i v zs w s r k e =
           let n = both_ok o (number spot b zs left) (number spot b zs right) v e in
           let x : ℕ = given (number spot b zs left) in
@@ -139,7 +181,8 @@ module _ (spot : List ℕ → Spot) (free : ℕ) (b : Bases) where
           let xw : x < 2 ^ 32 = number_word spot b low zs w left s.0 x (given_ok _ n.x n.left) in
           let yw : y < 2 ^ 32 = number_word spot b low zs w right s.1 y (given_ok _ n.y n.right) in
           goes_seq (operand_goes left (i + 1) zs s.0 room_left k.0 (left_takes b f (keeping m p q) x))
-          (goes_seq (operand_goes right (i + 1 + words left) zs s.1 room_right k.1 (right_takes b f (operands m p q x 0) y))
+          (goes_seq (operand_goes right (i + 1 + words left) zs s.1 room_right k.1
+          (right_takes b f (operands m p q x 0) y))
           (operator_goes m p q b f zs x y xw yw o))
 
       -- the register of its value
@@ -150,7 +193,8 @@ module _ (spot : List ℕ → Spot) (free : ℕ) (b : Bases) where
       result_has (Element name index) = in_item
       result_has (Binary at o left right) = operator_has o
 
-      pub open_gives : (e : Expression) (v : ℕ) (zs zs' : List ℕ) → number spot b zs e ≡ Ok v → reg (mem b f (opened zs e) zs') (result_of e) ≡ v
+      pub open_gives : (e : Expression) (v : ℕ) (zs zs' : List ℕ) → number spot b zs e ≡ Ok v
+          → reg (mem b f (opened zs e) zs') (result_of e) ≡ v
       open_gives (Number at word) v zs zs' e = ok_is e
       open_gives (Null at) v zs zs' e = ok_is e
       open_gives (Variable name) v zs zs' e = ok_is e
@@ -163,13 +207,18 @@ module _ (spot : List ℕ → Spot) (free : ℕ) (b : Bases) where
           let n = both_ok o (number spot b zs left) (number spot b zs right) v e in
           let ex : n.x ≡ given (number spot b zs left) = ok_is (sym n.left ∙ given_ok _ n.x n.left) in
           let ey : n.y ≡ given (number spot b zs right) = ok_is (sym n.right ∙ given_ok _ n.y n.right) in
-          operator_gives m p q b f zs' (given (number spot b zs left)) (given (number spot b zs right)) o ∙ ap (λ z. operated o z (given (number spot b zs right))) (sym ex) ∙ ap (operated o n.x) (sym ey) ∙ n.is
+          operator_gives m p q b f zs' (given (number spot b zs left)) (given (number spot b zs right)) o
+          ∙ ap (λ z. operated o z (given (number spot b zs right))) (sym ex) ∙ ap (operated o n.x) (sym ey) ∙ n.is
 
       -- an element that is not there
-      pub open_traps : (at : ℕ) (name : Rattle.rpp_tree.specs.declared.tree.Ident.Ident) (index : Expression) (i x c : ℕ) (zs : List ℕ) → AllWords zs → Sees spot b low zs (Element name index) → Room (Element name index) i zs → Parted zs (Element name index) i → number spot b zs index ≡ Ok x → number spot b zs (Element name index) ≡ Err c
+      pub open_traps : (at : ℕ) (name : Rattle.rpp_tree.specs.declared.tree.Ident.Ident) (index : Expression)
+          (i x c : ℕ) (zs : List ℕ) → AllWords zs → Sees spot b low zs (Element name index)
+          → Room (Element name index) i zs → Parted zs (Element name index) i → number spot b zs index ≡ Ok x
+          → number spot b zs (Element name index) ≡ Err c
           → Traps (checked_cells spot free name.text index (i + 1)) (checked_steps index) c (mem b f (keeping m p q) zs)
       open_traps at name index i x c zs w s r k g e =
-          by (fault_of zs (word_of spot b zs name.text) (number spot b zs index) c (fault_of_word zs (element_at zs (word_of spot b zs name.text) (number spot b zs index)) c e))
+          by (fault_of zs (word_of spot b zs name.text) (number spot b zs index) c
+          (fault_of_word zs (element_at zs (word_of spot b zs name.text) (number spot b zs index)) c e))
         where
           room : Room index (i + 1) zs
           room = record { fits = let h = r.fits in omega arith; small = r.small }
@@ -177,9 +226,16 @@ module _ (spot : List ℕ → Spot) (free : ℕ) (b : Bases) where
           reads : Reads spot free b zs index (i + 1) x
           reads = subst (Reads spot free b zs index (i + 1)) (ap given g) k
 
-          by : IsFault zs (word_of spot b zs name.text) (number spot b zs index) c → Traps (checked_cells spot free name.text index (i + 1)) (checked_steps index) c (mem b f (keeping m p q) zs)
+          by : IsFault zs (word_of spot b zs name.text) (number spot b zs index) c
+              → Traps (checked_cells spot free name.text index (i + 1)) (checked_steps index) c
+              (mem b f (keeping m p q) zs)
           by (by_index h) = absurd (cc)
-          by (by_nil y h n q5) = subst (λ z. Traps (checked_cells spot free name.text index (i + 1)) (checked_steps index) z (mem b f (keeping m p q) zs)) (sym q5) (checked_nil m p q f name.text index (i + 1) x zs w s.0 s.1 s.2 room g reads n)
+          by (by_nil y h n q5) = subst (λ z. Traps (checked_cells spot free name.text index (i + 1))
+              (checked_steps index) z (mem b f (keeping m p q) zs)) (sym q5)
+              (checked_nil m p q f name.text index (i + 1) x zs w s.0 s.1 s.2 room g reads n)
           by (by_end y h n l q9) =
-              let l' : slice_index zs (word_of spot b zs name.text) ≤ x = subst (λ z. slice_index zs (word_of spot b zs name.text) ≤ z) (ok_is (sym h ∙ g)) l in
-              subst (λ z. Traps (checked_cells spot free name.text index (i + 1)) (checked_steps index) z (mem b f (keeping m p q) zs)) (sym q9) (checked_past m p q f name.text index (i + 1) x zs w s.0 s.1 s.2 room g reads n l')
+              let l' : slice_index zs (word_of spot b zs name.text) ≤ x =
+              subst (λ z. slice_index zs (word_of spot b zs name.text) ≤ z) (ok_is (sym h ∙ g)) l in
+              subst (λ z. Traps (checked_cells spot free name.text index (i + 1)) (checked_steps index) z
+              (mem b f (keeping m p q) zs)) (sym q9) (checked_past m p q f name.text index (i + 1) x zs w s.0 s.1
+              s.2 room g reads n l')

@@ -8,7 +8,8 @@ use Rattle.pisa_isa.specs.Machine.{Memory}
 use Rattle.paired_code.specs.Machine.{reg}
 use Rattle.paired_code.specs.Pieces.{Done}
 use Rattle.roopl_semantics.specs.Operators.{is_true, truth_word}
-use Rattle.expr_uncompute.specs.Code.{content, left_operand, right_operand, item, outcome, truth, amount, place, other_place, Target, xor, truth_cells}
+use Rattle.expr_uncompute.specs.Code.{content, left_operand, right_operand, item, outcome, truth, amount, place}
+use Rattle.expr_uncompute.specs.Code.{other_place, Target, xor, truth_cells}
 use Rattle.expr_uncompute.specs.Number.{Bases}
 use Rattle.expr_uncompute.proofs.Comparing.{truth_of}
 use Rattle.expr_uncompute.proofs.Goes.{Goes, goes_cons, goes_to, goes_xor, goes_set}
@@ -34,22 +35,32 @@ pub data IsTarget : ℕ → Type 0 where
   at31 : IsTarget 31
 
 pub target_is : (r : ℕ) → Target r → IsTarget r
-target_is r (inl h) = ⊎_elim (λ e. subst IsTarget (sym e) at0) (λ n. let e : r ≡ 1 = omega arith in subst IsTarget (sym e) at1) (cases_eq r 0)
+target_is r (inl h) = ⊎_elim (λ e. subst IsTarget (sym e) at0)
+    (λ n. let e : r ≡ 1 = omega arith in subst IsTarget (sym e) at1) (cases_eq r 0)
 target_is r (inr (inl h)) =
     let lo = h.0 in
     let hi = h.1 in
-    ⊎_elim (λ e. subst IsTarget (sym e) at11) (λ n1. ⊎_elim (λ e. subst IsTarget (sym e) at12) (λ n2. ⊎_elim (λ e. subst IsTarget (sym e) at13) (λ n3. ⊎_elim (λ e. subst IsTarget (sym e) at14) (λ n4. let e : r ≡ 15 = omega arith in subst IsTarget (sym e) at15) (cases_eq r 14)) (cases_eq r 13)) (cases_eq r 12)) (cases_eq r 11)
+    ⊎_elim (λ e. subst IsTarget (sym e) at11) (λ n1. ⊎_elim (λ e. subst IsTarget (sym e) at12)
+    (λ n2. ⊎_elim (λ e. subst IsTarget (sym e) at13) (λ n3. ⊎_elim (λ e. subst IsTarget (sym e) at14)
+    (λ n4. let e : r ≡ 15 = omega arith in subst IsTarget (sym e) at15) (cases_eq r 14)) (cases_eq r 13))
+    (cases_eq r 12)) (cases_eq r 11)
 target_is r (inr (inr h)) =
     let lo = h.0 in
     let hi = h.1 in
-    ⊎_elim (λ e. subst IsTarget (sym e) at25) (λ n25. ⊎_elim (λ e. subst IsTarget (sym e) at26) (λ n26. ⊎_elim (λ e. subst IsTarget (sym e) at27) (λ n27. ⊎_elim (λ e. subst IsTarget (sym e) at28) (λ n28. ⊎_elim (λ e. subst IsTarget (sym e) at29) (λ n29. ⊎_elim (λ e. subst IsTarget (sym e) at30) (λ n30. let e : r ≡ 31 = omega arith in subst IsTarget (sym e) at31) (cases_eq r 30)) (cases_eq r 29)) (cases_eq r 28)) (cases_eq r 27)) (cases_eq r 26)) (cases_eq r 25)
+    ⊎_elim (λ e. subst IsTarget (sym e) at25) (λ n25. ⊎_elim (λ e. subst IsTarget (sym e) at26)
+    (λ n26. ⊎_elim (λ e. subst IsTarget (sym e) at27) (λ n27. ⊎_elim (λ e. subst IsTarget (sym e) at28)
+    (λ n28. ⊎_elim (λ e. subst IsTarget (sym e) at29)
+    (λ n29. ⊎_elim (λ e. subst IsTarget (sym e) at30)
+    (λ n30. let e : r ≡ 31 = omega arith in subst IsTarget (sym e) at31) (cases_eq r 30)) (cases_eq r 29))
+    (cases_eq r 28)) (cases_eq r 27)) (cases_eq r 26)) (cases_eq r 25)
 
 -- the registers with one other value
 abbrev pub written : (ℕ → ℕ) → (i v : ℕ) → ℕ → ℕ
 written f i v j = if nat_eq j i then v else f j
 
 module _ (b : Bases) where
-  same_result : (r : ℕ) → HasResult r → (f g : ℕ → ℕ) (s : Scratch) (zs : List ℕ) → reg (mem b f s zs) r ≡ reg (mem b g s zs) r
+  same_result : (r : ℕ) → HasResult r → (f g : ℕ → ℕ) (s : Scratch) (zs : List ℕ)
+      → reg (mem b f s zs) r ≡ reg (mem b g s zs) r
   same_result r in_content f g s zs = refl
   same_result r in_outcome f g s zs = refl
   same_result r in_left f g s zs = refl
@@ -64,7 +75,8 @@ module _ (b : Bases) where
     gives : (i x : ℕ) → Done (put i (bit_xor x (reg (put i x) r))) 1 ≡ Done (put i (bit_xor x v)) 1
     gives i x = ap (λ z. Done (put i (bit_xor x z)) 1) (same_result r h (written f i x) f s zs ∙ e)
 
-    pub into_goes : (i : ℕ) → IsTarget i → Goes (xor i r ∷ []) 1 (mem b f s zs) (mem b (written f i (bit_xor (f i) v)) s zs)
+    pub into_goes : (i : ℕ) → IsTarget i → Goes (xor i r ∷ []) 1 (mem b f s zs)
+        (mem b (written f i (bit_xor (f i) v)) s zs)
     into_goes i at0 = goes_xor _ (put 0) (f 0) v refl (omega arith) (gives 0) (gives 0)
     into_goes i at1 = goes_xor _ (put 1) (f 1) v refl (omega arith) (gives 1) (gives 1)
     into_goes i at11 = goes_xor _ (put 11) (f 11) v refl (omega arith) (gives 11) (gives 11)
@@ -81,36 +93,75 @@ module _ (b : Bases) where
     into_goes i at31 = goes_xor _ (put 31) (f 31) v refl (omega arith) (gives 31) (gives 31)
 
   -- kept in `amount`
-  pub amount_goes : (r : ℕ) → HasResult r → (f : ℕ → ℕ) (s : Scratch) (zs : List ℕ) (v : ℕ) → reg (mem b f s zs) r ≡ v → Goes (xor amount r ∷ []) 1 (mem b f (record s { amount = 0 }) zs) (mem b f (record s { amount = v }) zs)
-  amount_goes r in_content f s zs v e = goes_to refl refl (ap (λ z. mem b f (record s { amount = z }) zs) e) (goes_set _ (λ z. mem b f (record s { amount = z }) zs) s.content refl (omega arith) (λ z. refl) (λ z. refl))
-  amount_goes r in_outcome f s zs v e = goes_to refl refl (ap (λ z. mem b f (record s { amount = z }) zs) e) (goes_set _ (λ z. mem b f (record s { amount = z }) zs) s.outcome refl (omega arith) (λ z. refl) (λ z. refl))
-  amount_goes r in_left f s zs v e = goes_to refl refl (ap (λ z. mem b f (record s { amount = z }) zs) e) (goes_set _ (λ z. mem b f (record s { amount = z }) zs) s.a refl (omega arith) (λ z. refl) (λ z. refl))
-  amount_goes r in_item f s zs v e = goes_to refl refl (ap (λ z. mem b f (record s { amount = z }) zs) e) (goes_set _ (λ z. mem b f (record s { amount = z }) zs) s.item refl (omega arith) (λ z. refl) (λ z. refl))
-  amount_goes r in_truth f s zs v e = goes_to refl refl (ap (λ z. mem b f (record s { amount = z }) zs) e) (goes_set _ (λ z. mem b f (record s { amount = z }) zs) s.truth refl (omega arith) (λ z. refl) (λ z. refl))
+  pub amount_goes : (r : ℕ) → HasResult r → (f : ℕ → ℕ) (s : Scratch) (zs : List ℕ) (v : ℕ) → reg (mem b f s zs) r ≡ v
+      → Goes (xor amount r ∷ []) 1 (mem b f (record s { amount = 0 }) zs) (mem b f (record s { amount = v }) zs)
+  amount_goes r in_content f s zs v e = goes_to refl refl (ap (λ z. mem b f (record s { amount = z }) zs) e)
+      (goes_set _ (λ z. mem b f (record s { amount = z }) zs) s.content refl (omega arith) (λ z. refl) (λ z. refl))
+  amount_goes r in_outcome f s zs v e = goes_to refl refl (ap (λ z. mem b f (record s { amount = z }) zs) e)
+      (goes_set _ (λ z. mem b f (record s { amount = z }) zs) s.outcome refl (omega arith) (λ z. refl) (λ z. refl))
+  amount_goes r in_left f s zs v e = goes_to refl refl (ap (λ z. mem b f (record s { amount = z }) zs) e)
+      (goes_set _ (λ z. mem b f (record s { amount = z }) zs) s.a refl (omega arith) (λ z. refl) (λ z. refl))
+  amount_goes r in_item f s zs v e = goes_to refl refl (ap (λ z. mem b f (record s { amount = z }) zs) e)
+      (goes_set _ (λ z. mem b f (record s { amount = z }) zs) s.item refl (omega arith) (λ z. refl) (λ z. refl))
+  amount_goes r in_truth f s zs v e = goes_to refl refl (ap (λ z. mem b f (record s { amount = z }) zs) e)
+      (goes_set _ (λ z. mem b f (record s { amount = z }) zs) s.truth refl (omega arith) (λ z. refl) (λ z. refl))
 
   -- into the word that is open
-  pub content_goes : (r : ℕ) → r ≢ content → HasResult r → (f : ℕ → ℕ) (s : Scratch) (v : ℕ) → ((zs : List ℕ) → reg (mem b f s zs) r ≡ v) → (a : ℕ) (zs : List ℕ) → Goes (xor content r ∷ []) 1 (mem b f (record s { address = a; content = 0 }) zs) (mem b f (record s { address = a; content = v }) zs)
+  pub content_goes : (r : ℕ) → r ≢ content → HasResult r → (f : ℕ → ℕ) (s : Scratch) (v : ℕ)
+      → ((zs : List ℕ) → reg (mem b f s zs) r ≡ v) → (a : ℕ) (zs : List ℕ)
+      → Goes (xor content r ∷ []) 1 (mem b f (record s { address = a; content = 0 }) zs)
+      (mem b f (record s { address = a; content = v }) zs)
   content_goes r n in_content f s v e a zs = absurd (n refl)
-  content_goes r n in_outcome f s v e a zs = goes_to refl refl (ap (λ z. mem b f (record s { address = a; content = z }) zs) (e zs)) (goes_set _ (λ z. mem b f (record s { address = a; content = z }) zs) s.outcome refl (omega arith) (λ z. refl) (λ z. refl))
-  content_goes r n in_left f s v e a zs = goes_to refl refl (ap (λ z. mem b f (record s { address = a; content = z }) zs) (e zs)) (goes_set _ (λ z. mem b f (record s { address = a; content = z }) zs) s.a refl (omega arith) (λ z. refl) (λ z. refl))
-  content_goes r n in_item f s v e a zs = goes_to refl refl (ap (λ z. mem b f (record s { address = a; content = z }) zs) (e zs)) (goes_set _ (λ z. mem b f (record s { address = a; content = z }) zs) s.item refl (omega arith) (λ z. refl) (λ z. refl))
-  content_goes r n in_truth f s v e a zs = goes_to refl refl (ap (λ z. mem b f (record s { address = a; content = z }) zs) (e zs)) (goes_set _ (λ z. mem b f (record s { address = a; content = z }) zs) s.truth refl (omega arith) (λ z. refl) (λ z. refl))
+  content_goes r n in_outcome f s v e a zs = goes_to refl refl
+      (ap (λ z. mem b f (record s { address = a; content = z }) zs) (e zs))
+      (goes_set _ (λ z. mem b f (record s { address = a; content = z }) zs) s.outcome refl (omega arith) (λ z. refl)
+      (λ z. refl))
+  content_goes r n in_left f s v e a zs = goes_to refl refl
+      (ap (λ z. mem b f (record s { address = a; content = z }) zs) (e zs))
+      (goes_set _ (λ z. mem b f (record s { address = a; content = z }) zs) s.a refl (omega arith) (λ z. refl)
+      (λ z. refl))
+  content_goes r n in_item f s v e a zs = goes_to refl refl
+      (ap (λ z. mem b f (record s { address = a; content = z }) zs) (e zs))
+      (goes_set _ (λ z. mem b f (record s { address = a; content = z }) zs) s.item refl (omega arith) (λ z. refl)
+      (λ z. refl))
+  content_goes r n in_truth f s v e a zs = goes_to refl refl
+      (ap (λ z. mem b f (record s { address = a; content = z }) zs) (e zs))
+      (goes_set _ (λ z. mem b f (record s { address = a; content = z }) zs) s.truth refl (omega arith) (λ z. refl)
+      (λ z. refl))
 
   -- and its truth
-  truth_by : (r v : ℕ) (put : ℕ → Memory) → v < 2 ^ 32 → Goes (Rattle.expr_uncompute.specs.Code.sltx truth Rattle.expr_uncompute.specs.Code.nought r ∷ []) 1 (put 0) (put (word_of (is_less 0 v))) → Goes (Rattle.expr_uncompute.specs.Code.sltx truth r Rattle.expr_uncompute.specs.Code.nought ∷ []) 1 (put (word_of (is_less 0 v))) (put (bit_xor (word_of (is_less 0 v)) (word_of (is_less v 0)))) → Goes (truth_cells truth r) 2 (put 0) (put (truth_word (is_true v)))
+  truth_by : (r v : ℕ) (put : ℕ → Memory) → v < 2 ^ 32 → Goes
+      (Rattle.expr_uncompute.specs.Code.sltx truth Rattle.expr_uncompute.specs.Code.nought r ∷ []) 1 (put 0)
+      (put (word_of (is_less 0 v))) → Goes (Rattle.expr_uncompute.specs.Code.sltx truth r
+      Rattle.expr_uncompute.specs.Code.nought ∷ []) 1 (put (word_of (is_less 0 v)))
+      (put (bit_xor (word_of (is_less 0 v)) (word_of (is_less v 0))))
+      → Goes (truth_cells truth r) 2 (put 0) (put (truth_word (is_true v)))
   truth_by r v put h g k = goes_cons g (goes_to refl refl (ap put (truth_of v h)) k)
 
-  pub truth_goes : (r : ℕ) → r ≢ truth → HasResult r → (f : ℕ → ℕ) (s : Scratch) (zs : List ℕ) (v : ℕ) → v < 2 ^ 32 → reg (mem b f s zs) r ≡ v → Goes (truth_cells truth r) 2 (mem b f (record s { truth = 0 }) zs) (mem b f (record s { truth = truth_word (is_true v) }) zs)
+  pub truth_goes : (r : ℕ) → r ≢ truth → HasResult r → (f : ℕ → ℕ) (s : Scratch) (zs : List ℕ) (v : ℕ) → v < 2 ^ 32
+      → reg (mem b f s zs) r ≡ v → Goes (truth_cells truth r) 2 (mem b f (record s { truth = 0 }) zs)
+      (mem b f (record s { truth = truth_word (is_true v) }) zs)
   truth_goes r n in_content f s zs v h e =
       let put : ℕ → Memory = λ z. mem b f (record s { truth = z }) zs in
-      subst (λ v. Goes (truth_cells truth content) 2 (put 0) (put (truth_word (is_true v)))) e (truth_by content s.content put (rw e h) (goes_set _ put (word_of (is_less 0 s.content)) refl (omega arith) (λ z. refl) (λ z. refl)) (goes_xor _ put _ (word_of (is_less s.content 0)) refl (omega arith) (λ z. refl) (λ z. refl)))
+      subst (λ v. Goes (truth_cells truth content) 2 (put 0) (put (truth_word (is_true v)))) e
+      (truth_by content s.content put (rw e h) (goes_set _ put (word_of (is_less 0 s.content)) refl (omega arith)
+      (λ z. refl) (λ z. refl)) (goes_xor _ put _ (word_of (is_less s.content 0)) refl (omega arith) (λ z. refl)
+      (λ z. refl)))
   truth_goes r n in_outcome f s zs v h e =
       let put : ℕ → Memory = λ z. mem b f (record s { truth = z }) zs in
-      subst (λ v. Goes (truth_cells truth outcome) 2 (put 0) (put (truth_word (is_true v)))) e (truth_by outcome s.outcome put (rw e h) (goes_set _ put (word_of (is_less 0 s.outcome)) refl (omega arith) (λ z. refl) (λ z. refl)) (goes_xor _ put _ (word_of (is_less s.outcome 0)) refl (omega arith) (λ z. refl) (λ z. refl)))
+      subst (λ v. Goes (truth_cells truth outcome) 2 (put 0) (put (truth_word (is_true v)))) e
+      (truth_by outcome s.outcome put (rw e h) (goes_set _ put (word_of (is_less 0 s.outcome)) refl (omega arith)
+      (λ z. refl) (λ z. refl)) (goes_xor _ put _ (word_of (is_less s.outcome 0)) refl (omega arith) (λ z. refl)
+      (λ z. refl)))
   truth_goes r n in_left f s zs v h e =
       let put : ℕ → Memory = λ z. mem b f (record s { truth = z }) zs in
-      subst (λ v. Goes (truth_cells truth left_operand) 2 (put 0) (put (truth_word (is_true v)))) e (truth_by left_operand s.a put (rw e h) (goes_set _ put (word_of (is_less 0 s.a)) refl (omega arith) (λ z. refl) (λ z. refl)) (goes_xor _ put _ (word_of (is_less s.a 0)) refl (omega arith) (λ z. refl) (λ z. refl)))
+      subst (λ v. Goes (truth_cells truth left_operand) 2 (put 0) (put (truth_word (is_true v)))) e
+      (truth_by left_operand s.a put (rw e h) (goes_set _ put (word_of (is_less 0 s.a)) refl (omega arith)
+      (λ z. refl) (λ z. refl)) (goes_xor _ put _ (word_of (is_less s.a 0)) refl (omega arith) (λ z. refl)
+      (λ z. refl)))
   truth_goes r n in_item f s zs v h e =
       let put : ℕ → Memory = λ z. mem b f (record s { truth = z }) zs in
-      subst (λ v. Goes (truth_cells truth item) 2 (put 0) (put (truth_word (is_true v)))) e (truth_by item s.item put (rw e h) (goes_set _ put (word_of (is_less 0 s.item)) refl (omega arith) (λ z. refl) (λ z. refl)) (goes_xor _ put _ (word_of (is_less s.item 0)) refl (omega arith) (λ z. refl) (λ z. refl)))
+      subst (λ v. Goes (truth_cells truth item) 2 (put 0) (put (truth_word (is_true v)))) e
+      (truth_by item s.item put (rw e h) (goes_set _ put (word_of (is_less 0 s.item)) refl (omega arith) (λ z. refl)
+      (λ z. refl)) (goes_xor _ put _ (word_of (is_less s.item 0)) refl (omega arith) (λ z. refl) (λ z. refl)))
   truth_goes r n in_truth f s zs v h e = absurd (n refl)

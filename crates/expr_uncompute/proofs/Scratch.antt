@@ -21,7 +21,22 @@ pub record Scratch : Type 0 where
 
 -- all 0, but for what a statement keeps
 abbrev pub keeping : (amount place other : ℕ) → Scratch
-keeping amount place other = record { address = 0; content = 0; left = 0; right = 0; outcome = 0; a = 0; b = 0; item = 0; amount = amount; place = place; other = other; first = 0; second = 0; truth = 0 }
+keeping amount place other = record {
+  address = 0;
+  content = 0;
+  left = 0;
+  right = 0;
+  outcome = 0;
+  a = 0;
+  b = 0;
+  item = 0;
+  amount = amount;
+  place = place;
+  other = other;
+  first = 0;
+  second = 0;
+  truth = 0;
+}
 
 abbrev pub registers : Bases → (ℕ → ℕ) → Scratch → List ℕ
 registers b f s =

@@ -1,5 +1,6 @@
 -- Updates of a place by a value, and swaps of two places.
-use Rattle.std.proofs.Common.{◌≡◌, ◌≢◌, ℕ, ◌+◌, ◌^◌, ◌<◌, true, false, List, [], ◌∷◌, ◌++◌, length, length-set, refl, sym, ap, ◌∙◌, subst, arith, ⊎_elim}
+use Rattle.std.proofs.Common.{◌≡◌, ◌≢◌, ℕ, ◌+◌, ◌^◌, ◌<◌, true, false, List, [], ◌∷◌, ◌++◌, length, length-set, refl}
+use Rattle.std.proofs.Common.{sym, ap, ◌∙◌, subst, arith, ⊎_elim}
 use Rattle.std.specs.Prelude.{slice_index, slice_set, Ok, Err}
 use Rattle.std.proofs.lemmas.List.{get_or-set_same, get_or-set_other, set_comm, set-set}
 use Rattle.std.proofs.lemmas.Bool.{cases_eq}
@@ -9,19 +10,28 @@ use Rattle.rpp_tree.specs.Tree.{Expression, Lvalue, Whole, Item}
 use Rattle.pisa_isa.specs.Machine.{Memory}
 use Rattle.paired_code.specs.declared.part.Symbol.{Symbol}
 use Rattle.roopl_semantics.specs.Operators.{updated}
-use Rattle.statement_laws.specs.declared.spot.Spot.{Spot}
-use Rattle.expr_uncompute.specs.Code.{around, words, content, amount, place, other_place, first_word, second_word, exch, update_cell, place_words, place_cells, fetch_cells, apart_cells, both_apart_cells, update_cells, swap_cells}
-use Rattle.expr_uncompute.specs.Number.{Bases, number, word_of, element_at, read_of, index_of, place_address, update_shares, swap_shares, Sees, Same, SamePlace}
-use Rattle.expr_uncompute.specs.Steps.{place_steps, fetch_steps, apart_steps, both_apart_steps, update_steps, swap_steps}
-use Rattle.expr_uncompute.proofs.Goes.{Goes, Traps, TrapsBoth, goes_seq, goes_cons, goes_to, goes_around, goes_xor, goes_add, goes_sub, goes_exch, traps_first, traps_then, traps_around}
+use Rattle.refine_form.specs.declared.spot.Spot.{Spot}
+use Rattle.expr_uncompute.specs.Code.{around, words, content, amount, place, other_place, first_word, second_word, exch}
+use Rattle.expr_uncompute.specs.Code.{update_cell, place_words, place_cells, fetch_cells, apart_cells, both_apart_cells}
+use Rattle.expr_uncompute.specs.Code.{update_cells, swap_cells}
+use Rattle.expr_uncompute.specs.Number.{Bases, number, word_of, element_at, read_of, index_of, place_address}
+use Rattle.expr_uncompute.specs.Number.{update_shares, swap_shares, Sees, Same, SamePlace}
+use Rattle.expr_uncompute.specs.Steps.{place_steps, fetch_steps, apart_steps, both_apart_steps, update_steps}
+use Rattle.expr_uncompute.specs.Steps.{swap_steps}
+use Rattle.expr_uncompute.proofs.Goes.{Goes, Traps, TrapsBoth, goes_seq, goes_cons, goes_to, goes_around, goes_xor}
+use Rattle.expr_uncompute.proofs.Goes.{goes_add, goes_sub, goes_exch, traps_first, traps_then, traps_around}
 use Rattle.expr_uncompute.proofs.Scratch.{keeping, mem}
 use Rattle.expr_uncompute.proofs.Numbers.{Agree, AllWords, number_same, number_word, element_address_same, sees_same}
 use Rattle.expr_uncompute.proofs.Stored.{stored_length, stored_below}
-use Rattle.expr_uncompute.proofs.KeptApart.{shares_same, index_seen, swap_shares_same, apart_goes, apart_traps, both_apart_go, both_apart_traps}
+use Rattle.expr_uncompute.proofs.KeptApart.{shares_same, index_seen, swap_shares_same, apart_goes, apart_traps}
+use Rattle.expr_uncompute.proofs.KeptApart.{both_apart_go, both_apart_traps}
 use Rattle.expr_uncompute.proofs.Ways.{ok_is, inside_of}
 use Rattle.expr_uncompute.proofs.Prepare.{PartsDone, stored_words, parts_done}
-use Rattle.expr_uncompute.proofs.PlaceLaws.{placed, place_points, other_points, place_goes, place_traps, fetch_goes, fetch_traps}
-use Rattle.expr_uncompute.proofs.Written.{FitFrom, place_fits, value_fits, other_fits, placed_below, placed_length, placed_words, filled, filled_written, both_placed, both_written, write_one, write_two}
+use Rattle.expr_uncompute.proofs.PlaceLaws.{placed, place_points, other_points, place_goes, place_traps, fetch_goes}
+use Rattle.expr_uncompute.proofs.PlaceLaws.{fetch_traps}
+use Rattle.expr_uncompute.proofs.Written.{FitFrom, place_fits, value_fits, other_fits, placed_below, placed_length}
+use Rattle.expr_uncompute.proofs.Written.{placed_words, filled, filled_written, both_placed, both_written, write_one}
+use Rattle.expr_uncompute.proofs.Written.{write_two}
 
 -- ---- the middle of an update
 
@@ -29,20 +39,27 @@ module _ (b : Bases) (f : ℕ → ℕ) (v a : ℕ) where
   abbrev put : ℕ → List ℕ → Memory
   put z ws = mem b f (record (keeping v a 0) { content = z }) ws
 
-  alter : (op : UpdateOp) (x : ℕ) (ws : List ℕ) → x < 2 ^ 32 → v < 2 ^ 32 → Goes (update_cell op content amount ∷ []) 1 (mem b f (record (keeping v a 0) { content = x }) ws) (mem b f (record (keeping v a 0) { content = updated op x v }) ws)
+  alter : (op : UpdateOp) (x : ℕ) (ws : List ℕ) → x < 2 ^ 32 → v < 2 ^ 32
+      → Goes (update_cell op content amount ∷ []) 1 (mem b f (record (keeping v a 0) { content = x }) ws)
+      (mem b f (record (keeping v a 0) { content = updated op x v }) ws)
   alter update.Add x ws h k = goes_add _ (λ z. put z ws) x v h k refl (omega arith) (λ z. refl) (λ z. refl)
   alter update.Sub x ws h k = goes_sub _ (λ z. put z ws) x v h k refl (omega arith) (λ z. refl) (λ z. refl)
   alter update.Xor x ws h k = goes_xor _ (λ z. put z ws) x v refl (omega arith) (λ z. refl) (λ z. refl)
 
-  pub update_mid : (op : UpdateOp) (x : ℕ) (ys : List ℕ) → a < length ys → slice_index ys a ≡ x → x < 2 ^ 32 → v < 2 ^ 32
-      → Goes (exch content place ∷ update_cell op content amount ∷ exch content place ∷ []) 3 (mem b f (keeping v a 0) ys) (mem b f (keeping v a 0) (slice_set ys a (updated op x v)))
+  pub update_mid : (op : UpdateOp) (x : ℕ) (ys : List ℕ) → a < length ys → slice_index ys a ≡ x → x < 2 ^ 32
+      → v < 2 ^ 32
+      → Goes (exch content place ∷ update_cell op content amount ∷ exch content place ∷ []) 3
+      (mem b f (keeping v a 0) ys) (mem b f (keeping v a 0) (slice_set ys a (updated op x v)))
   update_mid op x ys h e xw vw =
       let ws : List ℕ = slice_set ys a 0 in
       let y : ℕ = updated op x v in
       let h' : a < length ws = rw (length-set ys a 0) h in
-      goes_cons (goes_to refl refl (ap (λ z. put z ws) e) (goes_exch _ put a 0 ys h refl (omega arith) (λ z zs. refl) (λ z zs. refl)))
+      goes_cons (goes_to refl refl (ap (λ z. put z ws) e) (goes_exch _ put a 0 ys h refl (omega arith) (λ z zs. refl)
+      (λ z zs. refl)))
       (goes_cons (alter op x ws xw vw)
-      (goes_to refl refl (ap (λ z. put z (slice_set ws a y)) (get_or-set_same ys a 0 0 h) ∙ ap (put 0) (set-set ys a 0 y)) (goes_exch _ put a y ws h' refl (omega arith) (λ z zs. refl) (λ z zs. refl))))
+      (goes_to refl refl (ap (λ z. put z (slice_set ws a y)) (get_or-set_same ys a 0 0 h)
+      ∙ ap (put 0) (set-set ys a 0 y)) (goes_exch _ put a y ws h' refl (omega arith) (λ z zs. refl)
+      (λ z zs. refl))))
 
 -- ---- the middle of a swap
 
@@ -51,26 +68,41 @@ module _ (b : Bases) (f : ℕ → ℕ) (p q : ℕ) where
   both x y ws = mem b f (record (keeping 0 p q) { first = x; second = y }) ws
 
   abbrev four : List Symbol
-  four = exch first_word place ∷ exch second_word other_place ∷ exch second_word place ∷ exch first_word other_place ∷ []
+  four = exch first_word place ∷ exch second_word other_place ∷ exch second_word place ∷ exch first_word other_place
+      ∷ []
 
   -- whatever stands there
   four_go : (ys ws1 ws2 ws3 ws4 : List ℕ) (x y y' x' : ℕ) → p < length ys → q < length ys
-      → slice_index ys p ≡ x → slice_set ys p 0 ≡ ws1 → slice_index ws1 q ≡ y → slice_set ws1 q 0 ≡ ws2 → slice_index ws2 p ≡ y' → slice_set ws2 p y ≡ ws3 → slice_index ws3 q ≡ x' → slice_set ws3 q x ≡ ws4
-      → Goes (exch first_word place ∷ exch second_word other_place ∷ exch second_word place ∷ exch first_word other_place ∷ []) 4 (mem b f (keeping 0 p q) ys) (mem b f (record (keeping 0 p q) { first = x'; second = y' }) ws4)
+      → slice_index ys p ≡ x → slice_set ys p 0 ≡ ws1 → slice_index ws1 q ≡ y → slice_set ws1 q 0 ≡ ws2
+      → slice_index ws2 p ≡ y' → slice_set ws2 p y ≡ ws3 → slice_index ws3 q ≡ x' → slice_set ws3 q x ≡ ws4
+      → Goes (exch first_word place ∷ exch second_word other_place ∷ exch second_word place
+      ∷ exch first_word other_place ∷ []) 4 (mem b f (keeping 0 p q) ys)
+      (mem b f (record (keeping 0 p q) { first = x'; second = y' }) ws4)
   four_go ys ws1 ws2 ws3 ws4 x y y' x' h k e1 s1 e2 s2 e3 s3 e4 s4 =
       let l1 : length ws1 ≡ length ys = ap length (sym s1) ∙ length-set ys p 0 in
       let l2 : length ws2 ≡ length ys = ap length (sym s2) ∙ length-set ws1 q 0 ∙ l1 in
       let l3 : length ws3 ≡ length ys = ap length (sym s3) ∙ length-set ws2 p y ∙ l2 in
-      goes_cons (goes_to refl refl (ap (λ z. both z 0 (slice_set ys p 0)) e1 ∙ ap (both x 0) s1) (goes_exch _ (λ z zs. both z 0 zs) p 0 ys h refl (omega arith) (λ z zs. refl) (λ z zs. refl)))
-      (goes_cons (goes_to refl refl (ap (λ z. both x z (slice_set ws1 q 0)) e2 ∙ ap (both x y) s2) (goes_exch _ (λ z zs. both x z zs) q 0 ws1 (omega arith) refl (omega arith) (λ z zs. refl) (λ z zs. refl)))
-      (goes_cons (goes_to refl refl (ap (λ z. both x z (slice_set ws2 p y)) e3 ∙ ap (both x y') s3) (goes_exch _ (λ z zs. both x z zs) p y ws2 (omega arith) refl (omega arith) (λ z zs. refl) (λ z zs. refl)))
-      (goes_to refl refl (ap (λ z. both z y' (slice_set ws3 q x)) e4 ∙ ap (both x' y') s4) (goes_exch _ (λ z zs. both z y' zs) q x ws3 (omega arith) refl (omega arith) (λ z zs. refl) (λ z zs. refl)))))
+      goes_cons (goes_to refl refl (ap (λ z. both z 0 (slice_set ys p 0)) e1 ∙ ap (both x 0) s1)
+      (goes_exch _ (λ z zs. both z 0 zs) p 0 ys h refl (omega arith) (λ z zs. refl) (λ z zs. refl)))
+      (goes_cons (goes_to refl refl (ap (λ z. both x z (slice_set ws1 q 0)) e2 ∙ ap (both x y) s2)
+      (goes_exch _ (λ z zs. both x z zs) q 0 ws1 (omega arith) refl (omega arith) (λ z zs. refl)
+      (λ z zs. refl)))
+      (goes_cons (goes_to refl refl (ap (λ z. both x z (slice_set ws2 p y)) e3 ∙ ap (both x y') s3)
+      (goes_exch _ (λ z zs. both x z zs) p y ws2 (omega arith) refl (omega arith) (λ z zs. refl)
+      (λ z zs. refl)))
+      (goes_to refl refl (ap (λ z. both z y' (slice_set ws3 q x)) e4 ∙ ap (both x' y') s4)
+      (goes_exch _ (λ z zs. both z y' zs) q x ws3 (omega arith) refl (omega arith) (λ z zs. refl)
+      (λ z zs. refl)))))
 
   pub swap_mid : (ys : List ℕ) → p < length ys → q < length ys
-      → Goes (exch first_word place ∷ exch second_word other_place ∷ exch second_word place ∷ exch first_word other_place ∷ []) 4 (mem b f (keeping 0 p q) ys) (mem b f (keeping 0 p q) (slice_set (slice_set ys p (slice_index ys q)) q (slice_index ys p)))
+      → Goes (exch first_word place ∷ exch second_word other_place ∷ exch second_word place
+      ∷ exch first_word other_place ∷ []) 4 (mem b f (keeping 0 p q) ys)
+      (mem b f (keeping 0 p q) (slice_set (slice_set ys p (slice_index ys q)) q (slice_index ys p)))
   swap_mid ys h k = ⊎_elim (λ e. one e) (λ n. two n) (cases_eq p q)
     where
-      two : p ≢ q → Goes (exch first_word place ∷ exch second_word other_place ∷ exch second_word place ∷ exch first_word other_place ∷ []) 4 (mem b f (keeping 0 p q) ys) (mem b f (keeping 0 p q) (slice_set (slice_set ys p (slice_index ys q)) q (slice_index ys p)))
+      two : p ≢ q → Goes (exch first_word place ∷ exch second_word other_place ∷ exch second_word place
+          ∷ exch first_word other_place ∷ []) 4 (mem b f (keeping 0 p q) ys)
+          (mem b f (keeping 0 p q) (slice_set (slice_set ys p (slice_index ys q)) q (slice_index ys p)))
       two n =
           let x : ℕ = slice_index ys p in
           let y : ℕ = slice_index ys q in
@@ -80,20 +112,27 @@ module _ (b : Bases) (f : ℕ → ℕ) (p q : ℕ) where
           let ws3 : List ℕ = slice_set ws2 p y in
           let k1 : q < length ws1 = rw (length-set ys p 0) k in
           let last : slice_set ws3 q x ≡ slice_set (slice_set ys p y) q x =
-          ap (λ z. slice_set z q x) (set_comm ws1 q p 0 y n' ∙ ap (λ z. slice_set z q 0) (set-set ys p 0 y)) ∙ set-set (slice_set ys p y) q 0 x in
-          four_go ys ws1 ws2 ws3 _ x y 0 0 h k refl refl (get_or-set_other ys p q 0 0 n') refl (get_or-set_other ws1 q p 0 0 n ∙ get_or-set_same ys p 0 0 h) refl (get_or-set_other ws2 p q y 0 n' ∙ get_or-set_same ws1 q 0 0 k1) last
+          ap (λ z. slice_set z q x) (set_comm ws1 q p 0 y n' ∙ ap (λ z. slice_set z q 0) (set-set ys p 0 y))
+          ∙ set-set (slice_set ys p y) q 0 x in
+          four_go ys ws1 ws2 ws3 _ x y 0 0 h k refl refl (get_or-set_other ys p q 0 0 n') refl
+          (get_or-set_other ws1 q p 0 0 n ∙ get_or-set_same ys p 0 0 h) refl
+          (get_or-set_other ws2 p q y 0 n' ∙ get_or-set_same ws1 q 0 0 k1) last
 
-      one : p ≡ q → Goes (exch first_word place ∷ exch second_word other_place ∷ exch second_word place ∷ exch first_word other_place ∷ []) 4 (mem b f (keeping 0 p q) ys) (mem b f (keeping 0 p q) (slice_set (slice_set ys p (slice_index ys q)) q (slice_index ys p)))
+      one : p ≡ q → Goes (exch first_word place ∷ exch second_word other_place ∷ exch second_word place
+          ∷ exch first_word other_place ∷ []) 4 (mem b f (keeping 0 p q) ys)
+          (mem b f (keeping 0 p q) (slice_set (slice_set ys p (slice_index ys q)) q (slice_index ys p)))
       one e =
           let x : ℕ = slice_index ys p in
           let y : ℕ = slice_index ys q in
           let ws1 : List ℕ = slice_set ys p 0 in
           let at : (z : List ℕ) → slice_index z q ≡ slice_index z p = λ z. ap (slice_index z) (sym e) in
-          let on : (z : List ℕ) (w : ℕ) → slice_set z q w ≡ slice_set z p w = λ z w. ap (λ i. slice_set z i w) (sym e) in
+          let on : (z : List ℕ) (w : ℕ) → slice_set z q w ≡ slice_set z p w =
+          λ z w. ap (λ i. slice_set z i w) (sym e) in
           let zero : slice_index ws1 p ≡ 0 = get_or-set_same ys p 0 0 h in
           let last : slice_set ws1 q x ≡ slice_set (slice_set ys p y) q x =
           on ws1 x ∙ set-set ys p 0 x ∙ sym (on (slice_set ys p y) x ∙ set-set ys p y x) in
-          four_go ys ws1 ws1 ws1 _ x 0 0 0 h k refl refl (at ws1 ∙ zero) (on ws1 0 ∙ set-set ys p 0 0) zero (set-set ys p 0 0) (at ws1 ∙ zero) last
+          four_go ys ws1 ws1 ws1 _ x 0 0 0 h k refl refl (at ws1 ∙ zero) (on ws1 0 ∙ set-set ys p 0 0) zero
+          (set-set ys p 0 0) (at ws1 ∙ zero) last
 
 -- ---- whole statements
 
@@ -101,7 +140,8 @@ module _ (spot : List ℕ → Spot) (free : ℕ) (b : Bases) where
   abbrev low : ℕ
   low = b.frame + free
 
-  pub place_low : (target : Lvalue) (a : ℕ) (zs : List ℕ) → Sees spot b low zs (read_of target) → place_address spot b zs target ≡ Ok a → a < low
+  pub place_low : (target : Lvalue) (a : ℕ) (zs : List ℕ) → Sees spot b low zs (read_of target)
+      → place_address spot b zs target ≡ Ok a → a < low
   place_low (Whole name) a zs s n = let e = ok_is n in omega arith
   place_low (Item name index) a zs s n =
       let k = inside_of zs (word_of spot b zs name.text) (number spot b zs index) a n in
@@ -112,12 +152,17 @@ module _ (spot : List ℕ → Spot) (free : ℕ) (b : Bases) where
 
   module _ (f : ℕ → ℕ) (target : Lvalue) (e : Expression) where
     -- the address in `place` and the value in `amount`
-    pub found_goes : (zs : List ℕ) (a v : ℕ) → FitFrom spot free b target (words e) zs → Sees spot b low zs e → place_address spot b zs target ≡ Ok a → number spot b zs e ≡ Ok v
-        → Goes (place_cells spot free target 0 place ++ fetch_cells spot free e (place_words target) amount) (place_steps target + fetch_steps e) (mem b f (keeping 0 0 0) zs) (mem b f (keeping v a 0) (filled spot free b target e zs))
+    pub found_goes : (zs : List ℕ) (a v : ℕ) → FitFrom spot free b target (words e) zs → Sees spot b low zs e
+        → place_address spot b zs target ≡ Ok a → number spot b zs e ≡ Ok v
+        → Goes (place_cells spot free target 0 place ++ fetch_cells spot free e (place_words target) amount)
+        (place_steps target + fetch_steps e) (mem b f (keeping 0 0 0) zs)
+        (mem b f (keeping v a 0) (filled spot free b target e zs))
     found_goes zs a v h s na nv =
         let zs1 : List ℕ = placed spot free b target 0 zs in
-        goes_seq (place_goes spot free b place f 0 0 0 0 a 0 a (place_points spot free b f 0 0 a) 0 zs target (place_fits spot free b target (words e) zs h) na)
-        (fetch_goes spot free b f a 0 e (place_words target) zs1 (value_fits spot free b target e zs h s) v (number_same spot b low zs zs1 (placed_below spot free b target zs) e s ∙ nv))
+        goes_seq (place_goes spot free b place f 0 0 0 0 a 0 a (place_points spot free b f 0 0 a) 0 zs target
+        (place_fits spot free b target (words e) zs h) na)
+        (fetch_goes spot free b f a 0 e (place_words target) zs1 (value_fits spot free b target e zs h s) v
+        (number_same spot b low zs zs1 (placed_below spot free b target zs) e s ∙ nv))
 
     -- what is known of the cells then
     record Filled (zs ys : List ℕ) : Type 0 where
@@ -125,60 +170,105 @@ module _ (spot : List ℕ → Spot) (free : ℕ) (b : Bases) where
       count : length ys ≡ length zs
       below : Agree low zs ys
 
-    filled_is : (zs : List ℕ) → FitFrom spot free b target (words e) zs → Sees spot b low zs e → Filled zs (filled spot free b target e zs)
+    filled_is : (zs : List ℕ) → FitFrom spot free b target (words e) zs → Sees spot b low zs e
+        → Filled zs (filled spot free b target e zs)
     filled_is zs h s =
-        let d : PartsDone spot free b e (place_words target) (placed spot free b target 0 zs) = parts_done spot free b e (place_words target) (placed spot free b target 0 zs) (value_fits spot free b target e zs h s) in
-        record { all = d.all; count = d.count ∙ placed_length spot free b target zs; below = λ a l. d.below a l ∙ placed_below spot free b target zs a l }
+        let d : PartsDone spot free b e (place_words target) (placed spot free b target 0 zs) =
+        parts_done spot free b e (place_words target) (placed spot free b target 0 zs)
+        (value_fits spot free b target e zs h s) in
+        record {
+          all = d.all;
+          count = d.count ∙ placed_length spot free b target zs;
+          below = λ a l. d.below a l
+              ∙ placed_below spot free b target zs a l;
+        }
 
     -- no array is shared, and nothing changes
-    apart_goes_on : (zs : List ℕ) (a v : ℕ) → FitFrom spot free b target (words e) zs → Sees spot b low zs e → update_shares spot b zs target e ≡ false
-        → Goes (apart_cells spot target (index_of target) e) (apart_steps target (index_of target) e) (mem b f (keeping v a 0) (filled spot free b target e zs)) (mem b f (keeping v a 0) (filled spot free b target e zs))
+    apart_goes_on : (zs : List ℕ) (a v : ℕ) → FitFrom spot free b target (words e) zs → Sees spot b low zs e
+        → update_shares spot b zs target e ≡ false
+        → Goes (apart_cells spot target (index_of target) e) (apart_steps target (index_of target) e)
+        (mem b f (keeping v a 0) (filled spot free b target e zs))
+        (mem b f (keeping v a 0) (filled spot free b target e zs))
     apart_goes_on zs a v h s apart =
         let ys : List ℕ = filled spot free b target e zs in
         let k = filled_is zs h s in
         let fits = h.fits in
         let small = h.small in
         let i = index_seen spot b low target zs h.sees in
-        apart_goes spot b low f v a 0 ys k.all (let c = k.count in omega arith) (let c = k.count in omega arith) target (index_of target) e (sees_same spot b low zs ys k.below (read_of target) h.sees) (sees_same spot b low zs ys k.below (index_of target) i) (sees_same spot b low zs ys k.below e s) (shares_same spot b low zs ys k.below target (index_of target) e h.sees i s ∙ apart)
+        apart_goes spot b low f v a 0 ys k.all (let c = k.count in omega arith) (let c = k.count in omega arith) target
+        (index_of target) e (sees_same spot b low zs ys k.below (read_of target) h.sees)
+        (sees_same spot b low zs ys k.below (index_of target) i) (sees_same spot b low zs ys k.below e s)
+        (shares_same spot b low zs ys k.below target (index_of target) e h.sees i s ∙ apart)
 
     -- or one is
-    pub sharing_traps : (zs : List ℕ) (a v : ℕ) → FitFrom spot free b target (words e) zs → Sees spot b low zs e → update_shares spot b zs target e ≡ true
-        → Traps (apart_cells spot target (index_of target) e) (apart_steps target (index_of target) e) 16 (mem b f (keeping v a 0) (filled spot free b target e zs))
+    pub sharing_traps : (zs : List ℕ) (a v : ℕ) → FitFrom spot free b target (words e) zs → Sees spot b low zs e
+        → update_shares spot b zs target e ≡ true
+        → Traps (apart_cells spot target (index_of target) e) (apart_steps target (index_of target) e) 16
+        (mem b f (keeping v a 0) (filled spot free b target e zs))
     sharing_traps zs a v h s shared =
         let ys : List ℕ = filled spot free b target e zs in
         let k = filled_is zs h s in
         let fits = h.fits in
         let small = h.small in
         let i = index_seen spot b low target zs h.sees in
-        apart_traps spot b low f v a 0 ys k.all (let c = k.count in omega arith) (let c = k.count in omega arith) target (index_of target) e (sees_same spot b low zs ys k.below (read_of target) h.sees) (sees_same spot b low zs ys k.below (index_of target) i) (sees_same spot b low zs ys k.below e s) (shares_same spot b low zs ys k.below target (index_of target) e h.sees i s ∙ shared)
+        apart_traps spot b low f v a 0 ys k.all (let c = k.count in omega arith) (let c = k.count in omega arith) target
+        (index_of target) e (sees_same spot b low zs ys k.below (read_of target) h.sees)
+        (sees_same spot b low zs ys k.below (index_of target) i) (sees_same spot b low zs ys k.below e s)
+        (shares_same spot b low zs ys k.below target (index_of target) e h.sees i s ∙ shared)
 
     -- place, value and check
-    pub held_goes : (zs : List ℕ) (a v : ℕ) → FitFrom spot free b target (words e) zs → Sees spot b low zs e → place_address spot b zs target ≡ Ok a → number spot b zs e ≡ Ok v → update_shares spot b zs target e ≡ false
-        → Goes ((place_cells spot free target 0 place ++ fetch_cells spot free e (place_words target) amount) ++ apart_cells spot target (index_of target) e) (place_steps target + fetch_steps e + apart_steps target (index_of target) e) (mem b f (keeping 0 0 0) zs) (mem b f (keeping v a 0) (filled spot free b target e zs))
+    pub held_goes : (zs : List ℕ) (a v : ℕ) → FitFrom spot free b target (words e) zs → Sees spot b low zs e
+        → place_address spot b zs target ≡ Ok a → number spot b zs e ≡ Ok v → update_shares spot b zs target e ≡ false
+        → Goes ((place_cells spot free target 0 place ++ fetch_cells spot free e (place_words target) amount)
+        ++ apart_cells spot target (index_of target) e) (place_steps target + fetch_steps e + apart_steps target
+        (index_of target) e) (mem b f (keeping 0 0 0) zs)
+        (mem b f (keeping v a 0) (filled spot free b target e zs))
     held_goes zs a v h s na nv apart = goes_seq (found_goes zs a v h s na nv) (apart_goes_on zs a v h s apart)
 
     -- the place's fault comes first, whatever is to be done
-    pub found_traps_place : (check mid : List Symbol) (zs : List ℕ) (c : ℕ) → FitFrom spot free b target (words e) zs → place_address spot b zs target ≡ Err c
-        → TrapsBoth (around ((place_cells spot free target 0 place ++ fetch_cells spot free e (place_words target) amount) ++ check) mid) (place_steps target) c (mem b f (keeping 0 0 0) zs)
+    pub found_traps_place : (check mid : List Symbol) (zs : List ℕ) (c : ℕ) → FitFrom spot free b target (words e) zs
+        → place_address spot b zs target ≡ Err c
+        → TrapsBoth (around ((place_cells spot free target 0 place
+        ++ fetch_cells spot free e (place_words target) amount) ++ check) mid) (place_steps target) c
+        (mem b f (keeping 0 0 0) zs)
     found_traps_place check mid zs c h n =
-        traps_around mid (traps_first check (traps_first (fetch_cells spot free e (place_words target) amount) (place_traps spot free b place f 0 0 0 target 0 c zs (place_fits spot free b target (words e) zs h) n)))
+        traps_around mid (traps_first check (traps_first (fetch_cells spot free e (place_words target) amount)
+        (place_traps spot free b place f 0 0 0 target 0 c zs (place_fits spot free b target (words e) zs h) n)))
 
-    pub found_traps_value : (check mid : List Symbol) (zs : List ℕ) (a c : ℕ) → FitFrom spot free b target (words e) zs → Sees spot b low zs e → place_address spot b zs target ≡ Ok a → number spot b zs e ≡ Err c
-        → TrapsBoth (around ((place_cells spot free target 0 place ++ fetch_cells spot free e (place_words target) amount) ++ check) mid) (place_steps target + fetch_steps e) c (mem b f (keeping 0 0 0) zs)
+    pub found_traps_value : (check mid : List Symbol) (zs : List ℕ) (a c : ℕ) → FitFrom spot free b target (words e) zs
+        → Sees spot b low zs e → place_address spot b zs target ≡ Ok a → number spot b zs e ≡ Err c
+        → TrapsBoth (around ((place_cells spot free target 0 place
+        ++ fetch_cells spot free e (place_words target) amount) ++ check) mid)
+        (place_steps target + fetch_steps e) c (mem b f (keeping 0 0 0) zs)
     found_traps_value check mid zs a c h s na n =
         let zs1 : List ℕ = placed spot free b target 0 zs in
-        traps_around mid (traps_first check (traps_then (place_goes spot free b place f 0 0 0 0 a 0 a (place_points spot free b f 0 0 a) 0 zs target (place_fits spot free b target (words e) zs h) na)
-        (fetch_traps spot free b f a 0 e (place_words target) zs1 (value_fits spot free b target e zs h s) c (number_same spot b low zs zs1 (placed_below spot free b target zs) e s ∙ n))))
+        traps_around mid (traps_first check (traps_then (place_goes spot free b place f 0 0 0 0 a 0 a
+        (place_points spot free b f 0 0 a) 0 zs target (place_fits spot free b target (words e) zs h) na)
+        (fetch_traps spot free b f a 0 e (place_words target) zs1 (value_fits spot free b target e zs h s) c
+        (number_same spot b low zs zs1 (placed_below spot free b target zs) e s ∙ n))))
 
     -- and then that of a shared array
-    pub found_traps_sharing : (mid : List Symbol) (zs : List ℕ) (a v : ℕ) → FitFrom spot free b target (words e) zs → Sees spot b low zs e → place_address spot b zs target ≡ Ok a → number spot b zs e ≡ Ok v → update_shares spot b zs target e ≡ true
-        → TrapsBoth (around ((place_cells spot free target 0 place ++ fetch_cells spot free e (place_words target) amount) ++ apart_cells spot target (index_of target) e) mid) (place_steps target + fetch_steps e + apart_steps target (index_of target) e) 16 (mem b f (keeping 0 0 0) zs)
-    found_traps_sharing mid zs a v h s na nv shared = traps_around mid (traps_then (found_goes zs a v h s na nv) (sharing_traps zs a v h s shared))
+    pub found_traps_sharing : (mid : List Symbol) (zs : List ℕ) (a v : ℕ) → FitFrom spot free b target (words e) zs
+        → Sees spot b low zs e → place_address spot b zs target ≡ Ok a → number spot b zs e ≡ Ok v
+        → update_shares spot b zs target e ≡ true
+        → TrapsBoth (around ((place_cells spot free target 0 place
+        ++ fetch_cells spot free e (place_words target) amount)
+        ++ apart_cells spot target (index_of target) e) mid)
+        (place_steps target + fetch_steps e + apart_steps target (index_of target) e) 16
+        (mem b f (keeping 0 0 0) zs)
+    found_traps_sharing mid zs a v h s na nv shared = traps_around mid
+        (traps_then (found_goes zs a v h s na nv) (sharing_traps zs a v h s shared))
 
   module _ (f : ℕ → ℕ) (op : UpdateOp) (target : Lvalue) (e : Expression) where
     -- forward: the word at the place is updated
-    pub update_goes : (zs zs' : List ℕ) (a v : ℕ) → FitFrom spot free b target (words e) zs → FitFrom spot free b target (words e) zs' → Sees spot b low zs e → Sees spot b low zs' e → place_address spot b zs target ≡ Ok a → place_address spot b zs' target ≡ Ok a → number spot b zs e ≡ Ok v → number spot b zs' e ≡ Ok v → SamePlace spot b zs zs' target → Same spot b zs zs' e → update_shares spot b zs target e ≡ false → update_shares spot b zs' target e ≡ false → zs' ≡ slice_set zs a (updated op (slice_index zs a) v)
-        → Goes (update_cells spot free op target e) (update_steps target e) (mem b f (keeping 0 0 0) zs) (mem b f (keeping 0 0 0) zs')
+    pub update_goes : (zs zs' : List ℕ) (a v : ℕ) → FitFrom spot free b target (words e) zs
+        → FitFrom spot free b target (words e) zs' → Sees spot b low zs e → Sees spot b low zs' e
+        → place_address spot b zs target ≡ Ok a → place_address spot b zs' target ≡ Ok a → number spot b zs e ≡ Ok v
+        → number spot b zs' e ≡ Ok v → SamePlace spot b zs zs' target → Same spot b zs zs' e
+        → update_shares spot b zs target e ≡ false → update_shares spot b zs' target e ≡ false
+        → zs' ≡ slice_set zs a (updated op (slice_index zs a) v)
+        → Goes (update_cells spot free op target e) (update_steps target e) (mem b f (keeping 0 0 0) zs)
+        (mem b f (keeping 0 0 0) zs')
     update_goes zs zs' a v h h' s s' na na' nv nv' sp sv apart apart' q =
         let ys : List ℕ = filled spot free b target e zs in
         let x : ℕ = slice_index zs a in
@@ -192,12 +282,16 @@ module _ (spot : List ℕ → Spot) (free : ℕ) (b : Bases) where
         let mid = update_mid b f v a op x ys (omega arith) here (h.all a) (number_word spot b low zs h.all e s v nv) in
         let over : filled spot free b target e zs' ≡ slice_set ys a y =
         ap (filled spot free b target e) q
-        ∙ filled_written spot free b (λ z. slice_set z a y) (write_one spot free b a y al) target e zs h.sees (subst (λ z. Sees spot b low z (read_of target)) q h'.sees) (subst (λ z. SamePlace spot b zs z target) q sp) s (subst (λ z. Sees spot b low z e) q s') (subst (λ z. Same spot b zs z e) q sv) in
-        goes_around (held_goes f target e zs a v h s na nv apart) mid (goes_to refl refl (ap (mem b f (keeping v a 0)) over) (held_goes f target e zs' a v h' s' na' nv' apart'))
+        ∙ filled_written spot free b (λ z. slice_set z a y) (write_one spot free b a y al) target e zs h.sees
+        (subst (λ z. Sees spot b low z (read_of target)) q h'.sees) (subst (λ z. SamePlace spot b zs z target) q sp)
+        s (subst (λ z. Sees spot b low z e) q s') (subst (λ z. Same spot b zs z e) q sv) in
+        goes_around (held_goes f target e zs a v h s na nv apart) mid
+        (goes_to refl refl (ap (mem b f (keeping v a 0)) over) (held_goes f target e zs' a v h' s' na' nv' apart'))
 
   -- ---- swaps
 
-  pub address_same : (target : Lvalue) (zs zs' : List ℕ) → Agree low zs zs' → Sees spot b low zs (read_of target) → place_address spot b zs' target ≡ place_address spot b zs target
+  pub address_same : (target : Lvalue) (zs zs' : List ℕ) → Agree low zs zs' → Sees spot b low zs (read_of target)
+      → place_address spot b zs' target ≡ place_address spot b zs target
   address_same (Whole name) zs zs' ag s = refl
   address_same (Item name index) zs zs' ag s =
       ap (λ z. element_at zs' z (number spot b zs' index)) (ag _ s.0)
@@ -205,14 +299,22 @@ module _ (spot : List ℕ → Spot) (free : ℕ) (b : Bases) where
       ∙ element_address_same spot b low zs zs' ag (word_of spot b zs name.text) (number spot b zs index) s.1
 
   module _ (f : ℕ → ℕ) (target other : Lvalue) where
-    pub both_found : (zs : List ℕ) (p q : ℕ) → FitFrom spot free b target (place_words other) zs → Sees spot b low zs (read_of other) → place_address spot b zs target ≡ Ok p → place_address spot b zs other ≡ Ok q
-        → Goes (place_cells spot free target 0 place ++ place_cells spot free other (place_words target) other_place) (place_steps target + place_steps other) (mem b f (keeping 0 0 0) zs) (mem b f (keeping 0 p q) (both_placed spot free b target other zs))
+    pub both_found : (zs : List ℕ) (p q : ℕ) → FitFrom spot free b target (place_words other) zs
+        → Sees spot b low zs (read_of other) → place_address spot b zs target ≡ Ok p
+        → place_address spot b zs other ≡ Ok q
+        → Goes (place_cells spot free target 0 place ++ place_cells spot free other (place_words target) other_place)
+        (place_steps target + place_steps other) (mem b f (keeping 0 0 0) zs)
+        (mem b f (keeping 0 p q) (both_placed spot free b target other zs))
     both_found zs p q h s np nq =
         let zs1 : List ℕ = placed spot free b target 0 zs in
-        goes_seq (place_goes spot free b place f 0 0 0 0 p 0 p (place_points spot free b f 0 0 p) 0 zs target (place_fits spot free b target (place_words other) zs h) np)
-        (place_goes spot free b other_place f 0 p 0 0 p q q (other_points spot free b f 0 p q) (place_words target) zs1 other (other_fits spot free b target other zs h s) (address_same other zs zs1 (placed_below spot free b target zs) s ∙ nq))
+        goes_seq (place_goes spot free b place f 0 0 0 0 p 0 p (place_points spot free b f 0 0 p) 0 zs target
+        (place_fits spot free b target (place_words other) zs h) np)
+        (place_goes spot free b other_place f 0 p 0 0 p q q (other_points spot free b f 0 p q) (place_words target) zs1
+        other (other_fits spot free b target other zs h s)
+        (address_same other zs zs1 (placed_below spot free b target zs) s ∙ nq))
 
-    other_length : (other : Lvalue) (ws : List ℕ) → length (placed spot free b other (place_words target) ws) ≡ length ws
+    other_length : (other : Lvalue) (ws : List ℕ) → length (placed spot free b other (place_words target) ws)
+        ≡ length ws
     other_length (Whole name) ws = refl
     other_length (Item name index) ws = stored_length spot free b index (place_words target) ws
 
@@ -220,7 +322,8 @@ module _ (spot : List ℕ → Spot) (free : ℕ) (b : Bases) where
     other_below (Whole name) ws a l = refl
     other_below (Item name index) ws a l = stored_below spot free b index (place_words target) ws a l
 
-    other_words : (other : Lvalue) (ws : List ℕ) → AllWords ws → Sees spot b low ws (read_of other) → AllWords (placed spot free b other (place_words target) ws)
+    other_words : (other : Lvalue) (ws : List ℕ) → AllWords ws → Sees spot b low ws (read_of other)
+        → AllWords (placed spot free b other (place_words target) ws)
     other_words (Whole name) ws w s = w
     other_words (Item name index) ws w s = stored_words spot free b index (place_words target) ws w s.2
 
@@ -229,40 +332,64 @@ module _ (spot : List ℕ → Spot) (free : ℕ) (b : Bases) where
       pub count : length ys ≡ length zs
       pub below : Agree low zs ys
 
-    pub placed_is : (zs : List ℕ) → FitFrom spot free b target (place_words other) zs → Sees spot b low zs (read_of other) → Placed zs (both_placed spot free b target other zs)
+    pub placed_is : (zs : List ℕ) → FitFrom spot free b target (place_words other) zs
+        → Sees spot b low zs (read_of other) → Placed zs (both_placed spot free b target other zs)
     placed_is zs h s =
         let zs1 : List ℕ = placed spot free b target 0 zs in
         let below1 : Agree low zs zs1 = placed_below spot free b target zs in
         record {
-          all = other_words other zs1 (placed_words spot free b target zs h.all h.sees) (sees_same spot b low zs zs1 below1 (read_of other) s);
+          all = other_words other zs1 (placed_words spot free b target zs h.all h.sees)
+              (sees_same spot b low zs zs1 below1 (read_of other) s);
           count = other_length other zs1 ∙ placed_length spot free b target zs;
           below = λ a l. other_below other zs1 a l ∙ below1 a l;
         }
 
-    both_apart_on : (zs : List ℕ) (p q : ℕ) → FitFrom spot free b target (place_words other) zs → Sees spot b low zs (read_of other) → swap_shares spot b zs target other ≡ false
-        → Goes (both_apart_cells spot target other) (both_apart_steps target other) (mem b f (keeping 0 p q) (both_placed spot free b target other zs)) (mem b f (keeping 0 p q) (both_placed spot free b target other zs))
+    both_apart_on : (zs : List ℕ) (p q : ℕ) → FitFrom spot free b target (place_words other) zs
+        → Sees spot b low zs (read_of other) → swap_shares spot b zs target other ≡ false
+        → Goes (both_apart_cells spot target other) (both_apart_steps target other)
+        (mem b f (keeping 0 p q) (both_placed spot free b target other zs))
+        (mem b f (keeping 0 p q) (both_placed spot free b target other zs))
     both_apart_on zs p q h s apart =
         let ys : List ℕ = both_placed spot free b target other zs in
         let k = placed_is zs h s in
         let fits = h.fits in
         let small = h.small in
-        both_apart_go spot b low f 0 p q ys k.all (let c = k.count in omega arith) (let c = k.count in omega arith) target other (sees_same spot b low zs ys k.below (read_of target) h.sees) (sees_same spot b low zs ys k.below (read_of other) s) (swap_shares_same spot b low zs ys k.below target other h.sees s ∙ apart)
+        both_apart_go spot b low f 0 p q ys k.all (let c = k.count in omega arith) (let c = k.count in omega arith)
+        target other (sees_same spot b low zs ys k.below (read_of target) h.sees)
+        (sees_same spot b low zs ys k.below (read_of other) s)
+        (swap_shares_same spot b low zs ys k.below target other h.sees s ∙ apart)
 
-    both_sharing_traps : (zs : List ℕ) (p q : ℕ) → FitFrom spot free b target (place_words other) zs → Sees spot b low zs (read_of other) → swap_shares spot b zs target other ≡ true
-        → Traps (both_apart_cells spot target other) (both_apart_steps target other) 16 (mem b f (keeping 0 p q) (both_placed spot free b target other zs))
+    both_sharing_traps : (zs : List ℕ) (p q : ℕ) → FitFrom spot free b target (place_words other) zs
+        → Sees spot b low zs (read_of other) → swap_shares spot b zs target other ≡ true
+        → Traps (both_apart_cells spot target other) (both_apart_steps target other) 16
+        (mem b f (keeping 0 p q) (both_placed spot free b target other zs))
     both_sharing_traps zs p q h s shared =
         let ys : List ℕ = both_placed spot free b target other zs in
         let k = placed_is zs h s in
         let fits = h.fits in
         let small = h.small in
-        both_apart_traps spot b low f 0 p q ys k.all (let c = k.count in omega arith) (let c = k.count in omega arith) target other (sees_same spot b low zs ys k.below (read_of target) h.sees) (sees_same spot b low zs ys k.below (read_of other) s) (swap_shares_same spot b low zs ys k.below target other h.sees s ∙ shared)
+        both_apart_traps spot b low f 0 p q ys k.all (let c = k.count in omega arith) (let c = k.count in omega arith)
+        target other (sees_same spot b low zs ys k.below (read_of target) h.sees)
+        (sees_same spot b low zs ys k.below (read_of other) s)
+        (swap_shares_same spot b low zs ys k.below target other h.sees s ∙ shared)
 
-    both_held : (zs : List ℕ) (p q : ℕ) → FitFrom spot free b target (place_words other) zs → Sees spot b low zs (read_of other) → place_address spot b zs target ≡ Ok p → place_address spot b zs other ≡ Ok q → swap_shares spot b zs target other ≡ false
-        → Goes ((place_cells spot free target 0 place ++ place_cells spot free other (place_words target) other_place) ++ both_apart_cells spot target other) (place_steps target + place_steps other + both_apart_steps target other) (mem b f (keeping 0 0 0) zs) (mem b f (keeping 0 p q) (both_placed spot free b target other zs))
+    both_held : (zs : List ℕ) (p q : ℕ) → FitFrom spot free b target (place_words other) zs
+        → Sees spot b low zs (read_of other) → place_address spot b zs target ≡ Ok p
+        → place_address spot b zs other ≡ Ok q → swap_shares spot b zs target other ≡ false
+        → Goes ((place_cells spot free target 0 place ++ place_cells spot free other (place_words target) other_place)
+        ++ both_apart_cells spot target other) (place_steps target + place_steps other + both_apart_steps target
+        other) (mem b f (keeping 0 0 0) zs) (mem b f (keeping 0 p q) (both_placed spot free b target other zs))
     both_held zs p q h s np nq apart = goes_seq (both_found zs p q h s np nq) (both_apart_on zs p q h s apart)
 
-    pub swap_goes : (zs zs' : List ℕ) (p q : ℕ) → FitFrom spot free b target (place_words other) zs → FitFrom spot free b target (place_words other) zs' → Sees spot b low zs (read_of other) → Sees spot b low zs' (read_of other) → place_address spot b zs target ≡ Ok p → place_address spot b zs' target ≡ Ok p → place_address spot b zs other ≡ Ok q → place_address spot b zs' other ≡ Ok q → SamePlace spot b zs zs' target → SamePlace spot b zs zs' other → swap_shares spot b zs target other ≡ false → swap_shares spot b zs' target other ≡ false → zs' ≡ slice_set (slice_set zs p (slice_index zs q)) q (slice_index zs p)
-        → Goes (swap_cells spot free target other) (swap_steps target other) (mem b f (keeping 0 0 0) zs) (mem b f (keeping 0 0 0) zs')
+    pub swap_goes : (zs zs' : List ℕ) (p q : ℕ) → FitFrom spot free b target (place_words other) zs
+        → FitFrom spot free b target (place_words other) zs' → Sees spot b low zs (read_of other)
+        → Sees spot b low zs' (read_of other) → place_address spot b zs target ≡ Ok p
+        → place_address spot b zs' target ≡ Ok p → place_address spot b zs other ≡ Ok q
+        → place_address spot b zs' other ≡ Ok q → SamePlace spot b zs zs' target → SamePlace spot b zs zs' other
+        → swap_shares spot b zs target other ≡ false → swap_shares spot b zs' target other ≡ false
+        → zs' ≡ slice_set (slice_set zs p (slice_index zs q)) q (slice_index zs p)
+        → Goes (swap_cells spot free target other) (swap_steps target other) (mem b f (keeping 0 0 0) zs)
+        (mem b f (keeping 0 0 0) zs')
     swap_goes zs zs' p q h h' s s' np np' nq nq' st so apart apart' e =
         let ys : List ℕ = both_placed spot free b target other zs in
         let pl : p < low = place_low target p zs h.sees np in
@@ -272,24 +399,51 @@ module _ (spot : List ℕ → Spot) (free : ℕ) (b : Bases) where
         let ylen = k.count in
         let below : Agree low zs ys = k.below in
         let mid = swap_mid b f p q ys (omega arith) (omega arith) in
-        let mid' = goes_to refl refl (ap (λ y. mem b f (keeping 0 p q) (slice_set (slice_set ys p y) q (slice_index ys p))) (below q ql) ∙ ap (λ x. mem b f (keeping 0 p q) (slice_set (slice_set ys p (slice_index zs q)) q x)) (below p pl)) mid in
-        let over : both_placed spot free b target other zs' ≡ slice_set (slice_set ys p (slice_index zs q)) q (slice_index zs p) =
+        let mid' = goes_to refl refl (ap (λ y. mem b f (keeping 0 p q)
+        (slice_set (slice_set ys p y) q (slice_index ys p))) (below q ql)
+        ∙ ap (λ x. mem b f (keeping 0 p q) (slice_set (slice_set ys p (slice_index zs q)) q x)) (below p pl)) mid
+        in
+        let over : both_placed spot free b target other zs'
+        ≡ slice_set (slice_set ys p (slice_index zs q)) q (slice_index zs p) =
         ap (both_placed spot free b target other) e
-        ∙ both_written spot free b (λ z. slice_set (slice_set z p (slice_index zs q)) q (slice_index zs p)) (write_two spot free b p (slice_index zs q) q (slice_index zs p) pl ql) target other zs h.sees (subst (λ z. Sees spot b low z (read_of target)) e h'.sees) (subst (λ z. SamePlace spot b zs z target) e st) s (subst (λ z. Sees spot b low z (read_of other)) e s') (subst (λ z. SamePlace spot b zs z other) e so) in
-        goes_around (both_held zs p q h s np nq apart) mid' (goes_to refl refl (ap (mem b f (keeping 0 p q)) over) (both_held zs' p q h' s' np' nq' apart'))
+        ∙ both_written spot free b (λ z. slice_set (slice_set z p (slice_index zs q)) q (slice_index zs p))
+        (write_two spot free b p (slice_index zs q) q (slice_index zs p) pl ql) target other zs h.sees
+        (subst (λ z. Sees spot b low z (read_of target)) e h'.sees) (subst (λ z. SamePlace spot b zs z target) e st)
+        s (subst (λ z. Sees spot b low z (read_of other)) e s') (subst (λ z. SamePlace spot b zs z other) e so) in
+        goes_around (both_held zs p q h s np nq apart) mid'
+        (goes_to refl refl (ap (mem b f (keeping 0 p q)) over) (both_held zs' p q h' s' np' nq' apart'))
 
-    pub both_traps_first : (check mid : List Symbol) (zs : List ℕ) (c : ℕ) → FitFrom spot free b target (place_words other) zs → place_address spot b zs target ≡ Err c
-        → TrapsBoth (around ((place_cells spot free target 0 place ++ place_cells spot free other (place_words target) other_place) ++ check) mid) (place_steps target) c (mem b f (keeping 0 0 0) zs)
+    pub both_traps_first : (check mid : List Symbol) (zs : List ℕ) (c : ℕ)
+        → FitFrom spot free b target (place_words other) zs → place_address spot b zs target ≡ Err c
+        → TrapsBoth (around ((place_cells spot free target 0 place
+        ++ place_cells spot free other (place_words target) other_place) ++ check) mid) (place_steps target) c
+        (mem b f (keeping 0 0 0) zs)
     both_traps_first check mid zs c h n =
-        traps_around mid (traps_first check (traps_first (place_cells spot free other (place_words target) other_place) (place_traps spot free b place f 0 0 0 target 0 c zs (place_fits spot free b target (place_words other) zs h) n)))
+        traps_around mid (traps_first check (traps_first (place_cells spot free other (place_words target) other_place)
+        (place_traps spot free b place f 0 0 0 target 0 c zs
+        (place_fits spot free b target (place_words other) zs h) n)))
 
-    pub both_traps_second : (check mid : List Symbol) (zs : List ℕ) (p c : ℕ) → FitFrom spot free b target (place_words other) zs → Sees spot b low zs (read_of other) → place_address spot b zs target ≡ Ok p → place_address spot b zs other ≡ Err c
-        → TrapsBoth (around ((place_cells spot free target 0 place ++ place_cells spot free other (place_words target) other_place) ++ check) mid) (place_steps target + place_steps other) c (mem b f (keeping 0 0 0) zs)
+    pub both_traps_second : (check mid : List Symbol) (zs : List ℕ) (p c : ℕ)
+        → FitFrom spot free b target (place_words other) zs → Sees spot b low zs (read_of other)
+        → place_address spot b zs target ≡ Ok p → place_address spot b zs other ≡ Err c
+        → TrapsBoth (around ((place_cells spot free target 0 place
+        ++ place_cells spot free other (place_words target) other_place) ++ check) mid)
+        (place_steps target + place_steps other) c (mem b f (keeping 0 0 0) zs)
     both_traps_second check mid zs p c h s np n =
         let zs1 : List ℕ = placed spot free b target 0 zs in
-        traps_around mid (traps_first check (traps_then (place_goes spot free b place f 0 0 0 0 p 0 p (place_points spot free b f 0 0 p) 0 zs target (place_fits spot free b target (place_words other) zs h) np)
-        (place_traps spot free b other_place f 0 p 0 other (place_words target) c zs1 (other_fits spot free b target other zs h s) (address_same other zs zs1 (placed_below spot free b target zs) s ∙ n))))
+        traps_around mid (traps_first check (traps_then (place_goes spot free b place f 0 0 0 0 p 0 p
+        (place_points spot free b f 0 0 p) 0 zs target
+        (place_fits spot free b target (place_words other) zs h) np)
+        (place_traps spot free b other_place f 0 p 0 other (place_words target) c zs1
+        (other_fits spot free b target other zs h s) (address_same other zs zs1
+        (placed_below spot free b target zs) s ∙ n))))
 
-    pub swap_traps_sharing : (zs : List ℕ) (p q : ℕ) → FitFrom spot free b target (place_words other) zs → Sees spot b low zs (read_of other) → place_address spot b zs target ≡ Ok p → place_address spot b zs other ≡ Ok q → swap_shares spot b zs target other ≡ true → TrapsBoth (swap_cells spot free target other) (place_steps target + place_steps other + both_apart_steps target other) 16 (mem b f (keeping 0 0 0) zs)
+    pub swap_traps_sharing : (zs : List ℕ) (p q : ℕ) → FitFrom spot free b target (place_words other) zs
+        → Sees spot b low zs (read_of other) → place_address spot b zs target ≡ Ok p
+        → place_address spot b zs other ≡ Ok q → swap_shares spot b zs target other ≡ true
+        → TrapsBoth (swap_cells spot free target other) (place_steps target + place_steps other + both_apart_steps
+        target other) 16 (mem b f (keeping 0 0 0) zs)
     swap_traps_sharing zs p q h s np nq shared =
-        traps_around (exch first_word place ∷ exch second_word other_place ∷ exch second_word place ∷ exch first_word other_place ∷ []) (traps_then (both_found zs p q h s np nq) (both_sharing_traps zs p q h s shared))
+        traps_around (exch first_word place ∷ exch second_word other_place ∷ exch second_word place
+        ∷ exch first_word other_place ∷ []) (traps_then (both_found zs p q h s np nq)
+        (both_sharing_traps zs p q h s shared))

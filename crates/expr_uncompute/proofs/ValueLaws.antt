@@ -8,21 +8,27 @@ use Rattle.rpp_tree.specs.Tree.{Expression, Number, Null, Variable, Element, Bin
 use Rattle.paired_code.specs.Machine.{reg}
 use Rattle.paired_code.specs.declared.part.Symbol.{Symbol}
 use Rattle.roopl_semantics.specs.Operators.{is_true, truth_word}
-use Rattle.statement_laws.specs.declared.spot.Spot.{Spot}
-use Rattle.expr_uncompute.specs.Code.{truth, around, xor, truth_cells, open_cells, parts_cells, result_of, operator_result}
+use Rattle.refine_form.specs.declared.spot.Spot.{Spot}
+use Rattle.expr_uncompute.specs.Code.{truth, around, xor, truth_cells, open_cells, parts_cells, result_of}
+use Rattle.expr_uncompute.specs.Code.{operator_result}
 use Rattle.expr_uncompute.specs.Number.{Bases, number}
 use Rattle.expr_uncompute.specs.Steps.{open_steps, parts_steps, value_steps, test_steps}
-use Rattle.expr_uncompute.proofs.Goes.{Goes, goes_seq, goes_to, goes_around, traps_first, TrapsBoth, traps_around, traps_inside, both_more}
+use Rattle.expr_uncompute.proofs.Goes.{Goes, goes_seq, goes_to, goes_around, traps_first, TrapsBoth, traps_around}
+use Rattle.expr_uncompute.proofs.Goes.{traps_inside, both_more}
 use Rattle.expr_uncompute.proofs.Scratch.{Scratch, keeping, mem}
 use Rattle.expr_uncompute.proofs.Reading.{in_truth}
-use Rattle.expr_uncompute.proofs.Results.{IsTarget, at0, at1, at11, at12, at13, at14, at15, at25, at26, at27, at28, at29, at30, at31, written, into_goes, truth_goes}
+use Rattle.expr_uncompute.proofs.Results.{IsTarget, at0, at1, at11, at12, at13, at14, at15, at25, at26, at27, at28}
+use Rattle.expr_uncompute.proofs.Results.{at29, at30, at31, written, into_goes, truth_goes}
 use Rattle.expr_uncompute.proofs.Numbers.{number_word}
 use Rattle.expr_uncompute.proofs.Stored.{parted}
 use Rattle.expr_uncompute.proofs.Opening.{emptied, opened, open_goes, open_gives, result_has}
-use Rattle.expr_uncompute.proofs.Prepare.{Fit, parts_done, parted_sees, parted_number, parted_room, parts_goes, NodeFault, early, late, node_fault}
+use Rattle.expr_uncompute.proofs.Prepare.{Fit, parts_done, parted_sees, parted_number, parted_room, parts_goes}
+use Rattle.expr_uncompute.proofs.Prepare.{NodeFault, early, late, node_fault}
 
 -- a register is as it was after the same xor again
-pub written_twice : (b : Bases) (f : ℕ → ℕ) (s : Scratch) (zs : List ℕ) (i v : ℕ) → IsTarget i → mem b (written (written f i (bit_xor (f i) v)) i (bit_xor (written f i (bit_xor (f i) v) i) v)) s zs ≡ mem b f s zs
+pub written_twice : (b : Bases) (f : ℕ → ℕ) (s : Scratch) (zs : List ℕ) (i v : ℕ) → IsTarget i
+    → mem b (written (written f i (bit_xor (f i) v)) i (bit_xor (written f i (bit_xor (f i) v) i) v)) s zs
+    ≡ mem b f s zs
 written_twice b f s zs i v at0 = ap (λ z. mem b (written f 0 z) s zs) (xor-twice (f 0) v)
 written_twice b f s zs i v at1 = ap (λ z. mem b (written f 1 z) s zs) (xor-twice (f 1) v)
 written_twice b f s zs i v at11 = ap (λ z. mem b (written f 11 z) s zs) (xor-twice (f 11) v)
@@ -60,12 +66,17 @@ module _ (spot : List ℕ → Spot) (free : ℕ) (b : Bases) where
     whole_parts = parted spot free b e i zs
 
     -- the node opened, with its parts prepared
-    open_there : (f : ℕ → ℕ) (v : ℕ) → number spot b zs e ≡ Ok v → Goes (open_cells spot free e i) (open_steps e) (mem b f (keeping m p q) (parted spot free b e i zs)) (mem b f (opened spot free b m p q (parted spot free b e i zs) e) (emptied spot free b e (parted spot free b e i zs)))
+    open_there : (f : ℕ → ℕ) (v : ℕ) → number spot b zs e ≡ Ok v
+        → Goes (open_cells spot free e i) (open_steps e) (mem b f (keeping m p q) (parted spot free b e i zs))
+        (mem b f (opened spot free b m p q (parted spot free b e i zs) e)
+        (emptied spot free b e (parted spot free b e i zs)))
     open_there f v n =
         let d = parts_done spot free b e i zs fit in
-        open_goes spot free b m p q f e i v whole_parts d.all (parted_sees spot free b e i zs fit) (parted_room spot free b e i zs fit) d.parts (parted_number spot free b e i zs fit ∙ n)
+        open_goes spot free b m p q f e i v whole_parts d.all (parted_sees spot free b e i zs fit)
+        (parted_room spot free b e i zs fit) d.parts (parted_number spot free b e i zs fit ∙ n)
 
-    gives : (f : ℕ → ℕ) (v : ℕ) → number spot b zs e ≡ Ok v → (zs' : List ℕ) → reg (mem b f (opened spot free b m p q (parted spot free b e i zs) e) zs') (result_of e) ≡ v
+    gives : (f : ℕ → ℕ) (v : ℕ) → number spot b zs e ≡ Ok v → (zs' : List ℕ)
+        → reg (mem b f (opened spot free b m p q (parted spot free b e i zs) e) zs') (result_of e) ≡ v
     gives f v n zs' = open_gives spot free b m p q f e v whole_parts zs' (parted_number spot free b e i zs fit ∙ n)
 
     -- xored into a register that code of expressions does not use
@@ -73,10 +84,15 @@ module _ (spot : List ℕ → Spot) (free : ℕ) (b : Bases) where
       abbrev f' : ℕ → ℕ
       f' = written f into (bit_xor (f into) v)
 
-      pub value_into : Goes (around (parts_cells spot free e i) (around (open_cells spot free e i) (xor into (result_of e) ∷ []))) (value_steps e) (mem b f (keeping m p q) zs) (mem b (written f into (bit_xor (f into) v)) (keeping m p q) zs)
+      pub value_into : Goes (around (parts_cells spot free e i)
+          (around (open_cells spot free e i) (xor into (result_of e) ∷ []))) (value_steps e)
+          (mem b f (keeping m p q) zs) (mem b (written f into (bit_xor (f into) v)) (keeping m p q) zs)
       value_into =
-          let sink = into_goes b f (opened spot free b m p q whole_parts e) (emptied spot free b e whole_parts) (result_of e) v (result_has spot free b m p q f e) (gives f v n (emptied spot free b e whole_parts)) into t in
-          goes_around (parts_goes spot free b m p q f e i v zs fit n) (goes_around (open_there f v n) sink (open_there f' v n)) (parts_goes spot free b m p q f' e i v zs fit n)
+          let sink = into_goes b f (opened spot free b m p q whole_parts e) (emptied spot free b e whole_parts)
+          (result_of e) v (result_has spot free b m p q f e) (gives f v n (emptied spot free b e whole_parts)) into
+          t in
+          goes_around (parts_goes spot free b m p q f e i v zs fit n)
+          (goes_around (open_there f v n) sink (open_there f' v n)) (parts_goes spot free b m p q f' e i v zs fit n)
 
     -- its truth
     module _ (f : ℕ → ℕ) (v into : ℕ) (n : number spot b zs e ≡ Ok v) (t : IsTarget into) where
@@ -86,37 +102,53 @@ module _ (spot : List ℕ → Spot) (free : ℕ) (b : Bases) where
       abbrev with_truth : Scratch
       with_truth = record (opened spot free b m p q whole_parts e) { truth = told }
 
-      truth_there : (g : ℕ → ℕ) → Goes (open_cells spot free e i ++ truth_cells truth (result_of e)) (open_steps e + 2) (mem b g (keeping m p q) whole_parts) (mem b g with_truth (emptied spot free b e whole_parts))
+      truth_there : (g : ℕ → ℕ) → Goes (open_cells spot free e i ++ truth_cells truth (result_of e)) (open_steps e + 2)
+          (mem b g (keeping m p q) whole_parts) (mem b g with_truth (emptied spot free b e whole_parts))
       truth_there g =
           let s : Scratch = opened spot free b m p q whole_parts e in
           let vw = number_word spot b low zs fit.all e fit.sees v n in
-          let k = truth_goes b (result_of e) (result_apart e) (result_has spot free b m p q g e) g s (emptied spot free b e whole_parts) v vw (gives g v n (emptied spot free b e whole_parts)) in
-          goes_seq (open_there g v n) (goes_to refl (ap (λ z. mem b g z (emptied spot free b e whole_parts)) (no_truth e)) refl k)
+          let k = truth_goes b (result_of e) (result_apart e) (result_has spot free b m p q g e) g s
+          (emptied spot free b e whole_parts) v vw (gives g v n (emptied spot free b e whole_parts)) in
+          goes_seq (open_there g v n) (goes_to refl (ap (λ z. mem b g z (emptied spot free b e whole_parts))
+          (no_truth e)) refl k)
         where
-          no_truth : (e : Expression) → record (opened spot free b m p q whole_parts e) { truth = 0 } ≡ opened spot free b m p q whole_parts e
+          no_truth : (e : Expression) → record (opened spot free b m p q whole_parts e) { truth = 0 }
+              ≡ opened spot free b m p q whole_parts e
           no_truth (Number at word) = refl
           no_truth (Null at) = refl
           no_truth (Variable name) = refl
           no_truth (Element name index) = refl
           no_truth (Binary at o left right) = refl
 
-      pub test_into : Goes (around (parts_cells spot free e i) (around (open_cells spot free e i ++ truth_cells truth (result_of e)) (xor into truth ∷ []))) (test_steps e) (mem b f (keeping m p q) zs) (mem b (written f into (bit_xor (f into) (truth_word (is_true v)))) (keeping m p q) zs)
+      pub test_into : Goes (around (parts_cells spot free e i)
+          (around (open_cells spot free e i ++ truth_cells truth (result_of e)) (xor into truth ∷ []))) (test_steps e)
+          (mem b f (keeping m p q) zs) (mem b (written f into (bit_xor (f into) (truth_word (is_true v))))
+          (keeping m p q) zs)
       test_into =
           let g : ℕ → ℕ = written f into (bit_xor (f into) told) in
           let sink = into_goes b f with_truth (emptied spot free b e whole_parts) truth told in_truth refl into t in
-          goes_around (parts_goes spot free b m p q f e i v zs fit n) (goes_around (truth_there f) sink (truth_there g)) (parts_goes spot free b m p q g e i v zs fit n)
+          goes_around (parts_goes spot free b m p q f e i v zs fit n) (goes_around (truth_there f) sink (truth_there g))
+          (parts_goes spot free b m p q g e i v zs fit n)
 
     -- a fault of either
-    pub into_traps : (f : ℕ → ℕ) (c : ℕ) (w mid : List Symbol) → number spot b zs e ≡ Err c → TrapsBoth (around (parts_cells spot free e i) (around (open_cells spot free e i ++ w) mid)) (parts_steps e + open_steps e) c (mem b f (keeping m p q) zs)
+    pub into_traps : (f : ℕ → ℕ) (c : ℕ) (w mid : List Symbol) → number spot b zs e ≡ Err c
+        → TrapsBoth (around (parts_cells spot free e i) (around (open_cells spot free e i ++ w) mid))
+        (parts_steps e + open_steps e) c (mem b f (keeping m p q) zs)
     into_traps f c w mid n = by (node_fault spot free b m p q f e i c zs fit n)
       where
-        by : NodeFault spot free b m p q f e i c zs → TrapsBoth (around (parts_cells spot free e i) (around (open_cells spot free e i ++ w) mid)) (parts_steps e + open_steps e) c (mem b f (keeping m p q) zs)
+        by : NodeFault spot free b m p q f e i c zs → TrapsBoth
+            (around (parts_cells spot free e i) (around (open_cells spot free e i ++ w) mid))
+            (parts_steps e + open_steps e) c (mem b f (keeping m p q) zs)
         by (early t) = both_more (omega arith) (traps_around (around (open_cells spot free e i ++ w) mid) t)
         by (late g t) = traps_inside g (traps_around mid (traps_first w t))
 
-    pub value_traps : (f : ℕ → ℕ) (c : ℕ) (mid : List Symbol) → number spot b zs e ≡ Err c → TrapsBoth (around (parts_cells spot free e i) (around (open_cells spot free e i) mid)) (parts_steps e + open_steps e) c (mem b f (keeping m p q) zs)
+    pub value_traps : (f : ℕ → ℕ) (c : ℕ) (mid : List Symbol) → number spot b zs e ≡ Err c
+        → TrapsBoth (around (parts_cells spot free e i) (around (open_cells spot free e i) mid))
+        (parts_steps e + open_steps e) c (mem b f (keeping m p q) zs)
     value_traps f c mid n = by (node_fault spot free b m p q f e i c zs fit n)
       where
-        by : NodeFault spot free b m p q f e i c zs → TrapsBoth (around (parts_cells spot free e i) (around (open_cells spot free e i) mid)) (parts_steps e + open_steps e) c (mem b f (keeping m p q) zs)
+        by : NodeFault spot free b m p q f e i c zs → TrapsBoth
+            (around (parts_cells spot free e i) (around (open_cells spot free e i) mid)) (parts_steps e + open_steps e)
+            c (mem b f (keeping m p q) zs)
         by (early t) = both_more (omega arith) (traps_around (around (open_cells spot free e i) mid) t)
         by (late g t) = traps_inside g (traps_around mid t)

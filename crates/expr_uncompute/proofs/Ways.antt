@@ -24,7 +24,8 @@ both_ok o (Err c) r v e = absurd (cc)
 both_ok o (Ok x) (Err c) v e = absurd (cc)
 both_ok o (Ok x) (Ok y) v e = record { x = x; y = y; left = refl; right = refl; is = ok_is e }
 
-pub one_err : (o : BinOp) (l r : Result ℕ ℕ) (c : ℕ) → combined o l r ≡ Err c → (l ≡ Err c) ⊎ ((x : ℕ) × (l ≡ Ok x) × (r ≡ Err c))
+pub one_err : (o : BinOp) (l r : Result ℕ ℕ) (c : ℕ) → combined o l r ≡ Err c
+    → (l ≡ Err c) ⊎ ((x : ℕ) × (l ≡ Ok x) × (r ≡ Err c))
 one_err o (Err d) r c e = inl e
 one_err o (Ok x) (Err d) c e = inr (x, refl, e)
 one_err o (Ok x) (Ok y) c e = absurd (cc)
@@ -45,7 +46,8 @@ pub data IsFault (zs : List ℕ) (array : ℕ) (k : Result ℕ ℕ) (c : ℕ) : 
 module _ (zs : List ℕ) (array : ℕ) where
   inside_by : (x a : ℕ) → element_address zs array x ≡ Ok a → Way zs array x → IsInside zs array (Ok x) a
   inside_by x a e (nil z) = let n = element_nil zs array x z in absurd (cc)
-  inside_by x a e (inside n l) = let s = element_inside zs array x n l in record { x = x; index = refl; array_is = n; below = l; at = ok_is (sym s ∙ e) }
+  inside_by x a e (inside n l) = let s = element_inside zs array x n l in
+      record { x = x; index = refl; array_is = n; below = l; at = ok_is (sym s ∙ e) }
   inside_by x a e (past n l) = let s = element_past zs array x n l in absurd (cc)
 
   -- where an element has an address, it is there
@@ -62,7 +64,8 @@ module _ (zs : List ℕ) (array : ℕ) where
   fault_of (Err d) c e = by_index e
   fault_of (Ok x) c e = fault_by x c e (way_of zs array x)
 
-pub address_of_word : (zs : List ℕ) (r : Result ℕ ℕ) (v : ℕ) → word_in zs r ≡ Ok v → (a : ℕ) × (r ≡ Ok a) × (slice_index zs a ≡ v)
+pub address_of_word : (zs : List ℕ) (r : Result ℕ ℕ) (v : ℕ) → word_in zs r ≡ Ok v
+    → (a : ℕ) × (r ≡ Ok a) × (slice_index zs a ≡ v)
 address_of_word zs (Err c) v e = absurd (cc)
 address_of_word zs (Ok a) v e = (a, refl, ok_is e)
 

@@ -1,5 +1,6 @@
 -- The laws of values and tests, over memories.
-use Rattle.std.proofs.Common.{◌≡◌, ℕ, zero, suc, ◌+◌, inl, inr, Bool, List, [], ◌∷◌, length, refl, sym, ap, ◌∙◌, subst, arith}
+use Rattle.std.proofs.Common.{◌≡◌, ℕ, zero, suc, ◌+◌, inl, inr, Bool, List, [], ◌∷◌, length, refl, sym, ap, ◌∙◌, subst}
+use Rattle.std.proofs.Common.{arith}
 use Rattle.std.specs.Prelude.{slice_index, bit_xor, Result, Ok, Err}
 use Rattle.rpp_tree.specs.Tree.{Expression}
 use Rattle.pisa_isa.specs.Machine.{Memory}
@@ -7,14 +8,15 @@ use Rattle.paired_code.specs.Machine.{Image, reg, with_reg}
 use Rattle.paired_code.specs.Pieces.{Done, Trapped, Runs}
 use Rattle.paired_code.specs.declared.part.Symbol.{Symbol}
 use Rattle.roopl_semantics.specs.Operators.{is_true, truth_word}
-use Rattle.statement_laws.specs.declared.spot.Spot.{Spot}
+use Rattle.refine_form.specs.declared.spot.Spot.{Spot}
 use Rattle.expr_uncompute.specs.Code.{Target, words, truth, xor, truth_cells, value_cells, test_cells, result_of}
 use Rattle.expr_uncompute.specs.Number.{Bases, number, Sees}
 use Rattle.expr_uncompute.specs.Steps.{value_steps, test_steps}
 use Rattle.expr_uncompute.specs.Laws.{Temporary, bases_of, Ready, Xored, truth_of}
 use Rattle.expr_uncompute.proofs.Goes.{runs_along, TrapsBoth, both_more}
 use Rattle.expr_uncompute.proofs.Scratch.{Scratch, keeping, registers, mem}
-use Rattle.expr_uncompute.proofs.Results.{IsTarget, at0, at1, at11, at12, at13, at14, at15, at25, at26, at27, at28, at29, at30, at31, target_is, written}
+use Rattle.expr_uncompute.proofs.Results.{IsTarget, at0, at1, at11, at12, at13, at14, at15, at25, at26, at27, at28}
+use Rattle.expr_uncompute.proofs.Results.{at29, at30, at31, target_is, written}
 use Rattle.expr_uncompute.proofs.Prepare.{Fit}
 use Rattle.expr_uncompute.proofs.ValueLaws.{value_into, test_into, into_traps, value_traps, written_twice}
 
@@ -30,10 +32,13 @@ tabulated_is zero (x ∷ l) h = absurd (omega arith)
 tabulated_is (suc n) [] h = absurd (omega arith)
 tabulated_is (suc n) (x ∷ l) h = ap (λ z. x ∷ z) (tabulated_is n l (omega arith))
 
-full : (f : ℕ → ℕ) → tabulated 32 f ≡ f 0 ∷ f 1 ∷ f 2 ∷ f 3 ∷ f 4 ∷ f 5 ∷ f 6 ∷ f 7 ∷ f 8 ∷ f 9 ∷ f 10 ∷ f 11 ∷ f 12 ∷ f 13 ∷ f 14 ∷ f 15 ∷ f 16 ∷ f 17 ∷ f 18 ∷ f 19 ∷ f 20 ∷ f 21 ∷ f 22 ∷ f 23 ∷ f 24 ∷ f 25 ∷ f 26 ∷ f 27 ∷ f 28 ∷ f 29 ∷ f 30 ∷ f 31 ∷ []
+full : (f : ℕ → ℕ) → tabulated 32 f ≡ f 0 ∷ f 1 ∷ f 2 ∷ f 3 ∷ f 4 ∷ f 5 ∷ f 6 ∷ f 7 ∷ f 8 ∷ f 9 ∷ f 10 ∷ f 11 ∷ f 12
+    ∷ f 13 ∷ f 14 ∷ f 15 ∷ f 16 ∷ f 17 ∷ f 18 ∷ f 19 ∷ f 20 ∷ f 21 ∷ f 22 ∷ f 23 ∷ f 24 ∷ f 25 ∷ f 26 ∷ f 27 ∷ f 28
+    ∷ f 29 ∷ f 30 ∷ f 31 ∷ []
 full f = refl
 
-cleared : (f : ℕ → ℕ) → ((r : ℕ) → Temporary r → f r ≡ 0) → tabulated 32 f ≡ registers (record { object = f 3; frame = f 4 }) f (keeping 0 0 0)
+cleared : (f : ℕ → ℕ) → ((r : ℕ) → Temporary r → f r ≡ 0)
+    → tabulated 32 f ≡ registers (record { object = f 3; frame = f 4 }) f (keeping 0 0 0)
 cleared f h =
     let h5 = h 5 (inl (omega arith, omega arith)) in
     let h6 = h 6 (inl (omega arith, omega arith)) in
@@ -53,10 +58,12 @@ cleared f h =
     full f ∙ cc
 
 pub as_mem : (free n : ℕ) (m : Memory) → Ready free n m → m ≡ mem (bases_of m) (reg m) (keeping 0 0 0) m.cells
-as_mem free n m h = ap (λ r. record m { regs = r }) (tabulated_is 32 m.regs h.count ∙ cleared (slice_index m.regs) h.clear)
+as_mem free n m h = ap (λ r. record m { regs = r }) (tabulated_is 32 m.regs h.count
+    ∙ cleared (slice_index m.regs) h.clear)
 
 -- one of the other registers written
-target_set : (b : Bases) (f : ℕ → ℕ) (s : Scratch) (zs : List ℕ) (i x : ℕ) → IsTarget i → with_reg (mem b f s zs) i x ≡ mem b (written f i x) s zs
+target_set : (b : Bases) (f : ℕ → ℕ) (s : Scratch) (zs : List ℕ) (i x : ℕ) → IsTarget i
+    → with_reg (mem b f s zs) i x ≡ mem b (written f i x) s zs
 target_set b f s zs i x at0 = refl
 target_set b f s zs i x at1 = refl
 target_set b f s zs i x at11 = refl
@@ -72,7 +79,8 @@ target_set b f s zs i x at29 = refl
 target_set b f s zs i x at30 = refl
 target_set b f s zs i x at31 = refl
 
-pub fit_of : (spot : List ℕ → Spot) (free : ℕ) (e : Expression) (m : Memory) → Ready free (words e) m → Sees spot (bases_of m) (reg m 4 + free) m.cells e → Fit spot free (bases_of m) e 0 m.cells
+pub fit_of : (spot : List ℕ → Spot) (free : ℕ) (e : Expression) (m : Memory) → Ready free (words e) m
+    → Sees spot (bases_of m) (reg m 4 + free) m.cells e → Fit spot free (bases_of m) e 0 m.cells
 fit_of spot free e m h s = record {
   all = h.words;
   sees = s;
@@ -80,50 +88,67 @@ fit_of spot free e m h s = record {
   empty = λ a lo hi. h.empty a (omega arith) (omega arith);
 }
 
-module _ (spot : List ℕ → Spot) (free into : ℕ) (e : Expression) (m : Memory) (target : Target into) (ready : Ready free (words e) m) (sees : Sees spot (bases_of m) (reg m 4 + free) m.cells e) (im : Image) (d : Bool) where
-  abbrev b : Bases
-  b = bases_of m
+module _ (spot : List ℕ → Spot) (free into : ℕ) (e : Expression) (m : Memory) (target : Target into)
+    (ready : Ready free (words e) m) (sees : Sees spot (bases_of m) (reg m 4 + free) m.cells e) (im : Image) (d : Bool)
+  where
+    abbrev b : Bases
+    b = bases_of m
 
-  abbrev seen : Memory
-  seen = mem (bases_of m) (reg m) (keeping 0 0 0) m.cells
+    abbrev seen : Memory
+    seen = mem (bases_of m) (reg m) (keeping 0 0 0) m.cells
 
-  same : m ≡ mem (bases_of m) (reg m) (keeping 0 0 0) m.cells
-  same = as_mem free (words e) m ready
+    same : m ≡ mem (bases_of m) (reg m) (keeping 0 0 0) m.cells
+    same = as_mem free (words e) m ready
 
-  -- a run over the registers as they are known
-  run_of : (p : List Symbol) (x k : ℕ) → Runs im p d (mem (bases_of m) (reg m) (keeping 0 0 0) m.cells) (Done (mem (bases_of m) (written (reg m) into x) (keeping 0 0 0) m.cells) k) → Runs im p d m (Done (with_reg m into x) k)
-  run_of p x k r =
-      let t : with_reg m into x ≡ mem (bases_of m) (written (reg m) into x) (keeping 0 0 0) m.cells = ap (λ z. with_reg z into x) same ∙ target_set b (reg m) (keeping 0 0 0) m.cells into x (target_is into target) in
-      subst (λ z. Runs im p d z (Done (with_reg m into x) k)) (sym same) (subst (λ z. Runs im p d seen (Done z k)) (sym t) r)
+    -- a run over the registers as they are known
+    run_of : (p : List Symbol) (x k : ℕ) → Runs im p d (mem (bases_of m) (reg m) (keeping 0 0 0) m.cells)
+        (Done (mem (bases_of m) (written (reg m) into x) (keeping 0 0 0) m.cells) k)
+        → Runs im p d m (Done (with_reg m into x) k)
+    run_of p x k r =
+        let t : with_reg m into x ≡ mem (bases_of m) (written (reg m) into x) (keeping 0 0 0) m.cells =
+        ap (λ z. with_reg z into x) same ∙ target_set b (reg m) (keeping 0 0 0) m.cells into x (target_is into target)
+        in
+        subst (λ z. Runs im p d z (Done (with_reg m into x) k)) (sym same)
+        (subst (λ z. Runs im p d seen (Done z k)) (sym t) r)
 
-  value_by : (r : Result ℕ ℕ) → number spot (bases_of m) m.cells e ≡ r → Xored into (value_steps e) m r im (value_cells spot free e into) d
-  value_by (Ok v) n =
-      let t = target_is into target in
-      let fit = fit_of spot free e m ready sees in
-      let f' : ℕ → ℕ = written (reg m) into (bit_xor (reg m into) v) in
-      let back = value_into spot free b 0 0 0 e 0 m.cells fit f' v into n t in
-      let there = value_into spot free b 0 0 0 e 0 m.cells fit (reg m) v into n t in
-      run_of (value_cells spot free e into) _ (value_steps e) (runs_along there (Rattle.expr_uncompute.proofs.Goes.goes_to refl refl (written_twice b (reg m) (keeping 0 0 0) m.cells into v t) back) im d)
-  value_by (Err c) n =
-      let a = (both_more (omega arith) (value_traps spot free b 0 0 0 e 0 m.cells (fit_of spot free e m ready sees) (reg m) c (xor into (result_of e) ∷ []) n)).runs im d in
-      (a.0, a.1, subst (λ z. Runs im (value_cells spot free e into) d z (Trapped c a.0)) (sym same) a.2)
+    value_by : (r : Result ℕ ℕ) → number spot (bases_of m) m.cells e ≡ r
+        → Xored into (value_steps e) m r im (value_cells spot free e into) d
+    value_by (Ok v) n =
+        let t = target_is into target in
+        let fit = fit_of spot free e m ready sees in
+        let f' : ℕ → ℕ = written (reg m) into (bit_xor (reg m into) v) in
+        let back = value_into spot free b 0 0 0 e 0 m.cells fit f' v into n t in
+        let there = value_into spot free b 0 0 0 e 0 m.cells fit (reg m) v into n t in
+        run_of (value_cells spot free e into) _ (value_steps e)
+        (runs_along there (Rattle.expr_uncompute.proofs.Goes.goes_to refl refl
+        (written_twice b (reg m) (keeping 0 0 0) m.cells into v t) back) im d)
+    value_by (Err c) n =
+        let a = (both_more (omega arith) (value_traps spot free b 0 0 0 e 0 m.cells (fit_of spot free e m ready sees)
+        (reg m) c (xor into (result_of e) ∷ []) n)).runs im d in
+        (a.0, a.1, subst (λ z. Runs im (value_cells spot free e into) d z (Trapped c a.0)) (sym same) a.2)
 
-  -- the code of an expression xors its number into a register, or traps, in either direction, and
-  -- nothing else differs
-  pub value_law : Xored into (value_steps e) m (number spot (bases_of m) m.cells e) im (value_cells spot free e into) d
-  value_law = value_by (number spot (bases_of m) m.cells e) refl
+    -- the code of an expression xors its number into a register, or traps, in either direction, and
+    -- nothing else differs
+    pub value_law : Xored into (value_steps e) m (number spot (bases_of m) m.cells e) im (value_cells spot free e into)
+        d
+    value_law = value_by (number spot (bases_of m) m.cells e) refl
 
-  test_by : (r : Result ℕ ℕ) → number spot (bases_of m) m.cells e ≡ r → Xored into (test_steps e) m (truth_of r) im (test_cells spot free e into) d
-  test_by (Ok v) n =
-      let t = target_is into target in
-      let fit = fit_of spot free e m ready sees in
-      let f' : ℕ → ℕ = written (reg m) into (bit_xor (reg m into) (truth_word (is_true v))) in
-      let back = test_into spot free b 0 0 0 e 0 m.cells fit f' v into n t in
-      let there = test_into spot free b 0 0 0 e 0 m.cells fit (reg m) v into n t in
-      run_of (test_cells spot free e into) _ (test_steps e) (runs_along there (Rattle.expr_uncompute.proofs.Goes.goes_to refl refl (written_twice b (reg m) (keeping 0 0 0) m.cells into (truth_word (is_true v)) t) back) im d)
-  test_by (Err c) n =
-      let a = (both_more (omega arith) (into_traps spot free b 0 0 0 e 0 m.cells (fit_of spot free e m ready sees) (reg m) c (truth_cells truth (result_of e)) (xor into truth ∷ []) n)).runs im d in
-      (a.0, a.1, subst (λ z. Runs im (test_cells spot free e into) d z (Trapped c a.0)) (sym same) a.2)
+    test_by : (r : Result ℕ ℕ) → number spot (bases_of m) m.cells e ≡ r
+        → Xored into (test_steps e) m (truth_of r) im (test_cells spot free e into) d
+    test_by (Ok v) n =
+        let t = target_is into target in
+        let fit = fit_of spot free e m ready sees in
+        let f' : ℕ → ℕ = written (reg m) into (bit_xor (reg m into) (truth_word (is_true v))) in
+        let back = test_into spot free b 0 0 0 e 0 m.cells fit f' v into n t in
+        let there = test_into spot free b 0 0 0 e 0 m.cells fit (reg m) v into n t in
+        run_of (test_cells spot free e into) _ (test_steps e)
+        (runs_along there (Rattle.expr_uncompute.proofs.Goes.goes_to refl refl
+        (written_twice b (reg m) (keeping 0 0 0) m.cells into (truth_word (is_true v)) t) back) im d)
+    test_by (Err c) n =
+        let a = (both_more (omega arith) (into_traps spot free b 0 0 0 e 0 m.cells (fit_of spot free e m ready sees)
+        (reg m) c (truth_cells truth (result_of e)) (xor into truth ∷ []) n)).runs im d in
+        (a.0, a.1, subst (λ z. Runs im (test_cells spot free e into) d z (Trapped c a.0)) (sym same) a.2)
 
-  pub test_law : Xored into (test_steps e) m (truth_of (number spot (bases_of m) m.cells e)) im (test_cells spot free e into) d
-  test_law = test_by (number spot (bases_of m) m.cells e) refl
+    pub test_law : Xored into (test_steps e) m (truth_of (number spot (bases_of m) m.cells e)) im
+        (test_cells spot free e into) d
+    test_law = test_by (number spot (bases_of m) m.cells e) refl

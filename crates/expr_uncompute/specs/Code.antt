@@ -4,15 +4,17 @@ use Rattle.rpp_tree.specs.declared.tree.BinOp.{BinOp}
 use Rattle.rpp_tree.specs.declared.tree.BinOp.TheVariants as op
 use Rattle.rpp_tree.specs.declared.tree.UpdateOp.{UpdateOp}
 use Rattle.rpp_tree.specs.declared.tree.UpdateOp.TheVariants as update
-use Rattle.rpp_tree.specs.Tree.{Expression, Number, Null, Variable, Element, Binary, Lvalue, Whole, Item}
+use Rattle.rpp_tree.specs.Tree.{Expression, Number, Null, Variable, Element, Binary, Lvalue, Whole}
+use Rattle.rpp_tree.specs.Tree.{Item}
 use Rattle.pisa_isa.specs.declared.cell.Op.{Op}
-use Rattle.pisa_isa.specs.declared.cell.Op.TheVariants.{Add, Sub, Xor, Addi, Xori, Andx, Orx, Sltx, Exch}
+use Rattle.pisa_isa.specs.declared.cell.Op.TheVariants.{Add, Sub, Xor, Addi, Xori, Andx, Orx, Sltx}
+use Rattle.pisa_isa.specs.declared.cell.Op.TheVariants.{Exch}
 use Rattle.paired_code.specs.declared.part.Symbol.{Symbol}
 use Rattle.paired_code.specs.declared.part.Symbol.TheVariants.{Own}
 use Rattle.paired_code.specs.Layout.{mirror_cells, check_cells}
-use Rattle.statement_laws.specs.declared.spot.Spot.{Spot}
-use Rattle.statement_laws.specs.declared.spot.Spot.TheVariants.{Field, Frame}
-use Rattle.method_scope.specs.Visible.{offset_of}
+use Rattle.refine_form.specs.declared.spot.Spot.{Spot}
+use Rattle.refine_form.specs.declared.spot.Spot.TheVariants.{Field, Frame}
+use Rattle.code_scope.specs.Visible.{offset_of}
 use Rattle.expr_uncompute.specs.Number.{index_of}
 
 -- ---- the registers
@@ -234,19 +236,22 @@ swap_middle = exch first_word place ∷ exch second_word other_place ∷ exch se
     ∷ exch first_word other_place ∷ []
 
 module _ (spot : List ℕ → Spot) where
-  -- a changed element's array, by its spot, compared with those of which an expression reads elements
+  -- a changed element's array, by its spot, compared with those of which an expression reads
+  -- elements
   abbrev pub compare_all : Spot → Expression → List Symbol
   compare_all changed (Number at word) = []
   compare_all changed (Null at) = []
   compare_all changed (Variable name) = []
   compare_all changed (Element name index) =
       compare_cells changed (spot name.text) ++ compare_all changed index
-  compare_all changed (Binary at op left right) = compare_all changed left ++ compare_all changed right
+  compare_all changed (Binary at op left right) =
+      compare_all changed left ++ compare_all changed right
 
   -- the check of a place that changes against two expressions that are read
   abbrev pub apart_cells : Lvalue → (e e' : Expression) → List Symbol
   apart_cells (Whole name) e e' = []
-  apart_cells (Item name index) e e' = compare_all (spot name.text) e ++ compare_all (spot name.text) e'
+  apart_cells (Item name index) e e' = compare_all (spot name.text) e
+      ++ compare_all (spot name.text) e'
 
   -- of both places of a swap
   abbrev pub both_apart_cells : (left right : Lvalue) → List Symbol
@@ -308,7 +313,8 @@ module _ (spot : List ℕ → Spot) (free : ℕ) where
 
   -- the value of an expression xored into a register
   abbrev pub value_cells : Expression → (into : ℕ) → List Symbol
-  value_cells e into = around (parts_cells e 0) (around (open_cells e 0) (xor into (result_of e) ∷ []))
+  value_cells e into = around (parts_cells e 0)
+      (around (open_cells e 0) (xor into (result_of e) ∷ []))
 
   -- whether it is true xored into a register
   abbrev pub test_cells : Expression → (into : ℕ) → List Symbol

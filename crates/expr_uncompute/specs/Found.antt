@@ -1,15 +1,17 @@
 -- Places and values found around any middle: what a middle finds and may change, and the laws of
 -- the whole piece.
-use Rattle.std.specs.Prelude.{◌≡◌, ℕ, ◌+◌, ◌^◌, ◌<◌, ◌≤◌, Bool, true, false, List, length, slice_index, Ok, Err}
+use Rattle.std.specs.Prelude.{◌≡◌, ℕ, ◌+◌, ◌^◌, ◌<◌, ◌≤◌, Bool, true, false, List, length}
+use Rattle.std.specs.Prelude.{slice_index, Ok, Err}
 use Rattle.rpp_tree.specs.Tree.{Expression, Null, Lvalue}
 use Rattle.pisa_isa.specs.Machine.{Memory}
 use Rattle.paired_code.specs.declared.part.Symbol.{Symbol}
 use Rattle.paired_code.specs.Machine.{Image, with_reg}
 use Rattle.paired_code.specs.Pieces.{Outcome, Done, Trapped, Will}
 use Rattle.roopl_semantics.specs.Elements.{shared_array_fault}
-use Rattle.statement_laws.specs.declared.spot.Spot.{Spot}
+use Rattle.refine_form.specs.declared.spot.Spot.{Spot}
 use Rattle.expr_uncompute.specs.Code.{amount, place, other_place, words, place_words}
-use Rattle.expr_uncompute.specs.Number.{Bases, number, read_of, index_of, place_address, shares, update_shares, Sees, SamePlace}
+use Rattle.expr_uncompute.specs.Number.{Bases, number, read_of, index_of, place_address, shares}
+use Rattle.expr_uncompute.specs.Number.{update_shares, Sees, SamePlace}
 use Rattle.expr_uncompute.specs.Steps.{place_steps, fetch_steps, apart_steps}
 use Rattle.expr_uncompute.specs.Laws.{bases_of, Stays}
 use Rattle.expr_uncompute.specs.Promises.{free_at, CanRun, IsTrap}
@@ -49,7 +51,8 @@ pub record Changes (low : ℕ) (cells cells' : List ℕ) : Type 0 where
 -- Where the middle leads from any filled words to the changed cells, so does p from the cells
 -- themselves, and where the middle traps, p traps. `Kept` says of the changed cells that the same
 -- value and addresses are found there.
-pub record Encloses (im : Image) (d : Bool) (m : Memory) (low n steps v a a' : ℕ) (Kept : List ℕ → Type 0)
+pub record Encloses (im : Image) (d : Bool) (m : Memory) (low n steps v a a' : ℕ)
+    (Kept : List ℕ → Type 0)
     (middle p : List Symbol) : Type 0 where
   pub leads : (cells' : List ℕ) (least most : ℕ) → Changes low m.cells cells' → Kept cells'
       → ((ys ys' : List ℕ) → Filled low n m.cells ys → Filled low n cells' ys' → Changes low ys ys'
@@ -76,7 +79,8 @@ abbrev pub found_places_steps : (source target : Lvalue) → ℕ
 found_places_steps source target = place_steps source + place_steps target + apart_steps target
     (index_of source) (index_of target)
 
--- a middle that changes a place: the place's fault comes first, and then that of a shared array, in both
+-- a middle that changes a place: the place's fault comes first, and then that of a shared array, in
+-- both
 -- directions
 pub record PlaceAroundLaw (spot : List ℕ → Spot) (free : ℕ) (target : Lvalue)
     (middle p : List Symbol) : Type 0 where
@@ -137,7 +141,8 @@ pub record PlacesStay (spot : List ℕ → Spot) (b : Bases) (low : ℕ) (source
 pub record PlacesAroundLaw (spot : List ℕ → Spot) (free : ℕ) (source target : Lvalue)
     (middle p : List Symbol) : Type 0 where
   pub encloses : (im : Image) (d : Bool) (m : Memory)
-      → CanRun spot free (place_words source + place_words target) (read_of source) (read_of target) m
+      → CanRun spot free (place_words source + place_words target) (read_of source) (read_of target)
+      m
       → (a a' : ℕ) → place_address spot (bases_of m) m.cells source ≡ Ok a
       → place_address spot (bases_of m) m.cells target ≡ Ok a'
       → shares spot (bases_of m) m.cells target (index_of source) (index_of target) ≡ false
@@ -145,16 +150,19 @@ pub record PlacesAroundLaw (spot : List ℕ → Spot) (free : ℕ) (source targe
       (found_places_steps source target) 0 a a'
       (PlacesStay spot (bases_of m) (free_at free m) source target m.cells) middle p
   pub source_faults : (im : Image) (d : Bool) (m : Memory)
-      → CanRun spot free (place_words source + place_words target) (read_of source) (read_of target) m
+      → CanRun spot free (place_words source + place_words target) (read_of source) (read_of target)
+      m
       → (code : ℕ) → place_address spot (bases_of m) m.cells source ≡ Err code
       → IsTrap im p d m code (place_steps source)
   pub target_faults : (im : Image) (d : Bool) (m : Memory)
-      → CanRun spot free (place_words source + place_words target) (read_of source) (read_of target) m
+      → CanRun spot free (place_words source + place_words target) (read_of source) (read_of target)
+      m
       → (a code : ℕ) → place_address spot (bases_of m) m.cells source ≡ Ok a
       → place_address spot (bases_of m) m.cells target ≡ Err code
       → IsTrap im p d m code (place_steps source + place_steps target)
   pub sharing_faults : (im : Image) (d : Bool) (m : Memory)
-      → CanRun spot free (place_words source + place_words target) (read_of source) (read_of target) m
+      → CanRun spot free (place_words source + place_words target) (read_of source) (read_of target)
+      m
       → (a a' : ℕ) → place_address spot (bases_of m) m.cells source ≡ Ok a
       → place_address spot (bases_of m) m.cells target ≡ Ok a'
       → shares spot (bases_of m) m.cells target (index_of source) (index_of target) ≡ true

@@ -1,5 +1,6 @@
 -- What code of expressions does, by the memory alone.
-use Rattle.std.specs.Prelude.{◌≡◌, ℕ, ◌+◌, ◌^◌, ◌<◌, ◌≤◌, ◌⊎◌, Bool, true, false, List, length, slice_index, slice_set, bit_xor, Result, Ok, Err}
+use Rattle.std.specs.Prelude.{◌≡◌, ℕ, ◌+◌, ◌^◌, ◌<◌, ◌≤◌, ◌⊎◌, Bool, true, false, List, length}
+use Rattle.std.specs.Prelude.{slice_index, slice_set, bit_xor, Result, Ok, Err}
 use Rattle.rpp_tree.specs.declared.tree.UpdateOp.{UpdateOp}
 use Rattle.rpp_tree.specs.Tree.{Expression, Lvalue}
 use Rattle.stmt_inverter.specs.Inverse.{inverse_operator}
@@ -9,8 +10,9 @@ use Rattle.paired_code.specs.Machine.{Image, reg, with_reg}
 use Rattle.paired_code.specs.Pieces.{Done, Trapped, Runs}
 use Rattle.roopl_semantics.specs.Operators.{is_true, truth_word, updated}
 use Rattle.expr_uncompute.specs.Code.{object, frame}
-use Rattle.statement_laws.specs.declared.spot.Spot.{Spot}
-use Rattle.expr_uncompute.specs.Number.{Bases, read_of, update_shares, swap_shares, Sees, Same, SamePlace}
+use Rattle.refine_form.specs.declared.spot.Spot.{Spot}
+use Rattle.expr_uncompute.specs.Number.{Bases, read_of, update_shares, swap_shares, Sees, Same}
+use Rattle.expr_uncompute.specs.Number.{SamePlace}
 
 -- a register that code of expressions uses for itself
 abbrev pub Temporary : ℕ → Type 0
@@ -27,11 +29,13 @@ pub record Ready (free n : ℕ) (m : Memory) : Type 0 where
   pub small : length m.cells ≤ 2 ^ 31
   pub words : (a : ℕ) → slice_index m.cells a < 2 ^ 32
   pub inside : reg m frame + (free + n) ≤ length m.cells
-  pub empty : (a : ℕ) → reg m frame + free ≤ a → a < reg m frame + (free + n) → slice_index m.cells a ≡ 0
+  pub empty : (a : ℕ) → reg m frame + free ≤ a → a < reg m frame + (free + n)
+      → slice_index m.cells a ≡ 0
 
 -- the result is xored into a register and nothing else differs, or its fault is a trap; the steps
 abbrev pub Xored : (into steps : ℕ) → Memory → Result ℕ ℕ → Image → List Symbol → Bool → Type 0
-Xored into steps m (Ok v) im p d = Runs im p d m (Done (with_reg m into (bit_xor (reg m into) v)) steps)
+Xored into steps m (Ok v) im p d = Runs im p d m
+    (Done (with_reg m into (bit_xor (reg m into) v)) steps)
 Xored into steps m (Err c) im p d = (k : ℕ) × (k ≤ steps) × Runs im p d m (Trapped c k)
 
 -- the truth of a result

@@ -1,11 +1,16 @@
 -- How the words of a memory stand for the values of the source that an expression reads.
-use Rattle.std.specs.Prelude.{◌≡◌, ◌≢◌, ℕ, ◌+◌, ◌<◌, nat_eq, Bool, true, false, List, length, slice_index, Result, Ok, Err}
+use Rattle.std.specs.Prelude.{◌≡◌, ◌≢◌, ℕ, ◌+◌, ◌<◌, nat_eq, Bool, true, false, List, length}
+use Rattle.std.specs.Prelude.{slice_index, Result, Ok, Err}
 use Rattle.rpp_tree.specs.declared.tree.BinOp.{BinOp}
 use Rattle.rpp_tree.specs.declared.tree.BinOp.TheVariants as op
-use Rattle.rpp_tree.specs.Tree.{Expression, Number, Null, Variable, Element, Binary, Lvalue, Whole, Item, Source}
-use Rattle.roopl_semantics.specs.Store.{Value, Word, Nil, Name, State, number_of, same_value, object_at}
-use Rattle.roopl_semantics.specs.Value.{Cell, Slot, Part, cell_named, variable_value, read, value, cell_of}
-use Rattle.statement_laws.specs.declared.spot.Spot.{Spot}
+use Rattle.rpp_tree.specs.Tree.{Expression, Number, Null, Variable, Element, Binary, Lvalue, Whole}
+use Rattle.rpp_tree.specs.Tree.{Item, Source}
+use Rattle.code_conventions.specs.declared.memory.TheConstants.{HEADER_WORDS}
+use Rattle.roopl_semantics.specs.Store.{Value, Word, Nil, Name, State, number_of, same_value}
+use Rattle.roopl_semantics.specs.Store.{object_at}
+use Rattle.roopl_semantics.specs.Value.{Cell, Slot, Part, cell_named, variable_value, read, value}
+use Rattle.roopl_semantics.specs.Value.{cell_of}
+use Rattle.refine_form.specs.declared.spot.Spot.{Spot}
 use Rattle.expr_uncompute.specs.Number.{Bases, address_of, word_of}
 
 -- the operators that also compare references
@@ -29,7 +34,7 @@ module _ (address slot : ℕ → ℕ) where
   -- the address of a cell
   abbrev pub cell_address : Cell → ℕ
   cell_address (Slot i) = slot i
-  cell_address (Part n i) = address n + i + 2
+  cell_address (Part n i) = address n + i + HEADER_WORDS
 
   abbrev pub cell_result : Result Cell ℕ → Result ℕ ℕ
   cell_result (Ok cell) = Ok (cell_address cell)
@@ -59,7 +64,7 @@ module _ (address slot : ℕ → ℕ) where
     StandsArray (Name n) =
         (address n ≢ 0) × (slice_index cells (address n) ≡ length (object_at st.store n).cells)
         × ((i : ℕ) → i < length (object_at st.store n).cells
-        → slice_index cells (address n + i + 2) ≡ shown (read st (Part n i)))
+        → slice_index cells (address n + i + HEADER_WORDS) ≡ shown (read st (Part n i)))
 
     -- a variable has its value's word
     abbrev pub HasWord : List ℕ → Type 0
@@ -84,7 +89,8 @@ module _ (address slot : ℕ → ℕ) where
         × StandsArray (variable_value program st name.text) × IsInt (value program st index)
         × Means index
 
-    -- an array is one of which an expression reads an element exactly where their words are the same
+    -- an array is one of which an expression reads an element exactly where their words are the
+    -- same
     abbrev pub TellsArrays : (array : Value) → Expression → Type 0
     TellsArrays array (Number at word) = Unit {0}
     TellsArrays array (Null at) = Unit {0}
@@ -106,7 +112,8 @@ module _ (program : Source) (st st' : State) where
   abbrev pub SameValues : Expression → Type 0
   SameValues (Number at word) = Unit {0}
   SameValues (Null at) = Unit {0}
-  SameValues (Variable name) = variable_value program st' name.text ≡ variable_value program st name.text
+  SameValues (Variable name) = variable_value program st' name.text
+      ≡ variable_value program st name.text
   SameValues (Element name index) =
       (value program st' (Element name index) ≡ value program st (Element name index))
       × SameValues index

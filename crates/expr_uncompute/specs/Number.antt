@@ -1,10 +1,13 @@
 -- What an expression is, read from a memory alone.
-use Rattle.std.specs.Prelude.{◌≡◌, ◌≢◌, ℕ, ◌+◌, ◌^◌, ◌<◌, ◌≤◌, nat_eq, nat_lt, if◌then◌else◌, Bool, false, ◌||◌, List, slice_index, Result, Ok, Err}
+use Rattle.std.specs.Prelude.{◌≡◌, ◌≢◌, ℕ, ◌+◌, ◌^◌, ◌<◌, ◌≤◌, nat_eq, nat_lt, if◌then◌else◌, Bool}
+use Rattle.std.specs.Prelude.{false, ◌||◌, List, slice_index, Result, Ok, Err}
 use Rattle.rpp_tree.specs.declared.tree.BinOp.{BinOp}
-use Rattle.rpp_tree.specs.Tree.{Expression, Number, Null, Variable, Element, Binary, Lvalue, Whole, Item}
+use Rattle.rpp_tree.specs.Tree.{Expression, Number, Null, Variable, Element, Binary, Lvalue, Whole}
+use Rattle.rpp_tree.specs.Tree.{Item}
+use Rattle.code_conventions.specs.declared.memory.TheConstants.{HEADER_WORDS}
 use Rattle.roopl_semantics.specs.Operators.{operated}
-use Rattle.statement_laws.specs.declared.spot.Spot.{Spot}
-use Rattle.statement_laws.specs.declared.spot.Spot.TheVariants.{Field, Frame}
+use Rattle.refine_form.specs.declared.spot.Spot.{Spot}
+use Rattle.refine_form.specs.declared.spot.Spot.TheVariants.{Field, Frame}
 
 -- the addresses of the present object and of the open frame
 pub record Bases : Type 0 where
@@ -13,14 +16,14 @@ pub record Bases : Type 0 where
 
 -- the address of a spot
 abbrev pub address_of : Bases → Spot → ℕ
-address_of b (Field i) = b.object + (2 + i)
+address_of b (Field i) = b.object + (HEADER_WORDS + i)
 address_of b (Frame i) = b.frame + i
 
 -- the address of an element of an array, by its index without sign
 abbrev pub element_address : List ℕ → (array index : ℕ) → Result ℕ ℕ
 element_address cells array index =
     if nat_eq array 0 then Err 5 else (if nat_lt index (slice_index cells array)
-    then Ok (array + index + 2) else Err 9)
+    then Ok (array + index + HEADER_WORDS) else Err 9)
 
 abbrev pub element_at : List ℕ → (array : ℕ) → Result ℕ ℕ → Result ℕ ℕ
 element_at cells array (Err fault) = Err fault
@@ -67,7 +70,8 @@ module _ (spot : List ℕ → Spot) (b : Bases) where
   -- the address of a place, or the fault that is met first
   abbrev pub place_address : List ℕ → Lvalue → Result ℕ ℕ
   place_address cells (Whole name) = Ok (address_of b (spot name.text))
-  place_address cells (Item name index) = element_at cells (word_of cells name.text) (number cells index)
+  place_address cells (Item name index) = element_at cells (word_of cells name.text)
+      (number cells index)
 
   -- whether an expression reads an element of the array of this word
   abbrev pub reads_array : List ℕ → (array : ℕ) → Expression → Bool
@@ -99,7 +103,7 @@ module _ (spot : List ℕ → Spot) (b : Bases) where
   -- a word that is nil, or where an array stands, all below an address
   pub record IsArray (low : ℕ) (cells : List ℕ) (a : ℕ) : Type 0 where
     pub short : a ≢ 0 → slice_index cells a < 2 ^ 31
-    pub room : a ≢ 0 → a + 2 + slice_index cells a ≤ low
+    pub room : a ≢ 0 → a + HEADER_WORDS + slice_index cells a ≤ low
 
   -- all that an expression reads stands below an address, and each number is a word
   abbrev pub Sees : ℕ → List ℕ → Expression → Type 0

@@ -7,11 +7,14 @@ use Rattle.paired_code.specs.declared.part.Symbol.{Symbol}
 use Rattle.paired_code.specs.Machine.{Image, reg}
 use Rattle.paired_code.specs.Pieces.{Done, Trapped, Runs}
 use Rattle.roopl_semantics.specs.Elements.{shared_array_fault}
-use Rattle.statement_laws.specs.declared.spot.Spot.{Spot}
+use Rattle.refine_form.specs.declared.spot.Spot.{Spot}
 use Rattle.expr_uncompute.specs.Code.{frame, words, place_words}
-use Rattle.expr_uncompute.specs.Number.{number, read_of, index_of, place_address, update_shares, swap_shares, Sees}
-use Rattle.expr_uncompute.specs.Steps.{value_steps, test_steps, place_steps, fetch_steps, apart_steps, both_apart_steps, update_steps, swap_steps}
-use Rattle.expr_uncompute.specs.Laws.{bases_of, Ready, Xored, truth_of, updated_at, swapped_at, Stays, BothStay}
+use Rattle.expr_uncompute.specs.Number.{number, read_of, index_of, place_address, update_shares}
+use Rattle.expr_uncompute.specs.Number.{swap_shares, Sees}
+use Rattle.expr_uncompute.specs.Steps.{value_steps, test_steps, place_steps, fetch_steps}
+use Rattle.expr_uncompute.specs.Steps.{apart_steps, both_apart_steps, update_steps, swap_steps}
+use Rattle.expr_uncompute.specs.Laws.{bases_of, Ready, Xored, truth_of, updated_at, swapped_at}
+use Rattle.expr_uncompute.specs.Laws.{Stays, BothStay}
 
 -- where the free words of the frame begin: all that is read stands below
 abbrev pub free_at : ℕ → Memory → ℕ
@@ -34,10 +37,11 @@ pub record TestLaw (spot : List ℕ → Spot) (free into : ℕ) (e : Expression)
       → Xored into (test_steps e) m (truth_of (number spot (bases_of m) m.cells e)) im p d
 
 -- what a statement on places needs
-pub record CanRun (spot : List ℕ → Spot) (free n : ℕ) (e e' : Expression) (m : Memory) : Type 0 where
-  pub ready : Ready free n m
-  pub first : SeesIn spot free m e
-  pub second : SeesIn spot free m e'
+pub record CanRun (spot : List ℕ → Spot) (free n : ℕ) (e e' : Expression) (m : Memory) : Type 0
+  where
+    pub ready : Ready free n m
+    pub first : SeesIn spot free m e
+    pub second : SeesIn spot free m e'
 
 -- a trap with the fault, in at most so many steps
 abbrev pub IsTrap : Image → List Symbol → Bool → Memory → (code steps : ℕ) → Type 0

@@ -4,16 +4,16 @@ ghost use Rattle.rpp_tree.specs.Tree.{Null};
 ghost use Rattle.rpp_tree.specs.Views.{expression_of, lvalue_of};
 ghost use Rattle.paired_code.specs.Code.{unmarked};
 ghost use Rattle.expr_uncompute.specs.Code.{sltx as sltx_cell, xori as xori_cell, compare_cells, compare_all as cells_of_all, apart_cells, both_apart_cells};
-ghost use Rattle.method_scope.specs.Visible.{offset_of, spot_of as spot_of_name, known_by};
+ghost use Rattle.code_scope.specs.Visible.{offset_of, spot_of as spot_of_name, known_by};
 ghost use Rattle.expr_uncompute.specs.Number.{read_of, index_of};
 
 use crate::cells::{enclosed, sltx, xori};
 use crate::rows::{CONTENT, LEFT, OUTCOME, copy, reached};
-use method_scope::{Names, spot_of};
+use code_scope::{Names, spot_of};
 use paired_code::{Piece, check_zero, empty, seq};
+use refine_form::Spot;
 use rpp_tree::tree::{Expr, Place};
 use rpp_words::NoMemory;
-use statement_laws::Spot;
 use std::alloc::Global;
 
 // Whether two words are the same.

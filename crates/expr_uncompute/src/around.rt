@@ -6,10 +6,10 @@ ghost use Rattle.roopl_semantics.specs.Elements.{elements, index_elements, own_e
 ghost use Rattle.expr_uncompute.specs.Code.{words as words_of, place_words as words_of_place};
 ghost use Rattle.expr_uncompute.specs.Found.{PlaceAroundLaw, ValueAroundLaw, PlacesAroundLaw, found_place_steps, found_value_steps, found_places_steps};
 ghost use Rattle.expr_uncompute.specs.Steps.{tokens, place_tokens};
-ghost use Rattle.method_scope.specs.Visible.{spot_of, free_of, known_in};
+ghost use Rattle.code_scope.specs.Visible.{spot_of, free_of, known_in};
 
 use crate::middles::{around_place, around_places, around_value};
-use method_scope::Scope;
+use code_scope::Scope;
 use paired_code::Piece;
 use rpp_tree::tree::{Expr, Place};
 use rpp_words::NoMemory;

@@ -7,11 +7,11 @@ ghost use Rattle.expr_uncompute.specs.Code.{Target, words as words_of, place_wor
 ghost use Rattle.expr_uncompute.specs.Promises.{ValueLaw, TestLaw, UpdateLaw, SwapLaw};
 ghost use Rattle.expr_uncompute.specs.Sizes.{swap_size};
 ghost use Rattle.expr_uncompute.specs.Steps.{value_steps, test_steps, update_steps, swap_steps, tokens, place_tokens};
-ghost use Rattle.method_scope.specs.Visible.{spot_of, free_of, known_in};
+ghost use Rattle.code_scope.specs.Visible.{spot_of, free_of, known_in};
 
 use crate::places::{swap_piece, update_piece};
 use crate::values::{test_piece, value_piece};
-use method_scope::Scope;
+use code_scope::Scope;
 use paired_code::Piece;
 use rpp_tree::tree::{Expr, Place, UpdateOp};
 use rpp_words::NoMemory;

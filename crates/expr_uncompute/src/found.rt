@@ -3,17 +3,17 @@ ghost use Rattle.std.specs.Prelude.{◌≡◌, ◌<◌, ◌≤◌, ◌+◌, ◌^
 ghost use Rattle.rpp_tree.specs.Views.{expression_of, lvalue_of};
 ghost use Rattle.paired_code.specs.Code.{unmarked};
 ghost use Rattle.expr_uncompute.specs.Code.{xor as xor_cell, addi as addi_cell, base_of, words as words_of, place_words as words_of_place, fetch_cells, place_cells, found_place_cells, found_value_cells, found_places_cells};
-ghost use Rattle.method_scope.specs.Visible.{offset_of, spot_of as spot_of_name, free_of, known_by};
+ghost use Rattle.code_scope.specs.Visible.{offset_of, spot_of as spot_of_name, free_of, known_by};
 
 use crate::apart::{apart, apart_from, own_apart};
 use crate::cells::{addi, enclosed, xor};
 use crate::rows::{RIGHT, base, offset, point};
 use crate::values::{checked, open, parts, place_words, prepare, result_register};
-use method_scope::{Names, spot_of};
+use code_scope::{Names, spot_of};
 use paired_code::{Piece, seq};
+use refine_form::Spot;
 use rpp_tree::tree::{Expr, Place};
 use rpp_words::NoMemory;
-use statement_laws::Spot;
 use std::alloc::Global;
 
 /// The value that an update adds.

@@ -6,13 +6,13 @@ ghost use Rattle.expr_uncompute.specs.Code.{exch as exch_cell, words as words_of
 ghost use Rattle.expr_uncompute.specs.Promises.{UpdateLaw, SwapLaw};
 ghost use Rattle.expr_uncompute.specs.Sizes.{swap_size};
 ghost use Rattle.expr_uncompute.specs.Steps.{tokens, place_tokens};
-ghost use Rattle.method_scope.specs.Visible.{spot_of as spot_of_name, free_of, known_by};
+ghost use Rattle.code_scope.specs.Visible.{spot_of as spot_of_name, free_of, known_by};
 
 use crate::apart::both_apart;
 use crate::cells::{add, enclosed, exch, sub, xor};
 use crate::found::{AMOUNT, OTHER_PLACE, PLACE, both_places, found_value};
 use crate::rows::CONTENT;
-use method_scope::Names;
+use code_scope::Names;
 use paired_code::{Piece, seq};
 use rpp_tree::tree::{Expr, Place, UpdateOp};
 use rpp_words::NoMemory;

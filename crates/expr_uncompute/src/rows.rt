@@ -2,13 +2,13 @@
 ghost use Rattle.std.specs.Prelude.{◌≡◌, ◌≢◌, ◌<◌, ◌+◌, ◌^◌, [], ◌∷◌, ◌++◌, IfOk};
 ghost use Rattle.paired_code.specs.Code.{unmarked};
 ghost use Rattle.expr_uncompute.specs.Code.{sltx as sltx_cell, xori as xori_cell, base_of, reach_cells, copy_cells, store_cells, truth_cells as truth_of, operator_cells, operator_result, nil_check as nil_cells, index_check as index_cells, point_cells};
-ghost use Rattle.method_scope.specs.Visible.{offset_of};
+ghost use Rattle.code_scope.specs.Visible.{offset_of};
 
 use crate::cells::{add, addi, andx, enclosed, exch, orx, sltx, sub, xor, xori};
 use paired_code::{Piece, check_zero, empty, seq};
+use refine_form::Spot;
 use rpp_tree::tree::BinOp;
 use rpp_words::NoMemory;
-use statement_laws::Spot;
 use std::alloc::Global;
 
 /// The register that holds the address of the present object.

@@ -6,19 +6,19 @@ ghost use Rattle.expr_uncompute.specs.Code.{Target, words as words_of, place_wor
 ghost use Rattle.expr_uncompute.specs.Number.{read_of};
 ghost use Rattle.expr_uncompute.specs.Promises.{ValueLaw, TestLaw};
 ghost use Rattle.expr_uncompute.specs.Steps.{tokens};
-ghost use Rattle.method_scope.specs.Visible.{spot_of as spot_of_name, free_of, known_by};
+ghost use Rattle.code_scope.specs.Visible.{spot_of as spot_of_name, free_of, known_by};
 
 use crate::cells::{enclosed, exch, xor, xori};
 use crate::rows::{
     CONTENT, LEFT, RIGHT, copy, index_check, nil_check, operator, operator_register, point,
     reached, store, truth,
 };
-use method_scope::{Names, free_word, spot_of};
+use code_scope::{Names, free_word, spot_of};
 use paired_code::{Piece, empty, seq};
+use refine_form::Spot;
 use rpp_tree::Text;
 use rpp_tree::tree::{Expr, Place};
 use rpp_words::NoMemory;
-use statement_laws::Spot;
 use std::alloc::Global;
 
 /// An element.

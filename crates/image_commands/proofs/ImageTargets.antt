@@ -13,74 +13,87 @@ use Rattle.pisa_image.specs.Reading.{image_at}
 use Rattle.pisa_asm.specs.Passes.{noted_of_text}
 use Rattle.pisa_machine.specs.Position.{Position}
 use Rattle.pisa_isa.specs.Machine.{State}
-use Rattle.rpp_plan.specs.Plans.{Planned, WithState, WritesOnly}
-use Rattle.image_commands.specs.ImagePlans.{OfImage, IsAsmPlan, AssemblesFile, ListsFile, FlipsFile, RunsFile, IsListPlan, IsFlipPlan, IsRunPlan, IsSizedPlan, IsRanPlan, first_of, saved}
+use Rattle.command_plan.specs.Plans.{Planned, WritesOnly}
+use Rattle.image_commands.specs.ImagePlans.{OfImage, IsAsmPlan, AssemblesFile, ListsFile, FlipsFile, RunsFile}
+use Rattle.image_commands.specs.ImagePlans.{IsListPlan, IsFlipPlan, IsRunPlan, IsSizedPlan, IsRanPlan, first_of, saved}
 use Rattle.two_way_debugger.specs.declared.command.Command.{Command}
 use Rattle.two_way_debugger.specs.declared.error.ScriptError.{ScriptError}
 use Rattle.two_way_debugger.specs.declared.error.ScriptError.TheVariants.{BadCommand, NoMemory}
 use Rattle.two_way_debugger.specs.Scripts.{script_of}
 use Rattle.image_commands.specs.DebugPlans.{IsScriptPlan, IsRoomPlan, IsDebugPlan, DebugsFile}
-use Rattle.rpp_plan.proofs.Writes.{of_text, along}
+use Rattle.command_plan.proofs.Writes.{along}
 
-image_writes : (read : Result NotedImage ImageError) (P : NotedImage → Planned → Type 0) (name : Option (List ℕ)) (p : Planned) → ((n : NotedImage) (q : Planned) → P n q → WritesOnly q name) → OfImage P read p → WritesOnly p name
+image_writes : (read : Result NotedImage ImageError) (P : NotedImage → Planned → Type 0) (name : Option (List ℕ))
+    (p : Planned) → ((n : NotedImage) (q : Planned) → P n q → WritesOnly q name) → OfImage P read p → WritesOnly p name
 image_writes (Err e) P name p f h = along p _ name h (inl refl)
 image_writes (Ok image) P name p f h = f image p h
 
-asm_writes : (read : Result NotedImage AsmError) (name : List ℕ) (p : Planned) → IsAsmPlan read name p → WritesOnly p (Some name)
+asm_writes : (read : Result NotedImage AsmError) (name : List ℕ) (p : Planned) → IsAsmPlan read name p
+    → WritesOnly p (Some name)
 asm_writes (Err e) name p h = along p _ (Some name) h (inl refl)
 asm_writes (Ok image) name p h = along p _ (Some name) h (inr refl)
 
-list_writes : (read : Result NotedImage ImageError) (name : List ℕ) (p : Planned) → IsListPlan read name p → WritesOnly p (Some name)
+list_writes : (read : Result NotedImage ImageError) (name : List ℕ) (p : Planned) → IsListPlan read name p
+    → WritesOnly p (Some name)
 list_writes read name p h = image_writes read _ (Some name) p (λ image q k. along q _ (Some name) k (inr refl)) h
 
-flip_writes : (read : Result NotedImage ImageError) (name : List ℕ) (p : Planned) → IsFlipPlan read name p → WritesOnly p (Some name)
+flip_writes : (read : Result NotedImage ImageError) (name : List ℕ) (p : Planned) → IsFlipPlan read name p
+    → WritesOnly p (Some name)
 flip_writes read name p h = image_writes read _ (Some name) p (λ image q k. along q _ (Some name) k (inr refl)) h
 
 saved_name : (save : Option (List ℕ)) (last : State) → option_map (λ w. w.name) (saved save last) ≡ save
 saved_name None last = refl
 saved_name (Some name) last = refl
 
-ran_writes : (first : Result Position LoadError) (notes : NoteLists) (save : Option (List ℕ)) (steps : ℕ) (p : Planned) → IsRanPlan first notes save steps p → WritesOnly p save
+ran_writes : (first : Result Position LoadError) (notes : NoteLists) (save : Option (List ℕ)) (steps : ℕ) (p : Planned)
+    → IsRanPlan first notes save steps p → WritesOnly p save
 ran_writes (Err e) notes save steps p h = along p _ save h (inl refl)
 ran_writes (Ok first) notes save steps p h = along p _ save h (inr (saved_name save _))
 
-sized_writes : (refusal : Option LoadError) (n : NotedImage) (limits : Limits) (state save : Option (List ℕ)) (steps : ℕ) (p : Planned) → IsSizedPlan refusal n limits state save steps p → WritesOnly p save
+sized_writes : (refusal : Option LoadError) (n : NotedImage) (limits : Limits) (state save : Option (List ℕ))
+    (steps : ℕ) (p : Planned) → IsSizedPlan refusal n limits state save steps p → WritesOnly p save
 sized_writes (Some e) n limits state save steps p h = along p _ save h (inl refl)
 sized_writes None n limits state save steps p h = ran_writes (first_of n.image limits state) n.notes save steps p h
 
-run_writes : (read : Result NotedImage ImageError) (heap deep steps : ℕ) (state save : Option (List ℕ)) (p : Planned) → IsRunPlan read heap deep steps state save p → WritesOnly p save
-run_writes read heap deep steps state save p h = image_writes read _ save p (λ n q k. sized_writes _ n _ state save steps q k) h
+run_writes : (read : Result NotedImage ImageError) (heap deep steps : ℕ) (state save : Option (List ℕ)) (p : Planned)
+    → IsRunPlan read heap deep steps state save p → WritesOnly p save
+run_writes read heap deep steps state save p h = image_writes read _ save p
+    (λ n q k. sized_writes _ n _ state save steps q k) h
 
-of_state : (texts : Texts) (state : Option (List ℕ)) (read : Result NotedImage ImageError) (heap deep steps : ℕ) (save : Option (List ℕ)) (p : Planned) → WithState texts state (λ given. IsRunPlan read heap deep steps given save p) → WritesOnly p save
-of_state texts None read heap deep steps save p g = run_writes read heap deep steps None save p g
-of_state texts (Some name) read heap deep steps save p h = of_text (texts name) _ _ (WritesOnly p save) h (λ given g. run_writes read heap deep steps (Some given) save p g)
+pub assembles_file_writes : (text image : List ℕ) (told : Option Texts) (p : Planned) → AssemblesFile text image told p
+    → WritesOnly p (Some image)
+assembles_file_writes text image told p h = asm_writes (noted_of_text h.text) image p h.holds
 
-pub assembles_file_writes : (text image : List ℕ) (texts : Texts) (p : Planned) → AssemblesFile text image texts p → WritesOnly p (Some image)
-assembles_file_writes text image texts p h = of_text (texts text) _ _ (WritesOnly p (Some image)) h (λ bytes g. asm_writes (noted_of_text bytes) image p g)
+pub lists_file_writes : (image text : List ℕ) (told : Option Texts) (p : Planned) → ListsFile image text told p
+    → WritesOnly p (Some text)
+lists_file_writes image text told p h = list_writes (image_at h.text) text p h.holds
 
-pub lists_file_writes : (image text : List ℕ) (texts : Texts) (p : Planned) → ListsFile image text texts p → WritesOnly p (Some text)
-lists_file_writes image text texts p h = of_text (texts image) _ _ (WritesOnly p (Some text)) h (λ bytes g. list_writes (image_at bytes) text p g)
+pub flips_file_writes : (image flipped : List ℕ) (told : Option Texts) (p : Planned) → FlipsFile image flipped told p
+    → WritesOnly p (Some flipped)
+flips_file_writes image flipped told p h = flip_writes (image_at h.text) flipped p h.holds
 
-pub flips_file_writes : (image flipped : List ℕ) (texts : Texts) (p : Planned) → FlipsFile image flipped texts p → WritesOnly p (Some flipped)
-flips_file_writes image flipped texts p h = of_text (texts image) _ _ (WritesOnly p (Some flipped)) h (λ bytes g. flip_writes (image_at bytes) flipped p g)
+pub runs_file_writes : (image : List ℕ) (heap deep steps : ℕ) (state save : Option (List ℕ))
+    (told : Option Texts) (p : Planned) → RunsFile image heap deep steps state save told p → WritesOnly p save
+runs_file_writes image heap deep steps state save told p h =
+    run_writes (image_at h.text) heap deep steps h.holds.text save p h.holds.holds
 
-pub runs_file_writes : (image : List ℕ) (heap deep steps : ℕ) (state save : Option (List ℕ)) (texts : Texts) (p : Planned) → RunsFile image heap deep steps state save texts p → WritesOnly p save
-runs_file_writes image heap deep steps state save texts p h =
-    of_text (texts image) _ _ (WritesOnly p save) h (λ bytes g. of_state texts state (image_at bytes) heap deep steps save p g)
-
-script_writes : (read : Result (List Command) ScriptError) (image : Segments) (limits : Limits) (p : Planned) → IsScriptPlan read image limits p → WritesOnly p None
+script_writes : (read : Result (List Command) ScriptError) (image : Segments) (limits : Limits) (p : Planned)
+    → IsScriptPlan read image limits p → WritesOnly p None
 script_writes (Err (BadCommand line)) image limits p h = along p _ None h (inl refl)
 script_writes (Err NoMemory) image limits p h = absurd h
 script_writes (Ok commands) image limits p h = along p _ None h (inl refl)
 
-room_writes : (refusal : Option LoadError) (image : Segments) (limits : Limits) (script : List ℕ) (p : Planned) → IsRoomPlan refusal image limits script p → WritesOnly p None
+room_writes : (refusal : Option LoadError) (image : Segments) (limits : Limits) (script : List ℕ) (p : Planned)
+    → IsRoomPlan refusal image limits script p → WritesOnly p None
 room_writes (Some e) image limits script p h = along p _ None h (inl refl)
 room_writes None image limits script p h = script_writes (script_of script) image limits p h
 
-debug_writes : (read : Result NotedImage ImageError) (heap deep : ℕ) (script : List ℕ) (p : Planned) → IsDebugPlan read heap deep script p → WritesOnly p None
-debug_writes read heap deep script p h = image_writes read _ None p (λ image q k. room_writes _ image.image _ script q k) h
+debug_writes : (read : Result NotedImage ImageError) (heap deep : ℕ) (script : List ℕ) (p : Planned)
+    → IsDebugPlan read heap deep script p → WritesOnly p None
+debug_writes read heap deep script p h = image_writes read _ None p
+    (λ image q k. room_writes _ image.image _ script q k) h
 
-pub debugs_file_writes : (image : List ℕ) (heap deep : ℕ) (script : List ℕ) (texts : Texts) (p : Planned) → DebugsFile image heap deep script texts p → WritesOnly p None
-debugs_file_writes image heap deep script texts p h =
-    of_text (texts image) _ _ (WritesOnly p None) h
-    (λ bytes g. of_text (texts script) _ _ (WritesOnly p None) g (λ text k. debug_writes (image_at bytes) heap deep text p k))
+pub debugs_file_writes : (image : List ℕ) (heap deep : ℕ) (script : List ℕ) (told : Option Texts) (p : Planned)
+    → DebugsFile image heap deep script told p → WritesOnly p None
+debugs_file_writes image heap deep script told p h =
+    debug_writes (image_at h.text) heap deep h.holds.text p h.holds.holds

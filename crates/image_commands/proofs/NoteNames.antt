@@ -26,7 +26,8 @@ name_ascii [] is = IsAscii-nil
 name_ascii (first ∷ rest) is =
     let p = and_parts (is_ascii_alphabetic first) (list_all is_name_byte rest) is in
     IsAscii-cons first rest (letter_ascii first p.0)
-    (IsAscii-from_all rest (All-weaker (λ b. is_name_byte b ≡ true) (λ b. b < 128) byte_ascii rest (AllPass-from_list_all is_name_byte rest p.1)))
+    (IsAscii-from_all rest (All-weaker (λ b. is_name_byte b ≡ true) (λ b. b < 128) byte_ascii rest
+    (AllPass-from_list_all is_name_byte rest p.1)))
 
 all_ascii : (statics left : ℕ) (names : List FieldName) → names_fit statics left names ≡ true → All HasAsciiText names
 all_ascii statics left [] e = All-nil HasAsciiText

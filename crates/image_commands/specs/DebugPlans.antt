@@ -19,11 +19,11 @@ use Rattle.two_way_debugger.specs.declared.error.ScriptError.{ScriptError}
 use Rattle.two_way_debugger.specs.declared.error.ScriptError.TheVariants.{BadCommand, NoMemory}
 use Rattle.two_way_debugger.specs.Scripts.{script_of}
 use Rattle.two_way_debugger.specs.Shown.{shown}
-use Rattle.rpp_plan.specs.declared.reading.TheConstants.{MOST_IMAGE}
-use Rattle.rpp_plan.specs.declared.plan.Verdict.TheVariants.{Done, InputRefused}
-use Rattle.rpp_plan.specs.Files.{Needed}
-use Rattle.rpp_plan.specs.Plans.{Planned, prints, WithText}
-use Rattle.rpp_plan.specs.Texts.{load_line, bad_command_line}
+use Rattle.command_plan.specs.declared.reading.TheConstants.{MOST_IMAGE}
+use Rattle.command_plan.specs.declared.plan.Verdict.TheVariants.{Done, InputRefused}
+use Rattle.command_plan.specs.Files.{Needed}
+use Rattle.command_plan.specs.Plans.{Planned, prints, WithText}
+use Rattle.command_plan.specs.Texts.{load_line, bad_command_line}
 use Rattle.image_commands.specs.ImagePlans.{OfImage}
 
 abbrev pub script_file : List ℕ → Needed
@@ -37,7 +37,8 @@ followed image limits commands =
 
 -- the first line of the script that is no command is told, or its commands are followed
 abbrev pub IsScriptPlan : Result (List Command) ScriptError → Segments → Limits → Planned → Type 0
-IsScriptPlan (Err (BadCommand line)) image limits p = p ≡ prints InputRefused (bad_command_line line)
+IsScriptPlan (Err (BadCommand line)) image limits p =
+    p ≡ prints InputRefused (bad_command_line line)
 IsScriptPlan (Err NoMemory) image limits p = ⊥
 IsScriptPlan (Ok commands) image limits p = p ≡ followed image limits commands
 
@@ -53,8 +54,10 @@ IsDebugPlan read heap deep script p =
     (record { heap = heap; deep = deep }) script) read p
 
 -- the plan of `debug` of this file, by the script of another
-abbrev pub DebugsFile : (image : List ℕ) → (heap deep : ℕ) → (script : List ℕ) → Texts → Planned → Type 0
-DebugsFile image heap deep script texts p =
-    WithText texts image MOST_IMAGE
-    (λ bytes. WithText texts script MOST_SCRIPT
+abbrev pub DebugsFile : (image : List ℕ) → (heap deep : ℕ) → (script : List ℕ) → Option Texts
+    → Planned
+    → Type 0
+DebugsFile image heap deep script told p =
+    WithText told image MOST_IMAGE
+    (λ bytes. WithText told script MOST_SCRIPT
     (λ text. IsDebugPlan (image_at bytes) heap deep text p))

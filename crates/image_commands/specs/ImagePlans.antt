@@ -5,7 +5,7 @@ use Rattle.rpp_ports.specs.Ports.{Texts}
 use Rattle.pisa_image.specs.Reading.{image_at}
 use Rattle.pisa_asm.specs.declared.assembler.TheConstants.{MOST_TEXT}
 use Rattle.pisa_asm.specs.Passes.{noted_of_text}
-use Rattle.rpp_plan.specs.declared.reading.TheConstants.{MOST_IMAGE}
+use Rattle.command_plan.specs.declared.reading.TheConstants.{MOST_IMAGE}
 use Rattle.rpp_words.specs.declared.input.Limits.{Limits}
 use Rattle.pisa_isa.specs.declared.machine.Stop.{Stop}
 use Rattle.pisa_isa.specs.declared.machine.Stop.TheVariants.{Finished, Trap, Bound as AtBound}
@@ -19,15 +19,16 @@ use Rattle.pisa_isa.specs.Machine.{State as MachineState}
 use Rattle.pisa_isa.specs.Loaded.{loaded}
 use Rattle.pisa_isa.specs.Runs.{End, run, zero_registers}
 use Rattle.pisa_machine.specs.Position.{Position, first_position}
-use Rattle.rpp_plan.specs.Texts.{asm_line, image_line, load_line, cells_line}
+use Rattle.command_plan.specs.Texts.{asm_line, image_line, load_line, cells_line}
 use Rattle.image_commands.specs.RunTexts.{end_lines}
 use Rattle.pisa_loader.specs.Limiting.{limits_refusal, memory_size}
 use Rattle.pisa_loader.specs.States.{state_bytes, state_at, at_start, memory}
 use Rattle.pisa_loader.specs.declared.error.LoadError.{LoadError}
 use Rattle.rpp_words.specs.declared.input.TheConstants.{MOST_DEEP}
-use Rattle.rpp_plan.specs.declared.plan.Verdict.{Verdict}
-use Rattle.rpp_plan.specs.declared.plan.Verdict.TheVariants.{Done, ImageRefused, Trapped, Bound, InputRefused, Stopped}
-use Rattle.rpp_plan.specs.Plans.{Planned, Written, prints, writes, WithText, WithState}
+use Rattle.command_plan.specs.declared.plan.Verdict.{Verdict}
+use Rattle.command_plan.specs.declared.plan.Verdict.TheVariants.{Done, ImageRefused, Trapped, Bound}
+use Rattle.command_plan.specs.declared.plan.Verdict.TheVariants.{InputRefused, Stopped}
+use Rattle.command_plan.specs.Plans.{Planned, Written, prints, writes, WithText, WithState}
 
 -- the status of a stop
 abbrev pub verdict_of : Stop → Verdict
@@ -39,7 +40,10 @@ verdict_of _ = Stopped
 -- the state where a run ended is written, where a file is named for it
 abbrev pub saved : Option (List ℕ) → MachineState → Option Written
 saved None last = None
-saved (Some name) last = Some (record { name = name; bytes = state_bytes (memory last.regs last.cells) })
+saved (Some name) last = Some (record {
+  name = name;
+  bytes = state_bytes (memory last.regs last.cells);
+})
 
 abbrev pub ran : NoteLists → (save : Option (List ℕ)) → End → Planned
 ran notes save end = record {
@@ -49,13 +53,15 @@ ran notes save end = record {
 }
 
 -- the first refusal of an image file is told, or P holds of the image that was read
-abbrev pub OfImage : (P : NotedImage → Planned → Type 0) → Result NotedImage ImageError → Planned → Type 0
+abbrev pub OfImage : (P : NotedImage → Planned → Type 0) → Result NotedImage ImageError → Planned
+    → Type 0
 OfImage P (Err e) p = p ≡ prints ImageRefused (image_line e)
 OfImage P (Ok n) p = P n p
 
 -- where a run of an image begins: at the loaded memory, or at a state
 abbrev pub first_of : Segments → Limits → Option (List ℕ) → Result Position LoadError
-first_of image limits None = Ok (first_position image zero_registers (loaded image.statics limits []))
+first_of image limits None = Ok (first_position image zero_registers
+    (loaded image.statics limits []))
 first_of image limits (Some bytes) =
     at_start image (state_at (memory_size (length image.statics) limits) bytes)
 
@@ -63,7 +69,8 @@ first_of image limits (Some bytes) =
 abbrev pub IsRanPlan : Result Position LoadError → NoteLists → (save : Option (List ℕ)) (steps : ℕ)
     → Planned → Type 0
 IsRanPlan (Err e) notes save steps p = p ≡ prints ImageRefused (load_line e)
-IsRanPlan (Ok first) notes save steps p = p ≡ ran notes save (run first.image.code steps first.state)
+IsRanPlan (Ok first) notes save steps p = p ≡ ran notes save
+    (run first.image.code steps first.state)
 
 -- the size of the memory is tried before the state
 abbrev pub IsSizedPlan : Option LoadError → NotedImage → Limits
@@ -81,7 +88,8 @@ IsRunPlan read heap deep steps state save p =
 -- the image that an assembly text writes is written with its notes, or its first refusal is told
 abbrev pub IsAsmPlan : Result NotedImage AsmError → (name : List ℕ) → Planned → Type 0
 IsAsmPlan (Err e) name p = p ≡ prints ImageRefused (asm_line e)
-IsAsmPlan (Ok n) name p = p ≡ writes name (image_bytes n) (cells_line (codes "assembled") n.image.code)
+IsAsmPlan (Ok n) name p = p ≡ writes name (image_bytes n)
+    (cells_line (codes "assembled") n.image.code)
 
 -- the listing of an image that was read is written, with its notes
 abbrev pub IsListPlan : Result NotedImage ImageError → (name : List ℕ) → Planned → Type 0
@@ -95,24 +103,24 @@ IsFlipPlan read name p =
     (cells_line (codes "flipped") n.image.code)) read p
 
 -- the plan of `asm` of this file to that of an image
-abbrev pub AssemblesFile : (text image : List ℕ) → Texts → Planned → Type 0
-AssemblesFile text image texts p =
-    WithText texts text MOST_TEXT (λ bytes. IsAsmPlan (noted_of_text bytes) image p)
+abbrev pub AssemblesFile : (text image : List ℕ) → Option Texts → Planned → Type 0
+AssemblesFile text image told p =
+    WithText told text MOST_TEXT (λ bytes. IsAsmPlan (noted_of_text bytes) image p)
 
 -- the plan of `list` of this file to that of a text
-abbrev pub ListsFile : (image text : List ℕ) → Texts → Planned → Type 0
-ListsFile image text texts p =
-    WithText texts image MOST_IMAGE (λ bytes. IsListPlan (image_at bytes) text p)
+abbrev pub ListsFile : (image text : List ℕ) → Option Texts → Planned → Type 0
+ListsFile image text told p =
+    WithText told image MOST_IMAGE (λ bytes. IsListPlan (image_at bytes) text p)
 
 -- the plan of `flip` of this file to another
-abbrev pub FlipsFile : (image flipped : List ℕ) → Texts → Planned → Type 0
-FlipsFile image flipped texts p =
-    WithText texts image MOST_IMAGE (λ bytes. IsFlipPlan (image_at bytes) flipped p)
+abbrev pub FlipsFile : (image flipped : List ℕ) → Option Texts → Planned → Type 0
+FlipsFile image flipped told p =
+    WithText told image MOST_IMAGE (λ bytes. IsFlipPlan (image_at bytes) flipped p)
 
 -- the plan of `run` of this file, from a state where one is named, to one where it is to be saved
 abbrev pub RunsFile : (image : List ℕ) → (heap deep steps : ℕ) → (state save : Option (List ℕ))
-    → Texts → Planned → Type 0
-RunsFile image heap deep steps state save texts p =
-    WithText texts image MOST_IMAGE
-    (λ bytes. WithState texts state (λ given. IsRunPlan (image_at bytes) heap deep steps given
+    → Option Texts → Planned → Type 0
+RunsFile image heap deep steps state save told p =
+    WithText told image MOST_IMAGE
+    (λ bytes. WithState told state (λ given. IsRunPlan (image_at bytes) heap deep steps given
     save p))

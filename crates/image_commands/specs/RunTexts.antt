@@ -1,5 +1,6 @@
 -- What is printed of a run of an image.
-use Rattle.std.specs.Prelude.{ℕ, ◌-◌, ℤ, pos, int_le, int_lt, nat_lt, Bool, ◌&&◌, if◌then◌else◌, List, [], ◌∷◌, ◌++◌, None, Some, codes, slice_get}
+use Rattle.std.specs.Prelude.{ℕ, ◌-◌, ℤ, pos, int_le, int_lt, nat_lt, Bool, ◌&&◌, if◌then◌else◌}
+use Rattle.std.specs.Prelude.{List, [], ◌∷◌, ◌++◌, None, Some, codes, slice_get}
 use Rattle.std.specs.declared.option.Option.{Option}
 use Rattle.std.specs.Option.{unwrap_or}
 use Rattle.std.specs.Fmt.{decimal, signed_decimal}
@@ -9,9 +10,9 @@ use Rattle.pisa_isa.specs.declared.notes.Mark.{Mark}
 use Rattle.pisa_isa.specs.declared.notes.FieldName.{FieldName}
 use Rattle.pisa_isa.specs.Notes.{NoteLists}
 use Rattle.pisa_isa.specs.Runs.{End}
-use Rattle.machine_texts.specs.Stops.{stop_line}
-use Rattle.machine_texts.specs.Words.{word_shown, direction, register_lines}
-use Rattle.rpp_plan.specs.Texts.{steps_line}
+use Rattle.pisa_scripts.specs.Stops.{stop_line}
+use Rattle.pisa_scripts.specs.Words.{word_shown, direction, register_lines}
+use Rattle.command_plan.specs.Texts.{steps_line}
 
 -- a code place is one of the cells of a mark
 abbrev pub holds_place : (pc : ℤ) → Mark → Bool
@@ -61,6 +62,7 @@ place_lines pc br back =
 -- 0, and the names' words
 abbrev pub end_lines : NoteLists → End → List ℕ
 end_lines notes end =
-    ((((stop_line end.why ++ steps_line end.spent) ++ place_lines end.last.pc end.last.br end.last.back)
+    ((((stop_line end.why ++ steps_line end.spent)
+    ++ place_lines end.last.pc end.last.br end.last.back)
     ++ from_line (narrowest end.last.pc None notes.marks)) ++ register_lines 0 end.last.regs)
     ++ name_lines end.last.cells notes.names

@@ -7,17 +7,17 @@ ghost use Rattle.rpp_words.specs.declared.input.TheConstants.{MOST_DEEP};
 ghost use Rattle.two_way_debugger.specs.declared.script.TheConstants.{MOST_SCRIPT};
 ghost use Rattle.two_way_debugger.specs.Scripts.{script_of};
 ghost use Rattle.two_way_debugger.specs.Shown.{shown};
-ghost use Rattle.rpp_plan.specs.Files.{OnlyReads, image_file};
-ghost use Rattle.rpp_plan.specs.Plans.{planned, GivesPlan};
+ghost use Rattle.command_plan.specs.Files.{OnlyReads, image_file};
+ghost use Rattle.command_plan.specs.Plans.{planned, GivesPlan};
 ghost use Rattle.image_commands.specs.DebugPlans.{script_file, followed, IsScriptPlan, IsRoomPlan, IsDebugPlan, DebugsFile};
 
+use command_plan::{
+    MOST_IMAGE, NoPlan, Plan, Verdict, bad_command_line, image_line, load_line, read_both,
+};
 use pisa_image::{ImageError, read_image};
 use pisa_isa::Image;
 use pisa_loader::{check_limits, load};
 use pisa_machine::{Machine, Steps};
-use rpp_plan::{
-    MOST_IMAGE, NoPlan, Plan, Verdict, bad_command_line, image_line, load_line, read_both,
-};
 use rpp_ports::Shelf;
 use rpp_words::{Input, Limits, MOST_DEEP, NoMemory};
 use std::alloc::Global;

@@ -4,17 +4,17 @@ ghost use Rattle.pisa_isa.specs.Notes.{flipped_noted};
 ghost use Rattle.pisa_image.specs.Reading.{image_at};
 ghost use Rattle.pisa_asm.specs.declared.assembler.TheConstants.{MOST_TEXT};
 ghost use Rattle.pisa_asm.specs.Passes.{noted_of_text};
-ghost use Rattle.rpp_plan.specs.Plans.{planned, GivesPlan};
+ghost use Rattle.command_plan.specs.Plans.{planned, GivesPlan};
 ghost use Rattle.image_commands.specs.ImagePlans.{IsAsmPlan, IsListPlan, IsFlipPlan, AssemblesFile, ListsFile, FlipsFile};
-ghost use Rattle.rpp_plan.specs.declared.reading.TheConstants.{MOST_IMAGE};
-ghost use Rattle.rpp_plan.specs.Files.{OnlyReads, assembly, image_file};
+ghost use Rattle.command_plan.specs.declared.reading.TheConstants.{MOST_IMAGE};
+ghost use Rattle.command_plan.specs.Files.{OnlyReads, assembly, image_file};
 
+use command_plan::{
+    MOST_IMAGE, NoPlan, Plan, Verdict, asm_line, cells_line, image_line, read_file, write_as,
+};
 use pisa_asm::{AsmError, MOST_TEXT, assemble};
 use pisa_image::{ImageError, read_image, write_image};
 use pisa_isa::Noted;
-use rpp_plan::{
-    MOST_IMAGE, NoPlan, Plan, Verdict, asm_line, cells_line, image_line, read_file, write_as,
-};
 use rpp_ports::Shelf;
 use rpp_words::NoMemory;
 use std::alloc::Global;

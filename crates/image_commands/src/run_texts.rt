@@ -5,9 +5,9 @@ ghost use Rattle.std.specs.Option.{unwrap_or};
 ghost use Rattle.std.specs.Prelude.{slice_get};
 ghost use Rattle.image_commands.specs.RunTexts.{holds_place, narrower as narrower_of, narrowed as narrowed_of, narrowest as narrowest_of, width as width_of, from_line, name_line, name_lines, HasAsciiText, place_lines, end_lines as lines_of_end};
 
-use machine_texts::{add_registers, add_stop, direction};
 use pisa_isa::{Core, FieldName, Mark, Notes};
 use pisa_machine::{Machine, RunEnd};
+use pisa_scripts::{add_registers, add_stop, direction};
 use std::alloc::{AllocError, Global};
 
 /// What is printed of a run: why it ended, its steps, where the machine stands, and what is noted there.

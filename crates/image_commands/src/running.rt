@@ -5,20 +5,20 @@ ghost use Rattle.pisa_image.specs.Reading.{image_at};
 ghost use Rattle.pisa_loader.specs.Limiting.{limits_refusal};
 ghost use Rattle.pisa_loader.specs.States.{Gives};
 ghost use Rattle.rpp_words.specs.Limits.{IsLimits};
-ghost use Rattle.rpp_plan.specs.declared.reading.TheConstants.{MOST_IMAGE};
-ghost use Rattle.rpp_plan.specs.Files.{state_of_names, save_of_names, OnlyReads, image_file, state_files};
-ghost use Rattle.rpp_plan.specs.Plans.{planned, written, GivesPlan};
+ghost use Rattle.command_plan.specs.declared.reading.TheConstants.{MOST_IMAGE};
+ghost use Rattle.command_plan.specs.Files.{state_of_names, save_of_names, OnlyReads, image_file, state_files};
+ghost use Rattle.command_plan.specs.Plans.{planned, written, GivesPlan};
 ghost use Rattle.image_commands.specs.ImagePlans.{first_of, saved as saved_state, ran as ran_plan, verdict_of as verdict_of_stop, IsRunPlan, IsSizedPlan, IsRanPlan, RunsFile};
 ghost use Rattle.image_commands.specs.RunTexts.{HasAsciiText};
 
 use crate::run_texts::end_lines;
+use command_plan::{
+    NoPlan, Plan, Sizes, StateNames, Verdict, Writing, image_line, load_line, read_images,
+};
 use pisa_image::{ImageError, read_image};
 use pisa_isa::{Image, Noted, Notes, Stop};
 use pisa_loader::{LoadError, check_limits, load, load_state, save_state};
 use pisa_machine::{Machine, RunEnd, Steps};
-use rpp_plan::{
-    NoPlan, Plan, Sizes, StateNames, Verdict, Writing, image_line, load_line, read_images,
-};
 use rpp_ports::Shelf;
 use rpp_words::{Input, Limits, MOST_DEEP, NoMemory};
 use std::alloc::Global;

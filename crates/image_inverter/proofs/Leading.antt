@@ -22,8 +22,11 @@ leads_back image i n from to s leads =
     flipped_run_restores code n from.regs from.cells n i.is_code i.one_start i.one_finish s leads.clean (omega arith) in
     record {
       clean = subst (λ (m : Memory). IsCleanFinish (flipped code) n (begun (flipped code) m)) leads.ends back.clean;
-      steps = subst (λ (m : Memory). (run (flipped code) n (begun (flipped code) m)).spent ≡ n) leads.ends (back.in_as_many ∙ leads.steps);
-      ends = subst (λ (m : Memory). memory_of (run (flipped code) n (begun (flipped code) m)).last ≡ from) leads.ends (same_memory (run (flipped code) n (started (flipped code) (run code n (begun code from)).last.regs (run code n (begun code from)).last.cells)).last from back.registers back.memory);
+      steps = subst (λ (m : Memory). (run (flipped code) n (begun (flipped code) m)).spent ≡ n) leads.ends
+          (back.in_as_many ∙ leads.steps);
+      ends = subst (λ (m : Memory). memory_of (run (flipped code) n (begun (flipped code) m)).last ≡ from) leads.ends
+          (same_memory (run (flipped code) n (started (flipped code) (run code n (begun code from)).last.regs
+          (run code n (begun code from)).last.cells)).last from back.registers back.memory);
     }
 
 -- the inverse cells in reverse order are the reversed cells' inverses

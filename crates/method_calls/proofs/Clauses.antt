@@ -1,5 +1,6 @@
 -- The laws as contracts state them.
-use Rattle.std.proofs.Common.{◌≡◌, ℕ, suc, ◌+◌, ◌*◌, ◌≤◌, Bool, false, List, [], ◌∷◌, ◌++◌, length, map, refl, sym, ap, ◌∙◌, subst, arith, length-append}
+use Rattle.std.proofs.Common.{◌≡◌, ℕ, suc, ◌+◌, ◌*◌, ◌≤◌, Bool, false, List, [], ◌∷◌, ◌++◌, length, map, refl, sym, ap}
+use Rattle.std.proofs.Common.{◌∙◌, subst, arith, length-append}
 use Rattle.std.specs.Prelude.{None, Some}
 use Rattle.std.proofs.lemmas.List.{length-map}
 use Rattle.rpp_tree.specs.declared.tree.Ident.{Ident}
@@ -14,13 +15,16 @@ use Rattle.pisa_isa.specs.Loaded.{loaded}
 use Rattle.roopl_semantics.specs.Execution.{exec}
 use Rattle.roopl_semantics.specs.Source.{starting, main_body}
 use Rattle.roopl_semantics.specs.Layout.{layout}
-use Rattle.statement_laws.specs.declared.spot.Spot.{Spot}
-use Rattle.statement_laws.specs.declared.spot.Spot.TheVariants.{Field, Frame}
-use Rattle.statement_laws.specs.Cells.{around}
-use Rattle.statement_laws.specs.Form.{World, Scope, StmtLaw, told}
-use Rattle.statement_laws.specs.Stands.{spot_in}
-use Rattle.statement_laws.specs.Worlds.{world_of, rates_of}
-use Rattle.method_calls.specs.CallCode.{addi, fetch_row, depth_code, moves_code, move_code, moves_of, last_cells, behind_of, checked_of, front_on_of, call_code, call_on_code, own_cells, nil_code, take_code, onto_code, method_code, main_code, main_cells, local_open, local_code, save_row, spot_row, exch}
+use Rattle.refine_form.specs.declared.spot.Spot.{Spot}
+use Rattle.refine_form.specs.declared.spot.Spot.TheVariants.{Field, Frame}
+use Rattle.refine_form.specs.Cells.{around}
+use Rattle.refine_form.specs.Form.{World, Scope, StmtLaw, told}
+use Rattle.refine_form.specs.Stands.{spot_in}
+use Rattle.refine_form.specs.Worlds.{world_of, rates_of}
+use Rattle.method_calls.specs.CallCode.{addi, fetch_row, depth_code, moves_code, move_code, moves_of, last_cells}
+use Rattle.method_calls.specs.CallCode.{behind_of, checked_of, front_on_of, call_code, call_on_code, own_cells}
+use Rattle.method_calls.specs.CallCode.{nil_code, take_code, onto_code, method_code, main_code, main_cells, local_open}
+use Rattle.method_calls.specs.CallCode.{local_code, save_row, spot_row, exch}
 use Rattle.method_calls.specs.Facts.{Known, FrameFacts}
 use Rattle.method_calls.specs.Names.{known_of, receivers_of, slot_of}
 use Rattle.method_calls.specs.Laws.{LocalCode, OwnCallCode, CallOnCode, MethodCode, MainCode, AreVariables, quiet}
@@ -39,30 +43,42 @@ some_counts n = omega arith
 
 moves_same : (spot : Ident → Spot) (args : List Ident) → moves_code spot args ≡ moves_of (map spot args)
 moves_same spot [] = refl
-moves_same spot (x ∷ args) = ap (λ z. z ++ move_code (spot x) (length args)) (moves_same spot args) ∙ ap (λ n. moves_of (map spot args) ++ move_code (spot x) n) (sym (length-map args spot))
+moves_same spot (x ∷ args) = ap (λ z. z ++ move_code (spot x) (length args)) (moves_same spot args)
+    ∙ ap (λ n. moves_of (map spot args) ++ move_code (spot x) n) (sym (length-map args spot))
 
-own_same : (spot : Ident → Spot) (back : Bool) (slot : ℕ) (args : List Ident) → call_code spot back slot args ≡ own_cells back slot (map spot args)
+own_same : (spot : Ident → Spot) (back : Bool) (slot : ℕ) (args : List Ident)
+    → call_code spot back slot args ≡ own_cells back slot (map spot args)
 unfolding last_cells own_cells
-own_same spot back slot args = ap (λ z. around (depth_code ++ (z ++ line (addi 4 512 ∷ fetch_row slot))) (enter_at_cells 12 back)) (moves_same spot args)
+own_same spot back slot args = ap (λ z. around (depth_code ++ (z ++ line (addi 4 512 ∷ fetch_row slot)))
+    (enter_at_cells 12 back)) (moves_same spot args)
 
-on_same : (spot : Ident → Spot) (back : Bool) (x : Ident) (slot : ℕ) (args : List Ident) → call_on_code spot back x slot args ≡ around (front_on_of (spot x) slot (map spot args)) (enter_at_cells 12 back)
+on_same : (spot : Ident → Spot) (back : Bool) (x : Ident) (slot : ℕ) (args : List Ident)
+    → call_on_code spot back x slot args ≡ around (front_on_of (spot x) slot (map spot args)) (enter_at_cells 12 back)
 unfolding last_cells behind_of checked_of front_on_of
-on_same spot back x slot args = ap (λ z. around (nil_code (spot x) ++ (depth_code ++ (z ++ (take_code (spot x) ++ (onto_code ++ line (addi 4 512 ∷ fetch_row slot)))))) (enter_at_cells 12 back)) (moves_same spot args)
+on_same spot back x slot args = ap (λ z. around (nil_code (spot x)
+    ++ (depth_code ++ (z ++ (take_code (spot x) ++ (onto_code ++ line (addi 4 512 ∷ fetch_row slot))))))
+    (enter_at_cells 12 back)) (moves_same spot args)
 
 -- ---- laws
 
-variables_are : (w : World) (knows : Known w) (f : FrameFacts w knows) (s : Scope) (u : w.Under) (names : List Ident) → AreVariables w knows s names → AllVariables w knows f s u names
+variables_are : (w : World) (knows : Known w) (f : FrameFacts w knows) (s : Scope) (u : w.Under) (names : List Ident)
+    → AreVariables w knows s names → AllVariables w knows f s u names
 variables_are w knows f s u [] h = tt
 variables_are w knows f s u (x ∷ names) h = (h.0, variables_are w knows f s u names h.1)
 
 pub local_clause : (word : ℕ) (v p x : List Symbol) → LocalCode word v p x (local_code word v p x)
 local_clause word v p x = record {
   law = λ place s at var value body end_var end_value f word_is named iv ie hv he hb.
-      subst (λ z. StmtLaw (world_of place) s (Local at var value body end_var end_value) (local_code z v p x)) word_is (local_law (world_of place) _ f refl (some_counts _) s at var value body end_var end_value named v p x hv he hb iv ie);
+      subst (λ z. StmtLaw (world_of place) s (Local at var value body end_var end_value) (local_code z v p x)) word_is
+      (local_law (world_of place) _ f refl (some_counts _) s at var value body end_var end_value named v p x hv he
+      hb iv ie);
   construct = λ place s at class var body end f word_is is hv hx hb.
-      subst (λ z. StmtLaw (world_of place) s (Construct at class var.name body end) (local_code z v p x)) word_is (construct_law (world_of place) _ f refl (some_counts _) s at class var body end v p x hv hx hb is);
+      subst (λ z. StmtLaw (world_of place) s (Construct at class var.name body end) (local_code z v p x)) word_is
+      (construct_law (world_of place) _ f refl (some_counts _) s at class var body end v p x hv hx hb is);
   element = λ place s at back array index method args var f word_is named is hv hx hb.
-      subst (λ z. StmtLaw (world_of place) s (Call at back (Some (Item array index)) method args) (local_code z v p x)) word_is (element_call_law (world_of place) _ f refl (some_counts _) s at back array index method args var v p x named hv hx hb is);
+      subst (λ z. StmtLaw (world_of place) s (Call at back (Some (Item array index)) method args) (local_code z v p x))
+      word_is (element_call_law (world_of place) _ f refl (some_counts _) s at back array index method args var v p
+      x named hv hx hb is);
 }
 
 pub own_clause : (back : Bool) (slot : ℕ) (spots : List Spot) → OwnCallCode back slot spots (own_cells back slot spots)
@@ -71,29 +87,44 @@ own_clause back slot spots = record {
       let w = world_of place in
       let knows = known_of place routine in
       let spot = spot_in place.setting.program s in
-      let law = call_law w knows f s at back name args is is.few (λ u. variables_are w knows f s u args vars) (moves_alike w knows f s args apart) in
-      subst (λ z. StmtLaw w s (Call at back None name args) z) (own_same spot back (slot_of place.setting.program s.class name) args ∙ ap (λ k. own_cells back k (map spot args)) slot_is ∙ ap (own_cells back slot) spots_are) law;
+      let law = call_law w knows f s at back name args is is.few (λ u. variables_are w knows f s u args vars)
+      (moves_alike w knows f s args apart) in
+      subst (λ z. StmtLaw w s (Call at back None name args) z)
+      (own_same spot back (slot_of place.setting.program s.class name) args
+      ∙ ap (λ k. own_cells back k (map spot args)) slot_is ∙ ap (own_cells back slot) spots_are) law;
 }
 
-pub on_clause : (back : Bool) (spot : Spot) (slot : ℕ) (spots : List Spot) → CallOnCode back spot slot spots (around (front_on_of spot slot spots) (enter_at_cells 12 back))
+pub on_clause : (back : Bool) (spot : Spot) (slot : ℕ) (spots : List Spot)
+    → CallOnCode back spot slot spots (around (front_on_of spot slot spots) (enter_at_cells 12 back))
 on_clause back sp slot spots = record {
   law = λ place routine s at x name args f g is slot_is vars spot_is spots_are apart.
       let w = world_of place in
       let knows = known_of place routine in
       let on = receivers_of place in
       let spot = spot_in place.setting.program s in
-      let law = call_on_law w knows f on g s at back x name args is is.method.few (λ u. variables_are w knows f s u args vars) apart in
-      subst (λ z. StmtLaw w s (Call at back (Some (Whole x)) name args) z) (on_same spot back x (on.slot_on s x name) args ∙ ap (λ k. around (front_on_of (spot x) k (map spot args)) (enter_at_cells 12 back)) slot_is ∙ ap (λ k. around (front_on_of k slot (map spot args)) (enter_at_cells 12 back)) spot_is ∙ ap (λ k. around (front_on_of sp slot k) (enter_at_cells 12 back)) spots_are) law;
+      let law = call_on_law w knows f on g s at back x name args is is.method.few
+      (λ u. variables_are w knows f s u args vars) apart in
+      subst (λ z. StmtLaw w s (Call at back (Some (Whole x)) name args) z)
+      (on_same spot back x (on.slot_on s x name) args ∙ ap
+      (λ k. around (front_on_of (spot x) k (map spot args)) (enter_at_cells 12 back)) slot_is
+      ∙ ap (λ k. around (front_on_of k slot (map spot args)) (enter_at_cells 12 back)) spot_is
+      ∙ ap (λ k. around (front_on_of sp slot k) (enter_at_cells 12 back)) spots_are) law;
 }
 
 pub method_clause : (p : List Symbol) → MethodCode p (method_code p)
-method_clause p = record { law = λ place routine s method f hp. method_law (world_of place) (known_of place routine) f s method p hp }
+method_clause p = record {
+  law = λ place routine s method f hp. method_law (world_of place) (known_of place routine) f s
+      method p hp;
+}
 
 pub main_clause : (number : ℕ) → MainCode number (main_cells number)
 unfolding main_cells
 main_clause number = record {
   law = λ place routine input f main is laws n.
-      subst (λ k. Will place.im (main_code k) false (quiet (loaded place.statics place.setting.limits input)) (Meets (λ st m. m ≡ quiet (layout place.setting.program place.setting.limits place.statics st.store st.log)) (rates_of place.setting) n 900 (told (exec place.setting n (main_body place.setting.program) (starting place.setting.program input))))) is
+      subst (λ k. Will place.im (main_code k) false (quiet (loaded place.statics place.setting.limits input))
+      (Meets (λ st m. m ≡ quiet (layout place.setting.program place.setting.limits place.statics st.store st.log))
+      (rates_of place.setting) n 900 (told (exec place.setting n (main_body place.setting.program)
+      (starting place.setting.program input))))) is
       (main_does (world_of place) (known_of place routine) f place.statics input main laws n);
 }
 
@@ -104,7 +135,9 @@ sum_around w m n k h g = omega arith
 
 around_length : (w mid : List Symbol) → length (around w mid) ≡ 2 * length w + length mid
 around_length w mid =
-    sum_around (length w) (length mid) (length (around w mid)) (length (mid ++ mirror_cells w)) (length-append w (mid ++ mirror_cells w)) (length-append mid (mirror_cells w) ∙ ap (λ n. length mid + n) (length_mirror w))
+    sum_around (length w) (length mid) (length (around w mid)) (length (mid ++ mirror_cells w))
+    (length-append w (mid ++ mirror_cells w)) (length-append mid (mirror_cells w)
+    ∙ ap (λ n. length mid + n) (length_mirror w))
 
 move_length : (spot : Spot) (j : ℕ) → length (move_code spot j) ≡ 15
 move_length (Field i) j = refl
@@ -115,7 +148,9 @@ sum_moves n k m h g = omega arith
 
 moves_length : (spots : List Spot) → length (moves_of spots) ≡ 15 * length spots
 moves_length [] = refl
-moves_length (spot ∷ spots) = sum_moves (length (moves_of spots)) (length spots) (length (moves_of (spot ∷ spots))) (length-append (moves_of spots) (move_code spot (length spots)) ∙ ap (λ n. length (moves_of spots) + n) (move_length spot (length spots))) (moves_length spots)
+moves_length (spot ∷ spots) = sum_moves (length (moves_of spots)) (length spots) (length (moves_of (spot ∷ spots)))
+    (length-append (moves_of spots) (move_code spot (length spots))
+    ∙ ap (λ n. length (moves_of spots) + n) (move_length spot (length spots))) (moves_length spots)
 
 last_length : (slot : ℕ) → length (last_cells slot) ≡ 14
 unfolding last_cells
@@ -124,12 +159,16 @@ last_length slot = refl
 sum_own : (k n1 n2 n3 n4 : ℕ) → n1 ≡ 23 + n2 → n2 ≡ n3 + 14 → n3 ≡ 15 * k → n4 ≡ 2 * n1 + 7 → n4 ≡ 30 * k + 81
 sum_own k n1 n2 n3 n4 a b c d = omega arith
 
-pub own_length : (back : Bool) (slot : ℕ) (spots : List Spot) → length (own_cells back slot spots) ≡ 30 * length spots + 81
+pub own_length : (back : Bool) (slot : ℕ) (spots : List Spot)
+    → length (own_cells back slot spots) ≡ 30 * length spots + 81
 unfolding own_cells
 own_length back slot spots =
     let front = depth_code ++ (moves_of spots ++ last_cells slot) in
-    sum_own (length spots) (length front) (length (moves_of spots ++ last_cells slot)) (length (moves_of spots)) (length (own_cells back slot spots))
-    (length-append depth_code (moves_of spots ++ last_cells slot)) (length-append (moves_of spots) (last_cells slot) ∙ ap (λ n. length (moves_of spots) + n) (last_length slot)) (moves_length spots)
+    sum_own (length spots) (length front) (length (moves_of spots ++ last_cells slot)) (length (moves_of spots))
+    (length (own_cells back slot spots))
+    (length-append depth_code (moves_of spots ++ last_cells slot))
+    (length-append (moves_of spots) (last_cells slot) ∙ ap (λ n. length (moves_of spots) + n) (last_length slot))
+    (moves_length spots)
     (around_length front (enter_at_cells 12 back))
 
 behind_length : (spot : Spot) (slot : ℕ) → length (behind_of spot slot) ≡ 31
@@ -144,22 +183,32 @@ nil_length (Frame i) = refl
 sum_checked : (k n1 n2 n3 : ℕ) → n1 ≡ 23 + n2 → n2 ≡ n3 + 31 → n3 ≡ 15 * k → n1 ≡ 15 * k + 54
 sum_checked k n1 n2 n3 a b c = omega arith
 
-checked_length : (spot : Spot) (slot : ℕ) (spots : List Spot) → length (checked_of spot slot spots) ≡ 15 * length spots + 54
+checked_length : (spot : Spot) (slot : ℕ) (spots : List Spot)
+    → length (checked_of spot slot spots) ≡ 15 * length spots + 54
 unfolding checked_of
 checked_length spot slot spots =
-    sum_checked (length spots) (length (depth_code ++ (moves_of spots ++ behind_of spot slot))) (length (moves_of spots ++ behind_of spot slot)) (length (moves_of spots))
-    (length-append depth_code (moves_of spots ++ behind_of spot slot)) (length-append (moves_of spots) (behind_of spot slot) ∙ ap (λ n. length (moves_of spots) + n) (behind_length spot slot)) (moves_length spots)
+    sum_checked (length spots) (length (depth_code ++ (moves_of spots ++ behind_of spot slot)))
+    (length (moves_of spots ++ behind_of spot slot)) (length (moves_of spots))
+    (length-append depth_code (moves_of spots ++ behind_of spot slot))
+    (length-append (moves_of spots) (behind_of spot slot)
+    ∙ ap (λ n. length (moves_of spots) + n) (behind_length spot slot)) (moves_length spots)
 
-front_length : (spot : Spot) (slot : ℕ) (spots : List Spot) → length (front_on_of spot slot spots) ≡ 23 + (15 * length spots + 54)
+front_length : (spot : Spot) (slot : ℕ) (spots : List Spot)
+    → length (front_on_of spot slot spots) ≡ 23 + (15 * length spots + 54)
 unfolding front_on_of
-front_length spot slot spots = length-append (nil_code spot) (checked_of spot slot spots) ∙ ap (λ n. n + length (checked_of spot slot spots)) (nil_length spot) ∙ ap (λ n. 23 + n) (checked_length spot slot spots)
+front_length spot slot spots = length-append (nil_code spot) (checked_of spot slot spots)
+    ∙ ap (λ n. n + length (checked_of spot slot spots)) (nil_length spot)
+    ∙ ap (λ n. 23 + n) (checked_length spot slot spots)
 
 sum_on : (k n1 n4 : ℕ) → n1 ≡ 23 + (15 * k + 54) → n4 ≡ 2 * n1 + 7 → n4 ≡ 30 * k + 161
 sum_on k n1 n4 a d = omega arith
 
-pub on_length : (back : Bool) (spot : Spot) (slot : ℕ) (spots : List Spot) → length (around (front_on_of spot slot spots) (enter_at_cells 12 back)) ≡ 30 * length spots + 161
+pub on_length : (back : Bool) (spot : Spot) (slot : ℕ) (spots : List Spot)
+    → length (around (front_on_of spot slot spots) (enter_at_cells 12 back)) ≡ 30 * length spots + 161
 on_length back spot slot spots =
-    sum_on (length spots) (length (front_on_of spot slot spots)) (length (around (front_on_of spot slot spots) (enter_at_cells 12 back))) (front_length spot slot spots) (around_length (front_on_of spot slot spots) (enter_at_cells 12 back))
+    sum_on (length spots) (length (front_on_of spot slot spots))
+    (length (around (front_on_of spot slot spots) (enter_at_cells 12 back))) (front_length spot slot spots)
+    (around_length (front_on_of spot slot spots) (enter_at_cells 12 back))
 
 sum_method : (p n : ℕ) → n ≡ 2 * 4 + p → n ≡ p + 8
 sum_method p n h = omega arith
@@ -177,13 +226,18 @@ sum_open v n k h g = omega arith
 open_length : (word : ℕ) (v : List Symbol) → length (local_open word v) ≡ length v + 10
 open_length word v =
     let store = around (line (spot_row (Frame word))) (line (exch 12 5 ∷ [])) in
-    sum_open (length v) (length (local_open word v)) (length (v ++ store)) (length-append (check_cells 12 3) (v ++ store)) (length-append v store)
+    sum_open (length v) (length (local_open word v)) (length (v ++ store))
+    (length-append (check_cells 12 3) (v ++ store)) (length-append v store)
 
-sum_local : (v p x n1 n2 n3 n4 n5 : ℕ) → n5 ≡ n1 + n2 → n2 ≡ p + n3 → n3 ≡ n4 → n1 ≡ v + 10 → n4 ≡ x + 10 → n5 ≡ v + p + x + 20
+sum_local : (v p x n1 n2 n3 n4 n5 : ℕ) → n5 ≡ n1 + n2 → n2 ≡ p + n3 → n3 ≡ n4 → n1 ≡ v + 10 → n4 ≡ x + 10
+    → n5 ≡ v + p + x + 20
 sum_local v p x n1 n2 n3 n4 n5 a b c d e = omega arith
 
-pub local_length : (word : ℕ) (v p x : List Symbol) → length (local_code word v p x) ≡ length v + length p + length x + 20
+pub local_length : (word : ℕ) (v p x : List Symbol) → length (local_code word v p x)
+    ≡ length v + length p + length x + 20
 local_length word v p x =
     let last = mirror_cells (local_open word x) in
-    sum_local (length v) (length p) (length x) (length (local_open word v)) (length (p ++ last)) (length last) (length (local_open word x)) (length (local_code word v p x))
-    (length-append (local_open word v) (p ++ last)) (length-append p last) (length_mirror (local_open word x)) (open_length word v) (open_length word x)
+    sum_local (length v) (length p) (length x) (length (local_open word v)) (length (p ++ last)) (length last)
+    (length (local_open word x)) (length (local_code word v p x))
+    (length-append (local_open word v) (p ++ last)) (length-append p last) (length_mirror (local_open word x))
+    (open_length word v) (open_length word x)

@@ -1,5 +1,6 @@
 -- The check of the depth, the place of a method, and what a body puts by.
-use Rattle.std.proofs.Common.{◌≡◌, ℕ, ◌+◌, ◌-◌, ◌^◌, ◌<◌, ◌≤◌, Bool, true, false, List, [], ◌∷◌, length, refl, sym, ap, ◌∙◌, arith}
+use Rattle.std.proofs.Common.{◌≡◌, ℕ, ◌+◌, ◌-◌, ◌^◌, ◌<◌, ◌≤◌, Bool, true, false, List, [], ◌∷◌, length, refl, sym, ap}
+use Rattle.std.proofs.Common.{◌∙◌, arith}
 use Rattle.std.specs.Prelude.{not, nat_lt, slice_index, slice_set, bit_xor, int_lt, pos, if◌then◌else◌}
 use Rattle.std.proofs.lemmas.List.{get_or-set_same, get_or-set_other, set-get_or}
 use Rattle.std.proofs.Math.ListN.{length-set}
@@ -15,9 +16,9 @@ use Rattle.paired_code.proofs.Laws.{will_of}
 use Rattle.paired_code.proofs.Call.{set_set}
 use Rattle.paired_code.proofs.Small.{runs_check_zero, runs_check_other}
 use Rattle.method_calls.specs.CallCode.{add, sub, addi, xori, sltx, exch, depth_row, depth_code, fetch_row, save_row}
-use Rattle.statement_laws.proofs.Rows.{Ran, here, next, will_row}
+use Rattle.refine_form.proofs.Rows.{Ran, here, next, will_row}
 use Rattle.method_calls.proofs.Addresses.{mk, difference_is, less_is}
-use Rattle.statement_laws.proofs.Rules.{will_in, will_in_trap}
+use Rattle.refine_form.proofs.Rules.{will_in, will_in_trap}
 use Rattle.paired_code.specs.Rows.{line}
 use Rattle.method_calls.proofs.Exchanges.{exchanges}
 
@@ -46,7 +47,8 @@ above_zero v p h = ap (int_lt (pos 0)) (signed_small v h) ∙ grind (arith, nat_
 
 -- ---- the depth
 
-module _ (im : Image) (ob fr : ℕ) (cs : List ℕ) (inside : 4 < length cs) (small : slice_index cs 4 < 2 ^ 31) (fits : fr + 512 ≤ slice_index cs 4) where
+module _ (im : Image) (ob fr : ℕ) (cs : List ℕ) (inside : 4 < length cs) (small : slice_index cs 4 < 2 ^ 31)
+    (fits : fr + 512 ≤ slice_index cs 4) where
   abbrev end : ℕ
   end = slice_index cs 4
 
@@ -60,37 +62,53 @@ module _ (im : Image) (ob fr : ℕ) (cs : List ℕ) (inside : 4 < length cs) (sm
   depth_mem a b c g l = mk 0 ob fr a b c g 0 l
 
   -- what the line leaves in the flag
-  finds_depth : (t : Bool) (x y : ℕ) → is_less 0 left ≡ t → bit_xor 0 (word_of t) ≡ x → bit_xor x 1 ≡ y → Ran false depth_row 9 (depth_mem 0 0 0 0 cs) (depth_mem 0 0 left y cs)
+  finds_depth : (t : Bool) (x y : ℕ) → is_less 0 left ≡ t → bit_xor 0 (word_of t) ≡ x → bit_xor x 1 ≡ y
+      → Ran false depth_row 9 (depth_mem 0 0 0 0 cs) (depth_mem 0 0 left y cs)
   finds_depth t x y e ex ey =
       let l1 : 4 < length gone = omega (arith, length-set cs 4 0) in
       next refl (omega arith) refl
       (next refl (omega arith) (exchanges false 6 5 (depth_mem 4 0 0 0 cs) inside)
-      (next refl (omega arith) (ap (λ v. Done (depth_mem 4 end v 0 gone) 1) (sum_is 0 end end (omega arith) (omega (arith, small))))
-      (next refl (omega arith) (exchanges false 6 5 (depth_mem 4 end end 0 gone) l1 ∙ ap (λ v. Done (depth_mem 4 v end 0 (slice_set gone 4 end)) 1) (emptied cs 4 inside) ∙ ap (λ l. Done (depth_mem 4 0 end 0 l) 1) (filled cs 4))
+      (next refl (omega arith) (ap (λ v. Done (depth_mem 4 end v 0 gone) 1)
+      (sum_is 0 end end (omega arith) (omega (arith, small))))
+      (next refl (omega arith) (exchanges false 6 5 (depth_mem 4 end end 0 gone) l1
+      ∙ ap (λ v. Done (depth_mem 4 v end 0 (slice_set gone 4 end)) 1) (emptied cs 4 inside)
+      ∙ ap (λ l. Done (depth_mem 4 0 end 0 l) 1) (filled cs 4))
       (next refl (omega arith) refl
-      (next refl (omega arith) (ap (λ v. Done (depth_mem 0 0 v 0 cs) 1) (difference_is end fr (end - fr) (omega arith) (omega (arith, small))))
-      (next refl (omega arith) (ap (λ v. Done (depth_mem 0 0 v 0 cs) 1) (less_is (end - fr) 512 left (omega arith) (omega (arith, small))))
-      (next refl (omega arith) (ap (λ b. Done (depth_mem 0 0 left (bit_xor 0 (word_of b)) cs) 1) e ∙ ap (λ v. Done (depth_mem 0 0 left v cs) 1) ex)
+      (next refl (omega arith) (ap (λ v. Done (depth_mem 0 0 v 0 cs) 1)
+      (difference_is end fr (end - fr) (omega arith) (omega (arith, small))))
+      (next refl (omega arith) (ap (λ v. Done (depth_mem 0 0 v 0 cs) 1)
+      (less_is (end - fr) 512 left (omega arith) (omega (arith, small))))
+      (next refl (omega arith) (ap (λ b. Done (depth_mem 0 0 left (bit_xor 0 (word_of b)) cs) 1) e
+      ∙ ap (λ v. Done (depth_mem 0 0 left v cs) 1) ex)
       (next refl (omega arith) (ap (λ v. Done (depth_mem 0 0 left v cs) 1) ey) here))))))))
 
   abbrev depth_back : List Cell
-  depth_back = xori 11 1 ∷ sltx 11 7 8 ∷ addi 8 (negated 512) ∷ sub 8 4 ∷ addi 5 (negated 4) ∷ exch 6 5 ∷ add 8 6 ∷ exch 6 5 ∷ addi 5 4 ∷ []
+  depth_back = xori 11 1 ∷ sltx 11 7 8 ∷ addi 8 (negated 512) ∷ sub 8 4 ∷ addi 5 (negated 4) ∷ exch 6 5 ∷ add 8 6
+      ∷ exch 6 5 ∷ addi 5 4 ∷ []
 
-  leaves_depth : (t : Bool) (x y : ℕ) → is_less 0 left ≡ t → bit_xor y 1 ≡ x → bit_xor x (word_of t) ≡ 0 → Ran true depth_back 9 (depth_mem 0 0 left y cs) (depth_mem 0 0 0 0 cs)
+  leaves_depth : (t : Bool) (x y : ℕ) → is_less 0 left ≡ t → bit_xor y 1 ≡ x → bit_xor x (word_of t) ≡ 0
+      → Ran true depth_back 9 (depth_mem 0 0 left y cs) (depth_mem 0 0 0 0 cs)
   leaves_depth t x y e ex ey =
       let l1 : 4 < length gone = omega (arith, length-set cs 4 0) in
       next refl (omega arith) (ap (λ v. Done (depth_mem 0 0 left v cs) 1) ex)
-      (next refl (omega arith) (ap (λ b. Done (depth_mem 0 0 left (bit_xor x (word_of b)) cs) 1) e ∙ ap (λ v. Done (depth_mem 0 0 left v cs) 1) ey)
-      (next refl (omega arith) (ap (λ v. Done (depth_mem 0 0 v 0 cs) 1) (sum_is left 512 (end - fr) (omega arith) (omega (arith, small))))
-      (next refl (omega arith) (ap (λ v. Done (depth_mem 0 0 v 0 cs) 1) (sum_is (end - fr) fr end (omega arith) (omega (arith, small))))
+      (next refl (omega arith) (ap (λ b. Done (depth_mem 0 0 left (bit_xor x (word_of b)) cs) 1) e
+      ∙ ap (λ v. Done (depth_mem 0 0 left v cs) 1) ey)
+      (next refl (omega arith) (ap (λ v. Done (depth_mem 0 0 v 0 cs) 1)
+      (sum_is left 512 (end - fr) (omega arith) (omega (arith, small))))
+      (next refl (omega arith) (ap (λ v. Done (depth_mem 0 0 v 0 cs) 1)
+      (sum_is (end - fr) fr end (omega arith) (omega (arith, small))))
       (next refl (omega arith) refl
       (next refl (omega arith) (exchanges true 6 5 (depth_mem 4 0 end 0 cs) inside)
-      (next refl (omega arith) (ap (λ v. Done (depth_mem 4 end v 0 gone) 1) (difference_is end end 0 (omega arith) (omega (arith, small))))
-      (next refl (omega arith) (exchanges true 6 5 (depth_mem 4 end 0 0 gone) l1 ∙ ap (λ v. Done (depth_mem 4 v 0 0 (slice_set gone 4 end)) 1) (emptied cs 4 inside) ∙ ap (λ l. Done (depth_mem 4 0 0 0 l) 1) (filled cs 4))
+      (next refl (omega arith) (ap (λ v. Done (depth_mem 4 end v 0 gone) 1)
+      (difference_is end end 0 (omega arith) (omega (arith, small))))
+      (next refl (omega arith) (exchanges true 6 5 (depth_mem 4 end 0 0 gone) l1
+      ∙ ap (λ v. Done (depth_mem 4 v 0 0 (slice_set gone 4 end)) 1) (emptied cs 4 inside)
+      ∙ ap (λ l. Done (depth_mem 4 0 0 0 l) 1) (filled cs 4))
       (next refl (omega arith) refl here))))))))
 
   -- where one more call may be open, nothing happens
-  pub depth_passes : (d : Bool) → fr + 512 < end → Will im depth_code d (depth_mem 0 0 0 0 cs) (λ o. o ≡ Done (depth_mem 0 0 0 0 cs) 22)
+  pub depth_passes : (d : Bool) → fr + 512 < end → Will im depth_code d (depth_mem 0 0 0 0 cs)
+      (λ o. o ≡ Done (depth_mem 0 0 0 0 cs) 22)
   depth_passes d h =
       let t : is_less 0 left ≡ true = above_zero left (omega arith) (omega (arith, small)) in
       will_in im d (line depth_row) (check_cells 11 14) _ _ _ _ 9 4 9
@@ -99,7 +117,8 @@ module _ (im : Image) (ob fr : ℕ) (cs : List ℕ) (inside : 4 < length cs) (sm
       (will_row im true depth_back 9 _ _ (leaves_depth true 1 0 t refl refl))
 
   -- else it traps
-  pub depth_traps : (d : Bool) → fr + 512 ≡ end → Will im depth_code d (depth_mem 0 0 0 0 cs) (λ o. (k : ℕ) × (k ≤ 13) × (o ≡ Trapped 14 k))
+  pub depth_traps : (d : Bool) → fr + 512 ≡ end → Will im depth_code d (depth_mem 0 0 0 0 cs)
+      (λ o. (k : ℕ) × (k ≤ 13) × (o ≡ Trapped 14 k))
   depth_traps d h =
       let z : left ≡ 0 = omega arith in
       let t : is_less 0 left ≡ false = ap (is_less 0) z in
@@ -110,7 +129,11 @@ module _ (im : Image) (ob fr : ℕ) (cs : List ℕ) (inside : 4 < length cs) (sm
 
 -- ---- the place of a method
 
-module _ (im : Image) (ob fr slot place : ℕ) (cs : List ℕ) (inside : ob < length cs) (small : slice_index cs ob < 2 ^ 23) (slot_small : slot < 2 ^ 20) (entry_in : slice_index cs ob + (1 + slot) < length cs) (entry : slice_index cs (slice_index cs ob + (1 + slot)) ≡ place) (place_small : place < 2 ^ 32) (object_small : ob < 2 ^ 23) where
+module _ (im : Image) (ob fr slot place : ℕ) (cs : List ℕ) (inside : ob < length cs)
+    (small : slice_index cs ob < 2 ^ 23) (slot_small : slot < 2 ^ 20)
+    (entry_in : slice_index cs ob + (1 + slot) < length cs)
+    (entry : slice_index cs (slice_index cs ob + (1 + slot)) ≡ place) (place_small : place < 2 ^ 32)
+    (object_small : ob < 2 ^ 23) where
   abbrev table : ℕ
   table = slice_index cs ob
 
@@ -133,29 +156,44 @@ module _ (im : Image) (ob fr slot place : ℕ) (cs : List ℕ) (inside : ob < le
   entry_out : at_entry < length no_entry
   entry_out = omega (arith, length-set cs at_entry 0, entry_in)
 
-  table_back : (d : Bool) (c p : ℕ) → package.Rattle.paired_code.specs.Laws.outcome_of d (exch 6 5) (fetch_mem ob table c p no_table) ≡ Done (fetch_mem ob 0 c p cs) 1
-  table_back d c p = exchanges d 6 5 (fetch_mem ob table c p no_table) out_in ∙ ap (λ v. Done (fetch_mem ob v c p (slice_set no_table ob table)) 1) (emptied cs ob inside) ∙ ap (λ l. Done (fetch_mem ob 0 c p l) 1) (filled cs ob)
+  table_back : (d : Bool) (c p : ℕ) → package.Rattle.paired_code.specs.Laws.outcome_of d (exch 6 5)
+      (fetch_mem ob table c p no_table) ≡ Done (fetch_mem ob 0 c p cs) 1
+  table_back d c p = exchanges d 6 5 (fetch_mem ob table c p no_table) out_in
+      ∙ ap (λ v. Done (fetch_mem ob v c p (slice_set no_table ob table)) 1) (emptied cs ob inside)
+      ∙ ap (λ l. Done (fetch_mem ob 0 c p l) 1) (filled cs ob)
 
-  entry_back : (d : Bool) (p : ℕ) → package.Rattle.paired_code.specs.Laws.outcome_of d (exch 6 8) (fetch_mem ob place at_entry p no_entry) ≡ Done (fetch_mem ob 0 at_entry p cs) 1
+  entry_back : (d : Bool) (p : ℕ) → package.Rattle.paired_code.specs.Laws.outcome_of d (exch 6 8)
+      (fetch_mem ob place at_entry p no_entry) ≡ Done (fetch_mem ob 0 at_entry p cs) 1
   entry_back d p =
-      exchanges d 6 8 (fetch_mem ob place at_entry p no_entry) entry_out ∙ ap (λ v. Done (fetch_mem ob v at_entry p (slice_set no_entry at_entry place)) 1) (emptied cs at_entry entry_in)
-      ∙ ap (λ v. Done (fetch_mem ob 0 at_entry p (slice_set no_entry at_entry v)) 1) (sym entry) ∙ ap (λ l. Done (fetch_mem ob 0 at_entry p l) 1) (filled cs at_entry)
+      exchanges d 6 8 (fetch_mem ob place at_entry p no_entry) entry_out
+      ∙ ap (λ v. Done (fetch_mem ob v at_entry p (slice_set no_entry at_entry place)) 1)
+      (emptied cs at_entry entry_in)
+      ∙ ap (λ v. Done (fetch_mem ob 0 at_entry p (slice_set no_entry at_entry v)) 1) (sym entry)
+      ∙ ap (λ l. Done (fetch_mem ob 0 at_entry p l) 1) (filled cs at_entry)
 
   fetches : Ran false (fetch_row slot) 13 (fetch_mem 0 0 0 0 cs) (fetch_mem 0 0 0 place cs)
   fetches =
-      next refl (omega arith) (ap (λ v. Done (fetch_mem v 0 0 0 cs) 1) (sum_is 0 ob ob (omega arith) (omega (arith, object_small))))
+      next refl (omega arith) (ap (λ v. Done (fetch_mem v 0 0 0 cs) 1)
+      (sum_is 0 ob ob (omega arith) (omega (arith, object_small))))
       (next refl (omega arith) (exchanges false 6 5 (fetch_mem ob 0 0 0 cs) inside)
-      (next refl (omega arith) (ap (λ v. Done (fetch_mem ob table v 0 no_table) 1) (sum_is 0 table table (omega arith) (omega (arith, small))))
+      (next refl (omega arith) (ap (λ v. Done (fetch_mem ob table v 0 no_table) 1)
+      (sum_is 0 table table (omega arith) (omega (arith, small))))
       (next refl (omega arith) (table_back false table 0)
-      (next refl (omega (arith, slot_small)) (ap (λ v. Done (fetch_mem ob 0 v 0 cs) 1) (sum_is table (1 + slot) at_entry refl (omega (arith, small, slot_small))))
-      (next refl (omega arith) (exchanges false 6 8 (fetch_mem ob 0 at_entry 0 cs) entry_in ∙ ap (λ v. Done (fetch_mem ob v at_entry 0 no_entry) 1) entry)
-      (next refl (omega arith) (ap (λ v. Done (fetch_mem ob place at_entry v no_entry) 1) (sum_is 0 place place (omega arith) (omega (arith, place_small))))
+      (next refl (omega (arith, slot_small)) (ap (λ v. Done (fetch_mem ob 0 v 0 cs) 1)
+      (sum_is table (1 + slot) at_entry refl (omega (arith, small, slot_small))))
+      (next refl (omega arith) (exchanges false 6 8 (fetch_mem ob 0 at_entry 0 cs) entry_in
+      ∙ ap (λ v. Done (fetch_mem ob v at_entry 0 no_entry) 1) entry)
+      (next refl (omega arith) (ap (λ v. Done (fetch_mem ob place at_entry v no_entry) 1)
+      (sum_is 0 place place (omega arith) (omega (arith, place_small))))
       (next refl (omega arith) (entry_back false place)
-      (next refl (omega arith) (ap (λ v. Done (fetch_mem ob 0 v place cs) 1) (less_is at_entry (1 + slot) table refl (omega (arith, small, slot_small))))
+      (next refl (omega arith) (ap (λ v. Done (fetch_mem ob 0 v place cs) 1)
+      (less_is at_entry (1 + slot) table refl (omega (arith, small, slot_small))))
       (next refl (omega arith) (exchanges false 6 5 (fetch_mem ob 0 table place cs) inside)
-      (next refl (omega arith) (ap (λ v. Done (fetch_mem ob table v place no_table) 1) (difference_is table table 0 (omega arith) (omega (arith, small))))
+      (next refl (omega arith) (ap (λ v. Done (fetch_mem ob table v place no_table) 1)
+      (difference_is table table 0 (omega arith) (omega (arith, small))))
       (next refl (omega arith) (table_back false 0 place)
-      (next refl (omega arith) (ap (λ v. Done (fetch_mem v 0 0 place cs) 1) (difference_is ob ob 0 (omega arith) (omega (arith, object_small)))) here))))))))))))
+      (next refl (omega arith) (ap (λ v. Done (fetch_mem v 0 0 place cs) 1)
+      (difference_is ob ob 0 (omega arith) (omega (arith, object_small)))) here))))))))))))
 
   abbrev pub fetch_back : List Cell
   fetch_back =
@@ -165,45 +203,68 @@ module _ (im : Image) (ob fr slot place : ℕ) (cs : List ℕ) (inside : ob < le
 
   unfetches : Ran true fetch_back 13 (fetch_mem 0 0 0 place cs) (fetch_mem 0 0 0 0 cs)
   unfetches =
-      next refl (omega arith) (ap (λ v. Done (fetch_mem v 0 0 place cs) 1) (sum_is 0 ob ob (omega arith) (omega (arith, object_small))))
+      next refl (omega arith) (ap (λ v. Done (fetch_mem v 0 0 place cs) 1)
+      (sum_is 0 ob ob (omega arith) (omega (arith, object_small))))
       (next refl (omega arith) (exchanges true 6 5 (fetch_mem ob 0 0 place cs) inside)
-      (next refl (omega arith) (ap (λ v. Done (fetch_mem ob table v place no_table) 1) (sum_is 0 table table (omega arith) (omega (arith, small))))
+      (next refl (omega arith) (ap (λ v. Done (fetch_mem ob table v place no_table) 1)
+      (sum_is 0 table table (omega arith) (omega (arith, small))))
       (next refl (omega arith) (table_back true table place)
-      (next refl (omega arith) (ap (λ v. Done (fetch_mem ob 0 v place cs) 1) (more_is table (1 + slot) at_entry refl (omega (arith, slot_small)) (omega (arith, small, slot_small))))
-      (next refl (omega arith) (exchanges true 6 8 (fetch_mem ob 0 at_entry place cs) entry_in ∙ ap (λ v. Done (fetch_mem ob v at_entry place no_entry) 1) entry)
-      (next refl (omega arith) (ap (λ v. Done (fetch_mem ob place at_entry v no_entry) 1) (difference_is place place 0 (omega arith) (omega (arith, place_small))))
+      (next refl (omega arith) (ap (λ v. Done (fetch_mem ob 0 v place cs) 1)
+      (more_is table (1 + slot) at_entry refl (omega (arith, slot_small)) (omega (arith, small, slot_small))))
+      (next refl (omega arith) (exchanges true 6 8 (fetch_mem ob 0 at_entry place cs) entry_in
+      ∙ ap (λ v. Done (fetch_mem ob v at_entry place no_entry) 1) entry)
+      (next refl (omega arith) (ap (λ v. Done (fetch_mem ob place at_entry v no_entry) 1)
+      (difference_is place place 0 (omega arith) (omega (arith, place_small))))
       (next refl (omega arith) (entry_back true 0)
-      (next refl (omega (arith, slot_small)) (ap (λ v. Done (fetch_mem ob 0 v 0 cs) 1) (less_is at_entry (1 + slot) table refl (omega (arith, small, slot_small))))
+      (next refl (omega (arith, slot_small)) (ap (λ v. Done (fetch_mem ob 0 v 0 cs) 1)
+      (less_is at_entry (1 + slot) table refl (omega (arith, small, slot_small))))
       (next refl (omega arith) (exchanges true 6 5 (fetch_mem ob 0 table 0 cs) inside)
-      (next refl (omega arith) (ap (λ v. Done (fetch_mem ob table v 0 no_table) 1) (difference_is table table 0 (omega arith) (omega (arith, small))))
+      (next refl (omega arith) (ap (λ v. Done (fetch_mem ob table v 0 no_table) 1)
+      (difference_is table table 0 (omega arith) (omega (arith, small))))
       (next refl (omega arith) (table_back true 0 0)
-      (next refl (omega arith) (ap (λ v. Done (fetch_mem v 0 0 0 cs) 1) (difference_is ob ob 0 (omega arith) (omega (arith, object_small)))) here))))))))))))
+      (next refl (omega arith) (ap (λ v. Done (fetch_mem v 0 0 0 cs) 1)
+      (difference_is ob ob 0 (omega arith) (omega (arith, object_small)))) here))))))))))))
 
-  pub will_fetch : Will im (line (fetch_row slot)) false (fetch_mem 0 0 0 0 cs) (λ o. o ≡ Done (fetch_mem 0 0 0 place cs) 13)
+  pub will_fetch : Will im (line (fetch_row slot)) false (fetch_mem 0 0 0 0 cs)
+      (λ o. o ≡ Done (fetch_mem 0 0 0 place cs) 13)
   will_fetch = will_row im false (fetch_row slot) 13 _ _ fetches
 
-  pub will_unfetch : Will im (line (fetch_row slot)) true (fetch_mem 0 0 0 place cs) (λ o. o ≡ Done (fetch_mem 0 0 0 0 cs) 13)
+  pub will_unfetch : Will im (line (fetch_row slot)) true (fetch_mem 0 0 0 place cs)
+      (λ o. o ≡ Done (fetch_mem 0 0 0 0 cs) 13)
   will_unfetch = will_row im true fetch_back 13 _ _ unfetches
 
 -- ---- what a body puts by
 
 module _ (im : Image) (ob fr link place : ℕ) (cs : List ℕ) (inside : fr + 2 < length cs) (small : fr < 2 ^ 23) where
-  pub will_save : slice_index cs fr ≡ 0 → slice_index cs (fr + 2) ≡ 0 → Will im (line save_row) false (mk link ob fr 0 0 0 0 place cs) (λ o. o ≡ Done (mk 0 ob fr 0 0 0 0 0 (slice_set (slice_set cs fr link) (fr + 2) place)) 4)
+  pub will_save : slice_index cs fr ≡ 0 → slice_index cs (fr + 2) ≡ 0
+      → Will im (line save_row) false (mk link ob fr 0 0 0 0 place cs)
+      (λ o. o ≡ Done (mk 0 ob fr 0 0 0 0 0 (slice_set (slice_set cs fr link) (fr + 2) place)) 4)
   will_save z z2 =
       let cs1 = slice_set cs fr link in
       let e : slice_index cs1 (fr + 2) ≡ 0 = get_or-set_other cs fr (fr + 2) link 0 (λ q. omega arith) ∙ z2 in
       will_row im false save_row 4 _ _
-      (next refl (omega arith) (exchanges false 2 4 (mk link ob fr 0 0 0 0 place cs) (omega arith) ∙ ap (λ v. Done (mk v ob fr 0 0 0 0 place cs1) 1) z)
-      (next refl (omega arith) (ap (λ v. Done (mk 0 ob v 0 0 0 0 place cs1) 1) (sum_is fr 2 (fr + 2) refl (omega arith)))
-      (next refl (omega arith) (exchanges false 12 4 (mk 0 ob (fr + 2) 0 0 0 0 place cs1) (omega (arith, length-set cs fr link)) ∙ ap (λ v. Done (mk 0 ob (fr + 2) 0 0 0 0 v (slice_set cs1 (fr + 2) place)) 1) e)
-      (next refl (omega arith) (ap (λ v. Done (mk 0 ob v 0 0 0 0 0 (slice_set cs1 (fr + 2) place)) 1) (less_is (fr + 2) 2 fr refl (omega arith))) here))))
+      (next refl (omega arith) (exchanges false 2 4 (mk link ob fr 0 0 0 0 place cs) (omega arith)
+      ∙ ap (λ v. Done (mk v ob fr 0 0 0 0 place cs1) 1) z)
+      (next refl (omega arith) (ap (λ v. Done (mk 0 ob v 0 0 0 0 place cs1) 1)
+      (sum_is fr 2 (fr + 2) refl (omega arith)))
+      (next refl (omega arith) (exchanges false 12 4 (mk 0 ob (fr + 2) 0 0 0 0 place cs1)
+      (omega (arith, length-set cs fr link)) ∙ ap (λ v. Done
+      (mk 0 ob (fr + 2) 0 0 0 0 v (slice_set cs1 (fr + 2) place)) 1) e)
+      (next refl (omega arith) (ap (λ v. Done (mk 0 ob v 0 0 0 0 0 (slice_set cs1 (fr + 2) place)) 1)
+      (less_is (fr + 2) 2 fr refl (omega arith))) here))))
 
-  pub will_restore : slice_index cs fr ≡ link → slice_index cs (fr + 2) ≡ place → Will im (line save_row) true (mk 0 ob fr 0 0 0 0 0 cs) (λ o. o ≡ Done (mk link ob fr 0 0 0 0 place (slice_set (slice_set cs (fr + 2) 0) fr 0)) 4)
+  pub will_restore : slice_index cs fr ≡ link → slice_index cs (fr + 2) ≡ place
+      → Will im (line save_row) true (mk 0 ob fr 0 0 0 0 0 cs)
+      (λ o. o ≡ Done (mk link ob fr 0 0 0 0 place (slice_set (slice_set cs (fr + 2) 0) fr 0)) 4)
   will_restore z z2 =
       let cs1 = slice_set cs (fr + 2) 0 in
       let e : slice_index cs1 fr ≡ link = get_or-set_other cs (fr + 2) fr 0 0 (λ q. omega arith) ∙ z in
       will_row im true (addi 4 (negated 2) ∷ exch 12 4 ∷ addi 4 2 ∷ exch 2 4 ∷ []) 4 _ _
       (next refl (omega arith) (ap (λ v. Done (mk 0 ob v 0 0 0 0 0 cs) 1) (sum_is fr 2 (fr + 2) refl (omega arith)))
-      (next refl (omega arith) (exchanges true 12 4 (mk 0 ob (fr + 2) 0 0 0 0 0 cs) inside ∙ ap (λ v. Done (mk 0 ob (fr + 2) 0 0 0 0 v cs1) 1) z2)
-      (next refl (omega arith) (ap (λ v. Done (mk 0 ob v 0 0 0 0 place cs1) 1) (less_is (fr + 2) 2 fr refl (omega arith)))
-      (next refl (omega arith) (exchanges true 2 4 (mk 0 ob fr 0 0 0 0 place cs1) (omega (arith, length-set cs (fr + 2) 0)) ∙ ap (λ v. Done (mk v ob fr 0 0 0 0 place (slice_set cs1 fr 0)) 1) e) here))))
+      (next refl (omega arith) (exchanges true 12 4 (mk 0 ob (fr + 2) 0 0 0 0 0 cs) inside
+      ∙ ap (λ v. Done (mk 0 ob (fr + 2) 0 0 0 0 v cs1) 1) z2)
+      (next refl (omega arith) (ap (λ v. Done (mk 0 ob v 0 0 0 0 place cs1) 1)
+      (less_is (fr + 2) 2 fr refl (omega arith)))
+      (next refl (omega arith) (exchanges true 2 4 (mk 0 ob fr 0 0 0 0 place cs1)
+      (omega (arith, length-set cs (fr + 2) 0)) ∙ ap (λ v. Done (mk v ob fr 0 0 0 0 place (slice_set cs1 fr 0))
+      1) e) here))))

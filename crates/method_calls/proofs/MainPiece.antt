@@ -1,5 +1,6 @@
 -- The main piece, from the loaded memory.
-use Rattle.std.proofs.Common.{◌≡◌, ℕ, suc, ◌+◌, ◌-◌, ◌*◌, ◌^◌, ◌<◌, ◌≤◌, Bool, true, false, List, [], ◌∷◌, length, refl, sym, ap, ◌∙◌, subst, arith}
+use Rattle.std.proofs.Common.{◌≡◌, ℕ, suc, ◌+◌, ◌-◌, ◌*◌, ◌^◌, ◌<◌, ◌≤◌, Bool, true, false, List, [], ◌∷◌, length, refl}
+use Rattle.std.proofs.Common.{sym, ap, ◌∙◌, subst, arith}
 use Rattle.std.specs.Prelude.{slice_index, slice_set}
 use Rattle.std.proofs.Math.ListN.{length-set}
 use Rattle.rpp_words.specs.Words.{negated}
@@ -20,18 +21,19 @@ use Rattle.roopl_semantics.specs.Store.{State}
 use Rattle.roopl_semantics.specs.Source.{starting, main_body}
 use Rattle.roopl_semantics.specs.Layout.{layout}
 use Rattle.roopl_semantics.specs.Execution.{exec}
-use Rattle.statement_laws.specs.Form.{World, Entered, AllMethods, registers, told}
-use Rattle.statement_laws.proofs.Told.{alone}
-use Rattle.statement_laws.proofs.Rules.{as_known, wraps, meets_told, meets_slack}
-use Rattle.statement_laws.proofs.Rows.{here, next, will_row}
-use Rattle.statement_laws.proofs.Blocks.{all_owe}
+use Rattle.refine_form.specs.Form.{World, Entered, AllMethods, registers, told}
+use Rattle.refine_form.proofs.Told.{alone}
+use Rattle.refine_form.proofs.Rules.{as_known, wraps, meets_told, meets_slack}
+use Rattle.refine_form.proofs.Rows.{here, next, will_row}
+use Rattle.refine_form.proofs.Blocks.{all_owe}
 use Rattle.method_calls.specs.CallCode.{add, addi, exch, main_row, main_code}
 use Rattle.method_calls.specs.Facts.{Known, FrameFacts, MainFacts}
 use Rattle.method_calls.proofs.Exchanges.{exchanges}
 use Rattle.method_calls.proofs.Addresses.{mk, difference_is}
 use Rattle.method_calls.proofs.Depth.{filled, emptied, sum_is}
 
-module _ (im : Image) (fr : ℕ) (cs : List ℕ) (inside : 3 < length cs) (base : slice_index cs 3 ≡ fr) (small : fr < 2 ^ 23) where
+module _ (im : Image) (fr : ℕ) (cs : List ℕ) (inside : 3 < length cs) (base : slice_index cs 3 ≡ fr)
+    (small : fr < 2 ^ 23) where
   abbrev gone : List ℕ
   gone = slice_set cs 3 0
 
@@ -40,7 +42,8 @@ module _ (im : Image) (fr : ℕ) (cs : List ℕ) (inside : 3 < length cs) (base 
 
   refills : (d : Bool) (o f : ℕ) → outcome_of d (exch 6 5) (mk 0 o f 3 fr 0 0 0 gone) ≡ Done (mk 0 o f 3 0 0 0 0 cs) 1
   refills d o f =
-      exchanges d 6 5 (mk 0 o f 3 fr 0 0 0 gone) still_in ∙ ap (λ v. Done (mk 0 o f 3 v 0 0 0 (slice_set gone 3 fr)) 1) (emptied cs 3 inside) ∙ ap (λ v. Done (mk 0 o f 3 0 0 0 0 (slice_set gone 3 v)) 1) (sym base)
+      exchanges d 6 5 (mk 0 o f 3 fr 0 0 0 gone) still_in ∙ ap (λ v. Done (mk 0 o f 3 v 0 0 0 (slice_set gone 3 fr)) 1)
+      (emptied cs 3 inside) ∙ ap (λ v. Done (mk 0 o f 3 0 0 0 0 (slice_set gone 3 v)) 1) (sym base)
       ∙ ap (λ l. Done (mk 0 o f 3 0 0 0 0 l) 1) (filled cs 3)
 
   pub sets_out : Will im (line main_row) false (mk 0 0 0 0 0 0 0 0 cs) (λ o. o ≡ Done (mk 0 40 fr 0 0 0 0 0 cs) 6)
@@ -48,8 +51,10 @@ module _ (im : Image) (fr : ℕ) (cs : List ℕ) (inside : 3 < length cs) (base 
       will_row im false main_row 6 _ _
       (next refl (omega arith) refl
       (next refl (omega arith) refl
-      (next refl (omega arith) (exchanges false 6 5 (mk 0 40 0 3 0 0 0 0 cs) inside ∙ ap (λ v. Done (mk 0 40 0 3 v 0 0 0 gone) 1) base)
-      (next refl (omega arith) (ap (λ v. Done (mk 0 40 v 3 fr 0 0 0 gone) 1) (sum_is 0 fr fr (omega arith) (omega (arith, small))))
+      (next refl (omega arith) (exchanges false 6 5 (mk 0 40 0 3 0 0 0 0 cs) inside
+      ∙ ap (λ v. Done (mk 0 40 0 3 v 0 0 0 gone) 1) base)
+      (next refl (omega arith) (ap (λ v. Done (mk 0 40 v 3 fr 0 0 0 gone) 1)
+      (sum_is 0 fr fr (omega arith) (omega (arith, small))))
       (next refl (omega arith) (refills false 40 fr)
       (next refl (omega arith) refl here))))))
 
@@ -57,13 +62,16 @@ module _ (im : Image) (fr : ℕ) (cs : List ℕ) (inside : 3 < length cs) (base 
   comes_home =
       will_row im true (addi 5 (negated 3) ∷ exch 6 5 ∷ add 4 6 ∷ exch 6 5 ∷ addi 5 3 ∷ addi 3 40 ∷ []) 6 _ _
       (next refl (omega arith) refl
-      (next refl (omega arith) (exchanges true 6 5 (mk 0 40 fr 3 0 0 0 0 cs) inside ∙ ap (λ v. Done (mk 0 40 fr 3 v 0 0 0 gone) 1) base)
-      (next refl (omega arith) (ap (λ v. Done (mk 0 40 v 3 fr 0 0 0 gone) 1) (difference_is fr fr 0 (omega arith) (omega (arith, small))))
+      (next refl (omega arith) (exchanges true 6 5 (mk 0 40 fr 3 0 0 0 0 cs) inside
+      ∙ ap (λ v. Done (mk 0 40 fr 3 v 0 0 0 gone) 1) base)
+      (next refl (omega arith) (ap (λ v. Done (mk 0 40 v 3 fr 0 0 0 gone) 1)
+      (difference_is fr fr 0 (omega arith) (omega (arith, small))))
       (next refl (omega arith) (refills true 40 0)
       (next refl (omega arith) refl
       (next refl (omega arith) refl here))))))
 
-module _ (w : World) (knows : Known w) (f : FrameFacts w knows) (statics : List ℕ) (input : List FieldWord) (mf : MainFacts w statics input) (laws : AllMethods w) where
+module _ (w : World) (knows : Known w) (f : FrameFacts w knows) (statics : List ℕ) (input : List FieldWord)
+    (mf : MainFacts w statics input) (laws : AllMethods w) where
   abbrev program : Source
   program = w.setting.program
 
@@ -78,10 +86,17 @@ module _ (w : World) (knows : Known w) (f : FrameFacts w knows) (statics : List 
     regs_are : m.regs ≡ registers 0 40 (w.frame_of mf.first) 0 0 0 0 0
     open_frame : w.opens (w.routines.scope mf.main) mf.first [] st m.cells
 
-  returned : {n : ℕ} {t : Told State} {o : Outcome} (link : ℕ) → Meets (Entered w (w.routines.scope mf.main) mf.first link 0) w.rates n 40 t o → Returns link false (Meets InMain w.rates n 50 t) o
+  returned : {n : ℕ} {t : Told State} {o : Outcome} (link : ℕ)
+      → Meets (Entered w (w.routines.scope mf.main) mf.first link 0) w.rates n 40 t o
+      → Returns link false (Meets InMain w.rates n 50 t) o
   returned link (fine {a = a} {m = m} {c = c} {k = k} r l x) =
-      let known = as_known m _ (r.regs_are ∙ ap (λ o. registers link o (w.frame_of mf.first) 0 0 0 0 0) mf.object_is) in
-      (ap (λ z. reg z 2) known, fine (record { regs_are = ap (λ z. (with_reg z 2 0).regs) known; open_frame = r.open_frame }) (grow w.rates.counts k c l) (omega arith))
+      let known = as_known m _ (r.regs_are ∙ ap (λ o. registers link o (w.frame_of mf.first) 0 0 0 0 0) mf.object_is) in (
+        ap (λ z. reg z 2) known,
+        fine (record {
+          regs_are = ap (λ z. (with_reg z 2 0).regs) known;
+          open_frame = r.open_frame;
+        }) (grow w.rates.counts k c l) (omega arith),
+      )
     where
       grow : (b k c : ℕ) → c ≤ b * k → c ≤ b * (k + 7)
       grow b k c h = grind arith
@@ -98,21 +113,36 @@ module _ (w : World) (knows : Known w) (f : FrameFacts w knows) (statics : List 
   abbrev pub Ended : State → Memory → Type 0
   Ended st m = m ≡ mk 0 0 0 0 0 0 0 0 (layout program limits statics st.store st.log)
 
-  pub main_does : (n : ℕ) → Will w.im (main_code (w.routines.number mf.main)) false start (Meets Ended w.rates n 900 (told (exec w.setting n (main_body program) (starting program input))))
+  pub main_does : (n : ℕ) → Will w.im (main_code (w.routines.number mf.main)) false start
+      (Meets Ended w.rates n 900 (told (exec w.setting n (main_body program) (starting program input))))
   main_does n =
       let fr = w.frame_of mf.first in
       let s = w.routines.scope mf.main in
       let stands = f.placed mf.main mf.is_routine in
       let t = told (exec w.setting n (main_body program) (starting program input)) in
       let owed = all_owe w laws (suc n) n (omega arith) mf.main mf.is_routine in
-      let inner : (link : ℕ) → 0 < link → link < 2 ^ 32 → Will w.im (w.routines.body mf.main) false (with_reg (mk 0 40 fr 0 0 0 0 0 loaded_cells) 2 link) (Returns link false (Meets InMain w.rates n 50 t)) = λ link pos lw.
-      let inside : Entered w s mf.first link 0 (starting program input) (mk link 40 fr 0 0 0 0 0 loaded_cells) = record { regs_are = ap (λ o. registers link o fr 0 0 0 0 0) (sym mf.object_is); open_frame = mf.starts } in
-      will_more w.im (w.routines.body mf.main) false _ _ _ (λ o q. returned link (meets_told _ _ (ap (λ b. told (exec w.setting n b (starting program input))) mf.is_main) q)) ((owed false mf.first link 0 mf.fresh pos lw (omega arith)).does (starting program input) (mk link 40 fr 0 0 0 0 0 loaded_cells) inside) in
-      let mid : Will w.im (Enter (w.routines.number mf.main) false ∷ []) false (mk 0 40 fr 0 0 0 0 0 loaded_cells) (Meets InMain w.rates n 50 t) =
-      will_enter w.im (w.routines.number mf.main) (w.routines.top mf.main) (w.routines.body mf.main) false false (mk 0 40 fr 0 0 0 0 0 loaded_cells) _ stands f.tidy.short (omega arith) refl inner in
-      let all = wraps w.im false (line main_row) (Enter (w.routines.number mf.main) false ∷ []) start (mk 0 40 fr 0 0 0 0 0 loaded_cells) InMain Ended w.rates n 50 6 6 t (λ a. Fine a 0) (sets_out w.im fr loaded_cells (mf.base_in _ _ mf.starts) (mf.base_is _ _ mf.starts) mf.frame_small) mid (λ a m2 c e i.
+      let inner : (link : ℕ) → 0 < link → link < 2 ^ 32 → Will w.im (w.routines.body mf.main) false
+      (with_reg (mk 0 40 fr 0 0 0 0 0 loaded_cells) 2 link) (Returns link false (Meets InMain w.rates n 50 t)) =
+      λ link pos lw.
+      let inside : Entered w s mf.first link 0 (starting program input) (mk link 40 fr 0 0 0 0 0 loaded_cells) =
+      record { regs_are = ap (λ o. registers link o fr 0 0 0 0 0) (sym mf.object_is); open_frame = mf.starts } in
+      will_more w.im (w.routines.body mf.main) false _ _ _
+      (λ o q. returned link (meets_told _ _ (ap (λ b. told (exec w.setting n b (starting program input)))
+      mf.is_main) q)) ((owed false mf.first link 0 mf.fresh pos lw (omega arith)).does
+      (starting program input) (mk link 40 fr 0 0 0 0 0 loaded_cells) inside) in
+      let mid : Will w.im (Enter (w.routines.number mf.main) false ∷ []) false (mk 0 40 fr 0 0 0 0 0 loaded_cells)
+      (Meets InMain w.rates n 50 t) =
+      will_enter w.im (w.routines.number mf.main) (w.routines.top mf.main) (w.routines.body mf.main) false false
+      (mk 0 40 fr 0 0 0 0 0 loaded_cells) _ stands f.tidy.short (omega arith) refl inner in
+      let all = wraps w.im false (line main_row) (Enter (w.routines.number mf.main) false ∷ []) start
+      (mk 0 40 fr 0 0 0 0 0 loaded_cells) InMain Ended w.rates n 50 6 6 t (λ a. Fine a 0)
+      (sets_out w.im fr loaded_cells (mf.base_in _ _ mf.starts) (mf.base_is _ _ mf.starts) mf.frame_small) mid
+      (λ a m2 c e i.
       let known = as_known m2 _ i.regs_are in
       let end : Ended a (mk 0 0 0 0 0 0 0 0 m2.cells) = ap (mk 0 0 0 0 0 0 0 0) (mf.ends a m2.cells i.open_frame) in
       subst (λ z. Will w.im (line main_row) true z (Meets Ended w.rates (n - c) 6 (Fine a 0))) (sym known)
-      (will_more w.im (line main_row) true _ _ _ (λ o q. subst (Meets Ended w.rates (n - c) 6 (Fine a 0)) (sym q) (fine end (omega arith) (omega arith))) (comes_home w.im fr m2.cells (mf.base_in a m2.cells i.open_frame) (mf.base_is a m2.cells i.open_frame) mf.frame_small))) in
-      will_more w.im (main_code (w.routines.number mf.main)) false _ _ _ (λ o q. meets_told _ _ (alone t) (meets_slack 900 (omega arith) q)) all
+      (will_more w.im (line main_row) true _ _ _ (λ o q. subst (Meets Ended w.rates (n - c) 6 (Fine a 0)) (sym q)
+      (fine end (omega arith) (omega arith))) (comes_home w.im fr m2.cells (mf.base_in a m2.cells i.open_frame)
+      (mf.base_is a m2.cells i.open_frame) mf.frame_small))) in
+      will_more w.im (main_code (w.routines.number mf.main)) false _ _ _
+      (λ o q. meets_told _ _ (alone t) (meets_slack 900 (omega arith) q)) all

@@ -9,17 +9,21 @@ use Rattle.paired_code.specs.Does.{Fine, told_then, Meets, fine}
 use Rattle.paired_code.proofs.Laws.{will_more}
 use Rattle.roopl_semantics.specs.Store.{State}
 use Rattle.roopl_semantics.specs.Execution.{exec, in_direction}
-use Rattle.statement_laws.specs.Form.{World, Scope, Open, Entered, Owes, BlockLaw, MethodLaw, registers, told}
+use Rattle.refine_form.specs.Form.{World, Scope, Open, Entered, Owes, BlockLaw, MethodLaw, registers, told}
 use Rattle.method_calls.specs.CallCode.{save_row, method_code}
 use Rattle.method_calls.specs.Facts.{Known, FrameFacts}
-use Rattle.statement_laws.proofs.Rules.{as_known, wraps, meets_told, meets_slack}
-use Rattle.statement_laws.proofs.Told.{alone}
+use Rattle.refine_form.proofs.Rules.{as_known, wraps, meets_told, meets_slack}
+use Rattle.refine_form.proofs.Told.{alone}
 use Rattle.method_calls.proofs.Addresses.{mk}
 use Rattle.method_calls.proofs.Depth.{will_save, will_restore}
 use Rattle.paired_code.specs.Rows.{line}
 
-module _ (w : World) (knows : Known w) (f : FrameFacts w knows) (s : Scope) (method : Procedure) (p : List Symbol) (hp : BlockLaw w s method.body p) where
-  runs : (n : ℕ) → Owes w n → (d : Bool) (u : w.Under) (link place : ℕ) → w.IsFresh u → 0 < link → link < 2 ^ 32 → place < 2 ^ 32 → (st : State) (m : Memory) → Entered w s u link place st m → Will w.im (method_code p) d m (Meets (Entered w s u link place) w.rates n 40 (told (exec w.setting n (in_direction d method.body) st)))
+module _ (w : World) (knows : Known w) (f : FrameFacts w knows) (s : Scope) (method : Procedure) (p : List Symbol)
+    (hp : BlockLaw w s method.body p) where
+  runs : (n : ℕ) → Owes w n → (d : Bool) (u : w.Under) (link place : ℕ) → w.IsFresh u → 0 < link → link < 2 ^ 32
+      → place < 2 ^ 32 → (st : State) (m : Memory) → Entered w s u link place st m
+      → Will w.im (method_code p) d m (Meets (Entered w s u link place) w.rates n 40
+      (told (exec w.setting n (in_direction d method.body) st)))
   runs n owes d u link place fresh pos lw pw st m h =
       let ob = w.object_of u in
       let fr = w.frame_of u in
@@ -30,21 +34,35 @@ module _ (w : World) (knows : Known w) (f : FrameFacts w knows) (s : Scope) (met
       let small = f.frame_small s u [] st cs h.open_frame in
       let cs1 = slice_set (slice_set cs fr link) (fr + 2) place in
       let inner : Open w s u2 st (mk 0 ob fr 0 0 0 0 0 cs1) = record {
-        regs_are = ap (λ o. registers 0 o fr 0 0 0 0 0) (sym (f.put_object u link place)) ∙ ap (λ r. registers 0 (w.object_of u2) r 0 0 0 0 0) (sym (f.put_frame u link place));
+        regs_are = ap (λ o. registers 0 o fr 0 0 0 0 0) (sym (f.put_object u link place))
+            ∙ ap (λ r. registers 0 (w.object_of u2) r 0 0 0 0 0) (sym (f.put_frame u link place));
         open_frame = f.put_opens s u st cs link place h.open_frame fresh lw pw;
       } in
-      let all : Will w.im (method_code p) d (mk link ob fr 0 0 0 0 place cs) (Meets (Entered w s u link place) w.rates n (4 + (0 + 4)) (told_then t (λ c a. Fine a 0))) =
-      wraps w.im d (line save_row) p (mk link ob fr 0 0 0 0 place cs) (mk 0 ob fr 0 0 0 0 0 cs1) (Open w s u2) (Entered w s u link place) w.rates n 0 4 4 t (λ a. Fine a 0) (will_save w.im ob fr link place cs free.words_in small free.link_word free.place_word) ((hp n owes d u2).does st _ inner) (λ a m2 c e r.
+      let all : Will w.im (method_code p) d (mk link ob fr 0 0 0 0 place cs)
+      (Meets (Entered w s u link place) w.rates n (4 + (0 + 4)) (told_then t (λ c a. Fine a 0))) =
+      wraps w.im d (line save_row) p (mk link ob fr 0 0 0 0 place cs) (mk 0 ob fr 0 0 0 0 0 cs1) (Open w s u2)
+      (Entered w s u link place) w.rates n 0 4 4 t (λ a. Fine a 0)
+      (will_save w.im ob fr link place cs free.words_in small free.link_word free.place_word)
+      ((hp n owes d u2).does st _ inner) (λ a m2 c e r.
       let cs2 = m2.cells in
       let words = f.put_words s u a cs2 link place r.open_frame fresh in
-      let known : m2 ≡ mk 0 ob fr 0 0 0 0 0 cs2 = as_known m2 _ (r.regs_are ∙ ap (λ o. registers 0 o (w.frame_of u2) 0 0 0 0 0) (f.put_object u link place) ∙ ap (λ k. registers 0 ob k 0 0 0 0 0) (f.put_frame u link place)) in
+      let known : m2 ≡ mk 0 ob fr 0 0 0 0 0 cs2 = as_known m2 _
+      (r.regs_are ∙ ap (λ o. registers 0 o (w.frame_of u2) 0 0 0 0 0) (f.put_object u link place)
+      ∙ ap (λ k. registers 0 ob k 0 0 0 0 0) (f.put_frame u link place)) in
       let cs3 = slice_set (slice_set cs2 (fr + 2) 0) fr 0 in
-      let end : Entered w s u link place a (mk link ob fr 0 0 0 0 place cs3) = record { regs_are = refl; open_frame = f.put_back s u a cs2 link place r.open_frame fresh } in
-      subst (λ z. Will w.im (line save_row) true z (Meets (Entered w s u link place) w.rates (n - c) 4 (Fine a 0))) (sym known)
-      (will_more w.im (line save_row) true _ _ _ (λ o q. subst (Meets (Entered w s u link place) w.rates (n - c) 4 (Fine a 0)) (sym q) (fine end (omega arith) (omega arith))) (will_restore w.im ob fr link place cs2 words.words_in small words.link_word words.place_word))) in
-      subst (λ z. Will w.im (method_code p) d z (Meets (Entered w s u link place) w.rates n 40 t)) (sym (as_known m _ h.regs_are))
+      let end : Entered w s u link place a (mk link ob fr 0 0 0 0 place cs3) =
+      record { regs_are = refl; open_frame = f.put_back s u a cs2 link place r.open_frame fresh } in
+      subst (λ z. Will w.im (line save_row) true z (Meets (Entered w s u link place) w.rates (n - c) 4 (Fine a 0)))
+      (sym known)
+      (will_more w.im (line save_row) true _ _ _ (λ o q. subst
+      (Meets (Entered w s u link place) w.rates (n - c) 4 (Fine a 0)) (sym q)
+      (fine end (omega arith) (omega arith))) (will_restore w.im ob fr link place cs2 words.words_in small
+      words.link_word words.place_word))) in
+      subst (λ z. Will w.im (method_code p) d z (Meets (Entered w s u link place) w.rates n 40 t))
+      (sym (as_known m _ h.regs_are))
       (will_more w.im (method_code p) d _ _ _ (λ o q. meets_told _ _ (alone t) (meets_slack 40 (omega arith) q)) all)
 
   -- the code of a method
   pub method_law : MethodLaw w s method (method_code p)
-  method_law n owes d u link place fresh pos lw pw = record { does = λ st m h. runs n owes d u link place fresh pos lw pw st m h }
+  method_law n owes d u link place fresh pos lw pw = record
+      { does = λ st m h. runs n owes d u link place fresh pos lw pw st m h }

@@ -1,5 +1,6 @@
 -- A call or uncall on the object of a variable, in both directions.
-use Rattle.std.proofs.Common.{◌≡◌, ℕ, suc, ◌+◌, ◌-◌, ◌*◌, ◌^◌, ◌<◌, ◌≤◌, Bool, true, false, List, [], ◌∷◌, ◌++◌, length, map, refl, sym, ap, ◌∙◌, subst, arith}
+use Rattle.std.proofs.Common.{◌≡◌, ℕ, suc, ◌+◌, ◌-◌, ◌*◌, ◌^◌, ◌<◌, ◌≤◌, Bool, true, false, List, [], ◌∷◌, ◌++◌, length}
+use Rattle.std.proofs.Common.{map, refl, sym, ap, ◌∙◌, subst, arith}
 use Rattle.std.specs.Prelude.{not, nat_lt, slice_index, slice_set, Some}
 use Rattle.std.proofs.lemmas.List.{get_or-set_other}
 use Rattle.std.proofs.Math.ListN.{length-set}
@@ -16,34 +17,46 @@ use Rattle.paired_code.proofs.Does.{Quiet, quiet, then_quiet}
 use Rattle.roopl_semantics.specs.Run.{Run, ◌>>=◌, after_cost, fault_if}
 use Rattle.roopl_semantics.specs.Store.{Value, Name, State, is_zero, is_nil, number_of, cleared}
 use Rattle.roopl_semantics.specs.Value.{Cell, read, written, cell_named, own_class, nil_fault}
-use Rattle.roopl_semantics.specs.Execution.{Setting, exec, in_direction, invoked, moved_out, moved_back, bound, cells_named, class_of, is_too_deep, too_deep_fault, touched_fault}
-use Rattle.statement_laws.specs.Form.{World, Scope, pairs, Open, Owes, StmtLaw, registers, told, one, turned}
-use Rattle.method_calls.specs.CallCode.{addi, depth_code, moves_code, fetch_row, nil_code, take_code, onto_code, front_on_code, call_on_code}
-use Rattle.method_calls.specs.Facts.{Known, FrameFacts, Receivers, ReceiverFacts, HasPlace, GoesOn, ComesBack, address, out_from, vals_from}
-use Rattle.statement_laws.proofs.Told.{told_after, told_bind, plus_none, plus_plus}
-use Rattle.statement_laws.proofs.Rules.{wraps_spent, will_around, meets_told, meets_less, meets_later, meets_as, as_known, will_two, will_two_back}
-use Rattle.statement_laws.proofs.Rows.{here, next, will_row}
+use Rattle.roopl_semantics.specs.Execution.{Setting, exec, in_direction, invoked, moved_out, moved_back, bound}
+use Rattle.roopl_semantics.specs.Execution.{cells_named, class_of, is_too_deep, too_deep_fault, touched_fault}
+use Rattle.refine_form.specs.Form.{World, Scope, pairs, Open, Owes, StmtLaw, registers, told, one, turned}
+use Rattle.method_calls.specs.CallCode.{addi, depth_code, moves_code, fetch_row, nil_code, take_code, onto_code}
+use Rattle.method_calls.specs.CallCode.{front_on_code, call_on_code}
+use Rattle.method_calls.specs.Facts.{Known, FrameFacts, Receivers, ReceiverFacts, HasPlace, GoesOn, ComesBack, address}
+use Rattle.method_calls.specs.Facts.{out_from, vals_from}
+use Rattle.refine_form.proofs.Told.{told_after, told_bind, plus_none, plus_plus}
+use Rattle.refine_form.proofs.Rules.{wraps_spent, will_around, meets_told, meets_less, meets_later, meets_as}
+use Rattle.refine_form.proofs.Rules.{as_known, will_two, will_two_back}
+use Rattle.refine_form.proofs.Rows.{here, next, will_row}
 use Rattle.method_calls.proofs.Addresses.{mk, less_is}
 use Rattle.method_calls.proofs.Moves.{cells_of, AllVariables, AllUp, all_up, all_back, spot_in}
 use Rattle.method_calls.proofs.Depth.{depth_passes, depth_traps, will_fetch, will_unfetch}
 use Rattle.method_calls.proofs.OwnCalls.{InCall, enters_body}
 use Rattle.method_calls.proofs.ApartCells.{out_reads, read_other, moves_out, same_values}
 use Rattle.method_calls.specs.Laws.{NotAmong, AllApart}
-use Rattle.method_calls.proofs.ReceiverParts.{nil_passes, nil_traps, takes, gives_back, finds_touched, turns_to, turns_from}
+use Rattle.method_calls.proofs.ReceiverParts.{nil_passes, nil_traps, takes, gives_back, finds_touched, turns_to}
+use Rattle.method_calls.proofs.ReceiverParts.{turns_from}
 use Rattle.paired_code.specs.Rows.{line}
 
 -- values that move back leave the other cells alone
-stays : (cells : List Cell) (values : List Value) (st end : State) (k : ℕ) (c : Cell) → NotAmong c cells → told (moved_back cells values st) ≡ Fine end k → read end c ≡ read st c
+stays : (cells : List Cell) (values : List Value) (st end : State) (k : ℕ) (c : Cell) → NotAmong c cells
+    → told (moved_back cells values st) ≡ Fine end k → read end c ≡ read st c
 stays [] values st end k c n e = let q : st ≡ end = cc in ap (λ z. read z c) (sym q)
 stays (b ∷ cells) [] st end k c n e = let q : st ≡ end = cc in ap (λ z. read z c) (sym q)
-stays (b ∷ cells) (v ∷ values) st end k c n e = by (is_zero (read st b)) refl (λ k e. stays cells values (written st b v) end k c n.1 e)
+stays (b ∷ cells) (v ∷ values) st end k c n e = by (is_zero (read st b)) refl
+    (λ k e. stays cells values (written st b v) end k c n.1 e)
   where
-    by : (z : Bool) → is_zero (read st b) ≡ z → ((k : ℕ) → told (moved_back cells values (written st b v)) ≡ Fine end k → read end c ≡ read (written st b v) c) → read end c ≡ read st c
+    by : (z : Bool) → is_zero (read st b) ≡ z → ((k : ℕ) → told (moved_back cells values (written st b v)) ≡ Fine end k
+        → read end c ≡ read (written st b v) c) → read end c ≡ read st c
     by true z ih =
-        let said : told (moved_back (b ∷ cells) (v ∷ values) st) ≡ told (moved_back cells values (written st b v)) = ap (λ x. told (fault_if touched_fault (not x) >>= λ t. moved_back cells values (written st b v))) z ∙ told_after 0 (moved_back cells values (written st b v)) ∙ plus_none (told (moved_back cells values (written st b v))) in
+        let said : told (moved_back (b ∷ cells) (v ∷ values) st) ≡ told (moved_back cells values (written st b v)) =
+        ap (λ x. told (fault_if touched_fault (not x) >>= λ t. moved_back cells values (written st b v))) z
+        ∙ told_after 0 (moved_back cells values (written st b v))
+        ∙ plus_none (told (moved_back cells values (written st b v))) in
         ih k (sym said ∙ e) ∙ read_other st b c v (λ q. n.0 (sym q))
     by false z ih =
-        let said : told (moved_back (b ∷ cells) (v ∷ values) st) ≡ Fault 15 0 = ap (λ x. told (fault_if touched_fault (not x) >>= λ t. moved_back cells values (written st b v))) z in
+        let said : told (moved_back (b ∷ cells) (v ∷ values) st) ≡ Fault 15 0 =
+        ap (λ x. told (fault_if touched_fault (not x) >>= λ t. moved_back cells values (written st b v))) z in
         let q : Fault 15 0 ≡ Fine end k = sym said ∙ e in absurd (cc)
 
 -- ---- what the source says of it
@@ -52,19 +65,30 @@ module _ (setting : Setting) (n : ℕ) (back : Bool) (at : ℕ) (x name : Ident)
   -- the call, once it is known which method, cells and values
   abbrev pub InvokedOn : Procedure → ℕ → Cell → List Cell → State → List Value → Value → Told State
   InvokedOn method self c cells caller vals v =
-      told_then (told (exec setting n (in_direction back method.body) (record { frame = bound method.params vals; self = self; depth = 1 + caller.depth; store = caller.store; log = caller.log })))
-      (λ k end. told (moved_back (c ∷ cells) (v ∷ map (λ binding. binding.value) end.frame) (record caller { store = end.store; log = end.log })))
+      told_then (told (exec setting n (in_direction back method.body)
+      (record {
+        frame = bound method.params vals;
+        self = self;
+        depth = 1 + caller.depth;
+        store = caller.store;
+        log = caller.log;
+      })))
+      (λ k end. told (moved_back (c ∷ cells) (v ∷ map (λ binding. binding.value) end.frame)
+      (record caller { store = end.store; log = end.log })))
 
   abbrev the_cell : Cell
   the_cell = cell_named setting.program st x.text
 
   abbrev call_run : Run State
-  call_run = invoked setting (exec setting n) back (method_named setting.program (class_of setting st (number_of (read st the_cell))) name.text) (number_of (read st the_cell)) (the_cell ∷ []) (cells_named setting st args) st
+  call_run = invoked setting (exec setting n) back (method_named setting.program
+      (class_of setting st (number_of (read st the_cell))) name.text) (number_of (read st the_cell)) (the_cell ∷ [])
+      (cells_named setting st args) st
 
   abbrev deep_run : Run State
   deep_run = fault_if too_deep_fault (is_too_deep setting st) >>= λ z. call_run
 
-  counted : told (one setting n (Call at back (Some (Whole x)) name args) st) ≡ plus (1 + length args) (told (fault_if nil_fault (is_nil (read st the_cell)) >>= λ z. deep_run))
+  counted : told (one setting n (Call at back (Some (Whole x)) name args) st)
+      ≡ plus (1 + length args) (told (fault_if nil_fault (is_nil (read st the_cell)) >>= λ z. deep_run))
   counted =
       told_after 1 (after_cost (length args) (fault_if nil_fault (is_nil (read st the_cell)) >>= λ z. deep_run))
       ∙ ap (plus 1) (told_after (length args) (fault_if nil_fault (is_nil (read st the_cell)) >>= λ z. deep_run))
@@ -73,39 +97,77 @@ module _ (setting : Setting) (n : ℕ) (back : Bool) (at : ℕ) (x name : Ident)
   zero_more : 1 + length args + 0 ≡ 1 + length args
   zero_more = omega arith
 
-  pub says_nil : is_nil (read st the_cell) ≡ true → told (one setting n (Call at back (Some (Whole x)) name args) st) ≡ Fault 5 (1 + length args)
-  says_nil e = counted ∙ ap (λ b. plus (1 + length args) (told (fault_if nil_fault b >>= λ z. deep_run))) e ∙ ap (Fault 5) zero_more
+  pub says_nil : is_nil (read st the_cell) ≡ true → told (one setting n (Call at back (Some (Whole x)) name args) st)
+      ≡ Fault 5 (1 + length args)
+  says_nil e = counted ∙ ap (λ b. plus (1 + length args) (told (fault_if nil_fault b >>= λ z. deep_run))) e
+      ∙ ap (Fault 5) zero_more
 
-  past_nil : is_nil (read st the_cell) ≡ false → told (one setting n (Call at back (Some (Whole x)) name args) st) ≡ plus (1 + length args) (told deep_run)
-  past_nil e = counted ∙ ap (λ b. plus (1 + length args) (told (fault_if nil_fault b >>= λ z. deep_run))) e ∙ ap (plus (1 + length args)) (told_after 0 deep_run ∙ plus_none (told deep_run))
+  past_nil : is_nil (read st the_cell) ≡ false → told (one setting n (Call at back (Some (Whole x)) name args) st)
+      ≡ plus (1 + length args) (told deep_run)
+  past_nil e = counted ∙ ap (λ b. plus (1 + length args) (told (fault_if nil_fault b >>= λ z. deep_run))) e
+      ∙ ap (plus (1 + length args)) (told_after 0 deep_run ∙ plus_none (told deep_run))
 
-  pub says_deep : is_nil (read st the_cell) ≡ false → is_too_deep setting st ≡ true → told (one setting n (Call at back (Some (Whole x)) name args) st) ≡ Fault 14 (1 + length args)
-  says_deep e d = past_nil e ∙ ap (λ b. plus (1 + length args) (told (fault_if too_deep_fault b >>= λ z. call_run))) d ∙ ap (Fault 14) zero_more
+  pub says_deep : is_nil (read st the_cell) ≡ false → is_too_deep setting st ≡ true
+      → told (one setting n (Call at back (Some (Whole x)) name args) st) ≡ Fault 14 (1 + length args)
+  says_deep e d = past_nil e ∙ ap (λ b. plus (1 + length args) (told (fault_if too_deep_fault b >>= λ z. call_run))) d
+      ∙ ap (Fault 14) zero_more
 
-  pub says_on : (method : Procedure) (self : ℕ) (c : Cell) (cells : List Cell) (caller : State) (vals : List Value) (v : Value) → is_nil (read st the_cell) ≡ false → is_too_deep setting st ≡ false → the_cell ≡ c → read st c ≡ v → number_of (read st c) ≡ self → method_named setting.program (class_of setting st (number_of (read st c))) name.text ≡ method → cells_named setting st args ≡ cells → moved_out (c ∷ cells) st ≡ caller → map (read st) cells ≡ vals → st.depth ≡ caller.depth → told (one setting n (Call at back (Some (Whole x)) name args) st) ≡ plus (1 + length args) (InvokedOn method self c cells caller vals v)
+  pub says_on : (method : Procedure) (self : ℕ) (c : Cell) (cells : List Cell) (caller : State) (vals : List Value)
+      (v : Value) → is_nil (read st the_cell) ≡ false → is_too_deep setting st ≡ false → the_cell ≡ c → read st c ≡ v
+      → number_of (read st c) ≡ self → method_named setting.program (class_of setting st (number_of (read st c)))
+      name.text ≡ method → cells_named setting st args ≡ cells → moved_out (c ∷ cells) st ≡ caller
+      → map (read st) cells ≡ vals → st.depth ≡ caller.depth
+      → told (one setting n (Call at back (Some (Whole x)) name args) st)
+      ≡ plus (1 + length args) (InvokedOn method self c cells caller vals v)
   says_on method self c cells caller vals v e open_yet ec ev es em ecs eo evs ed =
-      let Inv : Procedure → ℕ → Cell → List Cell → State → List Value → Value → ℕ → Run State = λ method self c cells caller vals v depth.
-      exec setting n (in_direction back method.body) (record { frame = bound method.params vals; self = self; depth = 1 + depth; store = caller.store; log = caller.log })
-      >>= λ end. moved_back (c ∷ cells) (v ∷ map (λ binding. binding.value) end.frame) (record caller { store = end.store; log = end.log }) in
-      let M : Cell → Procedure = λ c. method_named setting.program (class_of setting st (number_of (read st c))) name.text in
+      let Inv : Procedure → ℕ → Cell → List Cell → State → List Value → Value → ℕ
+      → Run State = λ method self c cells caller vals v depth.
+      exec setting n (in_direction back method.body) (record {
+        frame = bound method.params vals;
+        self = self;
+        depth = 1 + depth;
+        store = caller.store;
+        log = caller.log;
+      })
+      >>= λ end. moved_back (c ∷ cells) (v ∷ map (λ binding. binding.value) end.frame)
+      (record caller { store = end.store; log = end.log }) in
+      let M : Cell → Procedure = λ c. method_named setting.program (class_of setting st (number_of (read st c)))
+      name.text in
       past_nil e ∙ ap (plus (1 + length args)) (
       ap (λ b. told (fault_if too_deep_fault b >>= λ z. call_run)) open_yet
       ∙ told_after 0 call_run
       ∙ plus_none (told call_run)
-      ∙ ap (λ k. told (Inv (M k) (number_of (read st k)) k (cells_named setting st args) (moved_out (k ∷ cells_named setting st args) st) (map (read st) (cells_named setting st args)) (read st k) st.depth)) ec
-      ∙ ap (λ m. told (Inv m (number_of (read st c)) c (cells_named setting st args) (moved_out (c ∷ cells_named setting st args) st) (map (read st) (cells_named setting st args)) (read st c) st.depth)) em
-      ∙ ap (λ i. told (Inv method i c (cells_named setting st args) (moved_out (c ∷ cells_named setting st args) st) (map (read st) (cells_named setting st args)) (read st c) st.depth)) es
+      ∙ ap (λ k. told (Inv (M k) (number_of (read st k)) k (cells_named setting st args)
+      (moved_out (k ∷ cells_named setting st args) st) (map (read st) (cells_named setting st args)) (read st k)
+      st.depth)) ec
+      ∙ ap (λ m. told (Inv m (number_of (read st c)) c (cells_named setting st args)
+      (moved_out (c ∷ cells_named setting st args) st) (map (read st) (cells_named setting st args)) (read st c)
+      st.depth)) em
+      ∙ ap (λ i. told (Inv method i c (cells_named setting st args) (moved_out (c ∷ cells_named setting st args) st)
+      (map (read st) (cells_named setting st args)) (read st c) st.depth)) es
       ∙ ap (λ l. told (Inv method self c l (moved_out (c ∷ l) st) (map (read st) l) (read st c) st.depth)) ecs
       ∙ ap (λ z. told (Inv method self c cells z (map (read st) cells) (read st c) st.depth)) eo
       ∙ ap (λ l. told (Inv method self c cells caller l (read st c) st.depth)) evs
       ∙ ap (λ z. told (Inv method self c cells caller vals z st.depth)) ev
       ∙ ap (λ z. told (Inv method self c cells caller vals v z)) ed
-      ∙ told_bind (exec setting n (in_direction back method.body) (record { frame = bound method.params vals; self = self; depth = 1 + caller.depth; store = caller.store; log = caller.log })) (λ end. moved_back (c ∷ cells) (v ∷ map (λ binding. binding.value) end.frame) (record caller { store = end.store; log = end.log }))
+      ∙ told_bind (exec setting n (in_direction back method.body)
+      (record {
+        frame = bound method.params vals;
+        self = self;
+        depth = 1 + caller.depth;
+        store = caller.store;
+        log = caller.log;
+      })) (λ end. moved_back (c ∷ cells) (v ∷ map (λ binding. binding.value) end.frame)
+      (record caller { store = end.store; log = end.log }))
       )
 
 -- ---- the piece
 
-module _ (w : World) (knows : Known w) (f : FrameFacts w knows) (on : Receivers w) (g : ReceiverFacts w knows on) (s : Scope) (x name : Ident) (args : List Ident) (is : on.IsReceiver s x name args) (few : length args ≤ 32) (u : w.Under) (vars : AllVariables w knows f s u args) (not_arg : NotAmong (knows.cell_of s u x) (cells_of w knows f s u args)) (st : State) (cs : List ℕ) (h : w.opens s u [] st cs) where
+module _ (w : World) (knows : Known w) (f : FrameFacts w knows) (on : Receivers w) (g : ReceiverFacts w knows on)
+    (s : Scope) (x name : Ident) (args : List Ident) (is : on.IsReceiver s x name args) (few : length args ≤ 32)
+    (u : w.Under) (vars : AllVariables w knows f s u args)
+    (not_arg : NotAmong (knows.cell_of s u x) (cells_of w knows f s u args)) (st : State) (cs : List ℕ)
+    (h : w.opens s u [] st cs) where
   abbrev ob : ℕ
   ob = w.object_of u
 
@@ -115,7 +177,7 @@ module _ (w : World) (knows : Known w) (f : FrameFacts w knows) (on : Receivers 
   abbrev c : Cell
   c = knows.cell_of s u x
 
-  abbrev sp : package.Rattle.statement_laws.specs.declared.spot.Spot.Spot
+  abbrev sp : package.Rattle.refine_form.specs.declared.spot.Spot.Spot
   sp = knows.spot s x
 
   abbrev at : ℕ
@@ -152,7 +214,13 @@ module _ (w : World) (knows : Known w) (f : FrameFacts w knows) (on : Receivers 
   place = w.routines.top r + 1
 
   abbrev callee : State
-  callee = record { frame = bound (w.routines.method r).params vals; self = n_of; depth = 1 + moved_st.depth; store = caller.store; log = moved_st.log }
+  callee = record {
+    frame = bound (w.routines.method r).params vals;
+    self = n_of;
+    depth = 1 + moved_st.depth;
+    store = caller.store;
+    log = moved_st.log;
+  }
 
   abbrev is_full : Bool
   is_full = not (nat_lt (knows.depth_of u) w.setting.limits.deep)
@@ -195,7 +263,8 @@ module _ (w : World) (knows : Known w) (f : FrameFacts w knows) (on : Receivers 
     same_read = out_reads cells c st not_arg
 
     goes : GoesOn moved.cells at up ob (w.object_of deep) (w.opens (w.routines.scope r) deep [] callee)
-    goes = g.enters_on s u vals moved_st moved.cells x name args n_of moved.up is (long_vals cells ∙ as_many_cells args) room (ap is_nil same_read ∙ there) (ap number_of same_read)
+    goes = g.enters_on s u vals moved_st moved.cells x name args n_of moved.up is (long_vals cells ∙ as_many_cells args)
+        room (ap is_nil same_read ∙ there) (ap number_of same_read)
 
     abbrev in_cells : List ℕ
     in_cells = slice_set (slice_set moved.cells at 0) up ob
@@ -209,31 +278,50 @@ module _ (w : World) (knows : Known w) (f : FrameFacts w knows) (on : Receivers 
     has_place : HasPlace in_cells (w.object_of deep) slot place
     has_place = g.place_on s u caller callee in_cells x name args n_of entered is suits
 
-    fetched : (cs2 : List ℕ) → HasPlace cs2 (w.object_of deep) slot place → Will w.im (line (fetch_row slot)) false (mk 0 (w.object_of deep) (fr + 512) 0 0 0 0 0 cs2) (λ o. o ≡ Done (mk 0 (w.object_of deep) (fr + 512) 0 0 0 0 place cs2) 13)
-    fetched cs2 p = will_fetch w.im (w.object_of deep) (fr + 512) slot place cs2 p.object_in p.small (g.slot_small s x name args is) p.entry_in p.entry place_small rw_small
+    fetched : (cs2 : List ℕ) → HasPlace cs2 (w.object_of deep) slot place
+        → Will w.im (line (fetch_row slot)) false (mk 0 (w.object_of deep) (fr + 512) 0 0 0 0 0 cs2)
+        (λ o. o ≡ Done (mk 0 (w.object_of deep) (fr + 512) 0 0 0 0 place cs2) 13)
+    fetched cs2 p = will_fetch w.im (w.object_of deep) (fr + 512) slot place cs2 p.object_in p.small
+        (g.slot_small s x name args is) p.entry_in p.entry place_small rw_small
 
-    unfetched : (cs2 : List ℕ) → HasPlace cs2 (w.object_of deep) slot place → Will w.im (line (fetch_row slot)) true (mk 0 (w.object_of deep) (fr + 512) 0 0 0 0 place cs2) (λ o. o ≡ Done (mk 0 (w.object_of deep) (fr + 512) 0 0 0 0 0 cs2) 13)
-    unfetched cs2 p = will_unfetch w.im (w.object_of deep) (fr + 512) slot place cs2 p.object_in p.small (g.slot_small s x name args is) p.entry_in p.entry place_small rw_small
+    unfetched : (cs2 : List ℕ) → HasPlace cs2 (w.object_of deep) slot place
+        → Will w.im (line (fetch_row slot)) true (mk 0 (w.object_of deep) (fr + 512) 0 0 0 0 place cs2)
+        (λ o. o ≡ Done (mk 0 (w.object_of deep) (fr + 512) 0 0 0 0 0 cs2) 13)
+    unfetched cs2 p = will_unfetch w.im (w.object_of deep) (fr + 512) slot place cs2 p.object_in p.small
+        (g.slot_small s x name args is) p.entry_in p.entry place_small rw_small
 
-    front_in : Will w.im (front_on_code (knows.spot s) x slot args) false (mk 0 ob fr 0 0 0 0 0 cs) (λ o. o ≡ Done (mk 0 (w.object_of deep) (fr + 512) 0 0 0 0 place in_cells) (22 + (22 + (14 * length args + (9 + (7 + 14))))))
+    front_in : Will w.im (front_on_code (knows.spot s) x slot args) false (mk 0 ob fr 0 0 0 0 0 cs)
+        (λ o. o ≡ Done (mk 0 (w.object_of deep) (fr + 512) 0 0 0 0 place in_cells)
+        (22 + (22 + (14 * length args + (9 + (7 + 14))))))
     front_in =
         let e = f.has_end s u st cs h in
         let cs1 = moved.cells in
         let gone = slice_set cs1 at 0 in
         let word = w.object_of deep in
-        let take : Will w.im (take_code sp) false (mk 0 ob fr 0 0 0 0 0 cs1) (λ o. o ≡ Done (mk 0 ob fr 0 0 word 0 0 gone) 9) =
-        will_more w.im _ false _ _ _ (λ o q. q ∙ ap (λ v. Done (mk 0 ob fr 0 0 v 0 0 gone) 9) goes.word_is) (takes w.im ob fr sp cs1 goes.at_in low) in
+        let take : Will w.im (take_code sp) false (mk 0 ob fr 0 0 0 0 0 cs1)
+        (λ o. o ≡ Done (mk 0 ob fr 0 0 word 0 0 gone) 9) =
+        will_more w.im _ false _ _ _ (λ o q. q ∙ ap (λ v. Done (mk 0 ob fr 0 0 v 0 0 gone) 9) goes.word_is)
+        (takes w.im ob fr sp cs1 goes.at_in low) in
         let empty : slice_index gone up ≡ 0 = get_or-set_other cs1 at up 0 0 (λ q. goes.apart (sym q)) ∙ goes.empty in
-        let onto = turns_to w.im ob fr word gone (let l = goes.up_in in omega (arith, length-set cs1 at 0)) (omega (arith, object_small)) frame_small (omega (arith, rw_small)) empty in
-        let raise : Will w.im (line (addi 4 512 ∷ [])) false (mk 0 word fr 0 0 0 0 0 in_cells) (λ o. o ≡ Done (mk 0 word (fr + 512) 0 0 0 0 0 in_cells) 1) =
-        will_row w.im false (addi 4 512 ∷ []) 1 _ _ (next refl (omega arith) (ap (λ v. Done (mk 0 word v 0 0 0 0 0 in_cells) 1) (let z : package.Rattle.rpp_words.specs.Words.sum_of fr 512 ≡ fr + 512 = (let t = frame_small in omega arith) in z)) here) in
-        will_two w.im (nil_code sp) _ _ _ 22 _ (nil_passes w.im ob fr sp cs (g.at_in s u st cs x name args h is) low (g.word_small s u st cs x name args h is) false (g.name_word s u st cs x name args h is there))
-        (will_two w.im depth_code _ _ _ 22 _ (depth_passes w.im ob fr cs e.cell_in e.small (end_fits st cs h false room) false (e.room room))
+        let onto = turns_to w.im ob fr word gone (let l = goes.up_in in omega (arith, length-set cs1 at 0))
+        (omega (arith, object_small)) frame_small (omega (arith, rw_small)) empty in
+        let raise : Will w.im (line (addi 4 512 ∷ [])) false (mk 0 word fr 0 0 0 0 0 in_cells)
+        (λ o. o ≡ Done (mk 0 word (fr + 512) 0 0 0 0 0 in_cells) 1) =
+        will_row w.im false (addi 4 512 ∷ []) 1 _ _ (next refl (omega arith)
+        (ap (λ v. Done (mk 0 word v 0 0 0 0 0 in_cells) 1)
+        (let z : package.Rattle.rpp_words.specs.Words.sum_of fr 512
+        ≡ fr + 512 = (let t = frame_small in omega arith) in z)) here) in
+        will_two w.im (nil_code sp) _ _ _ 22 _ (nil_passes w.im ob fr sp cs (g.at_in s u st cs x name args h is) low
+        (g.word_small s u st cs x name args h is) false (g.name_word s u st cs x name args h is there))
+        (will_two w.im depth_code _ _ _ 22 _ (depth_passes w.im ob fr cs e.cell_in e.small (end_fits st cs h false room)
+        false (e.room room))
         (will_two w.im (moves_code (knows.spot s) args) _ _ _ (14 * length args) _ moved.goes
         (will_two w.im (take_code sp) _ _ _ 9 _ take
         (will_two w.im onto_code _ _ _ 7 _ onto
         (will_two w.im (line (addi 4 512 ∷ [])) (line (fetch_row slot)) _ _ 1 _ raise
-        (will_more w.im (line (fetch_row slot)) false _ _ _ (λ o q. ap (λ o. after 22 (after 22 (after (14 * length args) (after 9 (after 7 (after 1 o)))))) q) (fetched in_cells has_place)))))))
+        (will_more w.im (line (fetch_row slot)) false _ _ _
+        (λ o q. ap (λ o. after 22 (after 22 (after (14 * length args) (after 9 (after 7 (after 1 o)))))) q)
+        (fetched in_cells has_place)))))))
 
     -- what the source says when the body has ended
     abbrev home : State → State
@@ -260,8 +348,10 @@ module _ (w : World) (knows : Known w) (f : FrameFacts w knows) (on : Receivers 
       abbrev m0 : Memory
       m0 = mk 0 (w.object_of deep) (fr + 512) 0 0 0 0 place cs2
 
-      comes : ComesBack cs2 at up ob (w.object_of deep) (is_zero (read (home end) c)) (w.opens s u (pairs args (values end)) (written (home end) c (Name n_of)))
-      comes = g.leaves_on s u moved_st caller end cs2 x name args n_of (pairs args vals) moved.cells moved.up refl o is suits
+      comes : ComesBack cs2 at up ob (w.object_of deep) (is_zero (read (home end) c))
+          (w.opens s u (pairs args (values end)) (written (home end) c (Name n_of)))
+      comes = g.leaves_on s u moved_st caller end cs2 x name args n_of (pairs args vals) moved.cells moved.up refl o is
+          suits
 
       still_in : at < length (out_cells cs2)
       still_in = let l = comes.at_in in omega (arith, length-set cs2 up 0)
@@ -270,111 +360,181 @@ module _ (w : World) (knows : Known w) (f : FrameFacts w knows) (on : Receivers 
       same_word = get_or-set_other cs2 up at 0 0 comes.apart
 
       -- the place, the frame and OBJECT
-      lowered : Will w.im (onto_code ++ last_row) true m0 (λ q. q ≡ Done (mk 0 ob fr 0 0 (w.object_of deep) 0 0 (out_cells cs2)) 21)
+      lowered : Will w.im (onto_code ++ last_row) true m0 (λ q. q
+          ≡ Done (mk 0 ob fr 0 0 (w.object_of deep) 0 0 (out_cells cs2)) 21)
       lowered =
           let word = w.object_of deep in
           let p = g.place_on s u caller end cs2 x name args n_of o is suits in
-          let down : Will w.im (line (addi 4 512 ∷ [])) true (mk 0 word (fr + 512) 0 0 0 0 0 cs2) (λ q. q ≡ Done (mk 0 word fr 0 0 0 0 0 cs2) 1) =
-          will_row w.im true (addi 4 512 ∷ []) 1 _ _ (next refl (omega arith) (ap (λ v. Done (mk 0 word v 0 0 0 0 0 cs2) 1) (less_is (fr + 512) 512 fr refl (let t = frame_small in omega arith))) here) in
+          let down : Will w.im (line (addi 4 512 ∷ [])) true (mk 0 word (fr + 512) 0 0 0 0 0 cs2)
+          (λ q. q ≡ Done (mk 0 word fr 0 0 0 0 0 cs2) 1) =
+          will_row w.im true (addi 4 512 ∷ []) 1 _ _ (next refl (omega arith)
+          (ap (λ v. Done (mk 0 word v 0 0 0 0 0 cs2) 1) (less_is (fr + 512) 512 fr refl
+          (let t = frame_small in omega arith))) here) in
           let both : Will w.im last_row true m0 (λ q. q ≡ Done (mk 0 word fr 0 0 0 0 0 cs2) 14) =
-          will_two_back w.im (line (addi 4 512 ∷ [])) (line (fetch_row slot)) _ _ 13 _ (unfetched cs2 p) (will_more w.im _ true _ _ _ (λ o q. ap (after 13) q) down) in
+          will_two_back w.im (line (addi 4 512 ∷ [])) (line (fetch_row slot)) _ _ 13 _ (unfetched cs2 p)
+          (will_more w.im _ true _ _ _ (λ o q. ap (after 13) q) down) in
           will_two_back w.im onto_code last_row m0 (mk 0 word fr 0 0 0 0 0 cs2) 14 _ both
-          (will_more w.im _ true _ _ _ (λ o q. ap (after 14) q) (turns_from w.im ob fr word cs2 comes.up_in (let t = object_small in omega arith) frame_small (let t = rw_small in omega arith) comes.saved))
+          (will_more w.im _ true _ _ _ (λ o q. ap (after 14) q)
+          (turns_from w.im ob fr word cs2 comes.up_in (let t = object_small in omega arith) frame_small
+          (let t = rw_small in omega arith) comes.saved))
 
       abbrev Moved : Outcome → Type 0
       Moved q = Meets Home w.rates n (30 + 14 * length args) (moves_home end) q
 
-      arguments : (b : Bool) → is_zero (read (home end) c) ≡ b → Will w.im (moves_code (knows.spot s) args ++ (take_code sp ++ (onto_code ++ last_row))) true m0 Moved
+      arguments : (b : Bool) → is_zero (read (home end) c) ≡ b
+          → Will w.im (moves_code (knows.spot s) args ++ (take_code sp ++ (onto_code ++ last_row))) true m0 Moved
       arguments true z =
           let word = w.object_of deep in
           let cs3 = slice_set (out_cells cs2) at word in
           let home1 = written (home end) c (Name n_of) in
           let opens1 : w.opens s u (pairs args (values end)) home1 cs3 = comes.back z in
           let said : moves_home end ≡ told (moved_back cells (values end) home1) =
-          ap (λ b. told (fault_if touched_fault (not b) >>= λ t. moved_back cells (values end) home1)) z ∙ told_after 0 (moved_back cells (values end) home1) ∙ plus_none (told (moved_back cells (values end) home1)) in
-          let taken : Will w.im (take_code sp ++ (onto_code ++ last_row)) true m0 (λ q. q ≡ Done (mk 0 ob fr 0 0 0 0 0 cs3) 30) =
-          will_two_back w.im (take_code sp) (onto_code ++ last_row) m0 (mk 0 ob fr 0 0 word 0 0 (out_cells cs2)) 21 _ lowered
-          (will_more w.im _ true _ _ _ (λ o q. ap (after 21) q) (gives_back w.im ob fr sp (out_cells cs2) still_in low word (same_word ∙ comes.untouched z))) in
+          ap (λ b. told (fault_if touched_fault (not b) >>= λ t. moved_back cells (values end) home1)) z
+          ∙ told_after 0 (moved_back cells (values end) home1)
+          ∙ plus_none (told (moved_back cells (values end) home1)) in
+          let taken : Will w.im (take_code sp ++ (onto_code ++ last_row)) true m0
+          (λ q. q ≡ Done (mk 0 ob fr 0 0 0 0 0 cs3) 30) =
+          will_two_back w.im (take_code sp) (onto_code ++ last_row) m0 (mk 0 ob fr 0 0 word 0 0 (out_cells cs2)) 21 _
+          lowered
+          (will_more w.im _ true _ _ _ (λ o q. ap (after 21) q)
+          (gives_back w.im ob fr sp (out_cells cs2) still_in low word (same_word ∙ comes.untouched z))) in
           let many = g.as_many_on s u caller end cs2 x name args n_of o is suits in
           let there_again = g.is_there s u (pairs args (values end)) (home end) (Name n_of) cs3 x name args opens1 is in
-          will_two_back w.im (moves_code (knows.spot s) args) (take_code sp ++ (onto_code ++ last_row)) m0 (mk 0 ob fr 0 0 0 0 0 cs3) 30 Moved taken
-          (will_more w.im _ true _ _ _ (λ o q. meets_told _ _ (sym said) (meets_later 30 (meets_as (λ a m k e i. record { opened_again = i; receiver = stays cells (values end) home1 a k c not_arg e ∙ there_again }) q)))
+          will_two_back w.im (moves_code (knows.spot s) args) (take_code sp ++ (onto_code ++ last_row)) m0
+          (mk 0 ob fr 0 0 0 0 0 cs3) 30 Moved taken
+          (will_more w.im _ true _ _ _ (λ o q. meets_told _ _ (sym said)
+          (meets_later 30 (meets_as (λ a m k e i. record
+          { opened_again = i; receiver = stays cells (values end) home1 a k c not_arg e ∙ there_again })
+          q)))
           (all_back w knows f s u n args vars (values end) home1 cs3 many few opens1))
       arguments false z =
           let word = w.object_of deep in
           let home1 = written (home end) c (Name n_of) in
-          let said : moves_home end ≡ Fault 15 0 = ap (λ b. told (fault_if touched_fault (not b) >>= λ t. moved_back cells (values end) home1)) z in
-          let found = finds_touched w.im ob fr sp (out_cells cs2) still_in low word (λ e. comes.touched z (sym same_word ∙ e)) in
-          let taken : Will w.im (take_code sp ++ (onto_code ++ last_row)) true m0 (λ q. (k : ℕ) × (k ≤ 30) × (q ≡ Trapped 15 k)) =
-          will_two_back w.im (take_code sp) (onto_code ++ last_row) m0 (mk 0 ob fr 0 0 word 0 0 (out_cells cs2)) 21 _ lowered
+          let said : moves_home end ≡ Fault 15 0 = ap (λ b. told
+          (fault_if touched_fault (not b) >>= λ t. moved_back cells (values end) home1)) z in
+          let found = finds_touched w.im ob fr sp (out_cells cs2) still_in low word
+          (λ e. comes.touched z (sym same_word ∙ e)) in
+          let taken : Will w.im (take_code sp ++ (onto_code ++ last_row)) true m0
+          (λ q. (k : ℕ) × (k ≤ 30) × (q ≡ Trapped 15 k)) =
+          will_two_back w.im (take_code sp) (onto_code ++ last_row) m0 (mk 0 ob fr 0 0 word 0 0 (out_cells cs2)) 21 _
+          lowered
           (will_more w.im _ true _ _ _ (λ o t. (21 + t.0, (let l = t.1 in omega arith), ap (after 21) t.2)) found) in
-          let W : Memory → ℕ → Type 0 = λ m1 k. Will w.im (moves_code (knows.spot s) args) true m1 (λ o. Moved (after k o)) in
+          let W : Memory → ℕ → Type 0 = λ m1 k. Will w.im (moves_code (knows.spot s) args) true m1
+          (λ o. Moved (after k o)) in
           will_seq_back w.im (moves_code (knows.spot s) args) (take_code sp ++ (onto_code ++ last_row)) m0 Moved
-          (will_more w.im _ true _ _ _ (λ o t. subst (Next W Moved) (sym t.2) (meets_told (Fault 15 0) _ (sym said) (faults (let l = t.1 in omega arith)))) taken)
+          (will_more w.im _ true _ _ _ (λ o t. subst (Next W Moved) (sym t.2)
+          (meets_told (Fault 15 0) _ (sym said) (faults (let l = t.1 in omega arith)))) taken)
 
-      front_back : Will w.im (front_on_code (knows.spot s) x slot args) true m0 (Meets (Open w s u) w.rates n (30 + 14 * length args + 22 + 22) (moves_home end))
+      front_back : Will w.im (front_on_code (knows.spot s) x slot args) true m0
+          (Meets (Open w s u) w.rates n (30 + 14 * length args + 22 + 22) (moves_home end))
       front_back =
           let rest1 = moves_code (knows.spot s) args ++ (take_code sp ++ (onto_code ++ last_row)) in
-          let inner = then_quiet w.im true Home Home w.rates n 22 (30 + 14 * length args) rest1 depth_code m0 (moves_home end) (arguments (is_zero (read (home end) c)) refl) (λ a m i. deep_ok a m i) in
-          then_quiet w.im true Home (Open w s u) w.rates n 22 (30 + 14 * length args + 22) (depth_code ++ rest1) (nil_code sp) m0 (moves_home end) inner (λ a m i. nil_ok a m i)
+          let inner = then_quiet w.im true Home Home w.rates n 22 (30 + 14 * length args) rest1 depth_code m0
+          (moves_home end) (arguments (is_zero (read (home end) c)) refl) (λ a m i. deep_ok a m i) in
+          then_quiet w.im true Home (Open w s u) w.rates n 22 (30 + 14 * length args + 22) (depth_code ++ rest1)
+          (nil_code sp) m0 (moves_home end) inner (λ a m i. nil_ok a m i)
         where
           deep_ok : (a : State) (m : Memory) → Home a m → Will w.im depth_code true m (Quiet (Home a) 22)
           deep_ok a m i =
               let e = f.has_end s u a m.cells i.opened_again.open_frame in
               subst (λ z. Will w.im depth_code true z (Quiet (Home a) 22)) (sym (as_known m _ i.opened_again.regs_are))
-              (will_more w.im depth_code true _ _ _ (λ o q. subst (Quiet (Home a) 22) (sym q) (quiet (record { opened_again = record { regs_are = refl; open_frame = i.opened_again.open_frame }; receiver = i.receiver }) (omega arith))) (depth_passes w.im ob fr m.cells e.cell_in e.small (end_fits a m.cells i.opened_again.open_frame false room) true (e.room room)))
+              (will_more w.im depth_code true _ _ _ (λ o q. subst (Quiet (Home a) 22) (sym q)
+              (quiet (record {
+                opened_again = record {
+                  regs_are = refl;
+                  open_frame = i.opened_again.open_frame;
+                };
+                receiver = i.receiver;
+              }) (omega arith)))
+              (depth_passes w.im ob fr m.cells e.cell_in e.small
+              (end_fits a m.cells i.opened_again.open_frame false room) true (e.room room)))
 
           nil_ok : (a : State) (m : Memory) → Home a m → Will w.im (nil_code sp) true m (Quiet (Open w s u a) 22)
           nil_ok a m i =
               let oa = i.opened_again.open_frame in
               let pos = g.name_word s u a m.cells x name args oa is (ap is_nil i.receiver) in
-              subst (λ z. Will w.im (nil_code sp) true z (Quiet (Open w s u a) 22)) (sym (as_known m _ i.opened_again.regs_are))
-              (will_more w.im (nil_code sp) true _ _ _ (λ o q. subst (Quiet (Open w s u a) 22) (sym q) (quiet (record { regs_are = refl; open_frame = oa }) (omega arith))) (nil_passes w.im ob fr sp m.cells (g.at_in s u a m.cells x name args oa is) low (g.word_small s u a m.cells x name args oa is) true pos))
+              subst (λ z. Will w.im (nil_code sp) true z (Quiet (Open w s u a) 22))
+              (sym (as_known m _ i.opened_again.regs_are))
+              (will_more w.im (nil_code sp) true _ _ _ (λ o q. subst (Quiet (Open w s u a) 22) (sym q)
+              (quiet (record { regs_are = refl; open_frame = oa }) (omega arith)))
+              (nil_passes w.im ob fr sp m.cells (g.at_in s u a m.cells x name args oa is) low
+              (g.word_small s u a m.cells x name args oa is) true pos))
 
-    called : (n : ℕ) → Owes w (suc n) → (kind d : Bool) → Will w.im (call_on_code (knows.spot s) kind x slot args) d (mk 0 ob fr 0 0 0 0 0 cs) (Meets (Open w s u) w.rates (n + (1 + length args)) 0 (plus (1 + length args) (told_then (told (exec w.setting n (in_direction (xor kind d) (w.routines.method r).body) callee)) (λ k end. moves_home end))))
+    called : (n : ℕ) → Owes w (suc n) → (kind d : Bool) → Will w.im (call_on_code (knows.spot s) kind x slot args) d
+        (mk 0 ob fr 0 0 0 0 0 cs) (Meets (Open w s u) w.rates (n + (1 + length args)) 0
+        (plus (1 + length args) (told_then (told (exec w.setting n
+        (in_direction (xor kind d) (w.routines.method r).body) callee)) (λ k end. moves_home end))))
     called n owes kind d =
         let t = told (exec w.setting n (in_direction (xor kind d) (w.routines.method r).body) callee) in
         let nf = g.next_frame_on s u caller n_of in
-        let body = enters_body w (w.routines.scope r) deep place r n (f.placed r known_routine) f.tidy refl (owes n (omega arith) r known_routine) (g.fresh_on s u caller n_of) kind d callee in_cells entered in
-        let mid : Will w.im (enter_at_cells 12 kind) d (mk 0 (w.object_of deep) (fr + 512) 0 0 0 0 place in_cells) (Meets (InCall w (w.routines.scope r) deep place) w.rates n 55 t) =
-        subst (λ y. Will w.im (enter_at_cells 12 kind) d (mk 0 (w.object_of deep) y 0 0 0 0 place in_cells) (Meets (InCall w (w.routines.scope r) deep place) w.rates n 55 t)) nf body in
-        wraps_spent w.im d (front_on_code (knows.spot s) x slot args) (enter_at_cells 12 kind) _ _ (InCall w (w.routines.scope r) deep place) (Open w s u) w.rates n 55 (30 + 14 * length args + 22 + 22) (22 + (22 + (14 * length args + (9 + (7 + 14))))) (1 + length args) 0 t moves_home
+        let body = enters_body w (w.routines.scope r) deep place r n (f.placed r known_routine) f.tidy refl
+        (owes n (omega arith) r known_routine) (g.fresh_on s u caller n_of) kind d callee in_cells entered in
+        let mid : Will w.im (enter_at_cells 12 kind) d (mk 0 (w.object_of deep) (fr + 512) 0 0 0 0 place in_cells)
+        (Meets (InCall w (w.routines.scope r) deep place) w.rates n 55 t) =
+        subst (λ y. Will w.im (enter_at_cells 12 kind) d (mk 0 (w.object_of deep) y 0 0 0 0 place in_cells)
+        (Meets (InCall w (w.routines.scope r) deep place) w.rates n 55 t)) nf body in
+        wraps_spent w.im d (front_on_code (knows.spot s) x slot args) (enter_at_cells 12 kind) _ _
+        (InCall w (w.routines.scope r) deep place) (Open w s u) w.rates n 55 (30 + 14 * length args + 22 + 22)
+        (22 + (22 + (14 * length args + (9 + (7 + 14))))) (1 + length args) 0 t moves_home
         f.counts (omega arith) (enough w.rates.steps (length args) f.thousand few) front_in mid (λ a m2 k e i.
         let known = as_known m2 _ (i.regs_are ∙ ap (λ y. registers 0 (w.object_of deep) y 0 0 0 0 place) nf) in
-        subst (λ z. Will w.im (front_on_code (knows.spot s) x slot args) true z (Meets (Open w s u) w.rates (n - k) (30 + 14 * length args + 22 + 22) (moves_home a))) (sym known) (front_back (n - k) a m2.cells i.open_frame))
+        subst (λ z. Will w.im (front_on_code (knows.spot s) x slot args) true z
+        (Meets (Open w s u) w.rates (n - k) (30 + 14 * length args + 22 + 22) (moves_home a))) (sym known)
+        (front_back (n - k) a m2.cells i.open_frame))
       where
-        enough : (steps k : ℕ) → steps ≡ 1000 → k ≤ 32 → 22 + (22 + (14 * k + (9 + (7 + 14)))) + (55 + (30 + 14 * k + 22 + 22)) ≤ steps * (1 + k) + 0
+        enough : (steps k : ℕ) → steps ≡ 1000 → k ≤ 32 → 22 + (22 + (14 * k + (9 + (7 + 14)))) +
+            (55 + (30 + 14 * k + 22 + 22)) ≤ steps * (1 + k) + 0
         enough steps k e few = let z : steps * (1 + k) ≡ 1000 * (1 + k) = ap (λ y. y * (1 + k)) e in omega (arith, z)
 
   -- a trap before anything has moved
-  early : (n code : ℕ) (kind d : Bool) → Will w.im (front_on_code (knows.spot s) x slot args) false (mk 0 ob fr 0 0 0 0 0 cs) (λ o. (k : ℕ) × (k ≤ 40) × (o ≡ Trapped code k)) → Will w.im (call_on_code (knows.spot s) kind x slot args) d (mk 0 ob fr 0 0 0 0 0 cs) (Meets (Open w s u) w.rates (suc n) 0 (Fault code (1 + length args)))
+  early : (n code : ℕ) (kind d : Bool) → Will w.im (front_on_code (knows.spot s) x slot args) false
+      (mk 0 ob fr 0 0 0 0 0 cs) (λ o. (k : ℕ) × (k ≤ 40) × (o ≡ Trapped code k))
+      → Will w.im (call_on_code (knows.spot s) kind x slot args) d (mk 0 ob fr 0 0 0 0 0 cs)
+      (Meets (Open w s u) w.rates (suc n) 0 (Fault code (1 + length args)))
   early n code kind d t =
       let Q : Outcome → Type 0 = Meets (Open w s u) w.rates (suc n) 0 (Fault code (1 + length args)) in
-      let W : Memory → ℕ → Type 0 = λ m1 k1. Will w.im (enter_at_cells 12 kind) d m1 (Next (λ m2 k2. Will w.im (front_on_code (knows.spot s) x slot args) true m2 (λ o. Q (after k1 (after k2 o)))) (λ o. Q (after k1 o))) in
-      will_around w.im d (front_on_code (knows.spot s) x slot args) (enter_at_cells 12 kind) _ Q (will_more w.im _ false _ _ _ (λ o q. subst (Next W Q) (sym q.2) (faults (few_steps w.rates.steps (length args) q.0 f.thousand q.1))) t)
+      let W : Memory → ℕ → Type 0 = λ m1 k1. Will w.im (enter_at_cells 12 kind) d m1
+      (Next (λ m2 k2. Will w.im (front_on_code (knows.spot s) x slot args) true m2 (λ o. Q (after k1 (after k2 o))))
+      (λ o. Q (after k1 o))) in
+      will_around w.im d (front_on_code (knows.spot s) x slot args) (enter_at_cells 12 kind) _ Q
+      (will_more w.im _ false _ _ _ (λ o q. subst (Next W Q) (sym q.2)
+      (faults (few_steps w.rates.steps (length args) q.0 f.thousand q.1))) t)
     where
       few_steps : (steps k j : ℕ) → steps ≡ 1000 → j ≤ 40 → j ≤ steps * (1 + k) + 0
       few_steps steps k j e l = let z : steps * (1 + k) ≡ 1000 * (1 + k) = ap (λ y. y * (1 + k)) e in omega (arith, z)
 
-  trap_first : (p q : List Symbol) (m : Memory) (code K : ℕ) → Will w.im p false m (λ o. (k : ℕ) × (k ≤ K) × (o ≡ Trapped code k)) → Will w.im (p ++ q) false m (λ o. (k : ℕ) × (k ≤ K) × (o ≡ Trapped code k))
+  trap_first : (p q : List Symbol) (m : Memory) (code K : ℕ)
+      → Will w.im p false m (λ o. (k : ℕ) × (k ≤ K) × (o ≡ Trapped code k))
+      → Will w.im (p ++ q) false m (λ o. (k : ℕ) × (k ≤ K) × (o ≡ Trapped code k))
   trap_first p q m code K t =
       let Q : Outcome → Type 0 = λ o. (k : ℕ) × (k ≤ K) × (o ≡ Trapped code k) in
       let W : Memory → ℕ → Type 0 = λ m1 k. Will w.im q false m1 (λ o. Q (after k o)) in
       will_seq w.im p q m Q (will_more w.im p false m _ _ (λ o y. subst (Next W Q) (sym y.2) (y.0, y.1, refl)) t)
 
-  on_nil : (n : ℕ) (kind d : Bool) → is_nil (read st c) ≡ true → Will w.im (call_on_code (knows.spot s) kind x slot args) d (mk 0 ob fr 0 0 0 0 0 cs) (Meets (Open w s u) w.rates (suc n) 0 (Fault 5 (1 + length args)))
+  on_nil : (n : ℕ) (kind d : Bool) → is_nil (read st c) ≡ true
+      → Will w.im (call_on_code (knows.spot s) kind x slot args) d (mk 0 ob fr 0 0 0 0 0 cs)
+      (Meets (Open w s u) w.rates (suc n) 0 (Fault 5 (1 + length args)))
   on_nil n kind d z =
-      early n 5 kind d (will_more w.im _ false _ _ _ (λ o q. (q.0, (let l = q.1 in omega arith), q.2)) (trap_first (nil_code sp) _ _ 5 13 (nil_traps w.im ob fr sp cs (g.at_in s u st cs x name args h is) low (g.word_small s u st cs x name args h is) false (g.nil_word s u st cs x name args h is z))))
+      early n 5 kind d (will_more w.im _ false _ _ _ (λ o q. (q.0, (let l = q.1 in omega arith), q.2))
+      (trap_first (nil_code sp) _ _ 5 13 (nil_traps w.im ob fr sp cs (g.at_in s u st cs x name args h is) low
+      (g.word_small s u st cs x name args h is) false (g.nil_word s u st cs x name args h is z))))
 
-  too_deep : (n : ℕ) (kind d : Bool) → is_nil (read st c) ≡ false → is_full ≡ true → Will w.im (call_on_code (knows.spot s) kind x slot args) d (mk 0 ob fr 0 0 0 0 0 cs) (Meets (Open w s u) w.rates (suc n) 0 (Fault 14 (1 + length args)))
+  too_deep : (n : ℕ) (kind d : Bool) → is_nil (read st c) ≡ false → is_full ≡ true
+      → Will w.im (call_on_code (knows.spot s) kind x slot args) d (mk 0 ob fr 0 0 0 0 0 cs)
+      (Meets (Open w s u) w.rates (suc n) 0 (Fault 14 (1 + length args)))
   too_deep n kind d there e =
       let he = f.has_end s u st cs h in
-      early n 14 kind d (will_two w.im (nil_code sp) _ _ _ 22 _ (nil_passes w.im ob fr sp cs (g.at_in s u st cs x name args h is) low (g.word_small s u st cs x name args h is) false (g.name_word s u st cs x name args h is there))
-      (will_more w.im _ false _ _ _ (λ o q. (22 + q.0, (let l = q.1 in omega arith), ap (after 22) q.2)) (trap_first depth_code _ _ 14 13 (depth_traps w.im ob fr cs he.cell_in he.small (end_fits st cs h true e) false (he.at_end e)))))
+      early n 14 kind d (will_two w.im (nil_code sp) _ _ _ 22 _
+      (nil_passes w.im ob fr sp cs (g.at_in s u st cs x name args h is) low
+      (g.word_small s u st cs x name args h is) false (g.name_word s u st cs x name args h is there))
+      (will_more w.im _ false _ _ _ (λ o q. (22 + q.0, (let l = q.1 in omega arith), ap (after 22) q.2))
+      (trap_first depth_code _ _ 14 13 (depth_traps w.im ob fr cs he.cell_in he.small (end_fits st cs h true e)
+      false (he.at_end e)))))
 
 -- ---- the law
 
-turned_on : (d back : Bool) (at : ℕ) (x name : Ident) (args : List Ident) → turned d (Call at back (Some (Whole x)) name args) ≡ Call at (xor d back) (Some (Whole x)) name args
+turned_on : (d back : Bool) (at : ℕ) (x name : Ident) (args : List Ident)
+    → turned d (Call at back (Some (Whole x)) name args) ≡ Call at (xor d back) (Some (Whole x)) name args
 turned_on false back at x name args = refl
 turned_on true back at x name args = refl
 
@@ -384,26 +544,43 @@ same_way false true = refl
 same_way true false = refl
 same_way true true = refl
 
-module _ (w : World) (knows : Known w) (f : FrameFacts w knows) (on : Receivers w) (g : ReceiverFacts w knows on) (s : Scope) (at : ℕ) (back : Bool) (x name : Ident) (args : List Ident) (is : on.IsReceiver s x name args) (few : length args ≤ 32) (vars : (u : w.Under) → AllVariables w knows f s u args) (apart : (u : w.Under) (st : State) (cells : List ℕ) → w.opens s u [] st cells → AllApart (knows.cell_of s u x ∷ cells_of w knows f s u args)) where
-  named : (u : w.Under) (st : State) (cs : List ℕ) (names : List Ident) → w.opens s u [] st cs → AllVariables w knows f s u names → cells_named w.setting st names ≡ cells_of w knows f s u names
+module _ (w : World) (knows : Known w) (f : FrameFacts w knows) (on : Receivers w) (g : ReceiverFacts w knows on)
+    (s : Scope) (at : ℕ) (back : Bool) (x name : Ident) (args : List Ident) (is : on.IsReceiver s x name args)
+    (few : length args ≤ 32) (vars : (u : w.Under) → AllVariables w knows f s u args)
+    (apart : (u : w.Under) (st : State) (cells : List ℕ) → w.opens s u [] st cells
+    → AllApart (knows.cell_of s u x ∷ cells_of w knows f s u args)) where
+  named : (u : w.Under) (st : State) (cs : List ℕ) (names : List Ident) → w.opens s u [] st cs
+      → AllVariables w knows f s u names → cells_named w.setting st names ≡ cells_of w knows f s u names
   named u st cs [] h all = refl
-  named u st cs (y ∷ names) h all = ap (λ c. c ∷ cells_named w.setting st names) (f.means s u [] st cs y h all.0) ∙ ap (λ l. knows.cell_of s u y ∷ l) (named u st cs names h all.1)
+  named u st cs (y ∷ names) h all = ap (λ c. c ∷ cells_named w.setting st names) (f.means s u [] st cs y h all.0)
+      ∙ ap (λ l. knows.cell_of s u y ∷ l) (named u st cs names h all.1)
 
   abbrev Goal : ℕ → Bool → (u : w.Under) → State → Memory → Type 0
-  Goal n d u st m = Will w.im (call_on_code (knows.spot s) back x (on.slot_on s x name) args) d m (Meets (Open w s u) w.rates (suc n) 0 (told (one w.setting n (turned d (Call at back (Some (Whole x)) name args)) st)))
+  Goal n d u st m = Will w.im (call_on_code (knows.spot s) back x (on.slot_on s x name) args) d m
+      (Meets (Open w s u) w.rates (suc n) 0 (told (one w.setting n (turned d (Call at back (Some (Whole x)) name args))
+      st)))
 
-  law_by : (n : ℕ) → Owes w (suc n) → (d : Bool) (u : w.Under) (st : State) (m : Memory) → Open w s u st m → (z b : Bool) → is_nil (read st (knows.cell_of s u x)) ≡ z → not (nat_lt (knows.depth_of u) w.setting.limits.deep) ≡ b → Goal n d u st m
+  law_by : (n : ℕ) → Owes w (suc n) → (d : Bool) (u : w.Under) (st : State) (m : Memory) → Open w s u st m
+      → (z b : Bool) → is_nil (read st (knows.cell_of s u x)) ≡ z
+      → not (nat_lt (knows.depth_of u) w.setting.limits.deep) ≡ b → Goal n d u st m
   law_by n owes d u st m h true b ez e =
       let mean = f.means s u [] st m.cells x h.open_frame (g.is_variable s x name args is) in
-      let said = ap (λ z. told (one w.setting n z st)) (turned_on d back at x name args) ∙ says_nil w.setting n (xor d back) at x name args st (ap (λ k. is_nil (read st k)) mean ∙ ez) in
+      let said = ap (λ z. told (one w.setting n z st)) (turned_on d back at x name args)
+      ∙ says_nil w.setting n (xor d back) at x name args st (ap (λ k. is_nil (read st k)) mean ∙ ez) in
       subst (λ z. Goal n d u st z) (sym (as_known m _ h.regs_are))
-      (will_more w.im _ d _ _ _ (λ o q. meets_told _ _ (sym said) q) (on_nil w knows f on g s x name args is few u (vars u) (apart u st m.cells h.open_frame).0 st m.cells h.open_frame n back d ez))
+      (will_more w.im _ d _ _ _ (λ o q. meets_told _ _ (sym said) q)
+      (on_nil w knows f on g s x name args is few u (vars u) (apart u st m.cells h.open_frame).0 st m.cells
+      h.open_frame n back d ez))
   law_by n owes d u st m h false true ez e =
       let mean = f.means s u [] st m.cells x h.open_frame (g.is_variable s x name args is) in
-      let deep : is_too_deep w.setting st ≡ true = ap (λ k. not (nat_lt k w.setting.limits.deep)) (f.depth_is s u [] st m.cells h.open_frame) ∙ e in
-      let said = ap (λ z. told (one w.setting n z st)) (turned_on d back at x name args) ∙ says_deep w.setting n (xor d back) at x name args st (ap (λ k. is_nil (read st k)) mean ∙ ez) deep in
+      let deep : is_too_deep w.setting st ≡ true = ap (λ k. not (nat_lt k w.setting.limits.deep))
+      (f.depth_is s u [] st m.cells h.open_frame) ∙ e in
+      let said = ap (λ z. told (one w.setting n z st)) (turned_on d back at x name args)
+      ∙ says_deep w.setting n (xor d back) at x name args st (ap (λ k. is_nil (read st k)) mean ∙ ez) deep in
       subst (λ z. Goal n d u st z) (sym (as_known m _ h.regs_are))
-      (will_more w.im _ d _ _ _ (λ o q. meets_told _ _ (sym said) q) (too_deep w knows f on g s x name args is few u (vars u) (apart u st m.cells h.open_frame).0 st m.cells h.open_frame n back d ez e))
+      (will_more w.im _ d _ _ _ (λ o q. meets_told _ _ (sym said) q)
+      (too_deep w knows f on g s x name args is few u (vars u) (apart u st m.cells h.open_frame).0 st m.cells
+      h.open_frame n back d ez e))
   law_by n owes d u st m h false false ez e =
       let c = knows.cell_of s u x in
       let cells = cells_of w knows f s u args in
@@ -413,18 +590,43 @@ module _ (w : World) (knows : Known w) (f : FrameFacts w knows) (on : Receivers 
       let deep = on.deeper_on s u caller n_of in
       let method = w.routines.method (knows.routine (knows.class_of deep) name) in
       let mean = f.means s u [] st m.cells x h.open_frame (g.is_variable s x name args is) in
-      let moving : AllUp w knows f s u args st m.cells = moved w knows f on g s x name args is few u (vars u) (apart u st m.cells h.open_frame).0 st m.cells h.open_frame ez e in
+      let moving : AllUp w knows f s u args st m.cells = moved w knows f on g s x name args is few u (vars u)
+      (apart u st m.cells h.open_frame).0 st m.cells h.open_frame ez e in
       let depth = f.depth_is s u [] st m.cells h.open_frame in
       let open_yet : is_too_deep w.setting st ≡ false = ap (λ k. not (nat_lt k w.setting.limits.deep)) depth ∙ e in
-      let em = ap (λ k. method_named w.setting.program k name.text) (g.class_on s u st caller m.cells x name args h.open_frame is ez refl) ∙ g.method_on s u st caller m.cells x name args h.open_frame is ez refl in
-      let ed : st.depth ≡ caller.depth = depth ∙ sym (f.depth_is s u (pairs args vals) (out_from cells st) moving.cells moving.up) ∙ same_depth c (out_from cells st) (cleared (read (out_from cells st) c)) in
-      let said = ap (λ z. told (one w.setting n z st)) (turned_on d back at x name args) ∙ ap (λ z. told (one w.setting n (Call at z (Some (Whole x)) name args) st)) (sym (same_way d back))
-      ∙ says_on w.setting n (xor back d) at x name args st method n_of c cells caller vals (Name n_of) (ap (λ k. is_nil (read st k)) mean ∙ ez) open_yet mean (g.is_name s u st m.cells x name args h.open_frame is ez) refl em (named u st m.cells args h.open_frame (vars u)) (moves_out (c ∷ cells) st (apart u st m.cells h.open_frame)) (same_values cells st (apart u st m.cells h.open_frame).1) ed in
-      let ec : caller.depth ≡ (out_from cells st).depth = sym (same_depth c (out_from cells st) (cleared (read (out_from cells st) c))) in
-      let el : caller.log ≡ (out_from cells st).log = same_log c (out_from cells st) (cleared (read (out_from cells st) c)) in
-      let run : ℕ → package.Rattle.buddy_book.specs.Place.Log → Told State = λ deepness log. plus (1 + length args) (told_then (told (exec w.setting n (in_direction (xor back d) method.body) (record { frame = bound method.params vals; self = n_of; depth = 1 + deepness; store = caller.store; log = log }))) (λ k end. told (moved_back (c ∷ cells) (Name n_of ∷ map (λ binding. binding.value) end.frame) (record caller { store = end.store; log = end.log })))) in
+      let em = ap (λ k. method_named w.setting.program k name.text)
+      (g.class_on s u st caller m.cells x name args h.open_frame is ez refl)
+      ∙ g.method_on s u st caller m.cells x name args h.open_frame is ez refl in
+      let ed : st.depth ≡ caller.depth = depth ∙ sym (f.depth_is s u (pairs args vals) (out_from cells st) moving.cells
+      moving.up) ∙ same_depth c (out_from cells st) (cleared (read (out_from cells st) c)) in
+      let said = ap (λ z. told (one w.setting n z st)) (turned_on d back at x name args)
+      ∙ ap (λ z. told (one w.setting n (Call at z (Some (Whole x)) name args) st)) (sym (same_way d back))
+      ∙ says_on w.setting n (xor back d) at x name args st method n_of c cells caller vals (Name n_of)
+      (ap (λ k. is_nil (read st k)) mean ∙ ez) open_yet mean
+      (g.is_name s u st m.cells x name args h.open_frame is ez) refl em
+      (named u st m.cells args h.open_frame (vars u)) (moves_out (c ∷ cells) st (apart u st m.cells h.open_frame))
+      (same_values cells st (apart u st m.cells h.open_frame).1) ed in
+      let ec : caller.depth ≡ (out_from cells st).depth = sym
+      (same_depth c (out_from cells st) (cleared (read (out_from cells st) c))) in
+      let el : caller.log ≡ (out_from cells st).log = same_log c (out_from cells st)
+      (cleared (read (out_from cells st) c)) in
+      let run : ℕ → package.Rattle.buddy_book.specs.Place.Log
+      → Told State = λ deepness log. plus (1 + length args)
+      (told_then (told (exec w.setting n (in_direction (xor back d) method.body)
+      (record {
+        frame = bound method.params vals;
+        self = n_of;
+        depth = 1 + deepness;
+        store = caller.store;
+        log = log;
+      }))) (λ k end. told (moved_back (c ∷ cells)
+      (Name n_of ∷ map (λ binding. binding.value) end.frame)
+      (record caller { store = end.store; log = end.log })))) in
       subst (λ z. Goal n d u st z) (sym (as_known m _ h.regs_are))
-      (will_more w.im _ d _ _ _ (λ o q. meets_told _ _ (sym (said ∙ ap (λ k. run k caller.log) ec ∙ ap (λ k. run (out_from cells st).depth k) el)) (meets_less (suc n) (omega arith) q)) (called w knows f on g s x name args is few u (vars u) (apart u st m.cells h.open_frame).0 st m.cells h.open_frame ez e n owes back d))
+      (will_more w.im _ d _ _ _ (λ o q. meets_told _ _ (sym
+      (said ∙ ap (λ k. run k caller.log) ec ∙ ap (λ k. run (out_from cells st).depth k) el))
+      (meets_less (suc n) (omega arith) q)) (called w knows f on g s x name args is few u (vars u)
+      (apart u st m.cells h.open_frame).0 st m.cells h.open_frame ez e n owes back d))
     where
       same_depth : (c : Cell) (st : State) (v : Value) → st.depth ≡ (written st c v).depth
       same_depth (package.Rattle.roopl_semantics.specs.Value.Slot i) st v = refl
@@ -435,5 +637,9 @@ module _ (w : World) (knows : Known w) (f : FrameFacts w knows) (on : Receivers 
       same_log (package.Rattle.roopl_semantics.specs.Value.Part k i) st v = refl
 
   -- the code of a call on the object of a variable
-  pub call_on_law : StmtLaw w s (Call at back (Some (Whole x)) name args) (call_on_code (knows.spot s) back x (on.slot_on s x name) args)
-  call_on_law n owes d u = record { does = λ st m h. law_by n owes d u st m h (is_nil (read st (knows.cell_of s u x))) (not (nat_lt (knows.depth_of u) w.setting.limits.deep)) refl refl }
+  pub call_on_law : StmtLaw w s (Call at back (Some (Whole x)) name args)
+      (call_on_code (knows.spot s) back x (on.slot_on s x name) args)
+  call_on_law n owes d u = record {
+    does = λ st m h. law_by n owes d u st m h (is_nil (read st (knows.cell_of s u x)))
+        (not (nat_lt (knows.depth_of u) w.setting.limits.deep)) refl refl;
+  }

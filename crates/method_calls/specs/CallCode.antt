@@ -2,8 +2,8 @@
 use Rattle.std.specs.Prelude.{ℕ, ◌+◌, Bool, false, List, [], ◌∷◌, ◌++◌, length}
 use Rattle.rpp_words.specs.Words.{negated}
 use Rattle.rpp_words.specs.declared.input.TheConstants.{FRAME_WORDS}
-use Rattle.statement_laws.specs.declared.spot.Spot.{Spot}
-use Rattle.statement_laws.specs.declared.spot.Spot.TheVariants.{Field, Frame}
+use Rattle.refine_form.specs.declared.spot.Spot.{Spot}
+use Rattle.refine_form.specs.declared.spot.Spot.TheVariants.{Field, Frame}
 use Rattle.rpp_tree.specs.declared.tree.Ident.{Ident}
 use Rattle.pisa_isa.specs.declared.cell.Op.TheVariants.{Add, Sub, Addi, Xori, Sltx, Exch}
 use Rattle.pisa_isa.specs.declared.cell.Cell.{Cell}
@@ -11,7 +11,7 @@ use Rattle.paired_code.specs.declared.part.Symbol.{Symbol}
 use Rattle.paired_code.specs.declared.part.Symbol.TheVariants.{Enter}
 use Rattle.paired_code.specs.Layout.{mirror_cells, check_cells, enter_at_cells}
 use Rattle.paired_code.specs.Rows.{line}
-use Rattle.statement_laws.specs.Cells.{around}
+use Rattle.refine_form.specs.Cells.{around}
 
 abbrev pub add : ℕ → ℕ → Cell
 add d s = record { op = Add; a = d; b = s; c = 0; imm = 0 }
@@ -73,7 +73,8 @@ fetch_row slot =
 
 -- before a call on the present object
 abbrev pub front_code : (Ident → Spot) → ℕ → List Ident → List Symbol
-front_code spot slot args = depth_code ++ (moves_code spot args ++ line (addi 4 FRAME_WORDS ∷ fetch_row slot))
+front_code spot slot args = depth_code ++ (moves_code spot args
+    ++ line (addi 4 FRAME_WORDS ∷ fetch_row slot))
 
 -- a call or uncall on the present object
 abbrev pub call_code : (Ident → Spot) → Bool → ℕ → List Ident → List Symbol
@@ -102,7 +103,8 @@ local_open word value = check_cells 12 3
 
 -- a block with a local variable: the codes of its value, its block and the closing value
 abbrev pub local_code : ℕ → (value body last : List Symbol) → List Symbol
-local_code word value body last = local_open word value ++ (body ++ mirror_cells (local_open word last))
+local_code word value body last = local_open word value
+    ++ (body ++ mirror_cells (local_open word last))
 
 -- register 8 gets the word of a spot
 abbrev pub peek_code : Spot → List Symbol
@@ -110,7 +112,8 @@ peek_code spot = around (line (spot_row spot)) (line (exch 6 5 ∷ add 8 6 ∷ e
 
 -- a receiver is not to be nil, or fault 5 comes
 abbrev pub nil_code : Spot → List Symbol
-nil_code spot = around (peek_code spot) (around (line (sltx 11 7 8 ∷ xori 11 1 ∷ [])) (check_cells 11 5))
+nil_code spot = around (peek_code spot) (around (line (sltx 11 7 8 ∷ xori 11 1 ∷ []))
+    (check_cells 11 5))
 
 -- the receiver's word leaves its cell; back, the cell is to be 0
 abbrev pub take_code : Spot → List Symbol
@@ -129,7 +132,8 @@ front_on_code spot x slot args =
 
 -- a call or uncall on the object of a variable
 abbrev pub call_on_code : (Ident → Spot) → Bool → Ident → ℕ → List Ident → List Symbol
-call_on_code spot back x slot args = around (front_on_code spot x slot args) (enter_at_cells 12 back)
+call_on_code spot back x slot args = around (front_on_code spot x slot args)
+    (enter_at_cells 12 back)
 
 -- the moves of arguments that stand at these spots
 abbrev pub moves_of : List Spot → List Symbol

@@ -1,5 +1,6 @@
 -- What calls need of the layers below: the open frame, the class table, the image.
-use Rattle.std.specs.Prelude.{◌≡◌, ◌≢◌, ℕ, ◌+◌, ◌^◌, ◌<◌, ◌≤◌, Bool, true, false, not, nat_lt, List, [], ◌∷◌, length, map, slice_index, slice_set, bit_xor}
+use Rattle.std.specs.Prelude.{◌≡◌, ◌≢◌, ℕ, ◌+◌, ◌^◌, ◌<◌, ◌≤◌, Bool, true, false, not, nat_lt, List}
+use Rattle.std.specs.Prelude.{[], ◌∷◌, length, map, slice_index, slice_set, bit_xor}
 use Rattle.rpp_words.specs.declared.input.TheConstants.{FRAME_WORDS}
 use Rattle.rpp_tree.specs.declared.tree.Ident.{Ident}
 use Rattle.rpp_tree.specs.declared.tree.Var.{Var}
@@ -7,21 +8,23 @@ use Rattle.paired_code.specs.Does.{Fine}
 use Rattle.rpp_tree.specs.Tree.{Expression}
 use Rattle.class_table.specs.Classes.{method_named}
 use Rattle.paired_code.specs.Layout.{Routine, Tidy}
-use Rattle.roopl_semantics.specs.Store.{Value, Name, State, is_zero, is_nil, number_of, cleared, same_value}
+use Rattle.roopl_semantics.specs.Store.{Value, Name, State, is_zero, is_nil, number_of, cleared}
+use Rattle.roopl_semantics.specs.Store.{same_value}
 use Rattle.roopl_semantics.specs.Value.{Cell, Slot, cell_named, own_class, read, written, evaluated}
 use Rattle.roopl_semantics.specs.Execution.{bound, opened, closed, class_of}
 use Rattle.rpp_words.specs.declared.input.FieldWord.{FieldWord}
 use Rattle.pisa_isa.specs.Loaded.{loaded}
+use Rattle.code_conventions.specs.declared.memory.TheConstants.{HEADER_WORDS, MAIN_OBJECT, PLACE_WORD}
 use Rattle.roopl_semantics.specs.Source.{starting, main_body}
 use Rattle.roopl_semantics.specs.Layout.{layout}
-use Rattle.statement_laws.specs.Form.{World, Scope, Moved, pairs, with_var, told}
+use Rattle.refine_form.specs.Form.{World, Scope, Moved, pairs, with_var, told}
 use Rattle.method_calls.specs.CallCode.{first_word}
-use Rattle.statement_laws.specs.declared.spot.Spot.{Spot}
-use Rattle.statement_laws.specs.declared.spot.Spot.TheVariants.{Field, Frame}
+use Rattle.refine_form.specs.declared.spot.Spot.{Spot}
+use Rattle.refine_form.specs.declared.spot.Spot.TheVariants.{Field, Frame}
 
 -- the address of a spot, where the object and the frame stand at these
 abbrev pub address : ℕ → ℕ → Spot → ℕ
-address object frame (Field i) = object + (2 + i)
+address object frame (Field i) = object + (HEADER_WORDS + i)
 address object frame (Frame j) = frame + j
 
 abbrev pub IsNear : Spot → Type 0
@@ -37,13 +40,14 @@ pub record MovesIn (cells : List ℕ) (at up : ℕ) (After : List ℕ → Type 0
   pub moved : After (slice_set (slice_set cells at 0) up (slice_index cells at))
 
 -- and back, where the cell still reads 0 or nil
-pub record MovesBack (cells : List ℕ) (at up : ℕ) (free : Bool) (After : List ℕ → Type 0) : Type 0 where
-  pub at_in : at < length cells
-  pub up_in : up < length cells
-  pub apart : at ≢ up
-  pub touched : free ≡ false → slice_index cells at ≢ 0
-  pub untouched : free ≡ true → slice_index cells at ≡ 0
-  pub back : free ≡ true → After (slice_set (slice_set cells up 0) at (slice_index cells up))
+pub record MovesBack (cells : List ℕ) (at up : ℕ) (free : Bool) (After : List ℕ → Type 0) : Type 0
+  where
+    pub at_in : at < length cells
+    pub up_in : up < length cells
+    pub apart : at ≢ up
+    pub touched : free ≡ false → slice_index cells at ≢ 0
+    pub untouched : free ≡ true → slice_index cells at ≡ 0
+    pub back : free ≡ true → After (slice_set (slice_set cells up 0) at (slice_index cells up))
 
 -- the end of the stack in cell 4: it tells whether one more call may be open
 pub record HasEnd (cells : List ℕ) (frame : ℕ) (full : Bool) : Type 0 where
@@ -61,9 +65,9 @@ pub record HasPlace (cells : List ℕ) (object slot place : ℕ) : Type 0 where
 
 -- a frame's words 0 and 2
 pub record HasWords (cells : List ℕ) (frame link place : ℕ) : Type 0 where
-  pub words_in : frame + 2 < length cells
+  pub words_in : frame + PLACE_WORD < length cells
   pub link_word : slice_index cells frame ≡ link
-  pub place_word : slice_index cells (frame + 2) ≡ place
+  pub place_word : slice_index cells (frame + PLACE_WORD) ≡ place
 
 -- the cells of the names as they are when the last one has moved first
 abbrev pub out_from : List Cell → State → State
@@ -89,7 +93,8 @@ pub record Known (w : World) : Type 1 where
   pub class_of : w.Under → ℕ
   -- the same frame with a link and a place put by
   pub put : w.Under → ℕ → ℕ → w.Under
-  -- what stays while a call on the present object is open, made from this state with its arguments moved
+  -- what stays while a call on the present object is open, made from this state with its arguments
+  -- moved
   pub deeper : Scope → w.Under → State → w.Under
   -- the routine of a method in a class
   pub routine : ℕ → Ident → ℕ
@@ -118,7 +123,8 @@ pub record FrameFacts (w : World) (knows : Known w) : Type 0 where
   pub class_is : (s : Scope) (u : w.Under) (vals : List Moved) (st : State) (cells : List ℕ)
       → w.opens s u vals st cells → own_class st ≡ knows.class_of u
   -- a name means the same cell all the while
-  pub means : (s : Scope) (u : w.Under) (vals : List Moved) (st : State) (cells : List ℕ) (name : Ident)
+  pub means : (s : Scope) (u : w.Under) (vals : List Moved) (st : State) (cells : List ℕ)
+      (name : Ident)
       → w.opens s u vals st cells → knows.IsVariable s name
       → cell_named w.setting.program st name.text ≡ knows.cell_of s u name
   -- ---- the stack's end tells the depth
@@ -145,7 +151,8 @@ pub record FrameFacts (w : World) (knows : Known w) : Type 0 where
   pub enters :
       (s : Scope) (u : w.Under) (vals : List Value) (st : State) (cells : List ℕ) (name : Ident)
       (args : List Ident)
-      → w.opens s u (pairs args vals) st cells → knows.IsMethod s name args → length vals ≡ length args
+      → w.opens s u (pairs args vals) st cells → knows.IsMethod s name args
+      → length vals ≡ length args
       → not (nat_lt (knows.depth_of u) w.setting.limits.deep) ≡ false
       → w.opens (w.routines.scope (knows.routine (knows.class_of u) name)) (knows.deeper s u st) []
       (record {
@@ -201,15 +208,17 @@ pub record FrameFacts (w : World) (knows : Known w) : Type 0 where
   pub put_opens : (s : Scope) (u : w.Under) (st : State) (cells : List ℕ) (link place : ℕ)
       → w.opens s u [] st cells → w.IsFresh u → link < 2 ^ 32 → place < 2 ^ 32
       → w.opens s (knows.put u link place) [] st
-      (slice_set (slice_set cells (w.frame_of u) link) (w.frame_of u + 2) place)
+      (slice_set (slice_set cells (w.frame_of u) link) (w.frame_of u + PLACE_WORD) place)
   pub put_words : (s : Scope) (u : w.Under) (st : State) (cells : List ℕ) (link place : ℕ)
       → w.opens s (knows.put u link place) [] st cells → w.IsFresh u
       → HasWords cells (w.frame_of u) link place
   pub put_back : (s : Scope) (u : w.Under) (st : State) (cells : List ℕ) (link place : ℕ)
       → w.opens s (knows.put u link place) [] st cells → w.IsFresh u
-      → w.opens s u [] st (slice_set (slice_set cells (w.frame_of u + 2) 0) (w.frame_of u) 0)
-  pub put_object : (u : w.Under) (link place : ℕ) → w.object_of (knows.put u link place) ≡ w.object_of u
-  pub put_frame : (u : w.Under) (link place : ℕ) → w.frame_of (knows.put u link place) ≡ w.frame_of u
+      → w.opens s u [] st (slice_set (slice_set cells (w.frame_of u + PLACE_WORD) 0) (w.frame_of u) 0)
+  pub put_object : (u : w.Under) (link place : ℕ)
+      → w.object_of (knows.put u link place) ≡ w.object_of u
+  pub put_frame : (u : w.Under) (link place : ℕ)
+      → w.frame_of (knows.put u link place) ≡ w.frame_of u
 
 -- what main needs of them, for an input: its frame is the first one, and where it is the only one,
 -- the memory is the layout
@@ -219,7 +228,7 @@ pub record MainFacts (w : World) (statics : List ℕ) (input : List FieldWord) :
   pub is_main : (w.routines.method main).body ≡ main_body w.setting.program
   pub first : w.Under
   pub fresh : w.IsFresh first
-  pub object_is : w.object_of first ≡ 40
+  pub object_is : w.object_of first ≡ MAIN_OBJECT
   pub frame_small : w.frame_of first < 2 ^ 23
   pub starts : w.opens (w.routines.scope main) first [] (starting w.setting.program input)
       (loaded statics w.setting.limits input)
@@ -235,28 +244,34 @@ abbrev pub new_word : Scope → ℕ
 new_word s = first_word + length s.vars
 
 -- what a local variable needs of an open frame: its word is free, and tells its value
--- IsInit: the expression may be the value of this new variable: it is of its type, and does not name it
+-- IsInit: the expression may be the value of this new variable: it is of its type, and does not
+-- name it
 pub record LocalFacts (w : World) (IsInit : Scope → Var → Expression → Type 0) : Type 0 where
   pub frame_small : (s : Scope) (u : w.Under) (vals : List Moved) (st : State) (cells : List ℕ)
       → w.opens s u vals st cells → w.frame_of u < 2 ^ 23
   pub few_vars : (s : Scope) (var : Var) (e : Expression) → IsInit s var e → length s.vars < 2 ^ 9
   pub free_in : (s : Scope) (u : w.Under) (st : State) (cells : List ℕ) (var : Var) (e : Expression)
       → w.opens s u [] st cells → IsInit s var e → w.frame_of u + new_word s < length cells
-  pub free_word : (s : Scope) (u : w.Under) (st : State) (cells : List ℕ) (var : Var) (e : Expression)
+  pub free_word : (s : Scope) (u : w.Under) (st : State) (cells : List ℕ) (var : Var)
+      (e : Expression)
       → w.opens s u [] st cells → IsInit s var e → slice_index cells (w.frame_of u + new_word s) ≡ 0
   pub declares : (s : Scope) (u : w.Under) (st : State) (cells : List ℕ) (var : Var)
       (e : Expression) (v : Value) (c : ℕ)
-      → w.opens s u [] st cells → IsInit s var e → told (evaluated w.setting.program e st) ≡ Fine v c
+      → w.opens s u [] st cells → IsInit s var e → told (evaluated w.setting.program e st)
+      ≡ Fine v c
       → w.opens (with_var s var) u [] (opened var.name.text v st)
       (slice_set cells (w.frame_of u + new_word s) (w.word_of u st v))
   pub var_in : (s : Scope) (u : w.Under) (st : State) (cells : List ℕ) (var : Var) (e : Expression)
-      → w.opens (with_var s var) u [] st cells → IsInit s var e → w.frame_of u + new_word s < length cells
-  pub var_word : (s : Scope) (u : w.Under) (st : State) (cells : List ℕ) (var : Var) (e : Expression)
+      → w.opens (with_var s var) u [] st cells → IsInit s var e
+      → w.frame_of u + new_word s < length cells
+  pub var_word : (s : Scope) (u : w.Under) (st : State) (cells : List ℕ) (var : Var)
+      (e : Expression)
       → w.opens (with_var s var) u [] st cells → IsInit s var e
       → slice_index cells (w.frame_of u + new_word s) ≡ w.word_of u st (read st (Slot 0))
   -- where its word is taken away, expressions can be read; and where the value is the closing one,
   -- the frame is open without it
-  pub undeclares : (s : Scope) (u : w.Under) (st : State) (cells : List ℕ) (var : Var) (e : Expression)
+  pub undeclares : (s : Scope) (u : w.Under) (st : State) (cells : List ℕ) (var : Var)
+      (e : Expression)
       → w.opens (with_var s var) u [] st cells → IsInit s var e
       → w.reads s u (closed st) (slice_set cells (w.frame_of u + new_word s) 0)
   pub closes : (s : Scope) (u : w.Under) (st : State) (cells : List ℕ) (var : Var) (e : Expression)
@@ -265,7 +280,8 @@ pub record LocalFacts (w : World) (IsInit : Scope → Var → Expression → Typ
       → told (evaluated w.setting.program e (closed st)) ≡ Fine v c
       → same_value (read st (Slot 0)) v ≡ true
       → w.opens s u [] (closed st) (slice_set cells (w.frame_of u + new_word s) 0)
-  pub not_named : (s : Scope) (u : w.Under) (st : State) (cells : List ℕ) (var : Var) (e : Expression)
+  pub not_named : (s : Scope) (u : w.Under) (st : State) (cells : List ℕ) (var : Var)
+      (e : Expression)
       → w.opens (with_var s var) u [] st cells → IsInit s var e
       → evaluated w.setting.program e st ≡ evaluated w.setting.program e (closed st)
   pub same_words : (s : Scope) (u : w.Under) (st : State) (cells : List ℕ) (var : Var)
@@ -320,7 +336,8 @@ pub record ReceiverFacts (w : World) (knows : Known w) (on : Receivers w) : Type
   pub next_frame_on : (s : Scope) (u : w.Under) (st : State) (n : ℕ)
       → w.frame_of (on.deeper_on s u st n) ≡ w.frame_of u + FRAME_WORDS
   -- the word of a receiver: 0 for nil, else an address
-  pub at_in : (s : Scope) (u : w.Under) (st : State) (cells : List ℕ) (x name : Ident) (args : List Ident)
+  pub at_in : (s : Scope) (u : w.Under) (st : State) (cells : List ℕ) (x name : Ident)
+      (args : List Ident)
       → w.opens s u [] st cells → on.IsReceiver s x name args
       → address (w.object_of u) (w.frame_of u) (knows.spot s x) < length cells
   pub word_small : (s : Scope) (u : w.Under) (st : State) (cells : List ℕ) (x name : Ident)
@@ -380,13 +397,16 @@ pub record ReceiverFacts (w : World) (knows : Known w) (on : Receivers w) : Type
       name.text ≡ w.routines.method
       (knows.routine (knows.class_of
       (on.deeper_on s u caller (number_of (read st (knows.cell_of s u x))))) name)
-  -- the last move, and the callee's frame is open: st has its arguments moved, and its receiver not yet
+  -- the last move, and the callee's frame is open: st has its arguments moved, and its receiver not
+  -- yet
   pub enters_on :
       (s : Scope) (u : w.Under) (vals : List Value) (st : State) (cells : List ℕ) (x name : Ident)
       (args : List Ident) (n : ℕ)
-      → w.opens s u (pairs args vals) st cells → on.IsReceiver s x name args → length vals ≡ length args
+      → w.opens s u (pairs args vals) st cells → on.IsReceiver s x name args
+      → length vals ≡ length args
       → not (nat_lt (knows.depth_of u) w.setting.limits.deep) ≡ false
-      → is_nil (read st (knows.cell_of s u x)) ≡ false → number_of (read st (knows.cell_of s u x)) ≡ n
+      → is_nil (read st (knows.cell_of s u x)) ≡ false
+      → number_of (read st (knows.cell_of s u x)) ≡ n
       → GoesOn cells (address (w.object_of u) (w.frame_of u) (knows.spot s x))
       (w.frame_of u + (FRAME_WORDS + 1)) (w.object_of u)
       (w.object_of (on.deeper_on s u

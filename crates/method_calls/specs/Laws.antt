@@ -1,9 +1,11 @@
--- What the code of calls, methods, main and blocks with a local variable does, from what their parts do.
+-- What the code of calls, methods, main and blocks with a local variable does, from what their
+-- parts do.
 use Rattle.std.specs.Prelude.{◌≡◌, ◌≢◌, ℕ, Bool, false, List, [], ◌∷◌, map, Some, None}
 use Rattle.rpp_words.specs.declared.input.FieldWord.{FieldWord}
 use Rattle.rpp_tree.specs.declared.tree.Ident.{Ident}
 use Rattle.rpp_tree.specs.declared.tree.Var.{Var}
-use Rattle.rpp_tree.specs.Tree.{Expression, Null, Whole, Item, Statements, Local, Construct, Call, Procedure}
+use Rattle.rpp_tree.specs.Tree.{Expression, Null, Whole, Item, Statements, Local, Construct, Call}
+use Rattle.rpp_tree.specs.Tree.{Procedure}
 use Rattle.pisa_isa.specs.Loaded.{loaded}
 use Rattle.pisa_isa.specs.Machine.{Memory}
 use Rattle.paired_code.specs.declared.part.Symbol.{Symbol}
@@ -14,12 +16,15 @@ use Rattle.roopl_semantics.specs.Value.{Cell}
 use Rattle.roopl_semantics.specs.Execution.{exec, constructed, element_call, element_name}
 use Rattle.roopl_semantics.specs.Source.{starting, main_body}
 use Rattle.roopl_semantics.specs.Layout.{layout}
-use Rattle.statement_laws.specs.declared.spot.Spot.{Spot}
-use Rattle.statement_laws.specs.Form.{World, Scope, with_var, ValueLaw, BlockLaw, StmtLaw, MethodLaw, AllMethods, registers, told}
-use Rattle.statement_laws.specs.Stands.{spot_in}
-use Rattle.statement_laws.specs.Worlds.{Place, rates_of, world_of}
-use Rattle.method_calls.specs.Facts.{Known, FrameFacts, ReceiverFacts, LocalFacts, MainFacts, new_word}
-use Rattle.method_calls.specs.Names.{HasMethod, IsReceiver, IsInit, known_of, receivers_of, slot_of, class_named}
+use Rattle.refine_form.specs.declared.spot.Spot.{Spot}
+use Rattle.refine_form.specs.Form.{World, Scope, with_var, ValueLaw, BlockLaw, StmtLaw}
+use Rattle.refine_form.specs.Form.{MethodLaw, AllMethods, registers, told}
+use Rattle.refine_form.specs.Stands.{spot_in}
+use Rattle.refine_form.specs.Worlds.{Place, rates_of, world_of}
+use Rattle.method_calls.specs.Facts.{Known, FrameFacts, ReceiverFacts, LocalFacts, MainFacts}
+use Rattle.method_calls.specs.Facts.{new_word}
+use Rattle.method_calls.specs.Names.{HasMethod, IsReceiver, IsInit, known_of, receivers_of, slot_of}
+use Rattle.method_calls.specs.Names.{class_named}
 
 -- ---- blocks with a local variable
 
@@ -45,7 +50,8 @@ pub record LocalCode (word : ℕ) (v p x all : List Symbol) : Type 0 where
   pub element : (place : Place) (s : Scope) (at : ℕ) (back : Bool) (array : Ident)
       (index : Expression) (method : Ident) (args : List Ident) (var : Var)
       → LocalFacts (world_of place) (IsInit place.setting.program)
-      → new_word s ≡ word → var.name ≡ element_name at → IsInit place.setting.program s var (Null at)
+      → new_word s ≡ word → var.name ≡ element_name at
+      → IsInit place.setting.program s var (Null at)
       → ValueLaw (world_of place) s (Null at) v → ValueLaw (world_of place) s (Null at) x
       → BlockLaw (world_of place) (with_var s var) (element_call at back array index method args) p
       → StmtLaw (world_of place) s (Call at back (Some (Item array index)) method args) all
@@ -74,16 +80,17 @@ AreVariables w knows s (name ∷ names) = knows.IsVariable s name × AreVariable
 -- A call or uncall on the present object of the method in a slot, with arguments at these spots. It
 -- stops with fault 14 where one more call may not be open, and with fault 15 where an argument does
 -- not move back. Which method it is, the class of the object tells.
-pub record OwnCallCode (back : Bool) (slot : ℕ) (spots : List Spot) (all : List Symbol) : Type 0 where
-  pub law : (place : Place) (routine : ℕ → Ident → ℕ) (s : Scope) (at : ℕ) (name : Ident)
-      (args : List Ident)
-      → FrameFacts (world_of place) (known_of place routine)
-      → HasMethod place.setting.program s s.class name args
-      → slot_of place.setting.program s.class name ≡ slot
-      → AreVariables (world_of place) (known_of place routine) s args
-      → map (spot_in place.setting.program s) args ≡ spots
-      → NamesApart (world_of place) (known_of place routine) s args
-      → StmtLaw (world_of place) s (Call at back None name args) all
+pub record OwnCallCode (back : Bool) (slot : ℕ) (spots : List Spot) (all : List Symbol) : Type 0
+  where
+    pub law : (place : Place) (routine : ℕ → Ident → ℕ) (s : Scope) (at : ℕ) (name : Ident)
+        (args : List Ident)
+        → FrameFacts (world_of place) (known_of place routine)
+        → HasMethod place.setting.program s s.class name args
+        → slot_of place.setting.program s.class name ≡ slot
+        → AreVariables (world_of place) (known_of place routine) s args
+        → map (spot_in place.setting.program s) args ≡ spots
+        → NamesApart (world_of place) (known_of place routine) s args
+        → StmtLaw (world_of place) s (Call at back None name args) all
 
 -- A call or uncall on the object of a variable at a spot: fault 5 comes before fault 14, where the
 -- variable is nil, and fault 15 where it does not move back.

@@ -1,5 +1,6 @@
 -- What is known of names when code is made, and what stays while a call is open.
-use Rattle.std.specs.Prelude.{◌≡◌, ◌⊎◌, ℕ, ◌+◌, ◌<◌, ◌≤◌, ◌^◌, true, false, List, [], ◌∷◌, length, map, replicate, slice_index, Some, Result, Ok, Err}
+use Rattle.std.specs.Prelude.{◌≡◌, ◌⊎◌, ℕ, ◌+◌, ◌<◌, ◌≤◌, ◌^◌, true, false, List, [], ◌∷◌, length}
+use Rattle.std.specs.Prelude.{map, replicate, slice_index, Some, Result, Ok, Err}
 use Rattle.std.specs.Option.{unwrap_or}
 use Rattle.rpp_tree.specs.declared.tree.Ident.{Ident}
 use Rattle.rpp_tree.specs.declared.tree.Var.{Var}
@@ -14,12 +15,12 @@ use Rattle.class_table.specs.Program.{setting_in}
 use Rattle.buddy_book.specs.Place.{place}
 use Rattle.roopl_semantics.specs.Store.{State, object_at, class_of_head}
 use Rattle.roopl_semantics.specs.Layout.{no_placing}
-use Rattle.sound_execution.specs.Plain.{HasWords}
-use Rattle.open_frame.specs.Open.{put_by as put_size, most_variables}
-use Rattle.statement_laws.specs.Form.{Scope}
-use Rattle.statement_laws.specs.Frames.{Caller, Under, cell_in, address_of}
-use Rattle.statement_laws.specs.Stands.{shape_of, spot_in}
-use Rattle.statement_laws.specs.Worlds.{Place, world_of}
+use Rattle.meaning_sound.specs.Plain.{HasWords}
+use Rattle.refine_frame.specs.Open.{put_by as put_size, most_variables}
+use Rattle.refine_form.specs.Form.{Scope}
+use Rattle.refine_form.specs.Frames.{Caller, Under, cell_in, address_of}
+use Rattle.refine_form.specs.Stands.{shape_of, spot_in}
+use Rattle.refine_form.specs.Worlds.{Place, world_of}
 use Rattle.method_calls.specs.Facts.{IsNear, Known, Receivers}
 
 -- ---- variables, methods, receivers
@@ -53,12 +54,13 @@ pub record HasMethod (program : Source) (s : Scope) (class : ℕ) (name : Ident)
   pub inside : class < length program.classes
 
 -- a variable of a class with the method
-pub record IsReceiver (program : Source) (s : Scope) (x name : Ident) (args : List Ident) : Type 0 where
-  pub class : ℕ
-  pub typed : variable_type (setting_in program (table_of program) s.class) (shape_of program s) x
-      ≡ Ok (kind.Class class)
-  pub near : IsNear (spot_in program s x)
-  pub method : HasMethod program s class name args
+pub record IsReceiver (program : Source) (s : Scope) (x name : Ident) (args : List Ident) : Type 0
+  where
+    pub class : ℕ
+    pub typed : variable_type (setting_in program (table_of program) s.class) (shape_of program s) x
+        ≡ Ok (kind.Class class)
+    pub near : IsNear (spot_in program s x)
+    pub method : HasMethod program s class name args
 
 -- the slot of a method of a class
 abbrev pub slot_of : Source → ℕ → Ident → ℕ
@@ -75,7 +77,8 @@ class_found (Err e) = 0
 
 abbrev pub class_named : Source → Scope → Ident → ℕ
 class_named program s x =
-    class_found (variable_type (setting_in program (table_of program) s.class) (shape_of program s) x)
+    class_found (variable_type (setting_in program (table_of program) s.class) (shape_of program s)
+    x)
 
 -- ---- open calls
 
@@ -136,7 +139,8 @@ receivers_of p = record {
   IsReceiver = IsReceiver p.setting.program;
   slot_on = λ s x name. slot_of p.setting.program (class_named p.setting.program s x) name;
   deeper_on = deeper_on p;
-  IsFor = λ s x class. is_or_inherits p.setting.program class (class_named p.setting.program s x) ≡ true;
+  IsFor = λ s x class. is_or_inherits p.setting.program class (class_named p.setting.program s x)
+      ≡ true;
 }
 
 -- ---- the value of a new variable
@@ -144,7 +148,8 @@ receivers_of p = record {
 -- the value of a new variable that is an int: an int in which its name does not occur
 pub record IntInit (program : Source) (s : Scope) (var : Var) (e : Expression) : Type 0 where
   pub is_int : kind_of_var program var ≡ kind.Int
-  pub typed : type_of (setting_in program (table_of program) s.class) (shape_of program s) e ≡ Ok kind.Int
+  pub typed : type_of (setting_in program (table_of program) s.class) (shape_of program s) e
+      ≡ Ok kind.Int
   pub has_words : HasWords e
   pub apart : occurs var.name.text e ≡ false
 

@@ -7,16 +7,16 @@ ghost use Rattle.paired_code.specs.Machine.{is_single};
 ghost use Rattle.paired_code.specs.Code.{unmarked};
 ghost use Rattle.paired_code.specs.Layout.{check_cells, enter_at_cells};
 ghost use Rattle.paired_code.specs.Rows.{line};
-ghost use Rattle.statement_laws.specs.Cells.{around};
-ghost use Rattle.statement_laws.specs.Held.{Holds};
+ghost use Rattle.refine_form.specs.Cells.{around};
+ghost use Rattle.refine_form.specs.Held.{Holds};
 ghost use Rattle.method_calls.specs.CallCode.{add, sub, addi, xori, sltx, exch, spot_row, above_row, move_code, depth_row, depth_code, last_cells, save_row, method_code, main_row, main_cells, moves_of, own_cells};
 ghost use Rattle.method_calls.specs.Facts.{IsNear};
 ghost use Rattle.method_calls.specs.Laws.{MethodCode, MainCode, OwnCallCode};
 
 use paired_code::{Piece, check_zero, empty, enter, enter_at, mirror, plain, seq};
 use pisa_isa::{Cell, Op};
+use refine_form::{Spot, around};
 use rpp_words::{FRAME_WORDS, NoMemory};
-use statement_laws::{Spot, around};
 use std::alloc::Global;
 
 fn cell(op: Op, a: u8, b: u8, c: u8, imm: u32) -> Cell

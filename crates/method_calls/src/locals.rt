@@ -3,16 +3,16 @@ ghost use Rattle.std.specs.Prelude.{◌≡◌, ◌<◌, ◌^◌, ◌+◌, ◌++�
 ghost use Rattle.paired_code.specs.Code.{unmarked};
 ghost use Rattle.paired_code.specs.Layout.{mirror_cells};
 ghost use Rattle.paired_code.specs.Rows.{line};
-ghost use Rattle.statement_laws.specs.Cells.{around};
-ghost use Rattle.statement_laws.specs.Held.{Holds};
-ghost use Rattle.statement_laws.specs.declared.spot.Spot.TheVariants.{Frame};
+ghost use Rattle.refine_form.specs.Cells.{around};
+ghost use Rattle.refine_form.specs.Held.{Holds};
+ghost use Rattle.refine_form.specs.declared.spot.Spot.TheVariants.{Frame};
 ghost use Rattle.method_calls.specs.CallCode.{exch, spot_row, local_open, local_code};
 ghost use Rattle.method_calls.specs.Laws.{LocalCode};
 
 use crate::calls::{bare_around, exch, spot_piece};
 use paired_code::{Piece, check_zero, mirror, plain, seq};
+use refine_form::Spot;
 use rpp_words::NoMemory;
-use statement_laws::Spot;
 use std::alloc::Global;
 
 fn store_piece(alloc: Global, word: u32) -> Result<Piece, NoMemory>
@@ -47,7 +47,7 @@ fn close_piece(alloc: Global, word: u32, last: Piece) -> Result<Piece, NoMemory>
     mirror(alloc, &close)
 }
 
-#[tactic(auto, using(statement_laws::proofs::Holding::holds_left))]
+#[tactic(auto, using(refine_form::proofs::Holding::holds_left))]
 fn ended_piece(alloc: Global, word: u32, body: Piece, last: Piece) -> Result<Piece, NoMemory>
     requires word { word < 2 ^ 16 }
     requires none { last.marks ≡ [] }
@@ -57,7 +57,7 @@ fn ended_piece(alloc: Global, word: u32, body: Piece, last: Piece) -> Result<Pie
     seq(body, close_piece(alloc, word, last)?)
 }
 
-#[tactic(auto, using(statement_laws::proofs::Holding::behind_clause))]
+#[tactic(auto, using(refine_form::proofs::Holding::behind_clause))]
 fn local_piece(
     alloc: Global,
     word: u32,

@@ -4,7 +4,7 @@ ghost use Rattle.std.specs.List.{All};
 ghost use Rattle.paired_code.specs.Code.{unmarked};
 ghost use Rattle.paired_code.specs.Layout.{check_cells, enter_at_cells};
 ghost use Rattle.paired_code.specs.Rows.{line};
-ghost use Rattle.statement_laws.specs.Cells.{around};
+ghost use Rattle.refine_form.specs.Cells.{around};
 ghost use Rattle.method_calls.specs.CallCode.{add, sub, exch, sltx, xori, spot_row, above_row, peek_code, nil_code, take_code, onto_code, last_cells, depth_code, moves_of, behind_of, checked_of, front_on_of};
 ghost use Rattle.method_calls.specs.Facts.{IsNear};
 ghost use Rattle.method_calls.specs.Laws.{CallOnCode};
@@ -14,8 +14,8 @@ use crate::calls::{
     sub, then, xori,
 };
 use paired_code::{Piece, check_zero, enter_at, plain, seq};
+use refine_form::Spot;
 use rpp_words::NoMemory;
-use statement_laws::Spot;
 use std::alloc::Global;
 
 fn read_piece(alloc: Global) -> Result<Piece, NoMemory>

@@ -10,9 +10,11 @@ use Rattle.class_table.proofs.Tables.{table_reads}
 use Rattle.roopl_semantics.specs.Layout.{table_at}
 
 -- the address of the next table
-pub table_next : (program : Source) (before : ℕ) → before < length program.classes → table_at program (before + 1) ≡ table_at program before + (1 + length (slots_in (table_of program) before))
+pub table_next : (program : Source) (before : ℕ) → before < length program.classes
+    → table_at program (before + 1) ≡ table_at program before + (1 + length (slots_in (table_of program) before))
 table_next program before inside =
-    ap (table_at program) (add-one before) ∙ ap (λ (s : Slots). table_at program before + (1 + length s)) (sym (table_reads program before inside).slots)
+    ap (table_at program) (add-one before) ∙ ap (λ (s : Slots). table_at program before + (1 + length s))
+    (sym (table_reads program before inside).slots)
 
 -- the order of a block for so many fields
 pub order_is : (fields k : ℕ) → fields ≤ 64 → IsOrderFor (fields + 2) k → k ≡ order_for (2 + fields)

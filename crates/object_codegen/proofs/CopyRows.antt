@@ -1,6 +1,7 @@
 -- Copies against the source's rows, in both directions, with faults, counts and steps, from what a
 -- relation gives.
-use Rattle.std.proofs.Common.{◌≡◌, ◌≢◌, ℕ, suc, ◌+◌, ◌-◌, ◌*◌, ◌^◌, ◌<◌, ◌≤◌, Bool, true, false, List, ◌++◌, length, refl, sym, ap, ◌∙◌, subst, arith}
+use Rattle.std.proofs.Common.{◌≡◌, ◌≢◌, ℕ, suc, ◌+◌, ◌-◌, ◌*◌, ◌^◌, ◌<◌, ◌≤◌, Bool, true, false, List, ◌++◌, length}
+use Rattle.std.proofs.Common.{refl, sym, ap, ◌∙◌, subst, arith}
 use Rattle.std.specs.Prelude.{slice_index, nat_eq, not, ◌||◌, Result, Ok, Err}
 use Rattle.std.proofs.lemmas.Bool.Decides.{nat_tests}
 use Rattle.rpp_tree.specs.declared.tree.VarType.{VarType}
@@ -17,9 +18,10 @@ use Rattle.roopl_semantics.specs.Run.{Run, after_cost, given, give, spend, fault
 use Rattle.roopl_semantics.specs.Store.{Value, Word, Nil, Name, State, number_of, is_nil, same_value, object_at}
 use Rattle.roopl_semantics.specs.Value.{Cell, Slot, Part, read, written, cell_of, nil_fault}
 use Rattle.roopl_semantics.specs.Elements.{index_elements, own_element, share_array, read_cost, shared_array_fault}
-use Rattle.roopl_semantics.specs.Execution.{Setting, Runner, statement, counted, one_less, same_cell, not_nil_fault, not_same_fault}
-use Rattle.statement_laws.specs.declared.spot.Spot.{Spot}
-use Rattle.statement_laws.specs.Form.{told, turned as facing}
+use Rattle.roopl_semantics.specs.Execution.{Setting, Runner, statement, counted, one_less, same_cell, not_nil_fault}
+use Rattle.roopl_semantics.specs.Execution.{not_same_fault}
+use Rattle.refine_form.specs.declared.spot.Spot.{Spot}
+use Rattle.refine_form.specs.Form.{told, turned as facing}
 use Rattle.expr_uncompute.specs.Code.{place_words}
 use Rattle.expr_uncompute.specs.Number.{place_address, read_of, index_of, shares}
 use Rattle.expr_uncompute.specs.Steps.{place_steps}
@@ -45,10 +47,13 @@ Refers address (Name n) = address n ≢ 0
 -- ---- the rows
 
 abbrev copy_end : State → Cell → Value → Value → Run State
-copy_end st b x y = fault_if nil_fault (is_nil x) >>= λ _. (fault_if not_nil_fault (not (is_nil y)) >>= λ _. give (counted suc (written st b x) (number_of x)))
+copy_end st b x y = fault_if nil_fault (is_nil x) >>= λ _.
+    (fault_if not_nil_fault (not (is_nil y)) >>= λ _. give (counted suc (written st b x) (number_of x)))
 
 abbrev uncopy_end : State → (a b : Cell) → Value → Value → Run State
-uncopy_end st a b x y = fault_if nil_fault (is_nil x) >>= λ _. (fault_if not_same_fault (not (same_value x y) || same_cell a b) >>= λ _. give (counted one_less (written st b Nil) (number_of x)))
+uncopy_end st a b x y = fault_if nil_fault (is_nil x) >>= λ _.
+    (fault_if not_same_fault (not (same_value x y) || same_cell a b) >>= λ _. give
+    (counted one_less (written st b Nil) (number_of x)))
 
 abbrev end_of : Bool → State → (a b : Cell) → Value → Value → Run State
 end_of false st a b x y = copy_end st b x y
@@ -58,17 +63,21 @@ abbrev kept_by : ℕ → Bool → Run State → Run State
 kept_by cost shared next = (spend cost >>= λ _. fault_if shared_array_fault shared) >>= λ _. next
 
 abbrev pair_row : (source target : Lvalue) → (rx ry : Result Cell ℕ) → (Cell → Cell → Run State) → Run State
-pair_row source target rx ry next = after_cost 1 (after_cost (index_nodes source) (given rx) >>= λ a. (after_cost (index_nodes target) (given ry) >>= λ b. next a b))
+pair_row source target rx ry next = after_cost 1 (after_cost (index_nodes source) (given rx) >>= λ a.
+    (after_cost (index_nodes target) (given ry) >>= λ b. next a b))
 
-cell_by : (address slot address' slot' : ℕ → ℕ) → ((n : ℕ) → address n ≡ address' n) → ((i : ℕ) → slot i ≡ slot' i) → (cell : Cell) → cell_address address slot cell ≡ cell_address address' slot' cell
+cell_by : (address slot address' slot' : ℕ → ℕ) → ((n : ℕ) → address n ≡ address' n) → ((i : ℕ) → slot i ≡ slot' i)
+    → (cell : Cell) → cell_address address slot cell ≡ cell_address address' slot' cell
 cell_by address slot address' slot' sa ss (Slot i) = ss i
 cell_by address slot address' slot' sa ss (Part n i) = ap (λ a. a + i + 2) (sa n)
 
-same_cell_of : (program : Source) (st st' : State) (t : Lvalue) → SameCells program st st' t → cell_of program st' t ≡ cell_of program st t
+same_cell_of : (program : Source) (st st' : State) (t : Lvalue) → SameCells program st st' t
+    → cell_of program st' t ≡ cell_of program st t
 same_cell_of program st st' (Whole name) h = ap Ok h
 same_cell_of program st st' (Item name index) h = h.0
 
-module _ (setting : Setting) (address slot : State → ℕ → ℕ) (R : State → Memory → Type 0) (spot : List ℕ → Spot) (free : ℕ) (source target : Lvalue) where
+module _ (setting : Setting) (address slot : State → ℕ → ℕ) (R : State → Memory → Type 0) (spot : List ℕ → Spot)
+    (free : ℕ) (source target : Lvalue) where
   abbrev at : State → Cell → ℕ
   at st a = cell_address (address st) (slot st) a
 
@@ -106,40 +115,72 @@ module _ (setting : Setting) (address slot : State → ℕ → ℕ) (R : State �
 
   -- what a copy and its inverse need of the relation
   pub record CopyFacts : Type 0 where
-    pub can : (st : State) (m : Memory) → R st m → CanRun spot free (place_words source + place_words target) (read_of source) (read_of target) m
-    pub source_means : (st : State) (m : Memory) → R st m → MeansPlace (address st) (slot st) setting.program st spot (bases_of m) m.cells source
-    pub target_means : (st : State) (m : Memory) → R st m → MeansPlace (address st) (slot st) setting.program st spot (bases_of m) m.cells target
-    pub tells : (st : State) (m : Memory) → R st m → TellsShares (address st) (slot st) setting.program st spot (bases_of m) m.cells target (index_of source) (index_of target)
-    pub source_refers : (st : State) (m : Memory) (a : Cell) → R st m → cell_of setting.program st source ≡ Ok a → Refers (address st) (read st a)
-    pub target_refers : (st : State) (m : Memory) (b : Cell) → R st m → cell_of setting.program st target ≡ Ok b → Refers (address st) (read st b)
-    pub source_word : (st : State) (m : Memory) (a : Cell) → R st m → cell_of setting.program st source ≡ Ok a → slice_index m.cells (at st a) ≡ shown (address st) (slot st) (read st a)
-    pub target_word : (st : State) (m : Memory) (b : Cell) → R st m → cell_of setting.program st target ≡ Ok b → slice_index m.cells (at st b) ≡ shown (address st) (slot st) (read st b)
-    pub stands : (st : State) (m : Memory) (a b : Cell) (n : ℕ) → R st m → cell_of setting.program st source ≡ Ok a → cell_of setting.program st target ≡ Ok b → read st a ≡ Name n → StandsAt st m a b n
-    pub one_name : (st : State) (m : Memory) (a b : Cell) (n n' : ℕ) → R st m → cell_of setting.program st source ≡ Ok a → cell_of setting.program st target ≡ Ok b → read st a ≡ Name n → read st b ≡ Name n' → address st n ≡ address st n' → n ≡ n'
-    pub one_cell : (st : State) (m : Memory) (a b : Cell) → R st m → cell_of setting.program st source ≡ Ok a → cell_of setting.program st target ≡ Ok b → same_cell a b ≡ true → at st a ≡ at st b
-    pub two_cells : (st : State) (m : Memory) (a b : Cell) → R st m → cell_of setting.program st source ≡ Ok a → cell_of setting.program st target ≡ Ok b → same_cell a b ≡ false → at st a ≢ at st b
-    pub copied : (st : State) (m : Memory) (a b : Cell) (n : ℕ) → R st m → cell_of setting.program st source ≡ Ok a → cell_of setting.program st target ≡ Ok b → sharing st ≡ false → read st a ≡ Name n → read st b ≡ Nil
-        → R (after_copy st b n) (record m { cells = referring (at st b) (address st n) (count_of st n + 1) m.cells }) × Keeps st (after_copy st b n)
-    pub uncopied : (st : State) (m : Memory) (a b : Cell) (n : ℕ) → R st m → cell_of setting.program st source ≡ Ok a → cell_of setting.program st target ≡ Ok b → sharing st ≡ false → read st a ≡ Name n → read st b ≡ Name n → same_cell a b ≡ false
-        → R (after_uncopy st b n) (record m { cells = unreferring (at st b) (address st n) (count_of st n - 1) m.cells }) × Keeps st (after_uncopy st b n)
+    pub can : (st : State) (m : Memory) → R st m → CanRun spot free (place_words source + place_words target)
+        (read_of source) (read_of target) m
+    pub source_means : (st : State) (m : Memory) → R st m
+        → MeansPlace (address st) (slot st) setting.program st spot (bases_of m) m.cells source
+    pub target_means : (st : State) (m : Memory) → R st m
+        → MeansPlace (address st) (slot st) setting.program st spot (bases_of m) m.cells target
+    pub tells : (st : State) (m : Memory) → R st m → TellsShares (address st) (slot st) setting.program st spot
+        (bases_of m) m.cells target (index_of source) (index_of target)
+    pub source_refers : (st : State) (m : Memory) (a : Cell) → R st m → cell_of setting.program st source ≡ Ok a
+        → Refers (address st) (read st a)
+    pub target_refers : (st : State) (m : Memory) (b : Cell) → R st m → cell_of setting.program st target ≡ Ok b
+        → Refers (address st) (read st b)
+    pub source_word : (st : State) (m : Memory) (a : Cell) → R st m → cell_of setting.program st source ≡ Ok a
+        → slice_index m.cells (at st a) ≡ shown (address st) (slot st) (read st a)
+    pub target_word : (st : State) (m : Memory) (b : Cell) → R st m → cell_of setting.program st target ≡ Ok b
+        → slice_index m.cells (at st b) ≡ shown (address st) (slot st) (read st b)
+    pub stands : (st : State) (m : Memory) (a b : Cell) (n : ℕ) → R st m → cell_of setting.program st source ≡ Ok a
+        → cell_of setting.program st target ≡ Ok b → read st a ≡ Name n → StandsAt st m a b n
+    pub one_name : (st : State) (m : Memory) (a b : Cell) (n n' : ℕ) → R st m → cell_of setting.program st source ≡ Ok a
+        → cell_of setting.program st target ≡ Ok b → read st a ≡ Name n → read st b ≡ Name n'
+        → address st n ≡ address st n' → n ≡ n'
+    pub one_cell : (st : State) (m : Memory) (a b : Cell) → R st m → cell_of setting.program st source ≡ Ok a
+        → cell_of setting.program st target ≡ Ok b → same_cell a b ≡ true → at st a ≡ at st b
+    pub two_cells : (st : State) (m : Memory) (a b : Cell) → R st m → cell_of setting.program st source ≡ Ok a
+        → cell_of setting.program st target ≡ Ok b → same_cell a b ≡ false → at st a ≢ at st b
+    pub copied : (st : State) (m : Memory) (a b : Cell) (n : ℕ) → R st m → cell_of setting.program st source ≡ Ok a
+        → cell_of setting.program st target ≡ Ok b → sharing st ≡ false → read st a ≡ Name n → read st b ≡ Nil
+        → R (after_copy st b n) (record m { cells = referring (at st b) (address st n) (count_of st n + 1) m.cells })
+        × Keeps st (after_copy st b n)
+    pub uncopied : (st : State) (m : Memory) (a b : Cell) (n : ℕ) → R st m → cell_of setting.program st source ≡ Ok a
+        → cell_of setting.program st target ≡ Ok b → sharing st ≡ false → read st a ≡ Name n → read st b ≡ Name n
+        → same_cell a b ≡ false
+        → R (after_uncopy st b n) (record m {
+          cells = unreferring (at st b) (address st n) (count_of st n - 1) m.cells;
+        }) × Keeps st (after_uncopy st b n)
 
-  module _ (rates : Rates) (some : 1 ≤ rates.counts) (many : 370 ≤ rates.steps) (p : List Symbol) (law : CopyLaw spot free source target p) (facts : CopyFacts) (im : Image) (n0 : ℕ) where
+  module _ (rates : Rates) (some : 1 ≤ rates.counts) (many : 370 ≤ rates.steps) (p : List Symbol)
+      (law : CopyLaw spot free source target p) (facts : CopyFacts) (im : Image) (n0 : ℕ) where
     abbrev cost : ℕ
-    cost = 1 + index_nodes source + index_nodes target + read_cost (own_element target) (index_elements source ++ index_elements target)
+    cost = 1 + index_nodes source + index_nodes target + read_cost (own_element target)
+        (index_elements source ++ index_elements target)
 
-    source_at : (st : State) (m : Memory) (r : R st m) (rx : Result Cell ℕ) → cell_of setting.program st source ≡ rx → place_address spot (bases_of m) m.cells source ≡ cell_result (address st) (slot st) rx
-    source_at st m r rx e = place_is (address st) (slot st) setting.program st spot (bases_of m) m.cells source (facts.source_means st m r) ∙ ap (cell_result (address st) (slot st)) e
+    source_at : (st : State) (m : Memory) (r : R st m) (rx : Result Cell ℕ) → cell_of setting.program st source ≡ rx
+        → place_address spot (bases_of m) m.cells source ≡ cell_result (address st) (slot st) rx
+    source_at st m r rx e = place_is (address st) (slot st) setting.program st spot (bases_of m) m.cells source
+        (facts.source_means st m r) ∙ ap (cell_result (address st) (slot st)) e
 
-    target_at : (st : State) (m : Memory) (r : R st m) (ry : Result Cell ℕ) → cell_of setting.program st target ≡ ry → place_address spot (bases_of m) m.cells target ≡ cell_result (address st) (slot st) ry
-    target_at st m r ry e = place_is (address st) (slot st) setting.program st spot (bases_of m) m.cells target (facts.target_means st m r) ∙ ap (cell_result (address st) (slot st)) e
+    target_at : (st : State) (m : Memory) (r : R st m) (ry : Result Cell ℕ) → cell_of setting.program st target ≡ ry
+        → place_address spot (bases_of m) m.cells target ≡ cell_result (address st) (slot st) ry
+    target_at st m r ry e = place_is (address st) (slot st) setting.program st spot (bases_of m) m.cells target
+        (facts.target_means st m r) ∙ ap (cell_result (address st) (slot st)) e
 
-    shares_is : (st : State) (m : Memory) → R st m → shares spot (bases_of m) m.cells target (index_of source) (index_of target) ≡ sharing st
-    shares_is st m r = places_share_is (address st) (slot st) setting.program st spot (bases_of m) m.cells source target (facts.source_means st m r) (facts.target_means st m r) (facts.tells st m r)
+    shares_is : (st : State) (m : Memory) → R st m → shares spot (bases_of m) m.cells target (index_of source)
+        (index_of target) ≡ sharing st
+    shares_is st m r = places_share_is (address st) (slot st) setting.program st spot (bases_of m) m.cells source target
+        (facts.source_means st m r) (facts.target_means st m r) (facts.tells st m r)
 
-    leave_meets : (d : Bool) (m m' : Memory) (st' : State) (c : ℕ) → R st' m' → c ≡ 1 + index_nodes source + index_nodes target + read_cost (own_element target) (index_elements source ++ index_elements target) → Will im p d m (LeavesWithin m' (copy_steps source target) (copy_steps source target)) → Will im p d m (Meets R rates n0 0 (Fine st' c))
+    leave_meets : (d : Bool) (m m' : Memory) (st' : State) (c : ℕ) → R st' m'
+        → c ≡ 1 + index_nodes source + index_nodes target + read_cost (own_element target)
+        (index_elements source ++ index_elements target) → Will im p d m
+        (LeavesWithin m' (copy_steps source target) (copy_steps source target))
+        → Will im p d m (Meets R rates n0 0 (Fine st' c))
     leave_meets d m m' st' c r e w = will_more im p d m _ _ over w
       where
-        over : (o : Outcome) → LeavesWithin m' (copy_steps source target) (copy_steps source target) o → Meets R rates n0 0 (Fine st' c) o
+        over : (o : Outcome) → LeavesWithin m' (copy_steps source target) (copy_steps source target) o
+            → Meets R rates n0 0 (Fine st' c) o
         over _ (leaves_within k lo hi) =
             let most = found_places_most source target in
             let least = found_places_least source target in
@@ -147,27 +188,42 @@ module _ (setting : Setting) (address slot : State → ℕ → ℕ) (R : State �
             let u = rated 370 rates.steps (copy_steps source target) c many up in
             fine r (less rates.counts k c some (omega arith)) (omega arith)
 
-    module _ (st : State) (m : Memory) (a b : Cell) (r : R st m) (na : cell_of setting.program st source ≡ Ok a) (nb : cell_of setting.program st target ≡ Ok b) where
+    module _ (st : State) (m : Memory) (a b : Cell) (r : R st m) (na : cell_of setting.program st source ≡ Ok a)
+        (nb : cell_of setting.program st target ≡ Ok b) where
       places : sharing st ≡ false → Places spot free source target m (at st a) (at st b)
-      places e = record { can = facts.can st m r; source_at = source_at st m r (Ok a) na; target_at = target_at st m r (Ok b) nb; apart = shares_is st m r ∙ e }
+      places e = record {
+        can = facts.can st m r;
+        source_at = source_at st m r (Ok a) na;
+        target_at = target_at st m r (Ok b) nb;
+        apart = shares_is st m r ∙ e;
+      }
 
       p_low : at st a < free_at free m
-      p_low = place_low spot free (bases_of m) source (at st a) m.cells (facts.can st m r).first (source_at st m r (Ok a) na)
+      p_low = place_low spot free (bases_of m) source (at st a) m.cells (facts.can st m r).first
+          (source_at st m r (Ok a) na)
 
       q_low : at st b < free_at free m
-      q_low = place_low spot free (bases_of m) target (at st b) m.cells (facts.can st m r).second (target_at st m r (Ok b) nb)
+      q_low = place_low spot free (bases_of m) target (at st b) m.cells (facts.can st m r).second
+          (target_at st m r (Ok b) nb)
 
       low_in : free_at free m ≤ length m.cells
       low_in = let i = (facts.can st m r).ready.inside in omega arith
 
-      stay : (st' : State) (cells' : List ℕ) → R st' (record m { cells = cells' }) → Keeps st st' → PlacesStay spot (bases_of m) (free_at free m) source target m.cells cells'
+      stay : (st' : State) (cells' : List ℕ) → R st' (record m { cells = cells' }) → Keeps st st'
+          → PlacesStay spot (bases_of m) (free_at free m) source target m.cells cells'
       stay st' cells' r' h =
           let can' = facts.can st' (record m { cells = cells' }) r' in
           record {
             source_sees = can'.first;
             target_sees = can'.second;
-            source_same = same_places (address st) (slot st) setting.program spot free (bases_of m) m.cells cells' st st' source (facts.source_means st m r) (place_means_by (address st') (slot st') (address st) (slot st) h.addresses h.slots setting.program st' spot (bases_of m) cells' source (facts.source_means st' (record m { cells = cells' }) r')) h.source_same;
-            target_same = same_places (address st) (slot st) setting.program spot free (bases_of m) m.cells cells' st st' target (facts.target_means st m r) (place_means_by (address st') (slot st') (address st) (slot st) h.addresses h.slots setting.program st' spot (bases_of m) cells' target (facts.target_means st' (record m { cells = cells' }) r')) h.target_same;
+            source_same = same_places (address st) (slot st) setting.program spot free (bases_of m) m.cells cells' st
+                st' source (facts.source_means st m r) (place_means_by (address st') (slot st') (address st) (slot st)
+                h.addresses h.slots setting.program st' spot (bases_of m) cells' source
+                (facts.source_means st' (record m { cells = cells' }) r')) h.source_same;
+            target_same = same_places (address st) (slot st) setting.program spot free (bases_of m) m.cells cells' st
+                st' target (facts.target_means st m r) (place_means_by (address st') (slot st') (address st) (slot st)
+                h.addresses h.slots setting.program st' spot (bases_of m) cells' target
+                (facts.target_means st' (record m { cells = cells' }) r')) h.target_same;
             apart = shares_is st' (record m { cells = cells' }) r' ∙ h.apart;
           }
 
@@ -189,18 +245,28 @@ module _ (setting : Setting) (address slot : State → ℕ → ℕ) (R : State �
       target_is y e = facts.target_word st m b r nb ∙ ap (shown (address st) (slot st)) e
 
       -- a fault with the cost of the places
-      fault_meets : (d : Bool) (code extra c : ℕ) → extra ≤ 33 → c ≡ 1 + index_nodes source + index_nodes target + read_cost (own_element target) (index_elements source ++ index_elements target) → Will im p d m (TrapsWithin code (found_places_steps source target + extra)) → Will im p d m (Meets R rates n0 0 (Fault code c))
-      fault_meets d code extra c l e t = let most = found_places_most source target in stop_meets R rates 370 many im p n0 d m code c (found_places_steps source target + extra) (omega arith) t
+      fault_meets : (d : Bool) (code extra c : ℕ) → extra ≤ 33
+          → c ≡ 1 + index_nodes source + index_nodes target + read_cost (own_element target)
+          (index_elements source ++ index_elements target) → Will im p d m
+          (TrapsWithin code (found_places_steps source target + extra))
+          → Will im p d m (Meets R rates n0 0 (Fault code c))
+      fault_meets d code extra c l e t = let most = found_places_most source target in
+          stop_meets R rates 370 many im p n0 d m code c (found_places_steps source target + extra) (omega arith) t
 
-      copy_by : (x y : Value) → read st a ≡ x → read st b ≡ y → sharing st ≡ false → Will im p false m (Meets R rates n0 0 (told (pair_row source target (Ok a) (Ok b) (λ a b. kept_by reads false (copy_end st b x y)))))
+      copy_by : (x y : Value) → read st a ≡ x → read st b ≡ y → sharing st ≡ false
+          → Will im p false m (Meets R rates n0 0 (told (pair_row source target (Ok a) (Ok b)
+          (λ a b. kept_by reads false (copy_end st b x y)))))
       copy_by (Word w) y ea eb sh = absurd (subst (Refers (address st)) ea (facts.source_refers st m a r na))
-      copy_by Nil y ea eb sh = fault_meets false 5 7 _ (omega arith) (omega arith) (law.nil_faults im false m (at st a) (at st b) (places sh) (facts.source_word st m a r na ∙ ap (shown (address st) (slot st)) ea))
+      copy_by Nil y ea eb sh = fault_meets false 5 7 _ (omega arith) (omega arith)
+          (law.nil_faults im false m (at st a) (at st b) (places sh)
+          (facts.source_word st m a r na ∙ ap (shown (address st) (slot st)) ea))
       copy_by (Name n) (Word w) ea eb sh = absurd (subst (Refers (address st)) eb (facts.target_refers st m b r nb))
       copy_by (Name n) Nil ea eb sh =
           let h = facts.copied st m a b n r na nb sh ea eb in
           let s = facts.stands st m a b n r na nb ea in
           let cells' : List ℕ = referring (at st b) (address st n) (count_of st n + 1) m.cells in
-          leave_meets false m _ (after_copy st b n) _ h.0 (omega arith) (law.copies im m (at st a) (at st b) (address st n) (count_of st n) (places sh)
+          leave_meets false m _ (after_copy st b n) _ h.0 (omega arith)
+          (law.copies im m (at st a) (at st b) (address st n) (count_of st n) (places sh)
           (record {
             low_in = low_in;
             p_in = p_low;
@@ -217,16 +283,28 @@ module _ (setting : Setting) (address slot : State → ℕ → ℕ) (R : State �
           })
           (stay (after_copy st b n) cells' h.0 h.1))
       copy_by (Name n) (Name n') ea eb sh =
-          fault_meets false 4 15 _ (omega arith) (omega arith) (law.not_nil_faults im m (at st a) (at st b) (address st n) (places sh) (name_word n ea) (name_small n ea) (name_some n ea) (λ e. subst (Refers (address st)) eb (facts.target_refers st m b r nb) (sym (target_is (Name n') eb) ∙ e)))
+          fault_meets false 4 15 _ (omega arith) (omega arith)
+          (law.not_nil_faults im m (at st a) (at st b) (address st n) (places sh) (name_word n ea) (name_small n ea)
+          (name_some n ea) (λ e. subst (Refers (address st)) eb (facts.target_refers st m b r nb)
+          (sym (target_is (Name n') eb) ∙ e)))
 
-      names_by : (n n' : ℕ) (t u : Bool) → nat_eq n n' ≡ t → same_cell a b ≡ u → read st a ≡ Name n → read st b ≡ Name n' → sharing st ≡ false
-          → Will im p true m (Meets R rates n0 0 (told (pair_row source target (Ok a) (Ok b) (λ a b. kept_by reads false (fault_if nil_fault false >>= λ _. (fault_if not_same_fault (not t || u) >>= λ _. give (after_uncopy st b n)))))))
+      names_by : (n n' : ℕ) (t u : Bool) → nat_eq n n' ≡ t → same_cell a b ≡ u → read st a ≡ Name n
+          → read st b ≡ Name n' → sharing st ≡ false
+          → Will im p true m (Meets R rates n0 0 (told (pair_row source target (Ok a) (Ok b)
+          (λ a b. kept_by reads false (fault_if nil_fault false >>= λ _.
+          (fault_if not_same_fault (not t || u) >>= λ _. give (after_uncopy st b n)))))))
       names_by n n' false u et eu ea eb sh =
           let ne : n ≢ n' = grind (arith, nat_tests) in
-          fault_meets true 10 20 _ (omega arith) (omega arith) (law.not_same_faults im m (at st a) (at st b) (address st n) (address st n') (places sh) (name_word n ea) (target_is (Name n') eb) (name_small n ea) (name_some n ea) (λ e. ne (facts.one_name st m a b n n' r na nb ea eb e)))
+          fault_meets true 10 20 _ (omega arith) (omega arith)
+          (law.not_same_faults im m (at st a) (at st b) (address st n) (address st n') (places sh) (name_word n ea)
+          (target_is (Name n') eb) (name_small n ea) (name_some n ea)
+          (λ e. ne (facts.one_name st m a b n n' r na nb ea eb e)))
       names_by n n' true true et eu ea eb sh =
           let one : at st b ≡ at st a = sym (facts.one_cell st m a b r na nb eu) in
-          fault_meets true 10 33 _ (omega arith) (omega arith) (law.one_place_faults im m (at st a) (address st n) (subst (Places spot free source target m (at st a)) one (places sh)) (name_word n ea) (name_small n ea) (name_some n ea))
+          fault_meets true 10 33 _ (omega arith) (omega arith)
+          (law.one_place_faults im m (at st a) (address st n)
+          (subst (Places spot free source target m (at st a)) one (places sh)) (name_word n ea) (name_small n ea)
+          (name_some n ea))
       names_by n n' true false et eu ea eb sh =
           let same : n ≡ n' = grind (arith, nat_tests) in
           let eb' : read st b ≡ Name n = eb ∙ ap Name (sym same) in
@@ -234,7 +312,8 @@ module _ (setting : Setting) (address slot : State → ℕ → ℕ) (R : State �
           let s = facts.stands st m a b n r na nb ea in
           let first = s.some in
           let up : count_of st n - 1 + 1 ≡ count_of st n = omega arith in
-          leave_meets true m _ (after_uncopy st b n) _ h.0 (omega arith) (law.uncopies im m (at st a) (at st b) (address st n) (count_of st n - 1) (places sh)
+          leave_meets true m _ (after_uncopy st b n) _ h.0 (omega arith)
+          (law.uncopies im m (at st a) (at st b) (address st n) (count_of st n - 1) (places sh)
           (record {
             low_in = low_in;
             p_in = p_low;
@@ -252,50 +331,75 @@ module _ (setting : Setting) (address slot : State → ℕ → ℕ) (R : State �
           })
           (stay (after_uncopy st b n) _ h.0 h.1))
 
-      uncopy_by : (x y : Value) → read st a ≡ x → read st b ≡ y → sharing st ≡ false → Will im p true m (Meets R rates n0 0 (told (pair_row source target (Ok a) (Ok b) (λ a b. kept_by reads false (uncopy_end st a b x y)))))
+      uncopy_by : (x y : Value) → read st a ≡ x → read st b ≡ y → sharing st ≡ false
+          → Will im p true m (Meets R rates n0 0 (told (pair_row source target (Ok a) (Ok b)
+          (λ a b. kept_by reads false (uncopy_end st a b x y)))))
       uncopy_by (Word w) y ea eb sh = absurd (subst (Refers (address st)) ea (facts.source_refers st m a r na))
-      uncopy_by Nil y ea eb sh = fault_meets true 5 7 _ (omega arith) (omega arith) (law.nil_faults im true m (at st a) (at st b) (places sh) (facts.source_word st m a r na ∙ ap (shown (address st) (slot st)) ea))
+      uncopy_by Nil y ea eb sh = fault_meets true 5 7 _ (omega arith) (omega arith)
+          (law.nil_faults im true m (at st a) (at st b) (places sh)
+          (facts.source_word st m a r na ∙ ap (shown (address st) (slot st)) ea))
       uncopy_by (Name n) (Word w) ea eb sh = absurd (subst (Refers (address st)) eb (facts.target_refers st m b r nb))
       uncopy_by (Name n) Nil ea eb sh =
-          fault_meets true 10 20 _ (omega arith) (omega arith) (law.not_same_faults im m (at st a) (at st b) (address st n) 0 (places sh) (name_word n ea) (target_is Nil eb) (name_small n ea) (name_some n ea) (name_some n ea))
+          fault_meets true 10 20 _ (omega arith) (omega arith)
+          (law.not_same_faults im m (at st a) (at st b) (address st n) 0 (places sh) (name_word n ea)
+          (target_is Nil eb) (name_small n ea) (name_some n ea) (name_some n ea))
       uncopy_by (Name n) (Name n') ea eb sh = names_by n n' (nat_eq n n') (same_cell a b) refl refl ea eb sh
 
       -- where no array is shared, or one is
-      ends_by : (d shared : Bool) → sharing st ≡ shared → Will im p d m (Meets R rates n0 0 (told (pair_row source target (Ok a) (Ok b) (λ a b. kept_by reads shared (end_of d st a b (read st a) (read st b))))))
+      ends_by : (d shared : Bool) → sharing st ≡ shared → Will im p d m
+          (Meets R rates n0 0 (told (pair_row source target (Ok a) (Ok b)
+          (λ a b. kept_by reads shared (end_of d st a b (read st a) (read st b))))))
       ends_by false false e = copy_by (read st a) (read st b) refl refl e
       ends_by true false e = uncopy_by (read st a) (read st b) refl refl e
       ends_by d true e =
           let most = found_places_most source target in
-          trap_meets R rates 370 many im p n0 d m 16 _ (found_places_steps source target) (omega arith) (law.sharing_faults im d m (facts.can st m r) (at st a) (at st b) (source_at st m r (Ok a) na) (target_at st m r (Ok b) nb) (shares_is st m r ∙ e))
+          trap_meets R rates 370 many im p n0 d m 16 _ (found_places_steps source target) (omega arith)
+          (law.sharing_faults im d m (facts.can st m r) (at st a) (at st b) (source_at st m r (Ok a) na)
+          (target_at st m r (Ok b) nb) (shares_is st m r ∙ e))
 
-    pair_meets : (d : Bool) (st : State) (m : Memory) → R st m → (rx ry : Result Cell ℕ) → cell_of setting.program st source ≡ rx → cell_of setting.program st target ≡ ry
-        → Will im p d m (Meets R rates n0 0 (told (pair_row source target rx ry (λ a b. kept_by reads (sharing st) (end_of d st a b (read st a) (read st b))))))
+    pair_meets : (d : Bool) (st : State) (m : Memory) → R st m → (rx ry : Result Cell ℕ)
+        → cell_of setting.program st source ≡ rx → cell_of setting.program st target ≡ ry
+        → Will im p d m (Meets R rates n0 0 (told (pair_row source target rx ry
+        (λ a b. kept_by reads (sharing st) (end_of d st a b (read st a) (read st b))))))
     pair_meets d st m r (Err c) ry nx ny =
         let one = place_less source in
-        trap_meets R rates 370 many im p n0 d m c _ (place_steps source) (omega arith) (law.source_faults im d m (facts.can st m r) c (source_at st m r (Err c) nx))
+        trap_meets R rates 370 many im p n0 d m c _ (place_steps source) (omega arith)
+        (law.source_faults im d m (facts.can st m r) c (source_at st m r (Err c) nx))
     pair_meets d st m r (Ok a) (Err c) nx ny =
         let one = place_less source in
         let two = place_less target in
-        trap_meets R rates 370 many im p n0 d m c _ (place_steps source + place_steps target) (omega arith) (law.target_faults im d m (facts.can st m r) (at st a) c (source_at st m r (Ok a) nx) (target_at st m r (Err c) ny))
+        trap_meets R rates 370 many im p n0 d m c _ (place_steps source + place_steps target) (omega arith)
+        (law.target_faults im d m (facts.can st m r) (at st a) c (source_at st m r (Ok a) nx)
+        (target_at st m r (Err c) ny))
     pair_meets d st m r (Ok a) (Ok b) nx ny = ends_by st m a b r nx ny d (sharing st) refl
 
     copy_is : (d : Bool) (here n : ℕ) (kind : VarType) (run : Runner) (st : State)
-        → after_cost 1 (statement setting n run (facing d (Copy here kind source target)) st) ≡ pair_row source target (cell_of setting.program st source) (cell_of setting.program st target) (λ a b. kept_by reads (sharing st) (end_of d st a b (read st a) (read st b)))
+        → after_cost 1 (statement setting n run (facing d (Copy here kind source target)) st)
+        ≡ pair_row source target (cell_of setting.program st source) (cell_of setting.program st target)
+        (λ a b. kept_by reads (sharing st) (end_of d st a b (read st a) (read st b)))
     copy_is false here n kind run st = refl
     copy_is true here n kind run st = refl
 
     -- the piece of a copy does what the source says of it, and run back what it says of its inverse
-    pub copy_does : (d : Bool) (here n : ℕ) (kind : VarType) (run : Runner) → Does im p d R R rates n0 0 (λ st. told (after_cost 1 (statement setting n run (facing d (Copy here kind source target)) st)))
+    pub copy_does : (d : Bool) (here n : ℕ) (kind : VarType) (run : Runner)
+        → Does im p d R R rates n0 0 (λ st. told (after_cost 1
+        (statement setting n run (facing d (Copy here kind source target)) st)))
     copy_does d here n kind run = record {
-      does = λ st m h. subst (λ r. Will im p d m (Meets R rates n0 0 (told r))) (sym (copy_is d here n kind run st)) (pair_meets d st m h (cell_of setting.program st source) (cell_of setting.program st target) refl refl);
+      does = λ st m h. subst (λ r. Will im p d m (Meets R rates n0 0 (told r))) (sym (copy_is d here n kind run st))
+          (pair_meets d st m h (cell_of setting.program st source) (cell_of setting.program st target) refl refl);
     }
 
-    uncopy_is : (d : Bool) (here : ℕ) (kind : VarType) → facing d (Uncopy here kind source target) ≡ facing (not d) (Copy here kind source target)
+    uncopy_is : (d : Bool) (here : ℕ) (kind : VarType) → facing d (Uncopy here kind source target)
+        ≡ facing (not d) (Copy here kind source target)
     uncopy_is false here kind = refl
     uncopy_is true here kind = refl
 
     -- and its mirror that of an uncopy
-    pub uncopy_does : (d : Bool) (here n : ℕ) (kind : VarType) (run : Runner) → Does im (mirror_cells p) d R R rates n0 0 (λ st. told (after_cost 1 (statement setting n run (facing d (Uncopy here kind source target)) st)))
+    pub uncopy_does : (d : Bool) (here n : ℕ) (kind : VarType) (run : Runner)
+        → Does im (mirror_cells p) d R R rates n0 0 (λ st. told
+        (after_cost 1 (statement setting n run (facing d (Uncopy here kind source target)) st)))
     uncopy_does d here n kind run = record {
-      does = λ st m h. will_mirror im p d m _ (subst (λ s. Will im p (not d) m (Meets R rates n0 0 (told (after_cost 1 (statement setting n run s st))))) (sym (uncopy_is d here kind)) ((copy_does (not d) here n kind run).does st m h));
+      does = λ st m h. will_mirror im p d m _ (subst (λ s. Will im p (not d) m
+          (Meets R rates n0 0 (told (after_cost 1 (statement setting n run s st))))) (sym (uncopy_is d here kind))
+          ((copy_does (not d) here n kind run).does st m h));
     }

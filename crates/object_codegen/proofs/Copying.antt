@@ -1,5 +1,6 @@
 -- The middle of a copy.
-use Rattle.std.proofs.Common.{◌≡◌, ◌≢◌, ℕ, ◌+◌, ◌^◌, ◌<◌, ◌≤◌, Bool, true, false, List, [], ◌∷◌, length, length-set, refl, sym, ap, ◌∙◌, arith}
+use Rattle.std.proofs.Common.{◌≡◌, ◌≢◌, ℕ, ◌+◌, ◌^◌, ◌<◌, ◌≤◌, Bool, true, false, List, [], ◌∷◌, length, length-set}
+use Rattle.std.proofs.Common.{refl, sym, ap, ◌∙◌, arith}
 use Rattle.std.specs.Prelude.{slice_index, slice_set, bit_xor, nat_eq}
 use Rattle.std.proofs.lemmas.List.{get_or-set_same, get_or-set_other}
 use Rattle.std.specs.Int.Bits.{xor_zero_l}
@@ -12,11 +13,15 @@ use Rattle.roopl_semantics.specs.Operators.{truth_word}
 use Rattle.expr_uncompute.specs.Code.{outcome, place, other_place, first_word, addi, xori, sltx}
 use Rattle.expr_uncompute.specs.Number.{Bases}
 use Rattle.expr_uncompute.proofs.Comparing.{equal}
-use Rattle.expr_uncompute.proofs.Goes.{Goes, Traps, goes_cons, goes_seq, goes_around, goes_mirror, goes_xor, goes_set, goes_xor_to, goes_addi, goes_check, traps_check, traps_mid, traps_then, traps_first}
+use Rattle.expr_uncompute.proofs.Goes.{Goes, Traps, goes_cons, goes_seq, goes_around, goes_mirror, goes_xor, goes_set}
+use Rattle.expr_uncompute.proofs.Goes.{goes_xor_to, goes_addi, goes_check, traps_check, traps_mid, traps_then}
+use Rattle.expr_uncompute.proofs.Goes.{traps_first}
 use Rattle.expr_uncompute.proofs.Scratch.{keeping}
-use Rattle.object_codegen.specs.Code.{same_words, two_places, copy_checks, uncopy_checks, refer_cells, count_cells, copy_mid}
+use Rattle.object_codegen.specs.Code.{same_words, two_places, copy_checks, uncopy_checks, refer_cells, count_cells}
+use Rattle.object_codegen.specs.Code.{copy_mid}
 use Rattle.object_codegen.specs.Promises.{referring, Copies}
-use Rattle.object_codegen.proofs.Touching.{one_is_not, at, by_place, by_other, by_first, changed, nil_goes, nil_traps, some_goes, some_traps, load_goes}
+use Rattle.object_codegen.proofs.Touching.{one_is_not, at, by_place, by_other, by_first, changed, nil_goes, nil_traps}
+use Rattle.object_codegen.proofs.Touching.{some_goes, some_traps, load_goes}
 
 xor_self : (x : ℕ) → bit_xor x x ≡ 0
 xor_self x = ap (λ z. bit_xor z x) (sym (xor_zero_l x)) ∙ xor-twice 0 x
@@ -27,20 +32,30 @@ module _ (b : Bases) (f : ℕ → ℕ) (p q : ℕ) where
 
   -- ---- the checks of the inverse
 
-  pub same_goes : (zs : List ℕ) (x : ℕ) → p < length zs → q < length zs → slice_index zs p ≡ x → slice_index zs q ≡ x → Goes same_words 16 (here 0 0 0 zs) (here 0 0 0 zs)
+  pub same_goes : (zs : List ℕ) (x : ℕ) → p < length zs → q < length zs → slice_index zs p ≡ x → slice_index zs q ≡ x
+      → Goes same_words 16 (here 0 0 0 zs) (here 0 0 0 zs)
   same_goes zs x h k e e' =
-      let both = goes_seq (load_goes b f (keeping 0 p q) (by_place b f (keeping 0 p q)) zs x 0 x h e (xor_zero_l x)) (load_goes b f (keeping 0 p q) (by_other b f (keeping 0 p q)) zs x x 0 k e' (xor_self x)) in
+      let both = goes_seq (load_goes b f (keeping 0 p q) (by_place b f (keeping 0 p q)) zs x 0 x h e (xor_zero_l x))
+      (load_goes b f (keeping 0 p q) (by_other b f (keeping 0 p q)) zs x x 0 k e' (xor_self x)) in
       goes_around both (goes_check first_word 10 _ refl) both
 
-  pub same_traps : (zs : List ℕ) (x y : ℕ) → p < length zs → q < length zs → slice_index zs p ≡ x → slice_index zs q ≡ y → x ≢ y → Traps same_words 10 10 (here 0 0 0 zs)
+  pub same_traps : (zs : List ℕ) (x y : ℕ) → p < length zs → q < length zs → slice_index zs p ≡ x → slice_index zs q ≡ y
+      → x ≢ y → Traps same_words 10 10 (here 0 0 0 zs)
   same_traps zs x y h k e e' n =
-      let both = goes_seq (load_goes b f (keeping 0 p q) (by_place b f (keeping 0 p q)) zs x 0 x h e (xor_zero_l x)) (load_goes b f (keeping 0 p q) (by_other b f (keeping 0 p q)) zs y x (bit_xor x y) k e' refl) in
-      traps_mid both (traps_check first_word 10 _ (λ z. n (sym (xor-twice x y) ∙ ap (λ w. bit_xor w y) z ∙ xor_zero_l y)))
+      let both = goes_seq (load_goes b f (keeping 0 p q) (by_place b f (keeping 0 p q)) zs x 0 x h e (xor_zero_l x))
+      (load_goes b f (keeping 0 p q) (by_other b f (keeping 0 p q)) zs y x (bit_xor x y) k e' refl) in
+      traps_mid both (traps_check first_word 10 _ (λ z. n (sym (xor-twice x y) ∙ ap (λ w. bit_xor w y) z
+      ∙ xor_zero_l y)))
 
-  two_row : (zs : List ℕ) (t : Bool) → p < 2 ^ 32 → q < 2 ^ 32 → nat_eq p q ≡ t → Goes (sltx outcome place other_place ∷ sltx outcome other_place place ∷ xori outcome 1 ∷ []) 3 (here 0 0 0 zs) (here (truth_word t) 0 0 zs)
+  two_row : (zs : List ℕ) (t : Bool) → p < 2 ^ 32 → q < 2 ^ 32 → nat_eq p q ≡ t
+      → Goes (sltx outcome place other_place ∷ sltx outcome other_place place ∷ xori outcome 1 ∷ []) 3 (here 0 0 0 zs)
+      (here (truth_word t) 0 0 zs)
   two_row zs t h k e =
       let put : ℕ → Memory = λ z. here z 0 0 zs in
-      goes_cons (goes_set _ put (word_of (is_less p q)) refl (omega arith) (λ z. refl) (λ z. refl)) (goes_cons (goes_xor _ put (word_of (is_less p q)) (word_of (is_less q p)) refl (omega arith) (λ z. refl) (λ z. refl)) (goes_xor_to _ put _ 1 _ (equal p q h k ∙ ap truth_word e) refl (omega arith) (λ z. refl) (λ z. refl)))
+      goes_cons (goes_set _ put (word_of (is_less p q)) refl (omega arith) (λ z. refl) (λ z. refl))
+      (goes_cons (goes_xor _ put (word_of (is_less p q)) (word_of (is_less q p)) refl (omega arith) (λ z. refl)
+      (λ z. refl)) (goes_xor_to _ put _ 1 _ (equal p q h k ∙ ap truth_word e) refl (omega arith) (λ z. refl)
+      (λ z. refl)))
 
   pub two_goes : (zs : List ℕ) → p < 2 ^ 32 → q < 2 ^ 32 → p ≢ q → Goes two_places 10 (here 0 0 0 zs) (here 0 0 0 zs)
   two_goes zs h k n =
@@ -52,45 +67,65 @@ module _ (b : Bases) (f : ℕ → ℕ) (p q : ℕ) where
       let t : nat_eq p q ≡ true = grind (arith, nat_tests) in
       traps_mid (two_row zs true h k t) (traps_check outcome 10 _ one_is_not)
 
-  pub copy_checks_go : (low x c : ℕ) (zs : List ℕ) → Copies low p q x c zs → Goes copy_checks 16 (here 0 0 0 zs) (here 0 0 0 zs)
+  pub copy_checks_go : (low x c : ℕ) (zs : List ℕ) → Copies low p q x c zs
+      → Goes copy_checks 16 (here 0 0 0 zs) (here 0 0 0 zs)
   copy_checks_go low x c zs h =
       let l = h.count_in in
       let k = h.small in
       let n = h.low_in in
       let lp = h.p_in in
       let lq = h.q_in in
-      goes_seq (some_goes b f (keeping 0 p q) (by_place b f (keeping 0 p q) 0) 5 zs x (omega arith) h.source (omega arith) h.some) (nil_goes b f (keeping 0 p q) (by_other b f (keeping 0 p q) 0) 4 zs (omega arith) h.target)
+      goes_seq (some_goes b f (keeping 0 p q) (by_place b f (keeping 0 p q) 0) 5 zs x (omega arith) h.source
+      (omega arith) h.some) (nil_goes b f (keeping 0 p q) (by_other b f (keeping 0 p q) 0) 4 zs (omega arith)
+      h.target)
 
   pub copy_nil : (zs : List ℕ) → p < length zs → slice_index zs p ≡ 0 → Traps copy_checks 7 5 (here 0 0 0 zs)
   copy_nil zs h e = traps_first _ (some_traps b f (keeping 0 p q) (by_place b f (keeping 0 p q) 0) 5 zs h e)
 
-  pub copy_not_nil : (zs : List ℕ) (x : ℕ) → p < length zs → q < length zs → slice_index zs p ≡ x → x < 2 ^ 31 → x ≢ 0 → slice_index zs q ≢ 0 → Traps copy_checks 15 4 (here 0 0 0 zs)
-  copy_not_nil zs x h k e l n n' = traps_then (some_goes b f (keeping 0 p q) (by_place b f (keeping 0 p q) 0) 5 zs x h e l n) (nil_traps b f (keeping 0 p q) (by_other b f (keeping 0 p q) 0) 4 zs k n')
+  pub copy_not_nil : (zs : List ℕ) (x : ℕ) → p < length zs → q < length zs → slice_index zs p ≡ x → x < 2 ^ 31 → x ≢ 0
+      → slice_index zs q ≢ 0 → Traps copy_checks 15 4 (here 0 0 0 zs)
+  copy_not_nil zs x h k e l n n' = traps_then (some_goes b f (keeping 0 p q) (by_place b f (keeping 0 p q) 0) 5 zs x h e
+      l n) (nil_traps b f (keeping 0 p q) (by_other b f (keeping 0 p q) 0) 4 zs k n')
 
-  pub uncopy_checks_go : (x : ℕ) (zs : List ℕ) → p < length zs → q < length zs → length zs ≤ 2 ^ 31 → slice_index zs p ≡ x → slice_index zs q ≡ x → x < 2 ^ 31 → x ≢ 0 → p ≢ q → Goes uncopy_checks 36 (here 0 0 0 zs) (here 0 0 0 zs)
+  pub uncopy_checks_go : (x : ℕ) (zs : List ℕ) → p < length zs → q < length zs → length zs ≤ 2 ^ 31
+      → slice_index zs p ≡ x → slice_index zs q ≡ x → x < 2 ^ 31 → x ≢ 0 → p ≢ q
+      → Goes uncopy_checks 36 (here 0 0 0 zs) (here 0 0 0 zs)
   uncopy_checks_go x zs h k s e e' l n n' =
-      goes_seq (some_goes b f (keeping 0 p q) (by_place b f (keeping 0 p q) 0) 5 zs x h e l n) (goes_seq (same_goes zs x h k e e') (two_goes zs (omega arith) (omega arith) n'))
+      goes_seq (some_goes b f (keeping 0 p q) (by_place b f (keeping 0 p q) 0) 5 zs x h e l n)
+      (goes_seq (same_goes zs x h k e e') (two_goes zs (omega arith) (omega arith) n'))
 
   pub uncopy_nil : (zs : List ℕ) → p < length zs → slice_index zs p ≡ 0 → Traps uncopy_checks 7 5 (here 0 0 0 zs)
   uncopy_nil zs h e = traps_first _ (some_traps b f (keeping 0 p q) (by_place b f (keeping 0 p q) 0) 5 zs h e)
 
-  pub uncopy_other : (zs : List ℕ) (x y : ℕ) → p < length zs → q < length zs → slice_index zs p ≡ x → slice_index zs q ≡ y → x < 2 ^ 31 → x ≢ 0 → x ≢ y → Traps uncopy_checks 20 10 (here 0 0 0 zs)
-  uncopy_other zs x y h k e e' l n n' = traps_then (some_goes b f (keeping 0 p q) (by_place b f (keeping 0 p q) 0) 5 zs x h e l n) (traps_first _ (same_traps zs x y h k e e' n'))
+  pub uncopy_other : (zs : List ℕ) (x y : ℕ) → p < length zs → q < length zs → slice_index zs p ≡ x
+      → slice_index zs q ≡ y → x < 2 ^ 31 → x ≢ 0 → x ≢ y → Traps uncopy_checks 20 10 (here 0 0 0 zs)
+  uncopy_other zs x y h k e e' l n n' = traps_then (some_goes b f (keeping 0 p q) (by_place b f (keeping 0 p q) 0) 5 zs
+      x h e l n) (traps_first _ (same_traps zs x y h k e e' n'))
 
-  pub uncopy_one : (zs : List ℕ) (x : ℕ) → p < length zs → q < length zs → length zs ≤ 2 ^ 31 → slice_index zs p ≡ x → slice_index zs q ≡ x → x < 2 ^ 31 → x ≢ 0 → p ≡ q → Traps uncopy_checks 33 10 (here 0 0 0 zs)
-  uncopy_one zs x h k s e e' l n n' = traps_then (some_goes b f (keeping 0 p q) (by_place b f (keeping 0 p q) 0) 5 zs x h e l n) (traps_then (same_goes zs x h k e e') (two_traps zs (omega arith) (omega arith) n'))
+  pub uncopy_one : (zs : List ℕ) (x : ℕ) → p < length zs → q < length zs → length zs ≤ 2 ^ 31 → slice_index zs p ≡ x
+      → slice_index zs q ≡ x → x < 2 ^ 31 → x ≢ 0 → p ≡ q → Traps uncopy_checks 33 10 (here 0 0 0 zs)
+  uncopy_one zs x h k s e e' l n n' = traps_then (some_goes b f (keeping 0 p q) (by_place b f (keeping 0 p q) 0) 5 zs x
+      h e l n) (traps_then (same_goes zs x h k e e') (two_traps zs (omega arith) (omega arith) n'))
 
   -- ---- the change
 
-  refer_goes : (x : ℕ) (zs : List ℕ) → q < length zs → slice_index zs q ≡ 0 → Goes refer_cells 3 (here 0 0 x zs) (here 0 0 x (slice_set zs q x))
-  refer_goes x zs h e = changed b f (keeping 0 p q) (by_other b f (keeping 0 p q) x) zs 0 x h e (goes_xor_to _ (λ z. here 0 z x (slice_set zs q 0)) 0 x x (xor_zero_l x) refl (omega arith) (λ z. refl) (λ z. refl))
+  refer_goes : (x : ℕ) (zs : List ℕ) → q < length zs → slice_index zs q ≡ 0
+      → Goes refer_cells 3 (here 0 0 x zs) (here 0 0 x (slice_set zs q x))
+  refer_goes x zs h e = changed b f (keeping 0 p q) (by_other b f (keeping 0 p q) x) zs 0 x h e
+      (goes_xor_to _ (λ z. here 0 z x (slice_set zs q 0)) 0 x x (xor_zero_l x) refl (omega arith) (λ z. refl)
+      (λ z. refl))
 
-  count_goes : (x c : ℕ) (zs : List ℕ) → x + 1 < length zs → length zs ≤ 2 ^ 31 → slice_index zs (x + 1) ≡ c → c + 1 < 2 ^ 32 → Goes count_cells 5 (here 0 0 x zs) (here 0 0 x (slice_set zs (x + 1) (c + 1)))
+  count_goes : (x c : ℕ) (zs : List ℕ) → x + 1 < length zs → length zs ≤ 2 ^ 31 → slice_index zs (x + 1) ≡ c
+      → c + 1 < 2 ^ 32 → Goes count_cells 5 (here 0 0 x zs) (here 0 0 x (slice_set zs (x + 1) (c + 1)))
   count_goes x c zs h k e l =
-      let up : (zs : List ℕ) → Goes (addi first_word 1 ∷ []) 1 (here 0 0 x zs) (here 0 0 (x + 1) zs) = λ zs. goes_addi _ (λ z. here 0 0 z zs) x 1 (omega arith) refl (omega arith) (λ z. refl) (λ z. refl) in
-      goes_around (up zs) (changed b f (keeping 0 p q) (by_first b f (keeping 0 p q) (x + 1)) zs c (c + 1) h e (goes_addi _ (λ z. here 0 z (x + 1) (slice_set zs (x + 1) 0)) c 1 l refl (omega arith) (λ z. refl) (λ z. refl))) (up _)
+      let up : (zs : List ℕ) → Goes (addi first_word 1 ∷ []) 1 (here 0 0 x zs) (here 0 0 (x + 1) zs) =
+      λ zs. goes_addi _ (λ z. here 0 0 z zs) x 1 (omega arith) refl (omega arith) (λ z. refl) (λ z. refl) in
+      goes_around (up zs) (changed b f (keeping 0 p q) (by_first b f (keeping 0 p q) (x + 1)) zs c (c + 1) h e
+      (goes_addi _ (λ z. here 0 z (x + 1) (slice_set zs (x + 1) 0)) c 1 l refl (omega arith) (λ z. refl)
+      (λ z. refl))) (up _)
 
-  pub copy_goes : (low x c : ℕ) (zs : List ℕ) → Copies low p q x c zs → Goes copy_mid 66 (here 0 0 0 zs) (here 0 0 0 (referring q x (c + 1) zs))
+  pub copy_goes : (low x c : ℕ) (zs : List ℕ) → Copies low p q x c zs
+      → Goes copy_mid 66 (here 0 0 0 zs) (here 0 0 0 (referring q x (c + 1) zs))
   copy_goes low x c zs h =
       let k = h.small in
       let ll = h.low_in in
@@ -105,11 +140,18 @@ module _ (b : Bases) (f : ℕ → ℕ) (p q : ℕ) where
       let l2 : length (referring q x (c + 1) zs) ≡ length zs = length-set (slice_set zs q x) (x + 1) (c + 1) ∙ l1 in
       let p2 : p < length (referring q x (c + 1) zs) = rw l2 p0 in
       let q2 : q < length (referring q x (c + 1) zs) = rw l2 q0 in
-      let at_p : slice_index (referring q x (c + 1) zs) p ≡ x = get_or-set_other (slice_set zs q x) (x + 1) p (c + 1) 0 h.p_apart ∙ get_or-set_other zs q p x 0 n ∙ h.source in
-      let at_q : slice_index (referring q x (c + 1) zs) q ≡ x = get_or-set_other (slice_set zs q x) (x + 1) q (c + 1) 0 h.q_apart ∙ get_or-set_same zs q x 0 q0 in
-      let at_c : slice_index (slice_set zs q x) (x + 1) ≡ c = get_or-set_other zs q (x + 1) x 0 (λ e. h.q_apart (sym e)) ∙ h.count in
+      let at_p : slice_index (referring q x (c + 1) zs) p ≡ x =
+      get_or-set_other (slice_set zs q x) (x + 1) p (c + 1) 0 h.p_apart ∙ get_or-set_other zs q p x 0 n
+      ∙ h.source in
+      let at_q : slice_index (referring q x (c + 1) zs) q ≡ x =
+      get_or-set_other (slice_set zs q x) (x + 1) q (c + 1) 0 h.q_apart ∙ get_or-set_same zs q x 0 q0 in
+      let at_c : slice_index (slice_set zs q x) (x + 1) ≡ c = get_or-set_other zs q (x + 1) x 0 (λ e. h.q_apart (sym e))
+      ∙ h.count in
       let first = load_goes b f (keeping 0 p q) (by_place b f (keeping 0 p q)) zs x 0 x p0 h.source (xor_zero_l x) in
-      let last = load_goes b f (keeping 0 p q) (by_place b f (keeping 0 p q)) (referring q x (c + 1) zs) x 0 x p2 at_p (xor_zero_l x) in
+      let last = load_goes b f (keeping 0 p q) (by_place b f (keeping 0 p q)) (referring q x (c + 1) zs) x 0 x p2 at_p
+      (xor_zero_l x) in
       goes_seq (copy_checks_go low x c zs h)
-      (goes_seq (goes_around first (goes_seq (refer_goes x zs q0 h.target) (count_goes x c (slice_set zs q x) (rw l1 c0) (rw l1 h.small) at_c h.more)) last)
-      (goes_mirror (uncopy_checks_go x (referring q x (c + 1) zs) p2 q2 (rw l2 h.small) at_p at_q (omega arith) h.some n)))
+      (goes_seq (goes_around first (goes_seq (refer_goes x zs q0 h.target)
+      (count_goes x c (slice_set zs q x) (rw l1 c0) (rw l1 h.small) at_c h.more)) last)
+      (goes_mirror (uncopy_checks_go x (referring q x (c + 1) zs) p2 q2 (rw l2 h.small) at_p at_q (omega arith) h.some
+      n)))

@@ -14,8 +14,8 @@ use Rattle.roopl_semantics.specs.Store.{Value, Word, Nil, Name, Head, OfClass, S
 use Rattle.roopl_semantics.specs.Value.{Cell, cell_named, read, written, value, cell_of}
 use Rattle.roopl_semantics.specs.Elements.{index_elements, own_element, share_array}
 use Rattle.roopl_semantics.specs.Execution.{Setting, new_object, order_of_cells, is_of_class, all_zero, freed}
-use Rattle.statement_laws.specs.Form.{registers}
-use Rattle.statement_laws.specs.declared.spot.Spot.{Spot}
+use Rattle.refine_form.specs.Form.{registers}
+use Rattle.refine_form.specs.declared.spot.Spot.{Spot}
 use Rattle.expr_uncompute.specs.Code.{words, place_words}
 use Rattle.expr_uncompute.specs.Number.{read_of, index_of}
 use Rattle.expr_uncompute.specs.Laws.{bases_of}
@@ -36,12 +36,14 @@ log_with size st = Taken (2 + count_taken st.log) (order_of_cells size) ∷ st.l
 
 -- the heap has no block for so many cells
 abbrev pub is_full : Setting → ℕ → State → Bool
-is_full setting size st = nat_lt setting.limits.heap (order_of_cells size) || is_none (place_log setting.limits.heap (log_with size st))
+is_full setting size st = nat_lt setting.limits.heap (order_of_cells size) || is_none
+    (place_log setting.limits.heap (log_with size st))
 
 -- the state with a new object or array of so many cells in the place
 abbrev pub made : ℕ → Head → List Value → Cell → State → State
 made size head cells cell st =
-    written (record st { store = (2 + count_taken st.log, new_object head cells) ∷ st.store; log = log_with size st }) cell (Name (2 + count_taken st.log))
+    written (record st { store = (2 + count_taken st.log, new_object head cells) ∷ st.store; log = log_with size st })
+    cell (Name (2 + count_taken st.log))
 
 abbrev pub length_at : State → ℕ → ℕ
 length_at st name = length (object_at st.store name).cells
@@ -57,12 +59,14 @@ abbrev pub number_in : Setting → Ident → ℕ
 number_in setting class = unwrap_or (class_number setting.program class.text) 0
 
 abbrev pub fresh_cells : Setting → Ident → List Value
-fresh_cells setting class = zero_values (class_fields setting.program (unwrap_or (class_number setting.program class.text) 0))
+fresh_cells setting class = zero_values (class_fields setting.program
+    (unwrap_or (class_number setting.program class.text) 0))
 
 abbrev pub same_class : Setting → Ident → State → ℕ → Bool
 same_class setting class st name = is_of_class (object_at st.store name).head (class_number setting.program class.text)
 
-module _ (setting : Setting) (address slot : State → ℕ → ℕ) (R : State → Memory → Type 0) (spot : List ℕ → Spot) (free : ℕ) (object frame : ℕ) (im : Image) where
+module _ (setting : Setting) (address slot : State → ℕ → ℕ) (R : State → Memory → Type 0) (spot : List ℕ → Spot)
+    (free : ℕ) (object frame : ℕ) (im : Image) where
   abbrev pub at : State → Cell → ℕ
   at st cell = cell_address (address st) (slot st) cell
 
@@ -78,7 +82,8 @@ module _ (setting : Setting) (address slot : State → ℕ → ℕ) (R : State �
     pub inside : address st name + 2 + length_at st name ≤ free_at free m
     pub small : address st name + 2 + length_at st name < 2 ^ 31
     pub count : slice_index m.cells (address st name + 1) ≡ count_at st name
-    pub full : is_empty st name ≡ false → (i : ℕ) × (i < length_at st name) × (slice_index m.cells (address st name + 2 + i) ≢ 0)
+    pub full : is_empty st name ≡ false → (i : ℕ) × (i < length_at st name)
+        × (slice_index m.cells (address st name + 2 + i) ≢ 0)
 
   -- the heap has a block: st' is the state with the new object or array, whose place is at p and
   -- whose length v
@@ -86,7 +91,8 @@ module _ (setting : Setting) (address slot : State → ℕ → ℕ) (R : State �
     pub x : ℕ
     pub taken : List ℕ
     pub takes : Takes (free_at free m) (size_of v shape) p x m.cells taken
-    pub allocates : Allocates im object frame order x p v shape (free_at free m) n (setting.limits.heap + 1) (most_steps setting.limits.heap + 7) m.cells taken
+    pub allocates : Allocates im object frame order x p v shape (free_at free m) n (setting.limits.heap + 1)
+        (most_steps setting.limits.heap + 7) m.cells taken
     pub after : R st' (record m { cells = filled p x (mark_of v shape) taken })
     pub keeps : KeepsNames st st'
 
@@ -96,7 +102,8 @@ module _ (setting : Setting) (address slot : State → ℕ → ℕ) (R : State �
     pub taken : List ℕ
     pub was : m.cells ≡ filled p x (mark_of v shape) taken
     pub takes : Takes (free_at free m) (size_of v shape) p x given taken
-    pub allocates : Allocates im object frame order x p v shape (free_at free m) n (setting.limits.heap + 1) (most_steps setting.limits.heap + 7) given taken
+    pub allocates : Allocates im object frame order x p v shape (free_at free m) n (setting.limits.heap + 1)
+        (most_steps setting.limits.heap + 7) given taken
     pub changes : Changes (free_at free m) m.cells given
     pub after : R st' (record m { cells = given })
     pub keeps : KeepsNames st st'
@@ -109,7 +116,8 @@ module _ (setting : Setting) (address slot : State → ℕ → ℕ) (R : State �
 
     -- the state with a new object
     abbrev pub with_object : Cell → State → State
-    with_object cell st = made (length (fresh_cells setting class)) (OfClass (number_in setting class)) (fresh_cells setting class) cell st
+    with_object cell st = made (length (fresh_cells setting class)) (OfClass (number_in setting class))
+        (fresh_cells setting class) cell st
 
     pub record ObjectStands (st : State) (m : Memory) (name : ℕ) : Type 0 where
       pub there : StandsThere st m name
@@ -120,21 +128,36 @@ module _ (setting : Setting) (address slot : State → ℕ → ℕ) (R : State �
     pub record ObjectFacts : Type 0 where
       pub regs_are : (st : State) (m : Memory) → R st m → m.regs ≡ registers 0 object frame 0 0 0 0 0
       pub can : (st : State) (m : Memory) → R st m → CanRun spot free (place_words target) (read_of target) (Null 0) m
-      pub means : (st : State) (m : Memory) → R st m → MeansPlace (address st) (slot st) setting.program st spot (bases_of m) m.cells target
-      pub tells : (st : State) (m : Memory) → R st m → TellsShares (address st) (slot st) setting.program st spot (bases_of m) m.cells target (index_of target) (Null 0)
-      pub refers : (st : State) (m : Memory) (cell : Cell) → R st m → cell_of setting.program st target ≡ Ok cell → Refers (address st) (read st cell)
-      pub word : (st : State) (m : Memory) (cell : Cell) → R st m → cell_of setting.program st target ≡ Ok cell → slice_index m.cells (at st cell) ≡ shown (address st) (slot st) (read st cell)
-      pub stands : (st : State) (m : Memory) (cell : Cell) (name : ℕ) → R st m → cell_of setting.program st target ≡ Ok cell → read st cell ≡ Name name → ObjectStands st m name
-      pub makes : (st : State) (m : Memory) (cell : Cell) → R st m → cell_of setting.program st target ≡ Ok cell → sharing st ≡ false → read st cell ≡ Nil → is_full setting (length (fresh_cells setting class)) st ≡ false
+      pub means : (st : State) (m : Memory) → R st m → MeansPlace (address st) (slot st) setting.program st spot
+          (bases_of m) m.cells target
+      pub tells : (st : State) (m : Memory) → R st m → TellsShares (address st) (slot st) setting.program st spot
+          (bases_of m) m.cells target (index_of target) (Null 0)
+      pub refers : (st : State) (m : Memory) (cell : Cell) → R st m → cell_of setting.program st target ≡ Ok cell
+          → Refers (address st) (read st cell)
+      pub word : (st : State) (m : Memory) (cell : Cell) → R st m → cell_of setting.program st target ≡ Ok cell
+          → slice_index m.cells (at st cell) ≡ shown (address st) (slot st) (read st cell)
+      pub stands : (st : State) (m : Memory) (cell : Cell) (name : ℕ) → R st m
+          → cell_of setting.program st target ≡ Ok cell → read st cell ≡ Name name → ObjectStands st m name
+      pub makes : (st : State) (m : Memory) (cell : Cell) → R st m → cell_of setting.program st target ≡ Ok cell
+          → sharing st ≡ false → read st cell ≡ Nil → is_full setting (length (fresh_cells setting class)) st ≡ false
           → TakesBlock st (with_object cell st) m (at st cell) 0 order (place_words target) (Fixed table fields)
-      pub made_same : (st : State) (m : Memory) (cell : Cell) → R st m → cell_of setting.program st target ≡ Ok cell → sharing st ≡ false → read st cell ≡ Nil → is_full setting (length (fresh_cells setting class)) st ≡ false
+      pub made_same : (st : State) (m : Memory) (cell : Cell) → R st m → cell_of setting.program st target ≡ Ok cell
+          → sharing st ≡ false → read st cell ≡ Nil → is_full setting (length (fresh_cells setting class)) st ≡ false
           → SameCells setting.program st (with_object cell st) target × (sharing (with_object cell st) ≡ false)
-      pub lacks : (st : State) (m : Memory) (cell : Cell) → R st m → cell_of setting.program st target ≡ Ok cell → read st cell ≡ Nil → is_full setting (length (fresh_cells setting class)) st ≡ true
-          → Lacks im object frame order (at st cell) 0 (Fixed table fields) (free_at free m) (place_words target) (most_steps setting.limits.heap + 7) m.cells
-      pub frees : (st : State) (m : Memory) (cell : Cell) (name : ℕ) → R st m → cell_of setting.program st target ≡ Ok cell → sharing st ≡ false → read st cell ≡ Name name → same_class setting class st name ≡ true → count_at st name ≡ 1 → is_empty st name ≡ true
-          → GivesBlock st (freed setting cell name st) m (at st cell) (address st name) 0 order (place_words target) (Fixed table fields)
-      pub freed_same : (st : State) (m : Memory) (cell : Cell) (name : ℕ) → R st m → cell_of setting.program st target ≡ Ok cell → sharing st ≡ false → read st cell ≡ Name name → same_class setting class st name ≡ true → count_at st name ≡ 1 → is_empty st name ≡ true
-          → SameCells setting.program st (freed setting cell name st) target × (sharing (freed setting cell name st) ≡ false)
+      pub lacks : (st : State) (m : Memory) (cell : Cell) → R st m → cell_of setting.program st target ≡ Ok cell
+          → read st cell ≡ Nil → is_full setting (length (fresh_cells setting class)) st ≡ true
+          → Lacks im object frame order (at st cell) 0 (Fixed table fields) (free_at free m) (place_words target)
+          (most_steps setting.limits.heap + 7) m.cells
+      pub frees : (st : State) (m : Memory) (cell : Cell) (name : ℕ) → R st m
+          → cell_of setting.program st target ≡ Ok cell → sharing st ≡ false → read st cell ≡ Name name
+          → same_class setting class st name ≡ true → count_at st name ≡ 1 → is_empty st name ≡ true
+          → GivesBlock st (freed setting cell name st) m (at st cell) (address st name) 0 order (place_words target)
+          (Fixed table fields)
+      pub freed_same : (st : State) (m : Memory) (cell : Cell) (name : ℕ) → R st m
+          → cell_of setting.program st target ≡ Ok cell → sharing st ≡ false → read st cell ≡ Name name
+          → same_class setting class st name ≡ true → count_at st name ≡ 1 → is_empty st name ≡ true
+          → SameCells setting.program st (freed setting cell name st) target
+          × (sharing (freed setting cell name st) ≡ false)
 
   -- ---- arrays: the place is a variable, since no element is of an array's type
 
@@ -153,21 +176,38 @@ module _ (setting : Setting) (address slot : State → ℕ → ℕ) (R : State �
 
     pub record ArrayFacts : Type 0 where
       pub regs_are : (st : State) (m : Memory) → R st m → m.regs ≡ registers 0 object frame 0 0 0 0 0
-      pub can : (st : State) (m : Memory) → R st m → CanRun spot free (place_words (Whole name) + words size) (read_of (Whole name)) size m
-      pub means : (st : State) (m : Memory) → R st m → MeansPlace (address st) (slot st) setting.program st spot (bases_of m) m.cells (Whole name)
-      pub size_means : (st : State) (m : Memory) → R st m → Means (address st) (slot st) setting.program st spot (bases_of m) m.cells size
-      pub is_int : (st : State) (m : Memory) (v : Value) → R st m → value setting.program st size ≡ Ok v → number_of v ≡ shown (address st) (slot st) v
-      pub is_word : (st : State) (m : Memory) (v : Value) → R st m → value setting.program st size ≡ Ok v → number_of v < 2 ^ 32
+      pub can : (st : State) (m : Memory) → R st m → CanRun spot free (place_words (Whole name) + words size)
+          (read_of (Whole name)) size m
+      pub means : (st : State) (m : Memory) → R st m → MeansPlace (address st) (slot st) setting.program st spot
+          (bases_of m) m.cells (Whole name)
+      pub size_means : (st : State) (m : Memory) → R st m → Means (address st) (slot st) setting.program st spot
+          (bases_of m) m.cells size
+      pub is_int : (st : State) (m : Memory) (v : Value) → R st m → value setting.program st size ≡ Ok v
+          → number_of v ≡ shown (address st) (slot st) v
+      pub is_word : (st : State) (m : Memory) (v : Value) → R st m → value setting.program st size ≡ Ok v
+          → number_of v < 2 ^ 32
       pub refers : (st : State) (m : Memory) → R st m → Refers (address st) (read st (own_cell st))
-      pub word : (st : State) (m : Memory) → R st m → slice_index m.cells (at st (own_cell st)) ≡ shown (address st) (slot st) (read st (own_cell st))
-      pub stands : (st : State) (m : Memory) (array : ℕ) → R st m → read st (own_cell st) ≡ Name array → ArrayStands st m array
-      pub makes : (st : State) (m : Memory) (v : Value) → R st m → value setting.program st size ≡ Ok v → read st (own_cell st) ≡ Nil → is_less (number_of v) 1 ≡ false → is_full setting (number_of v) st ≡ false
-          → TakesBlock st (with_array (number_of v) st) m (at st (own_cell st)) (number_of v) (order_of_cells (number_of v)) (place_words (Whole name) + words size) Lengthy
-      pub made_same : (st : State) (m : Memory) (v : Value) → R st m → value setting.program st size ≡ Ok v → read st (own_cell st) ≡ Nil → is_less (number_of v) 1 ≡ false → is_full setting (number_of v) st ≡ false
+      pub word : (st : State) (m : Memory) → R st m → slice_index m.cells (at st (own_cell st))
+          ≡ shown (address st) (slot st) (read st (own_cell st))
+      pub stands : (st : State) (m : Memory) (array : ℕ) → R st m → read st (own_cell st) ≡ Name array
+          → ArrayStands st m array
+      pub makes : (st : State) (m : Memory) (v : Value) → R st m → value setting.program st size ≡ Ok v
+          → read st (own_cell st) ≡ Nil → is_less (number_of v) 1 ≡ false → is_full setting (number_of v) st ≡ false
+          → TakesBlock st (with_array (number_of v) st) m (at st (own_cell st)) (number_of v)
+          (order_of_cells (number_of v)) (place_words (Whole name) + words size) Lengthy
+      pub made_same : (st : State) (m : Memory) (v : Value) → R st m → value setting.program st size ≡ Ok v
+          → read st (own_cell st) ≡ Nil → is_less (number_of v) 1 ≡ false → is_full setting (number_of v) st ≡ false
           → SameValues setting.program st (with_array (number_of v) st) size
-      pub lacks : (st : State) (m : Memory) (v : Value) → R st m → value setting.program st size ≡ Ok v → read st (own_cell st) ≡ Nil → is_less (number_of v) 1 ≡ false → is_full setting (number_of v) st ≡ true
-          → Lacks im object frame (order_of_cells (number_of v)) (at st (own_cell st)) (number_of v) Lengthy (free_at free m) (place_words (Whole name) + words size) (most_steps setting.limits.heap + 7) m.cells
-      pub frees : (st : State) (m : Memory) (v : Value) (array : ℕ) → R st m → value setting.program st size ≡ Ok v → read st (own_cell st) ≡ Name array → length_at st array ≡ number_of v → count_at st array ≡ 1 → is_empty st array ≡ true
-          → GivesBlock st (freed setting (own_cell st) array st) m (at st (own_cell st)) (address st array) (number_of v) (order_of_cells (number_of v)) (place_words (Whole name) + words size) Lengthy
-      pub freed_same : (st : State) (m : Memory) (v : Value) (array : ℕ) → R st m → value setting.program st size ≡ Ok v → read st (own_cell st) ≡ Name array → length_at st array ≡ number_of v → count_at st array ≡ 1 → is_empty st array ≡ true
+      pub lacks : (st : State) (m : Memory) (v : Value) → R st m → value setting.program st size ≡ Ok v
+          → read st (own_cell st) ≡ Nil → is_less (number_of v) 1 ≡ false → is_full setting (number_of v) st ≡ true
+          → Lacks im object frame (order_of_cells (number_of v)) (at st (own_cell st)) (number_of v) Lengthy
+          (free_at free m) (place_words (Whole name) + words size) (most_steps setting.limits.heap + 7) m.cells
+      pub frees : (st : State) (m : Memory) (v : Value) (array : ℕ) → R st m → value setting.program st size ≡ Ok v
+          → read st (own_cell st) ≡ Name array → length_at st array ≡ number_of v → count_at st array ≡ 1
+          → is_empty st array ≡ true
+          → GivesBlock st (freed setting (own_cell st) array st) m (at st (own_cell st)) (address st array)
+          (number_of v) (order_of_cells (number_of v)) (place_words (Whole name) + words size) Lengthy
+      pub freed_same : (st : State) (m : Memory) (v : Value) (array : ℕ) → R st m → value setting.program st size ≡ Ok v
+          → read st (own_cell st) ≡ Name array → length_at st array ≡ number_of v → count_at st array ≡ 1
+          → is_empty st array ≡ true
           → SameValues setting.program st (freed setting (own_cell st) array st) size

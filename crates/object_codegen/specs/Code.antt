@@ -7,7 +7,9 @@ use Rattle.paired_code.specs.declared.part.Symbol.TheVariants.{Own, Enter}
 use Rattle.paired_code.specs.Layout.{mirror_cells, check_cells, loop_cells}
 use Rattle.object_codegen.specs.declared.shape.Shape.{Shape}
 use Rattle.object_codegen.specs.declared.shape.Shape.TheVariants.{Fixed, Lengthy}
-use Rattle.expr_uncompute.specs.Code.{content, outcome, nought, left_truth, right_truth, amount, place, other_place, first_word, with_word, three, xor, add, exch, addi, xori, sltx, around}
+use Rattle.expr_uncompute.specs.Code.{content, outcome, nought, left_truth, right_truth, amount}
+use Rattle.expr_uncompute.specs.Code.{place, other_place, first_word, with_word, three, xor, add}
+use Rattle.expr_uncompute.specs.Code.{exch, addi, xori, sltx, around}
 
 -- ---- checks of a place
 
@@ -74,7 +76,8 @@ grow_cell d Lengthy = add d amount
 
 -- the reference is not nil, or fault 5
 abbrev pub some_reference : List Symbol
-some_reference = around (sltx outcome nought first_word ∷ xori outcome 1 ∷ []) (check_cells outcome 5)
+some_reference = around (sltx outcome nought first_word ∷ xori outcome 1 ∷ [])
+    (check_cells outcome 5)
 
 -- the first word of the block is what it is to be
 abbrev pub same_mark : Shape → List Symbol
@@ -163,7 +166,8 @@ new_alter shape orders = around (move_cells shape ++ orders) (Enter 0 false ∷ 
 
 -- `new` along, `delete` back, with what finds the order
 abbrev pub new_mid : Shape → List Symbol → List Symbol
-new_mid shape orders = new_checks shape ++ (new_alter shape orders ++ mirror_cells (delete_checks shape))
+new_mid shape orders = new_checks shape ++ (new_alter shape orders
+    ++ mirror_cells (delete_checks shape))
 
 -- ---- the order of an array's block
 
@@ -186,7 +190,8 @@ andix d s w = Own (record { op = Andix; a = d; b = s; c = 0; imm = w })
 -- bit k of the order: whether the length is not below 2 to the order with this bit
 abbrev pub order_bit : (k : ℕ) → List Symbol
 order_bit k =
-    around (addi order (2 ^ k) ∷ srlvx shifted at_length order ∷ []) (sltx one_bit nought shifted ∷ [])
+    around (addi order (2 ^ k) ∷ srlvx shifted at_length order ∷ [])
+    (sltx one_bit nought shifted ∷ [])
     ++ turn_left one_bit k ∷ add order one_bit ∷ andix one_bit order (2 ^ k) ∷ []
 
 -- 1 and the logarithm of the length's successor, bit by bit

@@ -5,9 +5,10 @@ use Rattle.rpp_tree.specs.declared.tree.Ident.{Ident}
 use Rattle.rpp_tree.specs.Tree.{Lvalue, Creation, Object, Ints, Objects, Source}
 use Rattle.class_table.specs.Classes.{class_number, class_fields}
 use Rattle.buddy_book.specs.Book.{order_for}
+use Rattle.code_conventions.specs.declared.memory.TheConstants.{HEADER_WORDS}
 use Rattle.paired_code.specs.declared.part.Symbol.{Symbol}
 use Rattle.roopl_semantics.specs.Layout.{table_at}
-use Rattle.statement_laws.specs.declared.spot.Spot.{Spot}
+use Rattle.refine_form.specs.declared.spot.Spot.{Spot}
 use Rattle.expr_uncompute.specs.Code.{words, place_words}
 use Rattle.expr_uncompute.specs.Steps.{tokens, place_tokens}
 use Rattle.object_codegen.specs.News.{ObjectLaw, ArrayLaw}
@@ -35,6 +36,6 @@ creation_size (Objects class size) target = 184 + 80 * (place_tokens target + to
 abbrev pub NewLaw : Source → (List ℕ → Spot) → ℕ → Creation → Lvalue → List Symbol → Type 0
 NewLaw program spot free (Object class) target p =
     ObjectLaw spot free (table_at program (class_of program class)) (fields_of program class)
-    (order_for (2 + fields_of program class)) target p
+    (order_for (HEADER_WORDS + fields_of program class)) target p
 NewLaw program spot free (Ints size) target p = ArrayLaw spot free target size p
 NewLaw program spot free (Objects class size) target p = ArrayLaw spot free target size p

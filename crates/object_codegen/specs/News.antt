@@ -1,25 +1,29 @@
 -- What the code of `new` and `delete` does, by the memory alone, over any call of the allocator
 -- that takes a block and gives it back.
-use Rattle.std.specs.Prelude.{◌≡◌, ◌≢◌, ℕ, ◌+◌, ◌*◌, ◌^◌, ◌<◌, ◌≤◌, Bool, true, false, List, [], ◌∷◌, slice_index, slice_set, Ok, Err}
+use Rattle.std.specs.Prelude.{◌≡◌, ◌≢◌, ℕ, ◌+◌, ◌*◌, ◌^◌, ◌<◌, ◌≤◌, Bool, true, false, List, []}
+use Rattle.std.specs.Prelude.{◌∷◌, slice_index, slice_set, Ok, Err}
 use Rattle.rpp_words.specs.Words.{is_less}
 use Rattle.rpp_tree.specs.Tree.{Expression, Null, Lvalue}
 use Rattle.buddy_book.specs.Book.{order_for}
 use Rattle.pisa_isa.specs.Machine.{Memory}
+use Rattle.code_conventions.specs.declared.memory.TheConstants.{HEADER_WORDS, COUNT_WORD}
 use Rattle.paired_code.specs.declared.part.Symbol.{Symbol}
 use Rattle.paired_code.specs.declared.part.Symbol.TheVariants.{Enter}
 use Rattle.paired_code.specs.Machine.{Image}
 use Rattle.paired_code.specs.Pieces.{Will}
 use Rattle.roopl_semantics.specs.Elements.{shared_array_fault}
 use Rattle.roopl_semantics.specs.Value.{nil_fault}
-use Rattle.roopl_semantics.specs.Execution.{not_nil_fault, count_fault, not_empty_fault, length_fault, heap_full_fault}
-use Rattle.statement_laws.specs.Form.{registers}
-use Rattle.statement_laws.specs.declared.spot.Spot.{Spot}
+use Rattle.roopl_semantics.specs.Execution.{not_nil_fault, count_fault, not_empty_fault}
+use Rattle.roopl_semantics.specs.Execution.{length_fault, heap_full_fault}
+use Rattle.refine_form.specs.Form.{registers}
+use Rattle.refine_form.specs.declared.spot.Spot.{Spot}
 use Rattle.expr_uncompute.specs.Code.{words, place_words}
 use Rattle.expr_uncompute.specs.Number.{number, read_of, place_address, update_shares}
 use Rattle.expr_uncompute.specs.Steps.{place_steps, fetch_steps}
 use Rattle.expr_uncompute.specs.Laws.{bases_of, Stays}
 use Rattle.expr_uncompute.specs.Promises.{free_at, CanRun, IsTrap}
-use Rattle.expr_uncompute.specs.Found.{LeavesWithin, TrapsWithin, Filled, Changes, found_place_steps, found_value_steps}
+use Rattle.expr_uncompute.specs.Found.{LeavesWithin, TrapsWithin, Filled, Changes}
+use Rattle.expr_uncompute.specs.Found.{found_place_steps, found_value_steps}
 use Rattle.object_codegen.specs.declared.shape.Shape.{Shape}
 use Rattle.object_codegen.specs.declared.shape.Shape.TheVariants.{Fixed, Lengthy}
 use Rattle.object_codegen.specs.Code.{mark_fault, mark_of, size_of}
@@ -44,7 +48,8 @@ abbrev pub moved_length : ℕ → Shape → ℕ
 moved_length v (Fixed table fields) = 0
 moved_length v Lengthy = v
 
--- the memory of a call: the order and the block in their registers, the place and the length out of the
+-- the memory of a call: the order and the block in their registers, the place and the length out of
+-- the
 -- allocator's way
 abbrev pub calling : (object frame order block p v : ℕ) → Shape → List ℕ → Memory
 calling object frame order block p v shape cells =
@@ -53,7 +58,8 @@ calling object frame order block p v shape cells =
 
 -- over any filled words of the frame, the allocator called with this order takes the block x, and
 -- back it gives it: the cells before, and those with the block taken
-pub record Allocates (im : Image) (object frame order x p v : ℕ) (shape : Shape) (low n least most : ℕ)
+pub record Allocates (im : Image) (object frame order x p v : ℕ) (shape : Shape)
+    (low n least most : ℕ)
     (cells taken : List ℕ) : Type 0 where
   pub takes : (ys zs : List ℕ) → Filled low n cells ys → Filled low n taken zs → Changes low ys zs
       → Will im (Enter 0 false ∷ []) false (calling object frame order 0 p v shape ys)
@@ -76,13 +82,13 @@ pub record Lacks (im : Image) (object frame order p v : ℕ) (shape : Shape) (lo
 pub record Takes (low size p x : ℕ) (cells taken : List ℕ) : Type 0 where
   pub changes : Changes low cells taken
   pub p_in : p < low
-  pub within : x + 2 + size ≤ low
-  pub ends : x + 2 + size < 2 ^ 31
+  pub within : x + HEADER_WORDS + size ≤ low
+  pub ends : x + HEADER_WORDS + size < 2 ^ 31
   pub some : x ≢ 0
   pub nil_before : slice_index cells p ≡ 0
   pub nil : slice_index taken p ≡ 0
-  pub zero : (a : ℕ) → x ≤ a → a < x + 2 + size → slice_index taken a ≡ 0
-  pub outside : (a : ℕ) → x ≤ a → a < x + 2 + size → p ≢ a
+  pub zero : (a : ℕ) → x ≤ a → a < x + HEADER_WORDS + size → slice_index taken a ≡ 0
+  pub outside : (a : ℕ) → x ≤ a → a < x + HEADER_WORDS + size → p ≢ a
 
 -- then the block gets its first word and its count, and the place its address
 abbrev pub filled : (p x mark : ℕ) → List ℕ → List ℕ
@@ -136,14 +142,16 @@ pub record Makes (im : Image) (m : Memory) (object frame low n steps a v order :
       → Kept (filled a x (mark_of v shape) taken)
       → Will im p false m
       (LeavesWithin (record m { cells = filled a x (mark_of v shape) taken })
-      (whole_steps steps shape (size_of v shape) least) (whole_steps steps shape (size_of v shape) most))
+      (whole_steps steps shape (size_of v shape) least)
+      (whole_steps steps shape (size_of v shape) most))
   pub deletes : (x least most : ℕ) (given taken : List ℕ) → IsLength v shape
       → m.cells ≡ filled a x (mark_of v shape) taken → Takes low (size_of v shape) a x given taken
       → Allocates im object frame order x a v shape low n least most given taken → Kept given
       → Changes low m.cells given
       → Will im p true m
       (LeavesWithin (record m { cells = given })
-      (whole_steps steps shape (size_of v shape) least) (whole_steps steps shape (size_of v shape) most))
+      (whole_steps steps shape (size_of v shape) least)
+      (whole_steps steps shape (size_of v shape) most))
   pub not_nil_faults : slice_index m.cells a ≢ 0
       → Will im p false m (TrapsWithin not_nil_fault (steps + 5))
   pub full_faults : (most : ℕ) → IsLength v shape → slice_index m.cells a ≡ 0
@@ -158,20 +166,22 @@ pub record Makes (im : Image) (m : Memory) (object frame low n steps a v order :
   pub count_faults : (x : ℕ) → slice_index m.cells a ≡ x → x + 1 < low → x < 2 ^ 31 → x ≢ 0
       → slice_index m.cells x ≡ mark_of v shape → slice_index m.cells (x + 1) ≢ 1
       → Will im p true m (TrapsWithin count_fault (steps + 26))
-  pub not_empty_faults : (x i : ℕ) → slice_index m.cells a ≡ x → x + 2 + size_of v shape ≤ low
-      → x + 2 + size_of v shape < 2 ^ 31 → x ≢ 0 → slice_index m.cells x ≡ mark_of v shape
-      → slice_index m.cells (x + 1) ≡ 1 → x + 2 ≤ i → i < x + 2 + size_of v shape
+  pub not_empty_faults : (x i : ℕ) → slice_index m.cells a ≡ x → x + HEADER_WORDS + size_of v shape ≤ low
+      → x + HEADER_WORDS + size_of v shape < 2 ^ 31 → x ≢ 0 → slice_index m.cells x ≡ mark_of v shape
+      → slice_index m.cells (x + COUNT_WORD) ≡ 1 → x + HEADER_WORDS ≤ i → i < x + HEADER_WORDS + size_of v shape
       → slice_index m.cells i ≢ 0
       → Will im p true m (TrapsWithin not_empty_fault (steps + (37 + 15 * size_of v shape)))
 
 -- a new and a delete of an object with a class's table and so many fields, in a block of this order
 pub record ObjectLaw (spot : List ℕ → Spot) (free table fields order : ℕ) (target : Lvalue)
     (p : List Symbol) : Type 0 where
-  pub makes : (im : Image) (m : Memory) (object frame a : ℕ) → m.regs ≡ registers 0 object frame 0 0 0 0 0
+  pub makes : (im : Image) (m : Memory) (object frame a : ℕ)
+      → m.regs ≡ registers 0 object frame 0 0 0 0 0
       → CanRun spot free (place_words target) (read_of target) (Null 0) m
       → place_address spot (bases_of m) m.cells target ≡ Ok a
       → update_shares spot (bases_of m) m.cells target (Null 0) ≡ false
-      → Makes im m object frame (free_at free m) (place_words target) (found_place_steps target) a 0 order
+      → Makes im m object frame (free_at free m) (place_words target) (found_place_steps target) a 0
+      order
       (Fixed table fields) (Stays spot (bases_of m) (free_at free m) target (Null 0) m.cells) p
   pub place_faults : (im : Image) (d : Bool) (m : Memory)
       → CanRun spot free (place_words target) (read_of target) (Null 0) m → (code : ℕ)
@@ -194,7 +204,7 @@ pub record ArrayLaw (spot : List ℕ → Spot) (free : ℕ) (target : Lvalue) (s
       → number spot (bases_of m) m.cells size ≡ Ok v
       → update_shares spot (bases_of m) m.cells target size ≡ false
       → Makes im m object frame (free_at free m) (place_words target + words size)
-      (found_value_steps target size) a v (order_for (2 + v)) Lengthy
+      (found_value_steps target size) a v (order_for (HEADER_WORDS + v)) Lengthy
       (Stays spot (bases_of m) (free_at free m) target size m.cells) p
   pub length_faults : (im : Image) (m : Memory) (object frame a v : ℕ)
       → m.regs ≡ registers 0 object frame 0 0 0 0 0

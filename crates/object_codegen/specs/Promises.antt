@@ -1,5 +1,6 @@
 -- What the code of objects and arrays does, by the memory alone.
-use Rattle.std.specs.Prelude.{◌≡◌, ◌≢◌, ℕ, ◌+◌, ◌^◌, ◌<◌, ◌≤◌, Bool, true, false, List, length, slice_index, slice_set, Ok, Err}
+use Rattle.std.specs.Prelude.{◌≡◌, ◌≢◌, ℕ, ◌+◌, ◌^◌, ◌<◌, ◌≤◌, Bool, true, false, List, length}
+use Rattle.std.specs.Prelude.{slice_index, slice_set, Ok, Err}
 use Rattle.rpp_tree.specs.Tree.{Lvalue}
 use Rattle.pisa_isa.specs.Machine.{Memory}
 use Rattle.paired_code.specs.declared.part.Symbol.{Symbol}
@@ -8,7 +9,7 @@ use Rattle.paired_code.specs.Pieces.{Will}
 use Rattle.roopl_semantics.specs.Elements.{shared_array_fault}
 use Rattle.roopl_semantics.specs.Value.{nil_fault}
 use Rattle.roopl_semantics.specs.Execution.{not_nil_fault, not_same_fault}
-use Rattle.statement_laws.specs.declared.spot.Spot.{Spot}
+use Rattle.refine_form.specs.declared.spot.Spot.{Spot}
 use Rattle.expr_uncompute.specs.Code.{place_words}
 use Rattle.expr_uncompute.specs.Number.{read_of, index_of, place_address, shares}
 use Rattle.expr_uncompute.specs.Steps.{place_steps}
@@ -60,14 +61,16 @@ pub record Shares (low p q x c : ℕ) (cells : List ℕ) : Type 0 where
 -- both places are found, and the second one shares no array
 pub record Places (spot : List ℕ → Spot) (free : ℕ) (source target : Lvalue) (m : Memory)
     (a a' : ℕ) : Type 0 where
-  pub can : CanRun spot free (place_words source + place_words target) (read_of source) (read_of target) m
+  pub can : CanRun spot free (place_words source + place_words target) (read_of source)
+      (read_of target) m
   pub source_at : place_address spot (bases_of m) m.cells source ≡ Ok a
   pub target_at : place_address spot (bases_of m) m.cells target ≡ Ok a'
   pub apart : shares spot (bases_of m) m.cells target (index_of source) (index_of target) ≡ false
 
 -- the steps of a copy and of an uncopy
 abbrev pub copy_steps : (source target : Lvalue) → ℕ
-copy_steps source target = found_places_steps source target + (66 + found_places_steps source target)
+copy_steps source target = found_places_steps source target +
+    (66 + found_places_steps source target)
 
 -- run along a copy: the second place refers to what the first one refers to, and its count grows;
 -- run back the inverse. The faults of the places come first, in both directions; then nil in the
@@ -83,32 +86,39 @@ pub record CopyLaw (spot : List ℕ → Spot) (free : ℕ) (source target : Lval
       (copy_steps source target) (copy_steps source target))
   pub uncopies : (im : Image) (m : Memory) (a a' x c : ℕ) → Places spot free source target m a a'
       → Shares (free_at free m) a a' x c m.cells
-      → PlacesStay spot (bases_of m) (free_at free m) source target m.cells (unreferring a' x c m.cells)
+      → PlacesStay spot (bases_of m) (free_at free m) source target m.cells
+      (unreferring a' x c m.cells)
       → Will im p true m
       (LeavesWithin (record m { cells = unreferring a' x c m.cells })
       (copy_steps source target) (copy_steps source target))
   pub source_faults : (im : Image) (d : Bool) (m : Memory)
-      → CanRun spot free (place_words source + place_words target) (read_of source) (read_of target) m
+      → CanRun spot free (place_words source + place_words target) (read_of source) (read_of target)
+      m
       → (code : ℕ) → place_address spot (bases_of m) m.cells source ≡ Err code
       → IsTrap im p d m code (place_steps source)
   pub target_faults : (im : Image) (d : Bool) (m : Memory)
-      → CanRun spot free (place_words source + place_words target) (read_of source) (read_of target) m
+      → CanRun spot free (place_words source + place_words target) (read_of source) (read_of target)
+      m
       → (a code : ℕ) → place_address spot (bases_of m) m.cells source ≡ Ok a
       → place_address spot (bases_of m) m.cells target ≡ Err code
       → IsTrap im p d m code (place_steps source + place_steps target)
   pub sharing_faults : (im : Image) (d : Bool) (m : Memory)
-      → CanRun spot free (place_words source + place_words target) (read_of source) (read_of target) m
+      → CanRun spot free (place_words source + place_words target) (read_of source) (read_of target)
+      m
       → (a a' : ℕ) → place_address spot (bases_of m) m.cells source ≡ Ok a
       → place_address spot (bases_of m) m.cells target ≡ Ok a'
       → shares spot (bases_of m) m.cells target (index_of source) (index_of target) ≡ true
       → IsTrap im p d m shared_array_fault (found_places_steps source target)
-  pub nil_faults : (im : Image) (d : Bool) (m : Memory) (a a' : ℕ) → Places spot free source target m a a'
+  pub nil_faults : (im : Image) (d : Bool) (m : Memory) (a a' : ℕ)
+      → Places spot free source target m a a'
       → slice_index m.cells a ≡ 0
       → Will im p d m (TrapsWithin nil_fault (found_places_steps source target + 7))
-  pub not_nil_faults : (im : Image) (m : Memory) (a a' x : ℕ) → Places spot free source target m a a'
+  pub not_nil_faults : (im : Image) (m : Memory) (a a' x : ℕ)
+      → Places spot free source target m a a'
       → slice_index m.cells a ≡ x → x < 2 ^ 31 → x ≢ 0 → slice_index m.cells a' ≢ 0
       → Will im p false m (TrapsWithin not_nil_fault (found_places_steps source target + 15))
-  pub not_same_faults : (im : Image) (m : Memory) (a a' x y : ℕ) → Places spot free source target m a a'
+  pub not_same_faults : (im : Image) (m : Memory) (a a' x y : ℕ)
+      → Places spot free source target m a a'
       → slice_index m.cells a ≡ x → slice_index m.cells a' ≡ y → x < 2 ^ 31 → x ≢ 0 → x ≢ y
       → Will im p true m (TrapsWithin not_same_fault (found_places_steps source target + 20))
   pub one_place_faults : (im : Image) (m : Memory) (a x : ℕ) → Places spot free source target m a a

@@ -7,7 +7,7 @@ ghost use Rattle.rpp_tree.specs.Views.{expression_of, lvalue_of, creation_of, so
 ghost use Rattle.roopl_semantics.specs.Elements.{index_elements, own_element, read_cost};
 ghost use Rattle.expr_uncompute.specs.Code.{words as words_of, place_words as words_of_place};
 ghost use Rattle.expr_uncompute.specs.Steps.{tokens, place_tokens};
-ghost use Rattle.method_scope.specs.Visible.{spot_of, free_of, known_in};
+ghost use Rattle.code_scope.specs.Visible.{spot_of, free_of, known_in};
 ghost use Rattle.object_codegen.specs.News.{ObjectLaw, ArrayLaw};
 ghost use Rattle.object_codegen.specs.Creations.{NewLaw, creation_words, creation_size, class_of, fields_of};
 ghost use Rattle.object_codegen.specs.Promises.{CopyLaw, copy_steps};

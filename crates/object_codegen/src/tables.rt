@@ -8,7 +8,7 @@ ghost use Rattle.roopl_semantics.specs.Layout.{table_at as address_of};
 ghost use Rattle.roopl_semantics.specs.Source.{main_fields};
 
 use class_table::Checked;
-use roopl_semantics::FIRST_FIELD;
+use code_conventions::memory::FIRST_FIELD;
 use rpp_tree::text::Text;
 use rpp_words::order_for;
 

@@ -1,5 +1,6 @@
 -- The laws that contracts state, from the rules.
-use Rattle.std.proofs.Common.{◌≡◌, ℕ, ◌+◌, ◌-◌, ◌^◌, ◌<◌, Bool, true, false, List, [], ◌∷◌, ◌++◌, length, refl, sym, ap, ◌∙◌, subst, arith, append_assoc}
+use Rattle.std.proofs.Common.{◌≡◌, ℕ, ◌+◌, ◌-◌, ◌^◌, ◌<◌, Bool, true, false, List, [], ◌∷◌, ◌++◌, length, refl, sym, ap}
+use Rattle.std.proofs.Common.{◌∙◌, subst, arith, append_assoc}
 use Rattle.std.proofs.lemmas.List.{reverse-append, map-append}
 use Rattle.std.specs.Prelude.{not, map, reverse, Result, Ok, Err, IfOk}
 use Rattle.pisa_isa.specs.Machine.{Memory}
@@ -14,7 +15,9 @@ use Rattle.paired_code.proofs.Laws.{Next, will_of, runs_of, will_seq, will_seq_b
 use Rattle.paired_code.proofs.Mirrored.{will_mirror, mirror_will}
 use Rattle.paired_code.proofs.Branch.{will_branch_yes, will_branch_no}
 
-next : (im : Image) (q : List Symbol) (d : Bool) (o : Outcome) (g : Memory → Outcome) → ((m1 : Memory) (k : ℕ) → o ≡ Done m1 k → Runs im q d m1 (g m1)) → Next (λ m1 k. Will im q d m1 (λ x. after k x ≡ then_do o g)) (λ x. x ≡ then_do o g) o
+next : (im : Image) (q : List Symbol) (d : Bool) (o : Outcome) (g : Memory → Outcome)
+    → ((m1 : Memory) (k : ℕ) → o ≡ Done m1 k → Runs im q d m1 (g m1))
+    → Next (λ m1 k. Will im q d m1 (λ x. after k x ≡ then_do o g)) (λ x. x ≡ then_do o g) o
 next im q d (Done m1 k) g s = will_of im q d m1 (g m1) _ (s m1 k refl) refl
 next im q d (Trapped w k) g s = refl
 next im q d (Bad w k) g s = refl
@@ -22,20 +25,27 @@ next im q d (Still k) g s = refl
 
 pub seq_law : (p q : List Symbol) → SeqLaw p q (p ++ q)
 seq_law p q = record {
-  ahead = λ im m o g r s. runs_of im (p ++ q) false m (then_do o g) (will_seq im p q m _ (will_of im p false m o _ r (next im q false o g s)));
-  back = λ im m o g r s. runs_of im (p ++ q) true m (then_do o g) (will_seq_back im p q m _ (will_of im q true m o _ r (next im p true o g s)));
+  ahead = λ im m o g r s. runs_of im (p ++ q) false m (then_do o g)
+      (will_seq im p q m _ (will_of im p false m o _ r (next im q false o g s)));
+  back = λ im m o g r s. runs_of im (p ++ q) true m (then_do o g)
+      (will_seq_back im p q m _ (will_of im q true m o _ r (next im p true o g s)));
 }
 
 pub mirror_law : (p : List Symbol) → MirrorLaw p (mirror_cells p)
 mirror_law p = record {
   turns = λ im d m o r. runs_of im (mirror_cells p) d m o (will_mirror im p d m _ (will_of im p (not d) m o _ r refl));
-  returns = λ im d m o r. runs_of im p (not d) m o (mirror_will im p d m _ (will_of im (mirror_cells p) d m o _ r refl));
+  returns = λ im d m o r. runs_of im p (not d) m o (mirror_will im p d m _
+      (will_of im (mirror_cells p) d m o _ r refl));
 }
 
 pub branch_law : (r : ℕ) (p q : List Symbol) → BranchLaw r p q (branch_cells r p q)
 branch_law r p q = record {
-  yes_part = λ im d m o nz s keeps. runs_of im (branch_cells r p q) d m (around 3 3 o) (will_branch_yes im d r p q m (λ x. x ≡ o) _ nz (will_of im p d m o _ s refl) (λ m1 k e. keeps m1 k (sym e)) (λ x e. ap (around 3 3) e));
-  no_part = λ im d m o z s keeps. runs_of im (branch_cells r p q) d m (around_no d o) (will_branch_no im d r p q m (λ x. x ≡ o) _ z (will_of im q d m o _ s refl) (λ m1 k e. keeps m1 k (sym e)) (λ x e. ap (around_no d) e));
+  yes_part = λ im d m o nz s keeps. runs_of im (branch_cells r p q) d m (around 3 3 o)
+      (will_branch_yes im d r p q m (λ x. x ≡ o) _ nz (will_of im p d m o _ s refl) (λ m1 k e. keeps m1 k (sym e))
+      (λ x e. ap (around 3 3) e));
+  no_part = λ im d m o z s keeps. runs_of im (branch_cells r p q) d m (around_no d o)
+      (will_branch_no im d r p q m (λ x. x ≡ o) _ z (will_of im q d m o _ s refl) (λ m1 k e. keeps m1 k (sym e))
+      (λ x e. ap (around_no d) e));
 }
 
 -- ---- what the code builds
@@ -48,14 +58,20 @@ pub if_ok_law : {A E : Type 0} (P : A → Type 0) (r : Result A E) (x : A) → I
 if_ok_law P (Ok a) x h q = subst P (sym h) q
 if_ok_law P (Err a) x h q = tt
 
-pub branch_built : (r n s x y z : ℕ) (p q c0 c1 c2 c3 c4 c5 c6 c7 c8 : List Symbol) → n ≡ length q → s ≡ length p → length q < 2 ^ 28 → length p < 2 ^ 28 → x ≡ 2 ^ 32 - (3 + n) → y ≡ 2 ^ 32 - (5 + s) → z ≡ 2 ^ 32 - 3 → c0 ≡ [] → c1 ≡ c0 ++ fork r (3 + n) [] → c2 ≡ c1 ++ q → c3 ≡ c2 ++ Own (bra (5 + s)) ∷ [] → c4 ≡ c3 ++ fork r x [] → c5 ≡ c4 ++ p → c6 ≡ c5 ++ fork r 3 [] → c7 ≡ c6 ++ Own (bra y) ∷ [] → c8 ≡ c7 ++ fork r z [] → c8 ≡ branch_cells r p q
+pub branch_built : (r n s x y z : ℕ) (p q c0 c1 c2 c3 c4 c5 c6 c7 c8 : List Symbol) → n ≡ length q → s ≡ length p
+    → length q < 2 ^ 28 → length p < 2 ^ 28 → x ≡ 2 ^ 32 - (3 + n) → y ≡ 2 ^ 32 - (5 + s) → z ≡ 2 ^ 32 - 3 → c0 ≡ []
+    → c1 ≡ c0 ++ fork r (3 + n) [] → c2 ≡ c1 ++ q → c3 ≡ c2 ++ Own (bra (5 + s)) ∷ [] → c4 ≡ c3 ++ fork r x []
+    → c5 ≡ c4 ++ p → c6 ≡ c5 ++ fork r 3 [] → c7 ≡ c6 ++ Own (bra y) ∷ [] → c8 ≡ c7 ++ fork r z []
+    → c8 ≡ branch_cells r p q
 branch_built r n s x y z p q c0 c1 c2 c3 c4 c5 c6 c7 c8 en es hq hp ex ey ez e0 e1 e2 e3 e4 e5 e6 e7 e8 =
     let a : 3 + n ≡ between 0 (3 + length q) = omega arith in
     let a' : x ≡ between (3 + length q) 0 = omega arith in
     let b : 5 + s ≡ between 0 (5 + length p) = omega arith in
     let b' : y ≡ between (5 + length p) 0 = omega arith in
     let d : z ≡ between 3 0 = omega arith in
-    let all : c8 ≡ (((((((fork r (between 0 (3 + length q)) []) ++ q) ++ Own (bra (between 0 (5 + length p))) ∷ []) ++ fork r (between (3 + length q) 0) []) ++ p) ++ fork r (between 0 3) []) ++ Own (bra (between (5 + length p) 0)) ∷ []) ++ fork r (between 3 0) [] = cc in
+    let all : c8 ≡ (((((((fork r (between 0 (3 + length q)) []) ++ q) ++ Own (bra (between 0 (5 + length p))) ∷ [])
+    ++ fork r (between (3 + length q) 0) []) ++ p) ++ fork r (between 0 3) [])
+    ++ Own (bra (between (5 + length p) 0)) ∷ []) ++ fork r (between 3 0) [] = cc in
     all ∙ simp append_assoc
 
 pub mirrored_is : (p : List Symbol) → map inverse_sym (reverse p) ≡ mirror_cells p

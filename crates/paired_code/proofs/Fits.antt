@@ -1,5 +1,6 @@
 -- The calls keep what each piece keeps.
-use Rattle.std.proofs.Common.{◌≡◌, ◌≢◌, ℕ, zero, suc, ◌+◌, ◌-◌, ◌^◌, ◌<◌, ◌≤◌, List, [], ◌∷◌, ◌++◌, length, refl, sym, ap, ◌∙◌, subst, arith, Bool, true, false, length-append, append_assoc, take, get_or}
+use Rattle.std.proofs.Common.{◌≡◌, ◌≢◌, ℕ, zero, suc, ◌+◌, ◌-◌, ◌^◌, ◌<◌, ◌≤◌, List, [], ◌∷◌, ◌++◌, length, refl, sym}
+use Rattle.std.proofs.Common.{ap, ◌∙◌, subst, arith, Bool, true, false, length-append, append_assoc, take, get_or}
 use Rattle.std.specs.Prelude.{not, ◌&&◌, nat_eq, if◌then◌else◌}
 use Rattle.std.proofs.lemmas.Bool.Decides.{nat_tests}
 use Rattle.pisa_isa.specs.declared.cell.Op.{Op}
@@ -13,7 +14,8 @@ use Rattle.paired_code.specs.declared.part.Symbol.{Symbol}
 use Rattle.paired_code.specs.declared.part.Symbol.TheVariants.{Own, Enter, Fixed, Aim, Turn}
 use Rattle.pisa_isa.specs.declared.notes.Mark.{Mark}
 use Rattle.paired_code.specs.Machine.{reversed, is_end_op, is_single}
-use Rattle.paired_code.specs.Layout.{between, fork, branch_cells, loop_cells, check_cells, place_register, enter_at_cells, mirror_cells, inverse_sym}
+use Rattle.paired_code.specs.Layout.{between, fork, branch_cells, loop_cells, check_cells, place_register}
+use Rattle.paired_code.specs.Layout.{enter_at_cells, mirror_cells, inverse_sym}
 use Rattle.paired_code.specs.Fit.{IsInner, IsFit, AllFit}
 use Rattle.paired_code.specs.Code.{Code, Kept, AllWithin, moved_on, shift}
 use Rattle.paired_code.proofs.Steps.{reversed_is, single_own}
@@ -45,16 +47,44 @@ fit_mirror [] h = tt
 fit_mirror (c ∷ p) h = fit_append (mirror_cells p) (inverse_sym c ∷ []) (fit_mirror p h.1) (fit_inverse c h.0, tt)
 
 pub inner_bra : (w : ℕ) → w < 2 ^ 32 → IsInner (bra w)
-inner_bra w h = record { holds = record { in_range = record { a_in = omega arith; b_in = omega arith; c_in = omega arith; imm_in = h }; one_to_one = refl }; no_end = refl }
+inner_bra w h = record {
+  holds = record {
+    in_range = record
+        { a_in = omega arith; b_in = omega arith; c_in = omega arith; imm_in = h };
+    one_to_one = refl;
+  };
+  no_end = refl;
+}
 
 inner_gt : (r w : ℕ) → r < 32 → w < 2 ^ 32 → IsInner (bgtz r w)
-inner_gt r w h k = record { holds = record { in_range = record { a_in = h; b_in = omega arith; c_in = omega arith; imm_in = k }; one_to_one = refl }; no_end = refl }
+inner_gt r w h k = record {
+  holds = record {
+    in_range = record
+        { a_in = h; b_in = omega arith; c_in = omega arith; imm_in = k };
+    one_to_one = refl;
+  };
+  no_end = refl;
+}
 
 inner_lt : (r w : ℕ) → r < 32 → w < 2 ^ 32 → IsInner (bltz r w)
-inner_lt r w h k = record { holds = record { in_range = record { a_in = h; b_in = omega arith; c_in = omega arith; imm_in = k }; one_to_one = refl }; no_end = refl }
+inner_lt r w h k = record {
+  holds = record {
+    in_range = record
+        { a_in = h; b_in = omega arith; c_in = omega arith; imm_in = k };
+    one_to_one = refl;
+  };
+  no_end = refl;
+}
 
 inner_data : (w : ℕ) → w < 2 ^ 32 → IsInner (data_word w)
-inner_data w h = record { holds = record { in_range = record { a_in = omega arith; b_in = omega arith; c_in = omega arith; imm_in = h }; one_to_one = refl }; no_end = refl }
+inner_data w h = record {
+  holds = record {
+    in_range = record
+        { a_in = omega arith; b_in = omega arith; c_in = omega arith; imm_in = h };
+    one_to_one = refl;
+  };
+  no_end = refl;
+}
 
 pub inner_single : (c : Cell) → is_single c ≡ true → IsCell c → IsInner c
 inner_single c s h = record { holds = h; no_end = single_own c s }
@@ -63,14 +93,21 @@ pub word_between : (x y : ℕ) → between x y < 2 ^ 32
 word_between x y = omega arith
 
 pub fit_fork : (r x y : ℕ) (p : List Symbol) → r < 32 → AllFit p → AllFit (fork r (between x y) p)
-fit_fork r x y p h k = (inner_gt r (between x y) h (word_between x y), (inner_lt r (between x y) h (word_between x y), k))
+fit_fork r x y p h k = (
+  inner_gt r (between x y) h (word_between x y),
+  (inner_lt r (between x y) h (word_between x y), k),
+)
 
 pub fit_branch : (r : ℕ) (p q : List Symbol) → r < 32 → AllFit p → AllFit q → AllFit (branch_cells r p q)
 fit_branch r p q h hp hq =
     let last = fork r (between 0 3) (Own (bra (between (5 + length p) 0)) ∷ fork r (between 3 0) []) in
     let most = Own (bra (between 0 (5 + length p))) ∷ fork r (between (3 + length q) 0) (p ++ last) in
-    let k2 : AllFit last = fit_fork r 0 3 (Own (bra (between (5 + length p) 0)) ∷ fork r (between 3 0) []) h (inner_bra (between (5 + length p) 0) (word_between (5 + length p) 0), fit_fork r 3 0 [] h tt) in
-    let k1 : AllFit most = (inner_bra (between 0 (5 + length p)) (word_between 0 (5 + length p)), fit_fork r (3 + length q) 0 (p ++ last) h (fit_append p last hp k2)) in
+    let k2 : AllFit last = fit_fork r 0 3 (Own (bra (between (5 + length p) 0)) ∷ fork r (between 3 0) []) h
+    (inner_bra (between (5 + length p) 0) (word_between (5 + length p) 0), fit_fork r 3 0 [] h tt) in
+    let k1 : AllFit most = (
+      inner_bra (between 0 (5 + length p)) (word_between 0 (5 + length p)),
+      fit_fork r (3 + length q) 0 (p ++ last) h (fit_append p last hp k2),
+    ) in
     fit_fork r 0 (3 + length q) (q ++ most) h (fit_append q most hq k1)
 
 pub fit_loop : (r : ℕ) (p q : List Symbol) → r < 32 → AllFit p → AllFit q → AllFit (loop_cells r p q)
@@ -78,12 +115,17 @@ fit_loop r p q h hp hq =
     let n = 5 + length q + length p in
     let last = fork r (between 0 3) (Own (bra (between n 0)) ∷ fork r (between 3 0) []) in
     let most = fork r (between (3 + length q) 0) (p ++ last) in
-    let k2 : AllFit last = fit_fork r 0 3 (Own (bra (between n 0)) ∷ fork r (between 3 0) []) h (inner_bra (between n 0) (word_between n 0), fit_fork r 3 0 [] h tt) in
+    let k2 : AllFit last = fit_fork r 0 3 (Own (bra (between n 0)) ∷ fork r (between 3 0) []) h
+    (inner_bra (between n 0) (word_between n 0), fit_fork r 3 0 [] h tt) in
     let k1 : AllFit most = fit_fork r (3 + length q) 0 (p ++ last) h (fit_append p last hp k2) in
-    fit_fork r 0 (3 + length q) (Own (bra (between 0 n)) ∷ (q ++ most)) h (inner_bra (between 0 n) (word_between 0 n), fit_append q most hq k1)
+    fit_fork r 0 (3 + length q) (Own (bra (between 0 n)) ∷ (q ++ most)) h
+    (inner_bra (between 0 n) (word_between 0 n), fit_append q most hq k1)
 
 pub fit_check : (r code : ℕ) → r < 32 → code < 2 ^ 32 → AllFit (check_cells r code)
-fit_check r code h k = (inner_bra (between 0 2) (word_between 0 2), (inner_data code k, (inner_bra (between 2 0) (word_between 2 0), fit_fork_two)))
+fit_check r code h k = (
+  inner_bra (between 0 2) (word_between 0 2),
+  (inner_data code k, (inner_bra (between 2 0) (word_between 2 0), fit_fork_two)),
+)
   where
     fit_fork_two : AllFit (Own (bgtz r (between 3 1)) ∷ Own (bltz r (between 4 1)) ∷ [])
     fit_fork_two = (inner_gt r (between 3 1) h (word_between 3 1), (inner_lt r (between 4 1) h (word_between 4 1), tt))
@@ -91,10 +133,28 @@ fit_check r code h k = (inner_bra (between 0 2) (word_between 0 2), (inner_data 
 inner_add : (a : ℕ) → a < 32 → a ≢ 2 → IsInner (add 2 a)
 inner_add a h n =
     let e : nat_eq 2 a ≡ false = grind (arith, nat_tests) in
-    record { holds = record { in_range = record { a_in = omega arith; b_in = h; c_in = omega arith; imm_in = omega arith }; one_to_one = ap (λ t. not t && true) e }; no_end = refl }
+    record {
+      holds = record {
+        in_range = record {
+          a_in = omega arith;
+          b_in = h;
+          c_in = omega arith;
+          imm_in = omega arith;
+        };
+        one_to_one = ap (λ t. not t && true) e;
+      };
+      no_end = refl;
+    }
 
 inner_swapbr : IsInner (swapbr 2)
-inner_swapbr = record { holds = record { in_range = record { a_in = omega arith; b_in = omega arith; c_in = omega arith; imm_in = omega arith }; one_to_one = refl }; no_end = refl }
+inner_swapbr = record {
+  holds = record {
+    in_range = record
+        { a_in = omega arith; b_in = omega arith; c_in = omega arith; imm_in = omega arith };
+    one_to_one = refl;
+  };
+  no_end = refl;
+}
 
 fit_call : (a : ℕ) (b : Bool) → a < 32 → a ≢ 2 → AllFit (enter_at_cells a b)
 fit_call a b h n = (tt, (inner_add a h n, (tt, (inner_swapbr, (tt, (inner_add a h n, (tt, tt)))))))
@@ -118,47 +178,71 @@ within_more n n' (x ∷ a) l h = (h.0, ((let e = h.1.0 in omega arith), h.1.1), 
 
 pub within_shift : (n k : ℕ) (a : List Mark) → AllWithin n a → AllWithin (k + n) (shift k a)
 within_shift n k [] h = tt
-within_shift n k (x ∷ a) h = ((let e = h.0 in omega arith), ((let e = h.1.0 in omega arith), h.1.1), within_shift n k a h.2)
+within_shift n k (x ∷ a) h = (
+  (let e = h.0 in omega arith),
+  ((let e = h.1.0 in omega arith), h.1.1),
+  within_shift n k a h.2,
+)
 
-pub within_seq : (p q : List Symbol) (a b : List Mark) → AllWithin (length p) a → AllWithin (length q) b → AllWithin (length (p ++ q)) (a ++ shift (length p) b)
+pub within_seq : (p q : List Symbol) (a b : List Mark) → AllWithin (length p) a → AllWithin (length q) b
+    → AllWithin (length (p ++ q)) (a ++ shift (length p) b)
 within_seq p q a b h k =
-    within_append (length (p ++ q)) a (shift (length p) b) (within_more (length p) _ a (omega (arith, length-append p q)) h) (within_more (length p + length q) _ (shift (length p) b) (omega (arith, length-append p q)) (within_shift (length q) (length p) b k))
+    within_append (length (p ++ q)) a (shift (length p) b)
+    (within_more (length p) _ a (omega (arith, length-append p q)) h)
+    (within_more (length p + length q) _ (shift (length p) b) (omega (arith, length-append p q))
+    (within_shift (length q) (length p) b k))
 
-pub within_two : (n i j k l : ℕ) (a b : List Mark) → i + k ≤ n → j + l ≤ n → AllWithin k a → AllWithin l b → AllWithin n (shift i a ++ shift j b)
-within_two n i j k l a b h g ha hb = within_append n (shift i a) (shift j b) (within_more (i + k) n _ h (within_shift k i a ha)) (within_more (j + l) n _ g (within_shift l j b hb))
+pub within_two : (n i j k l : ℕ) (a b : List Mark) → i + k ≤ n → j + l ≤ n → AllWithin k a → AllWithin l b
+    → AllWithin n (shift i a ++ shift j b)
+within_two n i j k l a b h g ha hb = within_append n (shift i a) (shift j b)
+    (within_more (i + k) n _ h (within_shift k i a ha)) (within_more (j + l) n _ g (within_shift l j b hb))
 
 -- ---- what loops over marks do
 
-pub within_at : (n : ℕ) (xs : List Mark) (i : ℕ) (d : Mark) → AllWithin n xs → i < length xs → ((get_or xs i d).first ≤ (get_or xs i d).end) × ((get_or xs i d).end ≤ n)
+pub within_at : (n : ℕ) (xs : List Mark) (i : ℕ) (d : Mark) → AllWithin n xs → i < length xs
+    → ((get_or xs i d).first ≤ (get_or xs i d).end) × ((get_or xs i d).end ≤ n)
 within_at n [] i d h l = absurd (omega arith)
 within_at n (x ∷ xs) zero d h l = (h.0, h.1.0)
 within_at n (x ∷ xs) (suc i) d h l = within_at n xs i d h.2 (omega arith)
 
-shift_suc : (k : ℕ) (xs : List Mark) (i : ℕ) (d : Mark) → i < length xs → shift k (take (suc i) xs) ≡ shift k (take i xs) ++ moved_on k (get_or xs i d) ∷ []
+shift_suc : (k : ℕ) (xs : List Mark) (i : ℕ) (d : Mark) → i < length xs
+    → shift k (take (suc i) xs) ≡ shift k (take i xs) ++ moved_on k (get_or xs i d) ∷ []
 shift_suc k [] i d l = absurd (omega arith)
 shift_suc k (x ∷ xs) zero d l = refl
-shift_suc k (x ∷ xs) (suc i) d l = let m : i < length xs = omega arith in ap (λ z. moved_on k x ∷ z) (shift_suc k xs i d m)
+shift_suc k (x ∷ xs) (suc i) d l = let m : i < length xs = omega arith in
+    ap (λ z. moved_on k x ∷ z) (shift_suc k xs i d m)
 
-pub shift_take : (k : ℕ) (xs : List Mark) (i : ℕ) (d : Mark) → i < length xs → shift k (take (i + 1) xs) ≡ shift k (take i xs) ++ moved_on k (get_or xs i d) ∷ []
+pub shift_take : (k : ℕ) (xs : List Mark) (i : ℕ) (d : Mark) → i < length xs
+    → shift k (take (i + 1) xs) ≡ shift k (take i xs) ++ moved_on k (get_or xs i d) ∷ []
 shift_take k xs i d l = let e : i + 1 ≡ suc i = omega arith in ap (λ n. shift k (take n xs)) e ∙ shift_suc k xs i d l
 
-pub code_is : (a a' : List Symbol) (b b' : List Mark) → a ≡ a' → b ≡ b' → (let x : Code = record { cells = a; marks = b } in x) ≡ record { cells = a'; marks = b' }
-code_is a a' b b' p q = ap (λ (z : List Symbol). let x : Code = record { cells = z; marks = b } in x) p ∙ ap (λ (z : List Mark). let x : Code = record { cells = a'; marks = z } in x) q
+pub code_is : (a a' : List Symbol) (b b' : List Mark) → a ≡ a' → b ≡ b'
+    → (let x : Code = record { cells = a; marks = b } in x) ≡ record { cells = a'; marks = b' }
+code_is a a' b b' p q = ap (λ (z : List Symbol). let x : Code = record { cells = z; marks = b } in x) p
+    ∙ ap (λ (z : List Mark). let x : Code = record { cells = a'; marks = z } in x) q
 
-pub marks_step : (new now old rest later : List Mark) (x : Mark) → new ≡ now ++ x ∷ [] → now ≡ old ++ rest → later ≡ rest ++ x ∷ [] → new ≡ old ++ later
-marks_step new now old rest later x p q r = p ∙ ap (λ z. z ++ x ∷ []) q ∙ append_assoc old rest (x ∷ []) ∙ ap (λ z. old ++ z) (sym r)
+pub marks_step : (new now old rest later : List Mark) (x : Mark) → new ≡ now ++ x ∷ [] → now ≡ old ++ rest
+    → later ≡ rest ++ x ∷ [] → new ≡ old ++ later
+marks_step new now old rest later x p q r = p ∙ ap (λ z. z ++ x ∷ []) q ∙ append_assoc old rest (x ∷ [])
+    ∙ ap (λ z. old ++ z) (sym r)
 
-pub kept_within : {cells : List Symbol} {marks : List Mark} (now : List Mark) → now ≡ marks → Kept cells marks → AllWithin (2 ^ 28) now
-kept_within {cells = cells} {marks = marks} now e h = let s = h.small in subst (λ z. AllWithin (2 ^ 28) z) (sym e) (within_more (length cells) (2 ^ 28) marks (omega arith) h.within)
+pub kept_within : {cells : List Symbol} {marks : List Mark} (now : List Mark) → now ≡ marks → Kept cells marks
+    → AllWithin (2 ^ 28) now
+kept_within {cells = cells} {marks = marks} now e h = let s = h.small in
+    subst (λ z. AllWithin (2 ^ 28) z) (sym e) (within_more (length cells) (2 ^ 28) marks (omega arith) h.within)
 
-pub seq_within : (p q all : List Symbol) (a b b' marks : List Mark) (n : ℕ) → all ≡ p ++ q → marks ≡ a ++ shift n b' → n ≡ length p → b' ≡ b → AllWithin (length p) a → AllWithin (length q) b → AllWithin (length all) marks
+pub seq_within : (p q all : List Symbol) (a b b' marks : List Mark) (n : ℕ) → all ≡ p ++ q → marks ≡ a ++ shift n b'
+    → n ≡ length p → b' ≡ b → AllWithin (length p) a → AllWithin (length q) b → AllWithin (length all) marks
 seq_within p q all a b b' marks n e m j k ha hb =
     let m' : marks ≡ a ++ shift (length p) b = m ∙ ap (λ z. a ++ shift z b') j ∙ ap (λ z. a ++ shift (length p) z) k in
-    subst (λ z. AllWithin (length z) marks) (sym e) (subst (λ z. AllWithin (length (p ++ q)) z) (sym m') (within_seq p q a b ha hb))
+    subst (λ z. AllWithin (length z) marks) (sym e) (subst (λ z. AllWithin (length (p ++ q)) z) (sym m')
+    (within_seq p q a b ha hb))
 
-pub two_marks : (i j j' : ℕ) (m0 m1 m2 a a' b b' : List Mark) → m0 ≡ [] → m1 ≡ m0 ++ shift i a' → a' ≡ a → m2 ≡ m1 ++ shift j b' → b' ≡ b → j ≡ j' → m2 ≡ shift i a ++ shift j' b
+pub two_marks : (i j j' : ℕ) (m0 m1 m2 a a' b b' : List Mark) → m0 ≡ [] → m1 ≡ m0 ++ shift i a' → a' ≡ a
+    → m2 ≡ m1 ++ shift j b' → b' ≡ b → j ≡ j' → m2 ≡ shift i a ++ shift j' b
 two_marks i j j' m0 m1 m2 a a' b b' e0 e1 ea e2 eb ej =
-    e2 ∙ ap (λ z. z ++ shift j b') (e1 ∙ ap (λ z. z ++ shift i a') e0 ∙ ap (shift i) ea) ∙ ap (λ z. shift i a ++ shift j z) eb ∙ ap (λ z. shift i a ++ shift z b) ej
+    e2 ∙ ap (λ z. z ++ shift j b') (e1 ∙ ap (λ z. z ++ shift i a') e0 ∙ ap (shift i) ea)
+    ∙ ap (λ z. shift i a ++ shift j z) eb ∙ ap (λ z. shift i a ++ shift z b) ej
 
 length_branch : (r : ℕ) (p q : List Symbol) → length (branch_cells r p q) ≡ 10 + length p + length q
 length_branch r p q = simp length-append (omega arith)
@@ -166,22 +250,36 @@ length_branch r p q = simp length-append (omega arith)
 length_loop : (r : ℕ) (p q : List Symbol) → length (loop_cells r p q) ≡ 10 + length p + length q
 length_loop r p q = simp length-append (omega arith)
 
-pub branch_within : (r : ℕ) (p q all : List Symbol) (a b marks : List Mark) → all ≡ branch_cells r p q → marks ≡ shift 2 b ++ shift (5 + length q) a → AllWithin (length p) a → AllWithin (length q) b → AllWithin (length all) marks
+pub branch_within : (r : ℕ) (p q all : List Symbol) (a b marks : List Mark) → all ≡ branch_cells r p q
+    → marks ≡ shift 2 b ++ shift (5 + length q) a → AllWithin (length p) a → AllWithin (length q) b
+    → AllWithin (length all) marks
 branch_within r p q all a b marks e m ha hb =
     let n = length_branch r p q in
-    subst (λ z. AllWithin (length z) marks) (sym e) (subst (λ z. AllWithin (length (branch_cells r p q)) z) (sym m) (within_two (length (branch_cells r p q)) 2 (5 + length q) (length q) (length p) b a (omega arith) (omega arith) hb ha))
+    subst (λ z. AllWithin (length z) marks) (sym e) (subst (λ z. AllWithin (length (branch_cells r p q)) z) (sym m)
+    (within_two (length (branch_cells r p q)) 2 (5 + length q) (length q) (length p) b a (omega arith)
+    (omega arith) hb ha))
 
-pub loop_within : (r : ℕ) (p q all : List Symbol) (a b marks : List Mark) → all ≡ loop_cells r p q → marks ≡ shift 3 b ++ shift (5 + length q) a → AllWithin (length p) a → AllWithin (length q) b → AllWithin (length all) marks
+pub loop_within : (r : ℕ) (p q all : List Symbol) (a b marks : List Mark) → all ≡ loop_cells r p q
+    → marks ≡ shift 3 b ++ shift (5 + length q) a → AllWithin (length p) a → AllWithin (length q) b
+    → AllWithin (length all) marks
 loop_within r p q all a b marks e m ha hb =
     let n = length_loop r p q in
-    subst (λ z. AllWithin (length z) marks) (sym e) (subst (λ z. AllWithin (length (loop_cells r p q)) z) (sym m) (within_two (length (loop_cells r p q)) 3 (5 + length q) (length q) (length p) b a (omega arith) (omega arith) hb ha))
+    subst (λ z. AllWithin (length z) marks) (sym e) (subst (λ z. AllWithin (length (loop_cells r p q)) z) (sym m)
+    (within_two (length (loop_cells r p q)) 3 (5 + length q) (length q) (length p) b a (omega arith) (omega arith)
+    hb ha))
 
-pub loop_built : (r n n2 s x y z : ℕ) (p q c0 c1 c2 c3 c4 c5 c6 c7 c8 : List Symbol) → n ≡ length q → n2 ≡ length q → s ≡ length p → length q < 2 ^ 28 → length p < 2 ^ 28 → x ≡ 2 ^ 32 - (3 + n) → y ≡ 2 ^ 32 - (5 + n2 + s) → z ≡ 2 ^ 32 - 3 → c0 ≡ [] → c1 ≡ c0 ++ fork r (3 + n) [] → c2 ≡ c1 ++ Own (bra (5 + n2 + s)) ∷ [] → c3 ≡ c2 ++ q → c4 ≡ c3 ++ fork r x [] → c5 ≡ c4 ++ p → c6 ≡ c5 ++ fork r 3 [] → c7 ≡ c6 ++ Own (bra y) ∷ [] → c8 ≡ c7 ++ fork r z [] → c8 ≡ loop_cells r p q
+pub loop_built : (r n n2 s x y z : ℕ) (p q c0 c1 c2 c3 c4 c5 c6 c7 c8 : List Symbol) → n ≡ length q → n2 ≡ length q
+    → s ≡ length p → length q < 2 ^ 28 → length p < 2 ^ 28 → x ≡ 2 ^ 32 - (3 + n) → y ≡ 2 ^ 32 - (5 + n2 + s)
+    → z ≡ 2 ^ 32 - 3 → c0 ≡ [] → c1 ≡ c0 ++ fork r (3 + n) [] → c2 ≡ c1 ++ Own (bra (5 + n2 + s)) ∷ [] → c3 ≡ c2 ++ q
+    → c4 ≡ c3 ++ fork r x [] → c5 ≡ c4 ++ p → c6 ≡ c5 ++ fork r 3 [] → c7 ≡ c6 ++ Own (bra y) ∷ []
+    → c8 ≡ c7 ++ fork r z [] → c8 ≡ loop_cells r p q
 loop_built r n n2 s x y z p q c0 c1 c2 c3 c4 c5 c6 c7 c8 en en2 es hq hp ex ey ez e0 e1 e2 e3 e4 e5 e6 e7 e8 =
     let a : 3 + n ≡ between 0 (3 + length q) = omega arith in
     let a' : x ≡ between (3 + length q) 0 = omega arith in
     let b : 5 + n2 + s ≡ between 0 (5 + length q + length p) = omega arith in
     let b' : y ≡ between (5 + length q + length p) 0 = omega arith in
     let d : z ≡ between 3 0 = omega arith in
-    let all : c8 ≡ (((((((fork r (between 0 (3 + length q)) []) ++ Own (bra (between 0 (5 + length q + length p))) ∷ []) ++ q) ++ fork r (between (3 + length q) 0) []) ++ p) ++ fork r (between 0 3) []) ++ Own (bra (between (5 + length q + length p) 0)) ∷ []) ++ fork r (between 3 0) [] = cc in
+    let all : c8 ≡ (((((((fork r (between 0 (3 + length q)) []) ++ Own (bra (between 0 (5 + length q + length p))) ∷ [])
+    ++ q) ++ fork r (between (3 + length q) 0) []) ++ p) ++ fork r (between 0 3) [])
+    ++ Own (bra (between (5 + length q + length p) 0)) ∷ []) ++ fork r (between 3 0) [] = cc in
     all ∙ simp append_assoc

@@ -6,18 +6,22 @@ use Rattle.paired_code.specs.Machine.{Image, Level, same, enters, leaves}
 use Rattle.paired_code.specs.Layout.{Frame}
 use Rattle.paired_code.specs.Pieces.{Inside, cell, open_call, in_flight, Path, stay, step}
 
-pub append : {im : Image} {f : Frame} {a b k1 k2 e e1 e2 : ℕ} {s s1 s2 : State} → Path im f a b k1 e s e1 s1 → Path im f a b k2 e1 s1 e2 s2 → Path im f a b (k1 + k2) e s e2 s2
+pub append : {im : Image} {f : Frame} {a b k1 k2 e e1 e2 : ℕ} {s s1 s2 : State} → Path im f a b k1 e s e1 s1
+    → Path im f a b k2 e1 s1 e2 s2 → Path im f a b (k1 + k2) e s e2 s2
 append {im = im} {f = f} {a = a} {b = b} {k2 = k2} {e2 = e2} {s2 = s2} (stay {e = e} {s = s}) q =
     let z : k2 ≡ 0 + k2 = omega arith in subst (λ k. Path im f a b k e s e2 s2) z q
 append {im = im} {f = f} {a = a} {b = b} {k2 = k2} {e2 = e2} {s2 = s2} (step {k = k} {e = e} {s = s} c i h n v l p) q =
-    let z : suc (k + k2) ≡ suc k + k2 = omega arith in subst (λ j. Path im f a b j e s e2 s2) z (step c i h n v l (append p q))
+    let z : suc (k + k2) ≡ suc k + k2 = omega arith in subst (λ j. Path im f a b j e s e2 s2) z
+    (step c i h n v l (append p q))
 
-pub inside_wider : {f : Frame} {a b a' b' e br : ℕ} {p : ℤ} → a' ≤ a → b ≤ b' → Inside f a b e p br → Inside f a' b' e p br
+pub inside_wider : {f : Frame} {a b a' b' e br : ℕ} {p : ℤ} → a' ≤ a → b ≤ b' → Inside f a b e p br
+    → Inside f a' b' e p br
 inside_wider lo hi (cell i h k) = cell i (omega arith) (omega arith)
 inside_wider lo hi open_call = open_call
 inside_wider lo hi (in_flight h) = in_flight h
 
-pub widen : {im : Image} {f : Frame} {a b k e e' : ℕ} {s s' : State} (a' b' : ℕ) → a' ≤ a → b ≤ b' → Path im f a b k e s e' s' → Path im f a' b' k e s e' s'
+pub widen : {im : Image} {f : Frame} {a b k e e' : ℕ} {s s' : State} (a' b' : ℕ) → a' ≤ a → b ≤ b'
+    → Path im f a b k e s e' s' → Path im f a' b' k e s e' s'
 widen a' b' lo hi stay = stay
 widen a' b' lo hi (step c i h n v l p) = step c (inside_wider lo hi i) h n v l (widen a' b' lo hi p)
 
@@ -27,7 +31,8 @@ level_up enters = enters
 level_up leaves = leaves
 
 -- what a routine's body does counts as inside for any caller
-pub within_call : {im : Image} {f : Frame} {a b k e e' : ℕ} {s s' : State} (f' : Frame) (a' b' : ℕ) → Path im f a b k e s e' s' → Path im f' a' b' k (suc e) s (suc e') s'
+pub within_call : {im : Image} {f : Frame} {a b k e e' : ℕ} {s s' : State} (f' : Frame) (a' b' : ℕ)
+    → Path im f a b k e s e' s' → Path im f' a' b' k (suc e) s (suc e') s'
 within_call f' a' b' stay = stay
 within_call f' a' b' (step c i h n v l p) = step c open_call h n v (level_up l) (within_call f' a' b' p)
 
@@ -36,10 +41,13 @@ abbrev pub steps : Image → ℕ → State → State
 steps im zero s = s
 steps im (suc k) s = steps im k (next im.code s)
 
-pub path_steps : {im : Image} {f : Frame} {a b k e e' : ℕ} {s s' : State} → Path im f a b k e s e' s' → steps im k s ≡ s'
+pub path_steps : {im : Image} {f : Frame} {a b k e e' : ℕ} {s s' : State} → Path im f a b k e s e' s'
+    → steps im k s ≡ s'
 path_steps stay = refl
-path_steps {im = im} {s' = s'} (step {k = k} {s = s} c i h n v l p) = subst (λ o. steps im k (moved (effect_at o s)) ≡ s') (sym h) (path_steps p)
+path_steps {im = im} {s' = s'} (step {k = k} {s = s} c i h n v l p) =
+    subst (λ o. steps im k (moved (effect_at o s)) ≡ s') (sym h) (path_steps p)
 
 -- two paths of as many steps from one state end alike, whatever their pieces
-pub one_end : {im : Image} {f f' : Frame} {a b a' b' k e e' i i' : ℕ} {s s1 s2 : State} → Path im f a b k e s e' s1 → Path im f' a' b' k i s i' s2 → s1 ≡ s2
+pub one_end : {im : Image} {f f' : Frame} {a b a' b' k e e' i i' : ℕ} {s s1 s2 : State} → Path im f a b k e s e' s1
+    → Path im f' a' b' k i s i' s2 → s1 ≡ s2
 one_end p q = sym (path_steps p) ∙ path_steps q

@@ -1,5 +1,6 @@
 -- The marks of pieces on the cells of the image that is linked of them.
-use Rattle.std.proofs.Common.{◌≡◌, ℕ, zero, suc, ◌+◌, ◌^◌, ◌≤◌, ◌<◌, true, List, [], ◌∷◌, ◌++◌, length, refl, sym, ap, ◌∙◌, subst, arith, length-append, append_assoc, take, drop, get_or}
+use Rattle.std.proofs.Common.{◌≡◌, ℕ, zero, suc, ◌+◌, ◌^◌, ◌≤◌, ◌<◌, true, List, [], ◌∷◌, ◌++◌, length, refl, sym, ap}
+use Rattle.std.proofs.Common.{◌∙◌, subst, arith, length-append, append_assoc, take, drop, get_or}
 use Rattle.std.specs.Prelude.{nat_le}
 use Rattle.std.specs.List.{All, list_all}
 use Rattle.std.specs.List.Sorted.{IsPermutation}
@@ -15,7 +16,8 @@ use Rattle.pisa_isa.specs.Notes.{NoteLists, is_within, mark_fits, fits}
 use Rattle.pisa_isa.proofs.Noting.{fits_by}
 use Rattle.paired_code.specs.Link.{routines_size, link_code, link_size}
 use Rattle.paired_code.specs.declared.part.Symbol.{Symbol}
-use Rattle.paired_code.specs.Code.{Code, Kept, AllWithin, EachWithin, shift, bodies, routine_marks, link_marks, marks_size}
+use Rattle.paired_code.specs.Code.{Code, Kept, AllWithin, EachWithin, shift, bodies, routine_marks, link_marks}
+use Rattle.paired_code.specs.Code.{marks_size}
 use Rattle.paired_code.proofs.Fits.{kept_within, within_append, within_more, within_shift}
 use Rattle.paired_code.proofs.Writing.{code_length}
 
@@ -29,30 +31,39 @@ drop_suc (y ∷ ys) (suc i) x l e = drop_suc ys i x (omega arith) e
 drop_next : (xs : List Code) (i : ℕ) (x : Code) → i < length xs → x ≡ get_or xs i x → drop i xs ≡ x ∷ drop (i + 1) xs
 drop_next xs i x l e = let k : suc i ≡ i + 1 = omega arith in drop_suc xs i x l e ∙ ap (λ n. x ∷ drop n xs) k
 
-within_suc : (xs : List Code) (i : ℕ) (x : Code) → i < length xs → x ≡ get_or xs i x → AllWithin (length x.cells) x.marks → EachWithin (take i xs) → EachWithin (take (suc i) xs)
+within_suc : (xs : List Code) (i : ℕ) (x : Code) → i < length xs → x ≡ get_or xs i x
+    → AllWithin (length x.cells) x.marks → EachWithin (take i xs) → EachWithin (take (suc i) xs)
 within_suc [] i x l e h k = absurd (omega arith)
 within_suc (y ∷ ys) zero x l e h k = (subst (λ (z : Code). AllWithin (length z.cells) z.marks) e h, tt)
 within_suc (y ∷ ys) (suc i) x l e h k = (k.0, within_suc ys i x (omega arith) e h k.1)
 
-pub within_next : (xs : List Code) (i : ℕ) (x : Code) → i < length xs → x ≡ get_or xs i x → AllWithin (length x.cells) x.marks → EachWithin (take i xs) → EachWithin (take (i + 1) xs)
-within_next xs i x l e h k = let q : suc i ≡ i + 1 = omega arith in subst (λ n. EachWithin (take n xs)) q (within_suc xs i x l e h k)
+pub within_next : (xs : List Code) (i : ℕ) (x : Code) → i < length xs → x ≡ get_or xs i x
+    → AllWithin (length x.cells) x.marks → EachWithin (take i xs) → EachWithin (take (i + 1) xs)
+within_next xs i x l e h k = let q : suc i ≡ i + 1 = omega arith in
+    subst (λ n. EachWithin (take n xs)) q (within_suc xs i x l e h k)
 
-pub marks_next : (xs : List Code) (i : ℕ) (x : Code) (old new all marks : List Mark) (top next : ℕ) → i < length xs → x ≡ get_or xs i x → marks ≡ x.marks
-    → new ≡ old ++ shift (top + 3) marks → next ≡ top + (length x.cells + 4) → old ++ routine_marks top (drop i xs) ≡ all → new ++ routine_marks next (drop (i + 1) xs) ≡ all
+pub marks_next : (xs : List Code) (i : ℕ) (x : Code) (old new all marks : List Mark) (top next : ℕ) → i < length xs
+    → x ≡ get_or xs i x → marks ≡ x.marks
+    → new ≡ old ++ shift (top + 3) marks → next ≡ top + (length x.cells + 4)
+    → old ++ routine_marks top (drop i xs) ≡ all → new ++ routine_marks next (drop (i + 1) xs) ≡ all
 marks_next xs i x old new all marks top next l e m n t a =
     let three : top + 3 ≡ top + 1 + 1 + 1 = omega arith in
     let on : next ≡ top + 1 + 1 + 1 + length x.cells + 1 = omega arith in
-    let here : new ≡ old ++ shift (top + 1 + 1 + 1) x.marks = n ∙ ap (λ z. old ++ shift (top + 3) z) m ∙ ap (λ k. old ++ shift k x.marks) three in
+    let here : new ≡ old ++ shift (top + 1 + 1 + 1) x.marks = n ∙ ap (λ z. old ++ shift (top + 3) z) m
+    ∙ ap (λ k. old ++ shift k x.marks) three in
     ap (λ z. z ++ routine_marks next (drop (i + 1) xs)) here
     ∙ ap (λ k. (old ++ shift (top + 1 + 1 + 1) x.marks) ++ routine_marks k (drop (i + 1) xs)) on
-    ∙ append_assoc old (shift (top + 1 + 1 + 1) x.marks) (routine_marks (top + 1 + 1 + 1 + length x.cells + 1) (drop (i + 1) xs))
+    ∙ append_assoc old (shift (top + 1 + 1 + 1) x.marks) (routine_marks (top + 1 + 1 + 1 + length x.cells + 1)
+    (drop (i + 1) xs))
     ∙ ap (λ z. old ++ routine_marks top z) (sym (drop_next xs i x l e))
     ∙ a
 
-pub room_next : (xs : List Code) (i : ℕ) (x : Code) (top next : ℕ) → i < length xs → x ≡ get_or xs i x → next ≡ top + (length x.cells + 4)
+pub room_next : (xs : List Code) (i : ℕ) (x : Code) (top next : ℕ) → i < length xs → x ≡ get_or xs i x
+    → next ≡ top + (length x.cells + 4)
     → top + routines_size (bodies (drop i xs)) ≤ 8050000 → next + routines_size (bodies (drop (i + 1) xs)) ≤ 8050000
 room_next xs i x top next l e t room =
-    let size : routines_size (bodies (drop i xs)) ≡ length x.cells + 4 + routines_size (bodies (drop (i + 1) xs)) = ap (λ z. routines_size (bodies z)) (drop_next xs i x l e) in
+    let size : routines_size (bodies (drop i xs)) ≡ length x.cells + 4 + routines_size (bodies (drop (i + 1) xs)) =
+    ap (λ z. routines_size (bodies z)) (drop_next xs i x l e) in
     omega arith
 
 -- so many marks
@@ -64,27 +75,41 @@ length-shift n (k ∷ ks) = ap suc (length-shift n ks)
 routines_counted : (t : ℕ) (bs : List Code) → length (routine_marks t bs) ≡ marks_size bs
 routines_counted t [] = refl
 routines_counted t (b ∷ bs) =
-    omega (arith, length-append (shift (t + 1 + 1 + 1) b.marks) (routine_marks (t + 1 + 1 + 1 + length b.cells + 1) bs), length-shift (t + 1 + 1 + 1) b.marks, routines_counted (t + 1 + 1 + 1 + length b.cells + 1) bs)
+    omega (
+      arith,
+      length-append (shift (t + 1 + 1 + 1) b.marks) (routine_marks (t + 1 + 1 + 1 + length b.cells + 1) bs),
+      length-shift (t + 1 + 1 + 1) b.marks,
+      routines_counted (t + 1 + 1 + 1 + length b.cells + 1) bs,
+    )
 
 marks_counted : (main : Code) (bs : List Code) → length (link_marks main bs) ≡ length main.marks + marks_size bs
 marks_counted main bs =
-    omega (arith, length-append (shift 1 main.marks) (routine_marks (1 + length main.cells + 1) bs), length-shift 1 main.marks, routines_counted (1 + length main.cells + 1) bs)
+    omega (
+      arith,
+      length-append (shift 1 main.marks) (routine_marks (1 + length main.cells + 1) bs),
+      length-shift 1 main.marks,
+      routines_counted (1 + length main.cells + 1) bs,
+    )
 
 -- they are within the code
 
 moved : (a n m : ℕ) (ks : List Mark) → a + n ≤ m → AllWithin n ks → AllWithin m (shift a ks)
 moved a n m ks l h = within_more (a + n) m (shift a ks) l (within_shift n a ks h)
 
-routines_within : (t m : ℕ) (bs : List Code) → t + routines_size (bodies bs) ≤ m → EachWithin bs → AllWithin m (routine_marks t bs)
+routines_within : (t m : ℕ) (bs : List Code) → t + routines_size (bodies bs) ≤ m → EachWithin bs
+    → AllWithin m (routine_marks t bs)
 routines_within t m [] l h = tt
 routines_within t m (b ∷ bs) l h =
-    within_append m (shift (t + 1 + 1 + 1) b.marks) (routine_marks (t + 1 + 1 + 1 + length b.cells + 1) bs) (moved (t + 1 + 1 + 1) (length b.cells) m b.marks (omega arith) h.0)
+    within_append m (shift (t + 1 + 1 + 1) b.marks) (routine_marks (t + 1 + 1 + 1 + length b.cells + 1) bs)
+    (moved (t + 1 + 1 + 1) (length b.cells) m b.marks (omega arith) h.0)
     (routines_within (t + 1 + 1 + 1 + length b.cells + 1) m bs (omega arith) h.1)
 
-link_within : (main : Code) (bs : List Code) → AllWithin (length main.cells) main.marks → EachWithin bs → AllWithin (link_size main.cells (bodies bs)) (link_marks main bs)
+link_within : (main : Code) (bs : List Code) → AllWithin (length main.cells) main.marks → EachWithin bs
+    → AllWithin (link_size main.cells (bodies bs)) (link_marks main bs)
 link_within main bs h k =
     let m = link_size main.cells (bodies bs) in
-    within_append m (shift 1 main.marks) (routine_marks (1 + length main.cells + 1) bs) (moved 1 (length main.cells) m main.marks (omega arith) h)
+    within_append m (shift 1 main.marks) (routine_marks (1 + length main.cells + 1) bs)
+    (moved 1 (length main.cells) m main.marks (omega arith) h)
     (routines_within (1 + length main.cells + 1) m bs (omega arith) k)
 
 le_test : (a b : ℕ) → a ≤ b → nat_le a b ≡ true
@@ -94,22 +119,30 @@ each_fits : (n : ℕ) (ks : List Mark) → AllWithin n ks → list_all (mark_fit
 each_fits n [] h = refl
 each_fits n (k ∷ ks) h =
     and_from (mark_fits n k) (list_all (mark_fits n) ks)
-    (and_from (is_within n k) _ (and_from _ _ (le_test k.first k.end h.0) (le_test k.end n h.1.0)) (le_test k.at LAST_PLACE h.1.1)) (each_fits n ks h.2)
+    (and_from (is_within n k) _ (and_from _ _ (le_test k.first k.end h.0) (le_test k.end n h.1.0))
+    (le_test k.at LAST_PLACE h.1.1)) (each_fits n ks h.2)
 
 abbrev notes : List Mark → List FieldName → NoteLists
 notes marks names = record { marks = marks; names = names }
 
 -- the marks fit the image, in whatever order
-pub linked_fits : (main : Code) (bs : List Code) (image : Segments) (marks : List Mark) (names : List FieldName) → image.code ≡ link_code main.cells (bodies bs)
-    → length main.marks + marks_size bs ≤ MOST_MARKS → IsPermutation (link_marks main bs) marks → names ≡ [] → AllWithin (length main.cells) main.marks → EachWithin bs
+pub linked_fits : (main : Code) (bs : List Code) (image : Segments) (marks : List Mark) (names : List FieldName)
+    → image.code ≡ link_code main.cells (bodies bs)
+    → length main.marks + marks_size bs ≤ MOST_MARKS → IsPermutation (link_marks main bs) marks → names ≡ []
+    → AllWithin (length main.cells) main.marks → EachWithin bs
     → fits image (notes marks names) ≡ true
 linked_fits main bs image marks names code few same none h k =
-    let size : length image.code ≡ link_size main.cells (bodies bs) = code_length main.cells (bodies bs) image.code code in
+    let size : length image.code ≡ link_size main.cells (bodies bs) =
+    code_length main.cells (bodies bs) image.code code in
     let count : length marks ≡ length (link_marks main bs) = length_permutation (link_marks main bs) marks same in
     let counted = marks_counted main bs in
-    let all : list_all (mark_fits (length image.code)) (link_marks main bs) ≡ true = each_fits (length image.code) (link_marks main bs) (subst (λ n. AllWithin n (link_marks main bs)) (sym size) (link_within main bs h k)) in
+    let all : list_all (mark_fits (length image.code)) (link_marks main bs) ≡ true =
+    each_fits (length image.code) (link_marks main bs) (subst (λ n. AllWithin n (link_marks main bs)) (sym size)
+    (link_within main bs h k)) in
     let each : list_all (mark_fits (length image.code)) marks ≡ true =
-    list_all-from_AllPass (mark_fits (length image.code)) marks (All-permutation (λ m. mark_fits (length image.code) m ≡ true) (link_marks main bs) marks same (AllPass-from_list_all (mark_fits (length image.code)) (link_marks main bs) all)) in
+    list_all-from_AllPass (mark_fits (length image.code)) marks
+    (All-permutation (λ m. mark_fits (length image.code) m ≡ true) (link_marks main bs) marks same
+    (AllPass-from_list_all (mark_fits (length image.code)) (link_marks main bs) all)) in
     let Fit : List FieldName → Type 0 = λ ns. fits image (notes marks ns) ≡ true in
     subst Fit (sym none) (fits_by image (notes marks []) (record {
       few_marks = le_test (length marks) MOST_MARKS (omega arith);
@@ -119,5 +152,8 @@ linked_fits main bs image marks names code few same none h k =
     }))
 
 -- the marks of a piece are within what a piece may have
-pub kept_few : {cells : List Symbol} {marks : List Mark} (view : Code) → (let x : Code = record { cells = cells; marks = marks } in x) ≡ view → Kept cells marks → AllWithin (2 ^ 28) view.marks
-kept_few {cells = cells} {marks = marks} view e h = subst (λ (z : Code). AllWithin (2 ^ 28) z.marks) e (kept_within marks refl h)
+pub kept_few : {cells : List Symbol} {marks : List Mark} (view : Code)
+    → (let x : Code = record { cells = cells; marks = marks } in x) ≡ view → Kept cells marks
+    → AllWithin (2 ^ 28) view.marks
+kept_few {cells = cells} {marks = marks} view e h = subst (λ (z : Code). AllWithin (2 ^ 28) z.marks) e
+    (kept_within marks refl h)

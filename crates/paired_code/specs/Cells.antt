@@ -1,7 +1,8 @@
 -- The instructions of which pieces are made, as cells.
 use Rattle.std.specs.Prelude.{ℕ}
 use Rattle.pisa_isa.specs.declared.cell.Op.{Op}
-use Rattle.pisa_isa.specs.declared.cell.Op.TheVariants.{Add, Neg, Addi, Swapbr, Bra, Rbra, Bgtz, Bltz, Start, Finish, DataWord}
+use Rattle.pisa_isa.specs.declared.cell.Op.TheVariants.{Add, Neg, Addi, Swapbr, Bra, Rbra, Bgtz}
+use Rattle.pisa_isa.specs.declared.cell.Op.TheVariants.{Bltz, Start, Finish, DataWord}
 use Rattle.pisa_isa.specs.declared.cell.Cell.{Cell}
 
 -- an instruction with one register and a word

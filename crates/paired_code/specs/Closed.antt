@@ -1,5 +1,6 @@
 -- Closed pieces: the conditions on a run, and the four things that it then does.
-use Rattle.std.specs.Prelude.{◌≡◌, ◌≢◌, ℕ, zero, suc, ◌+◌, ◌^◌, ◌<◌, ◌≤◌, ◌⊎◌, Bool, true, false, not, List, [], ◌∷◌, ◌++◌, length, ℤ}
+use Rattle.std.specs.Prelude.{◌≡◌, ◌≢◌, ℕ, zero, suc, ◌+◌, ◌^◌, ◌<◌, ◌≤◌, ◌⊎◌, Bool, true, false}
+use Rattle.std.specs.Prelude.{not, List, [], ◌∷◌, ◌++◌, length, ℤ}
 use Rattle.pisa_isa.specs.declared.cell.Cell.{Cell}
 use Rattle.pisa_isa.specs.Table.{IsCell}
 use Rattle.paired_code.specs.declared.part.Symbol.{Symbol}
@@ -7,8 +8,10 @@ use Rattle.paired_code.specs.declared.part.Symbol.TheVariants.{Own, Enter}
 use Rattle.pisa_isa.specs.Machine.{State, Memory}
 use Rattle.pisa_isa.specs.declared.machine.Stop.TheVariants.{Trap, BadAddress}
 use Rattle.paired_code.specs.Machine.{Image, reg, with_reg, is_single}
-use Rattle.paired_code.specs.Layout.{xor, at, code_line, mirror_cells, branch_cells, loop_cells, check_cells, place_register, enter_at_cells, Routine, Tidy}
-use Rattle.paired_code.specs.Pieces.{Outcome, Done, Trapped, Bad, Still, after, around, around_no, to_tail, to_head, near_end, far_end}
+use Rattle.paired_code.specs.Layout.{xor, at, code_line, mirror_cells, branch_cells, loop_cells}
+use Rattle.paired_code.specs.Layout.{check_cells, place_register, enter_at_cells, Routine, Tidy}
+use Rattle.paired_code.specs.Pieces.{Outcome, Done, Trapped, Bad, Still, after, around, around_no}
+use Rattle.paired_code.specs.Pieces.{to_tail, to_head, near_end, far_end}
 use Rattle.paired_code.specs.Laws.{outcome_of, lead, left_in}
 use Rattle.paired_code.specs.Literal.{Comes, Stops, Stays}
 
@@ -120,8 +123,10 @@ fine_with rs n calls (Then p q) true m Q =
     (And_next (λ m1 k. fine_with rs n calls p true m1 (λ o. Q (after k o))) Q)
 fine_with rs n calls (Turned p) d m Q = fine_with rs n calls p (not d) m Q
 fine_with rs n calls (Choose r p q) d m Q =
-    ((reg m r ≢ 0) × fine_with rs n calls p d m (λ o. Left (λ m1. reg m1 r ≢ 0) o × Q (around 3 3 o)))
-    ⊎ ((reg m r ≡ 0) × fine_with rs n calls q d m (λ o. Left (λ m1. reg m1 r ≡ 0) o × Q (around_no d o)))
+    ((reg m r ≢ 0) × fine_with rs n calls p d m (λ o. Left (λ m1. reg m1 r ≢ 0) o
+    × Q (around 3 3 o)))
+    ⊎ ((reg m r ≡ 0) × fine_with rs n calls q d m
+    (λ o. Left (λ m1. reg m1 r ≡ 0) o × Q (around_no d o)))
 fine_with rs n calls (Loop r p q) d m Q =
     (reg m r ≢ 0) × rounds_fine r (fine_with rs n calls p) (fine_with rs n calls q) n d m
     (λ o. Q (after 3 o))
@@ -143,7 +148,8 @@ fine rs (suc n) s d m Q = fine_with rs (suc n) (fine rs n) s d m Q
 abbrev pub any : Outcome → Type 0
 any o = Unit {0}
 
--- the four things: it leaves at the far end, traps, stops as BadAddress, or has not left within n steps
+-- the four things: it leaves at the far end, traps, stops as BadAddress, or has not left within n
+-- steps
 pub data One_of_four (im : Image) (far : ℤ) (d : Bool) (n : ℕ) (s : State) : Type 0 where
   leaves : (m' : Memory) (k : ℕ) → Comes im far d k 0 s m' → One_of_four im far d n s
   traps : (w k : ℕ) → Stops im far d (Trap w) k 0 s → One_of_four im far d n s

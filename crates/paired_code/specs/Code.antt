@@ -32,7 +32,10 @@ abbrev pub unmarked : List Symbol → Code
 unmarked p = record { cells = p; marks = [] }
 
 abbrev pub seq_code : Code → Code → Code
-seq_code a b = record { cells = a.cells ++ b.cells; marks = a.marks ++ shift (length a.cells) b.marks }
+seq_code a b = record {
+  cells = a.cells ++ b.cells;
+  marks = a.marks ++ shift (length a.cells) b.marks;
+}
 
 abbrev pub branch_code : ℕ → Code → Code → Code
 branch_code r p q = record {

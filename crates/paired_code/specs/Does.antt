@@ -1,5 +1,6 @@
 -- How a run of a piece meets what the source says.
-use Rattle.std.specs.Prelude.{ℕ, zero, suc, ◌+◌, ◌-◌, ◌*◌, ◌≤◌, Bool, true, false, List, [], ◌∷◌, ◌++◌}
+use Rattle.std.specs.Prelude.{ℕ, zero, suc, ◌+◌, ◌-◌, ◌*◌, ◌≤◌, Bool, true, false, List, [], ◌∷◌}
+use Rattle.std.specs.Prelude.{◌++◌}
 use Rattle.pisa_isa.specs.Machine.{Memory}
 use Rattle.paired_code.specs.declared.part.Symbol.{Symbol}
 use Rattle.paired_code.specs.Machine.{Image}
@@ -52,7 +53,8 @@ in_order d [] = []
 in_order false (p ∷ ps) = p ++ in_order false ps
 in_order true (p ∷ ps) = in_order true ps ++ p
 
--- a value of 0 or 1 that is xored into a register, with what it costs: v is the register's value before
+-- a value of 0 or 1 that is xored into a register, with what it costs: v is the register's value
+-- before
 pub record Tells {A : Type 0} (im : Image) (p : List Symbol) (d : Bool)
     (R : Bool → A → Memory → Type 0) (b : Rates) (x : ℕ) (t : ℕ → A → Told Bool) : Type 0 where
   pub tells : (n : ℕ) (v : Bool) (a : A) (m : Memory) → R v a m
@@ -68,7 +70,8 @@ agreed true a = Fault 1 0
 agreed false a = Fine a 0
 
 -- the meaning of `if t then p else q fi u`
-abbrev pub if_told : {A : Type 0} → (t u : ℕ → A → Told Bool) (p q : ℕ → A → Told A) → ℕ → A → Told A
+abbrev pub if_told : {A : Type 0} → (t u : ℕ → A → Told Bool) (p q : ℕ → A → Told A) → ℕ → A
+    → Told A
 if_told t u p q n a =
     ticked n (λ n. told_then (t n a)
     (λ c v. told_then (chosen v (p (n - c) a) (q (n - c) a))

@@ -1,12 +1,15 @@
 -- The laws of the pieces, as contracts state them.
-use Rattle.std.specs.Prelude.{◌≡◌, ◌≢◌, ℕ, ◌+◌, ◌^◌, ◌<◌, ◌≤◌, Bool, true, false, not, List, length, if◌then◌else◌, pos}
+use Rattle.std.specs.Prelude.{◌≡◌, ◌≢◌, ℕ, ◌+◌, ◌^◌, ◌<◌, ◌≤◌, Bool, true, false, not, List, length}
+use Rattle.std.specs.Prelude.{if◌then◌else◌, pos}
 use Rattle.pisa_isa.specs.declared.cell.Cell.{Cell}
 use Rattle.paired_code.specs.declared.part.Symbol.{Symbol}
 use Rattle.rpp_words.specs.Words.{difference_of}
 use Rattle.pisa_isa.specs.Machine.{has_cell, Memory}
 use Rattle.paired_code.specs.Machine.{state, Image, reg, with_reg, effect_along}
 use Rattle.paired_code.specs.Layout.{xor, Frame, Stands, Routine, Tidy}
-use Rattle.paired_code.specs.Pieces.{Outcome, Done, Trapped, Bad, Still, Ends, near_end, far_end, Runs, after, IsOver, to_tail, to_head, then_do, around, around_no}
+use Rattle.paired_code.specs.Pieces.{Outcome, Done, Trapped, Bad, Still, Ends, near_end, far_end}
+use Rattle.paired_code.specs.Pieces.{Runs, after, IsOver, to_tail, to_head, then_do, around}
+use Rattle.paired_code.specs.Pieces.{around_no}
 
 -- all is p and then q, and back q and then p
 pub record SeqLaw (p q all : List Symbol) : Type 0 where
@@ -104,7 +107,8 @@ pub record EnterAtLaw (a : ℕ) (b : Bool) (all : List Symbol) : Type 0 where
 pub data Rounds (im : Image) (r : ℕ) (head tail : List Symbol) (d : Bool) : Memory → Outcome
     → Type 0 where
   pause : {m : Memory} → Rounds im r head tail d m (Still 0)
-  ends_in_head : {m : Memory} {o : Outcome} → Runs im head d m o → IsOver o → Rounds im r head tail d m o
+  ends_in_head : {m : Memory} {o : Outcome} → Runs im head d m o → IsOver o
+      → Rounds im r head tail d m o
   leaves : {m m1 : Memory} {k : ℕ} → Runs im head d m (Done m1 k) → reg m1 r ≢ 0
       → Rounds im r head tail d m (Done m1 (k + 3))
   ends_in_tail : {m m1 : Memory} {k : ℕ} {o : Outcome} → Runs im head d m (Done m1 k) → reg m1 r ≡ 0

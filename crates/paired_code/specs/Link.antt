@@ -1,5 +1,6 @@
 -- What `link` writes, and what is known of it.
-use Rattle.std.specs.Prelude.{◌≡◌, ℕ, ◌+◌, ◌^◌, ◌<◌, ◌≤◌, Bool, List, [], ◌∷◌, ◌++◌, length, Some, false, pos, slice_index}
+use Rattle.std.specs.Prelude.{◌≡◌, ℕ, ◌+◌, ◌^◌, ◌<◌, ◌≤◌, Bool, List, [], ◌∷◌, ◌++◌, length, Some}
+use Rattle.std.specs.Prelude.{false, pos, slice_index}
 use Rattle.pisa_isa.specs.declared.cell.Cell.{Cell}
 use Rattle.pisa_isa.specs.declared.machine.Stop.{Stop}
 use Rattle.pisa_isa.specs.declared.machine.Stop.TheVariants.{Finished, Trap, BadAddress}
@@ -13,7 +14,8 @@ use Rattle.paired_code.specs.declared.part.StaticWord.TheVariants.{Word, Routine
 use Rattle.paired_code.specs.Machine.{state, Image}
 use Rattle.paired_code.specs.Layout.{base, between, code_line, Stands, Routine, Tidy}
 use Rattle.paired_code.specs.Literal.{InWords}
-use Rattle.paired_code.specs.Closed.{Shape, IsMade, AllMade, cells_of_shape, shapes_cells, routines_of, fine, any, Closed}
+use Rattle.paired_code.specs.Closed.{Shape, IsMade, AllMade, cells_of_shape, shapes_cells}
+use Rattle.paired_code.specs.Closed.{routines_of, fine, any, Closed}
 use Rattle.paired_code.specs.Pieces.{Outcome, Done, Trapped, Bad, Still, Ends}
 
 -- ---- the code
@@ -36,7 +38,8 @@ routine_code rs t b =
 
 abbrev pub routines_code : List ℕ → ℕ → List (List Symbol) → List Cell
 routines_code rs t [] = []
-routines_code rs t (b ∷ bs) = routine_code rs t b ++ routines_code rs (t + 1 + 1 + 1 + length b + 1) bs
+routines_code rs t (b ∷ bs) = routine_code rs t b
+    ++ routines_code rs (t + 1 + 1 + 1 + length b + 1) bs
 
 -- where the routines begin
 abbrev pub first_top : List Symbol → ℕ
@@ -70,7 +73,8 @@ static_word places (RoutinePlace r) = slice_index places r
 -- the routines from number n on, the first with its top at t
 abbrev pub AllPlaced : Image → ℕ → ℕ → List (List Symbol) → Type 0
 AllPlaced im n t [] = Unit {0}
-AllPlaced im n t (b ∷ bs) = Routine im n t b × AllPlaced im (n + 1) (t + 1 + 1 + 1 + length b + 1) bs
+AllPlaced im n t (b ∷ bs) = Routine im n t b × AllPlaced im (n + 1) (t + 1 + 1 + 1 + length b + 1)
+    bs
 
 -- ---- a run from START on
 
@@ -84,7 +88,8 @@ abbrev pub GoesSo : List Cell → ℕ → Memory → Outcome → Type 0
 GoesSo code last m (Done m' k) = StopsAfter code m (k + 2) Finished (state (pos last) 0 false m')
 GoesSo code last m (Trapped w k) = (s : State) × StopsAfter code m (k + 2) (Trap w) s
 GoesSo code last m (Bad a k) = (s : State) × StopsAfter code m (k + 2) (BadAddress a) s
-GoesSo code last m (Still k) = (s : State) × (steps code (k + 1) (started code m.regs m.cells) ≡ Some s)
+GoesSo code last m (Still k) = (s : State) × (steps code (k + 1) (started code m.regs m.cells)
+    ≡ Some s)
 
 -- whether an outcome tells of so many steps: of a piece that goes on, those that it has gone
 abbrev pub IsToldBy : Outcome → ℕ → Type 0

@@ -1,5 +1,6 @@
 -- What a piece does, in the words of the machine alone.
-use Rattle.std.specs.Prelude.{◌≡◌, ℕ, zero, suc, ◌+◌, ◌-◌, ◌^◌, ◌<◌, Bool, List, length, Option, Some, None, ℤ}
+use Rattle.std.specs.Prelude.{◌≡◌, ℕ, zero, suc, ◌+◌, ◌-◌, ◌^◌, ◌<◌, Bool, List, length, Option}
+use Rattle.std.specs.Prelude.{Some, None, ℤ}
 use Rattle.pisa_isa.specs.declared.cell.Cell.{Cell}
 use Rattle.paired_code.specs.declared.part.Symbol.{Symbol}
 use Rattle.pisa_isa.specs.Machine.{State, stop, next, fetch, Memory, memory_of}
@@ -29,7 +30,8 @@ pub record Coming (far : ℤ) (back : Bool) (e : ℕ) (s : State) : Type 0 where
 abbrev pub Comes : Image → ℤ → Bool → ℕ → ℕ → State → Memory → Type 0
 Comes im far back zero e s m = Coming far back e s × (memory_of s ≡ m)
 Comes im far back (suc k) e s m = (¬ Coming far back e s) × (stop im.code s ≡ None)
-    × Comes im far back k (opened (change_at im.routines (fetch im.code s.pc) s) e) (next im.code s) m
+    × Comes im far back k (opened (change_at im.routines (fetch im.code s.pc) s) e) (next im.code s)
+    m
 
 -- the run stops so after k steps, and has not come there before
 abbrev pub Stops : Image → ℤ → Bool → Stop → ℕ → ℕ → State → Type 0

@@ -1,7 +1,9 @@
 -- The machine as pieces see it: its memory, what one cell does, and which routines are open.
-use Rattle.std.specs.Prelude.{ℕ, suc, ◌^◌, Bool, true, false, List, [], ◌∷◌, nat_eq, nat_lt, if◌then◌else◌, slice_index, slice_set, ℤ, pos, negsuc}
+use Rattle.std.specs.Prelude.{ℕ, suc, ◌^◌, Bool, true, false, List, [], ◌∷◌, nat_eq, nat_lt}
+use Rattle.std.specs.Prelude.{if◌then◌else◌, slice_index, slice_set, ℤ, pos, negsuc}
 use Rattle.pisa_isa.specs.declared.cell.Op.{Op}
-use Rattle.pisa_isa.specs.declared.cell.Op.TheVariants.{Swapbr, Bra, Rbra, Beq, Bne, Bgez, Bgtz, Blez, Bltz, Start, Finish, DataWord}
+use Rattle.pisa_isa.specs.declared.cell.Op.TheVariants.{Swapbr, Bra, Rbra, Beq, Bne, Bgez, Bgtz}
+use Rattle.pisa_isa.specs.declared.cell.Op.TheVariants.{Blez, Bltz, Start, Finish, DataWord}
 use Rattle.pisa_isa.specs.declared.cell.Cell.{Cell}
 use Rattle.pisa_isa.specs.Table.{inverse_op, inverse_word}
 use Rattle.pisa_isa.specs.Machine.{State, row_of, faced, effect, moved, is_zero, Memory, memory_of}
@@ -16,7 +18,8 @@ with_reg m d w = record m { regs = slice_set m.regs d w }
 abbrev pub state : ℤ → ℕ → Bool → Memory → State
 state pc br back m = record { pc = pc; br = br; back = back; regs = m.regs; cells = m.cells }
 
--- the word of the inverse; a number that is no word stays, so that this undoes itself on every number
+-- the word of the inverse; a number that is no word stays, so that this undoes itself on every
+-- number
 abbrev pub reversed_word : Op → ℕ → ℕ
 reversed_word op i = if nat_lt i (2 ^ 32) then inverse_word op i else i
 

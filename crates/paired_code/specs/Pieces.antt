@@ -1,5 +1,6 @@
 -- What a piece does.
-use Rattle.std.specs.Prelude.{◌≡◌, ℕ, suc, ◌+◌, ◌^◌, ◌<◌, ◌≤◌, Bool, true, false, List, length, Some, None, ℤ}
+use Rattle.std.specs.Prelude.{◌≡◌, ℕ, suc, ◌+◌, ◌^◌, ◌<◌, ◌≤◌, Bool, true, false, List, length}
+use Rattle.std.specs.Prelude.{Some, None, ℤ}
 use Rattle.pisa_isa.specs.declared.cell.Cell.{Cell}
 use Rattle.paired_code.specs.declared.part.Symbol.{Symbol}
 use Rattle.pisa_isa.specs.Machine.{State, fetch, stop_at, stop, Memory}
@@ -74,7 +75,8 @@ pub record Runs (im : Image) (p : List Symbol) (d : Bool) (m : Memory) (o : Outc
 pub record Will (im : Image) (p : List Symbol) (d : Bool) (m : Memory)
     (Q : Outcome → Type 0) : Type 0 where
   pub will : (f : Frame) (i : ℕ) → i + length p < 2 ^ 30 → Stands im f i p → (o : Outcome)
-      × Ends im f d i (i + length p) (near_end d i (i + length p)) m (far_end d i (i + length p)) o × Q o
+      × Ends im f d i (i + length p) (near_end d i (i + length p)) m (far_end d i (i + length p)) o
+      × Q o
 
 -- the steps of an outcome, and more before or after
 abbrev pub after : ℕ → Outcome → Outcome

@@ -3,15 +3,18 @@ use Rattle.std.proofs.Common.{◌≡◌, refl, ℕ, Bool, true, false, cond, Opt
 use Rattle.std.specs.Option.{option_map, option_and_then}
 use Rattle.pisa_asm.specs.Chain.{and_then, or_bad}
 
-pub ok_then : {T U E : Type 0} (o : Result T E) (next : T → Result U E) (u : U) → and_then o next ≡ Ok u → (x : T) × (o ≡ Ok x) × (next x ≡ Ok u)
+pub ok_then : {T U E : Type 0} (o : Result T E) (next : T → Result U E) (u : U) → and_then o next ≡ Ok u
+    → (x : T) × (o ≡ Ok x) × (next x ≡ Ok u)
 ok_then (Ok x) next u h = (x, refl, h)
 ok_then (Err e) next u h = absurd (cc)
 
-pub some_then : {T U : Type 0} (f : T → Option U) (o : Option T) (u : U) → option_and_then f o ≡ Some u → (x : T) × (o ≡ Some x) × (f x ≡ Some u)
+pub some_then : {T U : Type 0} (f : T → Option U) (o : Option T) (u : U) → option_and_then f o ≡ Some u
+    → (x : T) × (o ≡ Some x) × (f x ≡ Some u)
 some_then f None u h = absurd (cc)
 some_then f (Some x) u h = (x, refl, h)
 
-pub some_map : {T U : Type 0} (f : T → U) (o : Option T) (u : U) → option_map f o ≡ Some u → (x : T) × (o ≡ Some x) × (u ≡ f x)
+pub some_map : {T U : Type 0} (f : T → U) (o : Option T) (u : U) → option_map f o ≡ Some u
+    → (x : T) × (o ≡ Some x) × (u ≡ f x)
 some_map f None u h = absurd (cc)
 some_map f (Some x) u h = (x, refl, cc)
 

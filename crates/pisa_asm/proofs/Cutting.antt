@@ -1,5 +1,6 @@
 -- A text is its first line and the lines behind it; a line is its first word and the words behind it.
-use Rattle.std.proofs.Common.{◌≡◌, ◌∙◌, ap, refl, ℕ, suc, ◌+◌, ◌<◌, Bool, true, false, ◌==◌, arith, List, [], ◌∷◌, length, take, drop}
+use Rattle.std.proofs.Common.{◌≡◌, ◌∙◌, ap, refl, ℕ, suc, ◌+◌, ◌<◌, Bool, true, false, ◌==◌, arith, List, [], ◌∷◌}
+use Rattle.std.proofs.Common.{length, take, drop}
 use Rattle.std.specs.List.{prefix_len, position_or_len}
 use Rattle.std.proofs.lemmas.Bool.Decides.{nat_tests}
 use Rattle.pisa_asm.specs.Lines.{onto_first, lines_of, words_of, is_blank}
@@ -22,8 +23,10 @@ line_grows b [] e = rw e refl
 line_grows b (c ∷ text) e = by_case (c == 10) refl (λ f. line_grows c text f)
   where
     by_case : (t : Bool) → (c == 10) ≡ t
-        → (t ≡ false → lines_of (c ∷ text) ≡ (c ∷ take (line_length text) text) ∷ lines_of (drop 1 (drop (line_length text) text)))
-        → lines_of (b ∷ c ∷ text) ≡ (b ∷ take (line_length (c ∷ text)) (c ∷ text)) ∷ lines_of (drop 1 (drop (line_length (c ∷ text)) (c ∷ text)))
+        → (t ≡ false → lines_of (c ∷ text) ≡ (c ∷ take (line_length text) text)
+        ∷ lines_of (drop 1 (drop (line_length text) text)))
+        → lines_of (b ∷ c ∷ text) ≡ (b ∷ take (line_length (c ∷ text)) (c ∷ text))
+        ∷ lines_of (drop 1 (drop (line_length (c ∷ text)) (c ∷ text)))
     by_case true f rest = simp (e, f, one_more)
     by_case false f rest = rw e (ap (onto_first b) (rest refl) ∙ simp (f, one_more))
 
@@ -32,12 +35,14 @@ pub lines_cut : (text : List ℕ) → 0 < length text
 lines_cut [] h = absurd (omega arith)
 lines_cut (b ∷ text) h = by_case (b == 10) refl
   where
-    by_case : (t : Bool) → (b == 10) ≡ t → lines_of (b ∷ text) ≡ take (line_length (b ∷ text)) (b ∷ text) ∷ lines_of (drop 1 (drop (line_length (b ∷ text)) (b ∷ text)))
+    by_case : (t : Bool) → (b == 10) ≡ t → lines_of (b ∷ text)
+        ≡ take (line_length (b ∷ text)) (b ∷ text) ∷ lines_of (drop 1 (drop (line_length (b ∷ text)) (b ∷ text)))
     by_case true f = simp (f, one_more)
     by_case false f = line_grows b text f ∙ simp (f, one_more)
 
 -- no blank stands between
-pub joined : (b c : ℕ) (line : List ℕ) → is_blank b ≡ false → is_blank c ≡ false → words_of (b ∷ c ∷ line) ≡ onto_first b (words_of (c ∷ line))
+pub joined : (b c : ℕ) (line : List ℕ) → is_blank b ≡ false → is_blank c ≡ false
+    → words_of (b ∷ c ∷ line) ≡ onto_first b (words_of (c ∷ line))
 joined b c line e f = rw (e, f) refl
 
 -- a byte before the first blank belongs to the first word
@@ -47,8 +52,10 @@ word_grows b [] e = rw e refl
 word_grows b (c ∷ line) e = by_case (is_blank c) refl (λ f. word_grows c line f)
   where
     by_case : (t : Bool) → is_blank c ≡ t
-        → (t ≡ false → words_of (c ∷ line) ≡ (c ∷ take (word_length line) line) ∷ words_of (drop (word_length line) line))
-        → words_of (b ∷ c ∷ line) ≡ (b ∷ take (word_length (c ∷ line)) (c ∷ line)) ∷ words_of (drop (word_length (c ∷ line)) (c ∷ line))
+        → (t ≡ false → words_of (c ∷ line) ≡ (c ∷ take (word_length line) line)
+        ∷ words_of (drop (word_length line) line))
+        → words_of (b ∷ c ∷ line) ≡ (b ∷ take (word_length (c ∷ line)) (c ∷ line))
+        ∷ words_of (drop (word_length (c ∷ line)) (c ∷ line))
     by_case true f rest = simp (e, f, one_more)
     by_case false f rest = joined b c line e f ∙ ap (onto_first b) (rest refl) ∙ simp (f, one_more)
 
@@ -70,22 +77,28 @@ words_cut [] h = absurd (omega arith)
 words_cut (b ∷ line) h = by_case (is_blank b) refl (words_cut line) h
   where
     by_case : (t : Bool) → is_blank b ≡ t
-        → (0 < length (drop (prefix_len is_blank line) line) → words_of line ≡ take (word_length (drop (prefix_len is_blank line) line)) (drop (prefix_len is_blank line) line)
+        → (0 < length (drop (prefix_len is_blank line) line)
+        → words_of line ≡ take (word_length (drop (prefix_len is_blank line) line))
+        (drop (prefix_len is_blank line) line)
         ∷ words_of (drop (word_length (drop (prefix_len is_blank line) line)) (drop (prefix_len is_blank line) line)))
         → 0 < length (drop (prefix_len is_blank (b ∷ line)) (b ∷ line))
-        → words_of (b ∷ line) ≡ take (word_length (drop (prefix_len is_blank (b ∷ line)) (b ∷ line))) (drop (prefix_len is_blank (b ∷ line)) (b ∷ line))
-        ∷ words_of (drop (word_length (drop (prefix_len is_blank (b ∷ line)) (b ∷ line))) (drop (prefix_len is_blank (b ∷ line)) (b ∷ line)))
+        → words_of (b ∷ line) ≡ take (word_length (drop (prefix_len is_blank (b ∷ line)) (b ∷ line)))
+        (drop (prefix_len is_blank (b ∷ line)) (b ∷ line))
+        ∷ words_of (drop (word_length (drop (prefix_len is_blank (b ∷ line)) (b ∷ line)))
+        (drop (prefix_len is_blank (b ∷ line)) (b ∷ line)))
     by_case true f rest h = simp (f, one_more) (rest (simp (f, one_more) at h))
     by_case false f rest h = word_grows b line f ∙ simp (f, one_more)
 
 -- a word has a byte
-pub word_some : (line : List ℕ) → 0 < length (drop (prefix_len is_blank line) line) → 0 < word_length (drop (prefix_len is_blank line) line)
+pub word_some : (line : List ℕ) → 0 < length (drop (prefix_len is_blank line) line)
+    → 0 < word_length (drop (prefix_len is_blank line) line)
 word_some [] h = absurd (omega arith)
 word_some (b ∷ line) h = by_case (is_blank b) refl (word_some line) h
   where
     by_case : (t : Bool) → is_blank b ≡ t
         → (0 < length (drop (prefix_len is_blank line) line) → 0 < word_length (drop (prefix_len is_blank line) line))
-        → 0 < length (drop (prefix_len is_blank (b ∷ line)) (b ∷ line)) → 0 < word_length (drop (prefix_len is_blank (b ∷ line)) (b ∷ line))
+        → 0 < length (drop (prefix_len is_blank (b ∷ line)) (b ∷ line))
+        → 0 < word_length (drop (prefix_len is_blank (b ∷ line)) (b ∷ line))
     by_case true f rest h = simp (f, one_more) (rest (simp (f, one_more) at h))
     by_case false f rest h = simp (f, one_more) (omega arith)
 

@@ -1,5 +1,6 @@
 -- The labels of a line, and labels none of which stands earlier.
-use Rattle.std.proofs.Common.{◌≡◌, ◌∙◌, ap, sym, subst, refl, ℕ, suc, ◌-◌, ◌<◌, Bool, true, false, ◌==◌, arith, List, [], ◌∷◌, ◌++◌, length, get_or, take, map, Option, Some, None, Ok, length-append}
+use Rattle.std.proofs.Common.{◌≡◌, ◌∙◌, ap, sym, subst, refl, ℕ, suc, ◌-◌, ◌<◌, Bool, true, false, ◌==◌, arith, List}
+use Rattle.std.proofs.Common.{[], ◌∷◌, ◌++◌, length, get_or, take, map, Option, Some, None, Ok, length-append}
 use Rattle.std.specs.List.{All}
 use Rattle.std.proofs.Math.Seq.{take-suc}
 use Rattle.std.proofs.lemmas.Bool.Decides.{nat_tests}
@@ -47,7 +48,8 @@ label_written (b ∷ word) h =
     let inside : i < length whole = omega arith in
     let place : suc i ≡ length whole = omega arith in
     let last : get_or whole i 0 ≡ 58 = colon (get_or whole i 0) h in
-    sym (take_all whole) ∙ ap (λ n. take n whole) (sym place) ∙ take-suc whole i 0 inside ∙ ap (λ c. take i whole ++ c ∷ []) last
+    sym (take_all whole) ∙ ap (λ n. take n whole) (sym place) ∙ take-suc whole i 0 inside
+    ∙ ap (λ c. take i whole ++ c ∷ []) last
   where
     colon : (c : ℕ) → (c == 58) ≡ true → c ≡ 58
     colon c h = grind (arith, nat_tests)
@@ -64,8 +66,10 @@ split_sound (word ∷ words) = by_label (is_label word) refl (split_sound words)
     by_label true e s =
         let p = both (ends_in 58 word) (is_name (all_but_last word)) e in
         record {
-          are_names = rw e (All-cons (λ name. is_name name ≡ true) (all_but_last word) (label_names words) p.1 s.are_names);
-          written = rw e (ap (λ w. w ∷ words) (label_written word p.0) ∙ ap (λ ws. label_word (all_but_last word) ∷ ws) s.written);
+          are_names = rw e (All-cons (λ name. is_name name ≡ true) (all_but_last word) (label_names words) p.1
+              s.are_names);
+          written = rw e (ap (λ w. w ∷ words) (label_written word p.0)
+              ∙ ap (λ ws. label_word (all_but_last word) ∷ ws) s.written);
         }
     by_label false e s = record { are_names = rw e (λ k d h. absurd (omega arith)); written = rw e refl }
 
@@ -77,23 +81,30 @@ pub record NoLabels (words : List (List ℕ)) : Type 0 where
 first_no_label : (word : List ℕ) (words : List (List ℕ)) → is_label word ≡ false → NoLabels (word ∷ words)
 first_no_label word words e = record { after = rw e refl; names = rw e refl }
 
-pub item_no_labels : (labels : Labels) (at : ℕ) (words : List (List ℕ)) (code : List Cell) (statics : List ℕ) (notes : NoteLists) → ItemText labels at words code statics notes → NoLabels words
+pub item_no_labels : (labels : Labels) (at : ℕ) (words : List (List ℕ)) (code : List Cell) (statics : List ℕ)
+    (notes : NoteLists) → ItemText labels at words code statics notes → NoLabels words
 item_no_labels labels at words code statics notes (nothing w c s o) = rw w (record { after = refl; names = refl })
 item_no_labels labels at words code statics notes (instruction cell i c s o) =
     rw i.written (first_no_label (mnemonic cell.op) (i.a ++ (i.b ++ (i.c ++ i.last))) (no_label cell.op))
-item_no_labels labels at words code statics notes (static word n w t c s o) = rw w (first_no_label static_word (word ∷ []) refl)
-item_no_labels labels at words code statics notes (marked m t c s o) = rw t.written (first_no_label mark_word (t.first ∷ t.end ∷ t.at ∷ []) refl)
-item_no_labels labels at words code statics notes (named n t c s o) = rw t.written (first_no_label name_word (t.cell ∷ n.text ∷ []) refl)
+item_no_labels labels at words code statics notes (static word n w t c s o) =
+    rw w (first_no_label static_word (word ∷ []) refl)
+item_no_labels labels at words code statics notes (marked m t c s o) =
+    rw t.written (first_no_label mark_word (t.first ∷ t.end ∷ t.at ∷ []) refl)
+item_no_labels labels at words code statics notes (named n t c s o) =
+    rw t.written (first_no_label name_word (t.cell ∷ n.text ∷ []) refl)
 
-pub after_complete : (names words : List (List ℕ)) → All (λ name. is_name name ≡ true) names → NoLabels words → after_labels (map label_word names ++ words) ≡ words
+pub after_complete : (names words : List (List ℕ)) → All (λ name. is_name name ≡ true) names → NoLabels words
+    → after_labels (map label_word names ++ words) ≡ words
 after_complete [] words all n = n.after
 after_complete (name ∷ names) words all n =
     rw (label_is name (all 0 name (omega arith))) (after_complete names words (λ k d h. all (suc k) d (omega arith)) n)
 
-pub names_complete : (names words : List (List ℕ)) → All (λ name. is_name name ≡ true) names → NoLabels words → label_names (map label_word names ++ words) ≡ names
+pub names_complete : (names words : List (List ℕ)) → All (λ name. is_name name ≡ true) names → NoLabels words
+    → label_names (map label_word names ++ words) ≡ names
 names_complete [] words all n = n.names
 names_complete (name ∷ names) words all n =
-    rw (label_is name (all 0 name (omega arith)), front_of_label name) (ap (λ ns. name ∷ ns) (names_complete names words (λ k d h. all (suc k) d (omega arith)) n))
+    rw (label_is name (all 0 name (omega arith)), front_of_label name)
+    (ap (λ ns. name ∷ ns) (names_complete names words (λ k d h. all (suc k) d (omega arith)) n))
 
 -- labels that are new
 
@@ -101,21 +112,31 @@ names_complete (name ∷ names) words all n =
 abbrev pub placed : ℕ → List (List ℕ) → Labels
 placed at names = map (λ name. (name, at)) names
 
-pub labels_complete : (line at : ℕ) (before : Labels) (names : List (List ℕ)) → AreNew before (placed at names) → labels_at line at before names ≡ Ok (before ++ placed at names)
+pub labels_complete : (line at : ℕ) (before : Labels) (names : List (List ℕ)) → AreNew before (placed at names)
+    → labels_at line at before names ≡ Ok (before ++ placed at names)
 labels_complete line at before [] n = ap Ok (sym (append-nil before))
 labels_complete line at before (name ∷ names) n =
-    rw n.0 (labels_complete line at (before ++ (name, at) ∷ []) names n.1 ∙ ap Ok (append_assoc before ((name, at) ∷ []) (placed at names)))
+    rw n.0 (labels_complete line at (before ++ (name, at) ∷ []) names n.1
+    ∙ ap Ok (append_assoc before ((name, at) ∷ []) (placed at names)))
 
 pub record Placed (at : ℕ) (before : Labels) (names : List (List ℕ)) (end : Labels) : Type 0 where
   pub are_new : AreNew before (placed at names)
   pub all : end ≡ before ++ placed at names
 
-pub labels_sound : (line at : ℕ) (before : Labels) (names : List (List ℕ)) (end : Labels) → labels_at line at before names ≡ Ok end → Placed at before names end
-labels_sound line at before [] end h = record { are_new = tt; all = let same : before ≡ end = cc in sym same ∙ sym (append-nil before) }
-labels_sound line at before (name ∷ names) end h = by_place (place_of name before) refl h (labels_sound line at (before ++ (name, at) ∷ []) names end)
+pub labels_sound : (line at : ℕ) (before : Labels) (names : List (List ℕ)) (end : Labels)
+    → labels_at line at before names ≡ Ok end → Placed at before names end
+labels_sound line at before [] end h = record {
+  are_new = tt;
+  all = let same : before ≡ end = cc in sym same
+      ∙ sym (append-nil before);
+}
+labels_sound line at before (name ∷ names) end h = by_place (place_of name before) refl h
+    (labels_sound line at (before ++ (name, at) ∷ []) names end)
   where
-    by_place : (o : Option ℕ) → place_of name before ≡ o → and_then (label_at line name at before o) (λ longer. labels_at line at longer names) ≡ Ok end
-        → (labels_at line at (before ++ (name, at) ∷ []) names ≡ Ok end → Placed at (before ++ (name, at) ∷ []) names end)
+    by_place : (o : Option ℕ) → place_of name before ≡ o → and_then (label_at line name at before o)
+        (λ longer. labels_at line at longer names) ≡ Ok end
+        → (labels_at line at (before ++ (name, at) ∷ []) names ≡ Ok end
+        → Placed at (before ++ (name, at) ∷ []) names end)
         → Placed at before (name ∷ names) end
     by_place (Some p) e h rest = absurd (cc)
     by_place None e h rest =

@@ -1,5 +1,6 @@
 -- A listing is no longer than a text may be, and its names are written byte by byte.
-use Rattle.std.proofs.Common.{◌≡◌, ℕ, zero, suc, ◌+◌, ◌-◌, ◌*◌, ◌<◌, ◌≤◌, ◌^◌, Bool, true, false, cond, arith, List, [], ◌∷◌, ◌++◌, length, length-append}
+use Rattle.std.proofs.Common.{◌≡◌, ℕ, zero, suc, ◌+◌, ◌-◌, ◌*◌, ◌<◌, ◌≤◌, ◌^◌, Bool, true, false, cond, arith, List, []}
+use Rattle.std.proofs.Common.{◌∷◌, ◌++◌, length, length-append}
 use Rattle.std.specs.Prelude.{nat_lt, slice_index}
 use Rattle.std.specs.List.{All, list_all}
 use Rattle.std.specs.Char.{is_ascii_alphabetic}
@@ -25,7 +26,8 @@ use Rattle.pisa_asm.specs.declared.operand.Last.{Last}
 use Rattle.pisa_asm.specs.declared.operand.Last.TheVariants.{Nothing, Word, Amount, Offset}
 use Rattle.pisa_asm.specs.Mnemonics.{mnemonic}
 use Rattle.pisa_asm.specs.Operands.{last_of}
-use Rattle.pisa_asm.specs.Listing.{signed_text, offset_text, register_text, last_text, cell_text, static_text, number_text, mark_text, name_text, HasAsciiText, lines_by, listing}
+use Rattle.pisa_asm.specs.Listing.{signed_text, offset_text, register_text, last_text, cell_text, static_text}
+use Rattle.pisa_asm.specs.Listing.{number_text, mark_text, name_text, HasAsciiText, lines_by, listing}
 use Rattle.pisa_asm.proofs.Spelling.{both}
 use Rattle.pisa_asm.proofs.Noting.{at_most}
 use Rattle.pisa_asm.proofs.Relisting.{MarkIn, mark_in, NameIn, name_in, head, tail}
@@ -74,7 +76,8 @@ line_short line rest n m h g = simp length-append (omega arith)
 code_short : (code : List Cell) → All IsCell code → length (lines_by cell_text code) ≤ 31 * length code
 code_short [] all = omega arith
 code_short (c ∷ code) all =
-    let whole = line_short (cell_text c) (lines_by cell_text code) 30 (31 * length code) (cell_short c (head IsCell c code all)) (code_short code (tail IsCell c code all)) in
+    let whole = line_short (cell_text c) (lines_by cell_text code) 30 (31 * length code)
+    (cell_short c (head IsCell c code all)) (code_short code (tail IsCell c code all)) in
     omega arith
 
 static_short : (word : ℕ) → word < 2 ^ 32 → length (static_text word) ≤ 18
@@ -83,7 +86,8 @@ static_short word h = let s = signed_short word h in simp length-append (omega a
 statics_short : (statics : List ℕ) → All IsWord statics → length (lines_by static_text statics) ≤ 19 * length statics
 statics_short [] all = omega arith
 statics_short (word ∷ statics) all =
-    let whole = line_short (static_text word) (lines_by static_text statics) 18 (19 * length statics) (static_short word (head IsWord word statics all)) (statics_short statics (tail IsWord word statics all)) in
+    let whole = line_short (static_text word) (lines_by static_text statics) 18 (19 * length statics)
+    (static_short word (head IsWord word statics all)) (statics_short statics (tail IsWord word statics all)) in
     omega arith
 
 number_short : (n : ℕ) → n < 2 ^ 32 → length (number_text n) ≤ 11
@@ -96,11 +100,13 @@ mark_short m i =
     let at = number_short m.at i.at in
     simp length-append (omega arith)
 
-marks_short : (cells : ℕ) (marks : List Mark) → cells ≤ MOST_CELLS → list_all (mark_fits cells) marks ≡ true → length (lines_by mark_text marks) ≤ 38 * length marks
+marks_short : (cells : ℕ) (marks : List Mark) → cells ≤ MOST_CELLS → list_all (mark_fits cells) marks ≡ true
+    → length (lines_by mark_text marks) ≤ 38 * length marks
 marks_short cells [] few h = omega arith
 marks_short cells (m ∷ marks) few h =
     let p = both (mark_fits cells m) (list_all (mark_fits cells) marks) h in
-    let whole = line_short (mark_text m) (lines_by mark_text marks) 37 (38 * length marks) (mark_short m (mark_in cells m few p.0)) (marks_short cells marks few p.1) in
+    let whole = line_short (mark_text m) (lines_by mark_text marks) 37 (38 * length marks)
+    (mark_short m (mark_in cells m few p.0)) (marks_short cells marks few p.1) in
     omega arith
 
 name_short : (left : ℕ) (n : FieldName) → NameIn left n → length (name_text n) ≤ 16 + length n.text
@@ -108,17 +114,20 @@ name_short left n i =
     let cell = number_short n.cell i.cell in
     simp length-append (omega arith)
 
-names_short : (statics left : ℕ) (names : List FieldName) → statics ≤ MOST_STATICS → names_fit statics left names ≡ true → length (lines_by name_text names) ≤ 17 * length names + left
+names_short : (statics left : ℕ) (names : List FieldName) → statics ≤ MOST_STATICS → names_fit statics left names ≡ true
+    → length (lines_by name_text names) ≤ 17 * length names + left
 names_short statics left [] few h = omega arith
 names_short statics left (n ∷ names) few h =
     let p = both (name_fits statics left n) (names_fit statics (left - length n.text) names) h in
     let i = name_in statics left n few p.0 in
     let short = i.short in
-    let whole = line_short (name_text n) (lines_by name_text names) (16 + length n.text) (17 * length names + (left - length n.text)) (name_short left n i)
+    let whole = line_short (name_text n) (lines_by name_text names) (16 + length n.text)
+    (17 * length names + (left - length n.text)) (name_short left n i)
     (names_short statics (left - length n.text) names few p.1) in
     omega arith
 
-pub listing_short : (n : NotedImage) → IsImage n.image → All IsWord n.image.statics → fits n.image n.notes ≡ true → length (listing n) ≤ MOST_TEXT
+pub listing_short : (n : NotedImage) → IsImage n.image → All IsWord n.image.statics → fits n.image n.notes ≡ true
+    → length (listing n) ≤ MOST_TEXT
 listing_short n i words h =
     let f = fitting n.image n.notes h in
     let few = i.is_code.in_limit in
@@ -149,7 +158,8 @@ text_ascii [] h i = absurd (cc)
 text_ascii (b ∷ text) h zero = letter_ascii b (both (is_ascii_alphabetic b) (list_all is_name_byte text) h).0
 text_ascii (b ∷ text) h (suc i) = bytes_ascii text (both (is_ascii_alphabetic b) (list_all is_name_byte text) h).1 i
 
-names_ascii : (statics left : ℕ) (names : List FieldName) → statics ≤ MOST_STATICS → names_fit statics left names ≡ true → All HasAsciiText names
+names_ascii : (statics left : ℕ) (names : List FieldName) → statics ≤ MOST_STATICS → names_fit statics left names ≡ true
+    → All HasAsciiText names
 names_ascii statics left [] few h = λ k d inside. absurd (omega arith)
 names_ascii statics left (n ∷ names) few h =
     let p = both (name_fits statics left n) (names_fit statics (left - length n.text) names) h in
@@ -157,4 +167,5 @@ names_ascii statics left (n ∷ names) few h =
     All-cons HasAsciiText n names (text_ascii n.text i.text) (names_ascii statics (left - length n.text) names few p.1)
 
 pub ascii_names : (n : NotedImage) → IsImage n.image → fits n.image n.notes ≡ true → All HasAsciiText n.notes.names
-ascii_names n i h = names_ascii (length n.image.statics) MOST_NAME_BYTES n.notes.names i.statics_in_limit (fitting n.image n.notes h).names
+ascii_names n i h = names_ascii (length n.image.statics) MOST_NAME_BYTES n.notes.names i.statics_in_limit
+    (fitting n.image n.notes h).names

@@ -1,5 +1,6 @@
 -- Instructions and static words as they are said and as they are read.
-use Rattle.std.proofs.Common.{◌≡◌, ◌∙◌, ap, refl, ℕ, ◌^◌, ◌<◌, Bool, true, false, cond, arith, List, [], ◌∷◌, ◌++◌, length, Some}
+use Rattle.std.proofs.Common.{◌≡◌, ◌∙◌, ap, refl, ℕ, ◌^◌, ◌<◌, Bool, true, false, cond, arith, List, [], ◌∷◌, ◌++◌}
+use Rattle.std.proofs.Common.{length, Some}
 use Rattle.std.specs.Option.{option_map, option_and_then}
 use Rattle.std.specs.Char.{is_ascii_digit}
 use Rattle.std.specs.Str.{all_ascii_digits}
@@ -16,9 +17,11 @@ use Rattle.pisa_asm.specs.declared.operand.Given.{Given}
 use Rattle.pisa_asm.specs.Numerals.{word_number, amount_number, offset_number}
 use Rattle.pisa_asm.specs.LabelNames.{begins_name, is_name, Labels, place_of}
 use Rattle.pisa_asm.specs.Mnemonics.{mnemonic}
-use Rattle.pisa_asm.specs.Operands.{last_of, register_from, registers_from, offset_from, sole, operand_from, with_operand, given_from}
+use Rattle.pisa_asm.specs.Operands.{last_of, register_from, registers_from, offset_from, sole, operand_from}
+use Rattle.pisa_asm.specs.Operands.{with_operand, given_from}
 use Rattle.pisa_asm.specs.Passes.{resolved}
-use Rattle.pisa_asm.specs.AssemblyText.{NumberText, plain, plus, minus, RegisterWords, OffsetText, by_number, by_label, LastWords, InstructionText}
+use Rattle.pisa_asm.specs.AssemblyText.{NumberText, plain, plus, minus, RegisterWords, OffsetText, by_number, by_label}
+use Rattle.pisa_asm.specs.AssemblyText.{LastWords, InstructionText}
 use Rattle.pisa_asm.proofs.Chaining.{some_then, some_map}
 use Rattle.pisa_asm.proofs.Spelling.{both}
 use Rattle.pisa_asm.proofs.Rereading.{own}
@@ -31,7 +34,8 @@ digit_no_name d h = grind (arith, nat_tests)
 
 digits_no_name : (bytes : List ℕ) → 0 < length bytes → all_ascii_digits bytes ≡ true → is_name bytes ≡ false
 digits_no_name [] some h = absurd (omega arith)
-digits_no_name (d ∷ bytes) some h = let p = both (is_ascii_digit d) (all_ascii_digits bytes) h in rw (digit_no_name d p.0) refl
+digits_no_name (d ∷ bytes) some h = let p = both (is_ascii_digit d) (all_ascii_digits bytes) h in
+    rw (digit_no_name d p.0) refl
 
 no_name : (low end : ℕ) (bytes : List ℕ) (word : ℕ) → NumberText low end bytes word → is_name bytes ≡ false
 no_name low end bytes word (plain n h e) = digits_no_name bytes n.0 (own.from bytes n.1)
@@ -49,12 +53,14 @@ record LastSaid (labels : Labels) (at : ℕ) (last : Last) (words : List (List �
   said : LastWords labels at last words final.imm
   same : final ≡ record cell { imm = final.imm }
 
-said_at : (labels : Labels) (at : ℕ) (last : Last) (words : List (List ℕ)) (cell final : Cell) (imm : ℕ) → LastWords labels at last words imm → final ≡ record cell { imm = imm }
+said_at : (labels : Labels) (at : ℕ) (last : Last) (words : List (List ℕ)) (cell final : Cell) (imm : ℕ)
+    → LastWords labels at last words imm → final ≡ record cell { imm = imm }
     → LastSaid labels at last words cell final
 said_at labels at last words cell final imm w e = rw e (record { said = w; same = refl })
 
 last_sound : (labels : Labels) (at : ℕ) (last : Last) (words : List (List ℕ)) (o : Operand) (cell final : Cell)
-    → operand_from last words ≡ Some o → resolved labels at (with_operand cell o) ≡ Some final → LastSaid labels at last words cell final
+    → operand_from last words ≡ Some o → resolved labels at (with_operand cell o) ≡ Some final
+    → LastSaid labels at last words cell final
 last_sound labels at Nothing [] o cell final h g =
     let zero : o ≡ Number 0 = cc in
     let g0 : Some (record cell { imm = 0 }) ≡ Some final = rw zero at g in
@@ -64,7 +70,11 @@ last_sound labels at Word words o cell final h g =
     let m = some_map Number (option_and_then word_number (sole words)) o h in
     let s = some_then word_number (sole words) m.0 m.1 in
     let g0 : Some (record cell { imm = m.0 }) ≡ Some final = rw m.2 at g in
-    said_at labels at Word words cell final m.0 (s.0, sole_one words s.0 s.1, number_sound (2 ^ 31) (2 ^ 32) s.0 m.0 s.2) (cc)
+    said_at labels at Word words cell final m.0 (
+      s.0,
+      sole_one words s.0 s.1,
+      number_sound (2 ^ 31) (2 ^ 32) s.0 m.0 s.2,
+    ) (cc)
 last_sound labels at Amount words o cell final h g =
     let m = some_map Number (option_and_then amount_number (sole words)) o h in
     let s = some_then amount_number (sole words) m.0 m.1 in
@@ -74,17 +84,21 @@ last_sound labels at Offset words o cell final h g =
     let s = some_then offset_from (sole words) o h in
     by_name s.0 (is_name s.0) refl s.2 (sole_one words s.0 s.1)
   where
-    by_name : (word : List ℕ) (t : Bool) → is_name word ≡ t → cond t (Some (Label word)) (option_map Number (offset_number word)) ≡ Some o → words ≡ word ∷ []
+    by_name : (word : List ℕ) (t : Bool) → is_name word ≡ t
+        → cond t (Some (Label word)) (option_map Number (offset_number word)) ≡ Some o → words ≡ word ∷ []
         → LastSaid labels at Offset words cell final
     by_name word true n h w =
         let label : o ≡ Label word = cc in
-        let g0 : option_map (λ (place : ℕ). record cell { imm = difference_of place at }) (place_of word labels) ≡ Some final = rw label at g in
-        let p = some_map (λ (place : ℕ). record cell { imm = difference_of place at }) (place_of word labels) final g0 in
+        let g0 : option_map (λ (place : ℕ). record cell { imm = difference_of place at }) (place_of word labels)
+        ≡ Some final = rw label at g in
+        let p = some_map (λ (place : ℕ). record cell { imm = difference_of place at }) (place_of word labels) final g0
+        in
         said_at labels at Offset words cell final (difference_of p.0 at) (word, w, by_label p.0 n p.1 refl) p.2
     by_name word false n h w =
         let m = some_map Number (offset_number word) o h in
         let g0 : Some (record cell { imm = m.0 }) ≡ Some final = rw m.2 at g in
-        said_at labels at Offset words cell final m.0 (word, w, by_number (number_sound (2 ^ 31) (2 ^ 31) word m.0 m.1)) (cc)
+        said_at labels at Offset words cell final m.0 (word, w, by_number (number_sound (2 ^ 31) (2 ^ 31) word m.0 m.1))
+        (cc)
 
 -- the operand that is read of such words
 record LastRead (labels : Labels) (at : ℕ) (last : Last) (words : List (List ℕ)) (cell : Cell) (imm : ℕ) : Type 0 where
@@ -92,11 +106,13 @@ record LastRead (labels : Labels) (at : ℕ) (last : Last) (words : List (List �
   read : operand_from last words ≡ Some operand
   resolves : resolved labels at (with_operand cell operand) ≡ Some (record cell { imm = imm })
 
-offset_complete : (labels : Labels) (at : ℕ) (words : List (List ℕ)) (cell : Cell) (imm : ℕ) (word : List ℕ) → words ≡ word ∷ [] → OffsetText labels at word imm
+offset_complete : (labels : Labels) (at : ℕ) (words : List (List ℕ)) (cell : Cell) (imm : ℕ) (word : List ℕ)
+    → words ≡ word ∷ [] → OffsetText labels at word imm
     → LastRead labels at Offset words cell imm
 offset_complete labels at words cell imm word w (by_number n) = record {
   operand = Number imm;
-  read = rw (w, no_name (2 ^ 31) (2 ^ 31) word imm n) (ap (option_map Number) (number_complete (2 ^ 31) (2 ^ 31) word imm n));
+  read = rw (w, no_name (2 ^ 31) (2 ^ 31) word imm n) (ap (option_map Number)
+      (number_complete (2 ^ 31) (2 ^ 31) word imm n));
   resolves = refl;
 }
 offset_complete labels at words cell imm word w (by_label place n p e) = record {
@@ -105,9 +121,11 @@ offset_complete labels at words cell imm word w (by_label place n p e) = record 
   resolves = rw (p, e) refl;
 }
 
-last_complete : (labels : Labels) (at : ℕ) (last : Last) (words : List (List ℕ)) (cell : Cell) (imm : ℕ) → LastWords labels at last words imm
+last_complete : (labels : Labels) (at : ℕ) (last : Last) (words : List (List ℕ)) (cell : Cell) (imm : ℕ)
+    → LastWords labels at last words imm
     → LastRead labels at last words cell imm
-last_complete labels at Nothing words cell imm t = record { operand = Number 0; read = rw t.0 refl; resolves = rw t.1 refl }
+last_complete labels at Nothing words cell imm t = record
+    { operand = Number 0; read = rw t.0 refl; resolves = rw t.1 refl }
 last_complete labels at Word words cell imm t = record {
   operand = Number imm;
   read = rw t.1 (ap (option_map Number) (number_complete (2 ^ 31) (2 ^ 32) t.0 imm t.2));
@@ -132,11 +150,15 @@ record RegistersSaid (op : Op) (words : List (List ℕ)) (cell : Cell) (rest : L
   is_b : RegisterWords (has_b op) b cell.b
   is_c : RegisterWords (c_is_source op) c cell.c
 
-registers_sound : (op : Op) (words : List (List ℕ)) (p : Cell × List (List ℕ)) → registers_from op words ≡ Some p → RegistersSaid op words p.0 p.1
+registers_sound : (op : Op) (words : List (List ℕ)) (p : Cell × List (List ℕ)) → registers_from op words ≡ Some p
+    → RegistersSaid op words p.0 p.1
 registers_sound op words p h =
-    let a = some_then (λ (a : ℕ × List (List ℕ)). option_and_then (λ (b : ℕ × List (List ℕ)). option_map (λ (c : ℕ × List (List ℕ)). (record { op = op; a = a.0; b = b.0; c = c.0; imm = 0 }, c.1))
+    let a = some_then (λ (a : ℕ × List (List ℕ)). option_and_then
+    (λ (b : ℕ × List (List ℕ)). option_map (λ (c : ℕ × List (List ℕ)).
+    (record { op = op; a = a.0; b = b.0; c = c.0; imm = 0 }, c.1))
     (register_from (c_is_source op) b.1)) (register_from (has_b op) a.1)) (register_from (has_a op) words) p h in
-    let b = some_then (λ (b : ℕ × List (List ℕ)). option_map (λ (c : ℕ × List (List ℕ)). (record { op = op; a = a.0.0; b = b.0; c = c.0; imm = 0 }, c.1))
+    let b = some_then (λ (b : ℕ × List (List ℕ)). option_map
+    (λ (c : ℕ × List (List ℕ)). (record { op = op; a = a.0.0; b = b.0; c = c.0; imm = 0 }, c.1))
     (register_from (c_is_source op) b.1)) (register_from (has_b op) a.0.1) p a.2 in
     let c = some_map (λ (c : ℕ × List (List ℕ)). (record { op = op; a = a.0.0; b = b.0.0; c = c.0; imm = 0 }, c.1))
     (register_from (c_is_source op) b.0.1) p b.2 in
@@ -156,7 +178,8 @@ registers_sound op words p h =
 
 -- the whole instruction
 
-said_final : (labels : Labels) (at : ℕ) (op : Op) (words rest : List (List ℕ)) (cell final : Cell) → RegistersSaid op words cell rest
+said_final : (labels : Labels) (at : ℕ) (op : Op) (words rest : List (List ℕ)) (cell final : Cell)
+    → RegistersSaid op words cell rest
     → LastSaid labels at (last_of op) rest cell final → InstructionText labels at (mnemonic op ∷ words) final
 said_final labels at op words rest cell final r l =
     let is_op : final.op ≡ op = ap (λ (c : Cell). c.op) l.same ∙ r.is_op in
@@ -175,10 +198,12 @@ said_final labels at op words rest cell final r l =
       is_last = rw is_op l.said;
     }
 
-pub instruction_sound : (labels : Labels) (at : ℕ) (op : Op) (words : List (List ℕ)) (given : Given) (final : Cell) → given_from op words ≡ Some given → resolved labels at given ≡ Some final
+pub instruction_sound : (labels : Labels) (at : ℕ) (op : Op) (words : List (List ℕ)) (given : Given) (final : Cell)
+    → given_from op words ≡ Some given → resolved labels at given ≡ Some final
     → InstructionText labels at (mnemonic op ∷ words) final
 instruction_sound labels at op words given final h g =
-    let r = some_then (λ (registers : Cell × List (List ℕ)). option_map (with_operand registers.0) (operand_from (last_of op) registers.1)) (registers_from op words) given h in
+    let r = some_then (λ (registers : Cell × List (List ℕ)). option_map (with_operand registers.0)
+    (operand_from (last_of op) registers.1)) (registers_from op words) given h in
     let o = some_map (with_operand r.0.0) (operand_from (last_of op) r.0.1) given r.2 in
     said_final labels at op words r.0.1 r.0.0 final (registers_sound op words r.0 r.1)
     (last_sound labels at (last_of op) r.0.1 o.0 r.0.0 final o.1 (rw o.2 at g))
@@ -191,10 +216,12 @@ pub record InstructionRead (labels : Labels) (at : ℕ) (words : List (List ℕ)
   pub read : given_from cell.op behind ≡ Some given
   pub resolves : resolved labels at given ≡ Some cell
 
-pub instruction_complete : (labels : Labels) (at : ℕ) (words : List (List ℕ)) (cell : Cell) → InstructionText labels at words cell → InstructionRead labels at words cell
+pub instruction_complete : (labels : Labels) (at : ℕ) (words : List (List ℕ)) (cell : Cell)
+    → InstructionText labels at words cell → InstructionRead labels at words cell
 instruction_complete labels at words cell t =
     let base : Cell = record { op = cell.op; a = cell.a; b = cell.b; c = cell.c; imm = 0 } in
-    let o : LastRead labels at (last_of cell.op) t.last base cell.imm = last_complete labels at (last_of cell.op) t.last base cell.imm t.is_last in
+    let o : LastRead labels at (last_of cell.op) t.last base cell.imm =
+    last_complete labels at (last_of cell.op) t.last base cell.imm t.is_last in
     let registers : registers_from cell.op (t.a ++ (t.b ++ (t.c ++ t.last))) ≡ Some (base, t.last) =
     rw (
       taken_complete (has_a cell.op) t.a (t.b ++ (t.c ++ t.last)) cell.a t.is_a,

@@ -1,11 +1,13 @@
 -- The fields of a cell that is read are in the ranges of its row.
-use Rattle.std.proofs.Common.{◌≡◌, ◌∙◌, ap, subst, refl, ℕ, ◌+◌, ◌^◌, ◌<◌, Bool, true, false, cond, ◌==◌, arith, List, [], ◌∷◌, Option, Some, None, Ok, Err, inl, inr, ◌⊎◌}
+use Rattle.std.proofs.Common.{◌≡◌, ◌∙◌, ap, subst, refl, ℕ, ◌+◌, ◌^◌, ◌<◌, Bool, true, false, cond, ◌==◌, arith, List}
+use Rattle.std.proofs.Common.{[], ◌∷◌, Option, Some, None, Ok, Err, inl, inr, ◌⊎◌}
 use Rattle.std.specs.Prelude.{nat_lt, ◌&&◌}
 use Rattle.std.specs.Option.{option_map, option_and_then}
 use Rattle.std.proofs.lemmas.Bool.Decides.{nat_tests}
 use Rattle.rpp_words.specs.Words.{negated, difference_of}
 use Rattle.pisa_isa.specs.declared.cell.Op.{Op}
-use Rattle.pisa_isa.specs.declared.cell.Op.TheVariants.{Addi, Xori, Rl, Rr, Andix, Orix, Sllx, Srlx, Srax, Bra, Rbra, Beq, Bne, Bgez, Bgtz, Blez, Bltz, DataWord}
+use Rattle.pisa_isa.specs.declared.cell.Op.TheVariants.{Addi, Xori, Rl, Rr, Andix, Orix, Sllx, Srlx, Srax, Bra, Rbra}
+use Rattle.pisa_isa.specs.declared.cell.Op.TheVariants.{Beq, Bne, Bgez, Bgtz, Blez, Bltz, DataWord}
 use Rattle.pisa_isa.specs.declared.cell.Cell.{Cell}
 use Rattle.pisa_isa.specs.declared.notes.Mark.{Mark}
 use Rattle.pisa_isa.specs.declared.notes.FieldName.{FieldName}
@@ -17,13 +19,15 @@ use Rattle.pisa_asm.specs.declared.operand.Operand.TheVariants.{Number, Label}
 use Rattle.pisa_asm.specs.declared.operand.Given.{Given}
 use Rattle.pisa_asm.specs.declared.item.Item.{Item}
 use Rattle.pisa_asm.specs.declared.item.Item.TheVariants.{Nothing as NoItem, Code, Static, Marked, Named}
-use Rattle.pisa_asm.specs.Numerals.{below, minus, numeral, number_in, plain_digits, register_number, word_number, amount_number, offset_number}
+use Rattle.pisa_asm.specs.Numerals.{below, minus, numeral, number_in, plain_digits, register_number, word_number}
+use Rattle.pisa_asm.specs.Numerals.{amount_number, offset_number}
 use Rattle.pisa_asm.specs.LabelNames.{is_name, Labels, place_of}
 use Rattle.pisa_asm.specs.declared.error.AsmError.TheVariants.{UnknownMnemonic}
 use Rattle.std.specs.Str.{bytes_eq}
 use Rattle.pisa_asm.specs.Chain.{and_then, or_bad}
 use Rattle.pisa_asm.specs.Mnemonics.{row_named, static_word, mark_word, name_word}
-use Rattle.pisa_asm.specs.Operands.{last_of, register_from, registers_from, offset_from, sole, operand_from, with_operand, given_from}
+use Rattle.pisa_asm.specs.Operands.{last_of, register_from, registers_from, offset_from, sole, operand_from}
+use Rattle.pisa_asm.specs.Operands.{with_operand, given_from}
 use Rattle.pisa_asm.specs.Items.{static_from, mark_from, name_from, item_by, item_from}
 use Rattle.pisa_asm.specs.Passes.{resolved_by, resolved}
 use Rattle.pisa_asm.proofs.Chaining.{some_then, some_map, tested}
@@ -39,9 +43,11 @@ below_in end (Some m) n h =
 register_number_in : (word : List ℕ) (r : ℕ) → register_number word ≡ Some r → r < 32
 register_number_in [] r h = absurd (cc)
 register_number_in (first ∷ digits) r h =
-    (below_in 32 (numeral digits) r ((tested ((first == 36) && plain_digits digits) (below 32 (numeral digits)) r h).1)).1
+    (below_in 32 (numeral digits) r ((tested ((first == 36) && plain_digits digits) (below 32 (numeral digits)) r
+    h).1)).1
 
-register_in : (has : Bool) (words : List (List ℕ)) (p : ℕ × List (List ℕ)) → register_from has words ≡ Some p → p.0 < register_end has
+register_in : (has : Bool) (words : List (List ℕ)) (p : ℕ × List (List ℕ)) → register_from has words ≡ Some p
+    → p.0 < register_end has
 register_in false words p h = let e : p ≡ (0, words) = cc in rw e (omega arith)
 register_in true [] p h = absurd (cc)
 register_in true (word ∷ words) p h =
@@ -61,7 +67,8 @@ number_cases low end (first ∷ rest) n h = by_sign (first == 45) (first == 43) 
         minus_of None e h = absurd (cc)
         minus_of (Some m) e h = (m, (below_in (low + 1) o m e).1, cc)
 
-    by_sign : (s t : Bool) → cond s (minus (below (low + 1) (numeral rest))) (cond t (below end (numeral rest)) (below end (numeral (first ∷ rest)))) ≡ Some n
+    by_sign : (s t : Bool) → cond s (minus (below (low + 1) (numeral rest)))
+        (cond t (below end (numeral rest)) (below end (numeral (first ∷ rest)))) ≡ Some n
         → (n < end) ⊎ ((m : ℕ) × (m < low + 1) × (n ≡ negated m))
     by_sign true t h = inr (minus_in (numeral rest) h)
     by_sign false true h = inl ((below_in end (numeral rest) n h).1)
@@ -99,17 +106,20 @@ word_in : (bytes : List ℕ) (n : ℕ) → word_number bytes ≡ Some n → n < 
 word_in bytes n h = elim (number_cases (2 ^ 31) (2 ^ 32) bytes n h) [ inl small ↦ small | inr m ↦ rw m.2 (omega arith) ]
 
 amount_in : (bytes : List ℕ) (n : ℕ) → amount_number bytes ≡ Some n → n < 32
-amount_in bytes n h = elim (number_cases 0 32 bytes n h) [ inl small ↦ small | inr m ↦ rw m.2 (let z : m.0 ≡ 0 = let e = m.1 in omega arith in rw z (omega arith)) ]
+amount_in bytes n h = elim (number_cases 0 32 bytes n h)
+    [ inl small ↦ small | inr m ↦ rw m.2 (let z : m.0 ≡ 0 = let e = m.1 in omega arith in rw z (omega arith)) ]
 
 offset_in : (bytes : List ℕ) (n : ℕ) → offset_number bytes ≡ Some n → n < 2 ^ 32
-offset_in bytes n h = elim (number_cases (2 ^ 31) (2 ^ 31) bytes n h) [ inl small ↦ omega arith | inr m ↦ rw m.2 (omega arith) ]
+offset_in bytes n h = elim (number_cases (2 ^ 31) (2 ^ 31) bytes n h)
+    [ inl small ↦ omega arith | inr m ↦ rw m.2 (omega arith) ]
 
 -- a last operand is in its range; only an offset is a label
 abbrev OperandFits : Last → Operand → Type 0
 OperandFits last (Number n) = n < end_of last
 OperandFits last (Label name) = last ≡ Offset
 
-operand_fits : (last : Last) (words : List (List ℕ)) (o : Operand) → operand_from last words ≡ Some o → OperandFits last o
+operand_fits : (last : Last) (words : List (List ℕ)) (o : Operand) → operand_from last words ≡ Some o
+    → OperandFits last o
 operand_fits Nothing [] o h = let e : o ≡ Number 0 = cc in rw e (omega arith)
 operand_fits Nothing (word ∷ words) o h = absurd (cc)
 operand_fits Word words o h =
@@ -124,7 +134,8 @@ operand_fits Offset words o h =
     let s = some_then offset_from (sole words) o h in
     named_or_number (is_name s.0) s.0 s.2
   where
-    named_or_number : (t : Bool) (word : List ℕ) → cond t (Some (Label word)) (option_map Number (offset_number word)) ≡ Some o → OperandFits Offset o
+    named_or_number : (t : Bool) (word : List ℕ) → cond t (Some (Label word)) (option_map Number (offset_number word))
+        ≡ Some o → OperandFits Offset o
     named_or_number true word h = let e : o ≡ Label word = cc in rw e refl
     named_or_number false word h =
         let m = some_map Number (offset_number word) o h in
@@ -138,11 +149,15 @@ record RegistersFit (op : Op) (cell : Cell) : Type 0 where
   c_in : cell.c < register_end (c_is_source op)
   no_imm : cell.imm ≡ 0
 
-registers_fit : (op : Op) (words : List (List ℕ)) (p : Cell × List (List ℕ)) → registers_from op words ≡ Some p → RegistersFit op p.0
+registers_fit : (op : Op) (words : List (List ℕ)) (p : Cell × List (List ℕ)) → registers_from op words ≡ Some p
+    → RegistersFit op p.0
 registers_fit op words p h =
-    let a = some_then (λ (a : ℕ × List (List ℕ)). option_and_then (λ (b : ℕ × List (List ℕ)). option_map (λ (c : ℕ × List (List ℕ)). (record { op = op; a = a.0; b = b.0; c = c.0; imm = 0 }, c.1))
+    let a = some_then (λ (a : ℕ × List (List ℕ)). option_and_then
+    (λ (b : ℕ × List (List ℕ)). option_map (λ (c : ℕ × List (List ℕ)).
+    (record { op = op; a = a.0; b = b.0; c = c.0; imm = 0 }, c.1))
     (register_from (c_is_source op) b.1)) (register_from (has_b op) a.1)) (register_from (has_a op) words) p h in
-    let b = some_then (λ (b : ℕ × List (List ℕ)). option_map (λ (c : ℕ × List (List ℕ)). (record { op = op; a = a.0.0; b = b.0; c = c.0; imm = 0 }, c.1))
+    let b = some_then (λ (b : ℕ × List (List ℕ)). option_map
+    (λ (c : ℕ × List (List ℕ)). (record { op = op; a = a.0.0; b = b.0; c = c.0; imm = 0 }, c.1))
     (register_from (c_is_source op) b.1)) (register_from (has_b op) a.0.1) p a.2 in
     let c = some_map (λ (c : ℕ × List (List ℕ)). (record { op = op; a = a.0.0; b = b.0.0; c = c.0; imm = 0 }, c.1))
     (register_from (c_is_source op) b.0.1) p b.2 in
@@ -173,7 +188,8 @@ some_end op = rw (last_end op) (some (last_of op))
     some Amount = omega arith
     some Offset = omega arith
 
-with_operand_fits : (op : Op) (cell : Cell) (o : Operand) → RegistersFit op cell → OperandFits (last_of op) o → GivenFits (with_operand cell o)
+with_operand_fits : (op : Op) (cell : Cell) (o : Operand) → RegistersFit op cell → OperandFits (last_of op) o
+    → GivenFits (with_operand cell o)
 with_operand_fits op cell (Number n) r o = record {
   in_range = record {
     a_in = rw r.same r.a_in;
@@ -195,7 +211,8 @@ with_operand_fits op cell (Label name) r o = record {
 
 pub given_fits : (op : Op) (words : List (List ℕ)) (given : Given) → given_from op words ≡ Some given → GivenFits given
 given_fits op words given h =
-    let r = some_then (λ (registers : Cell × List (List ℕ)). option_map (with_operand registers.0) (operand_from (last_of op) registers.1)) (registers_from op words) given h in
+    let r = some_then (λ (registers : Cell × List (List ℕ)). option_map (with_operand registers.0)
+    (operand_from (last_of op) registers.1)) (registers_from op words) given h in
     let o = some_map (with_operand r.0.0) (operand_from (last_of op) r.0.1) given r.2 in
     rw o.2 (with_operand_fits op r.0.0 o.0 (registers_fit op words r.0 r.1) (operand_fits (last_of op) r.0.1 o.0 o.1))
 
@@ -215,18 +232,21 @@ static_fits line words item (Some word) e h =
     let same : item ≡ Static word = cc in
     rw same (word_in s.0 word s.2)
 
-mark_fits : (line : ℕ) (item : Item) (o : Option Mark) → and_then (or_bad line o) (λ mark. Ok (Marked mark)) ≡ Ok item → ItemFits item
+mark_fits : (line : ℕ) (item : Item) (o : Option Mark) → and_then (or_bad line o) (λ mark. Ok (Marked mark)) ≡ Ok item
+    → ItemFits item
 mark_fits line item None h = absurd (cc)
 mark_fits line item (Some mark) h = let same : item ≡ Marked mark = cc in rw same tt
 
-name_fits : (line : ℕ) (item : Item) (o : Option FieldName) → and_then (or_bad line o) (λ name. Ok (Named name)) ≡ Ok item → ItemFits item
+name_fits : (line : ℕ) (item : Item) (o : Option FieldName)
+    → and_then (or_bad line o) (λ name. Ok (Named name)) ≡ Ok item → ItemFits item
 name_fits line item None h = absurd (cc)
 name_fits line item (Some name) h = let same : item ≡ Named name = cc in rw same tt
 
 row_fits : (line : ℕ) (op : Op) (words : List (List ℕ)) (item : Item) (o : Option Given) → given_from op words ≡ o
     → and_then (or_bad line o) (λ given. Ok (Code given)) ≡ Ok item → ItemFits item
 row_fits line op words item None e h = absurd (cc)
-row_fits line op words item (Some given) e h = let same : item ≡ Code given = cc in rw same (given_fits op words given e)
+row_fits line op words item (Some given) e h = let same : item ≡ Code given = cc in
+    rw same (given_fits op words given e)
 
 pub item_fits : (line : ℕ) (words : List (List ℕ)) (item : Item) → item_from line words ≡ Ok item → ItemFits item
 item_fits line [] item h = let same : item ≡ NoItem = cc in rw same tt
@@ -234,7 +254,8 @@ item_fits line (first ∷ words) item h = by_row (row_named first) h
   where
     by_word : (s m n : Bool) → cond s (and_then (or_bad line (static_from words)) (λ word. Ok (Static word)))
         (cond m (and_then (or_bad line (mark_from words)) (λ mark. Ok (Marked mark)))
-        (cond n (and_then (or_bad line (name_from words)) (λ name. Ok (Named name))) (Err (UnknownMnemonic line)))) ≡ Ok item → ItemFits item
+        (cond n (and_then (or_bad line (name_from words)) (λ name. Ok (Named name))) (Err (UnknownMnemonic line))))
+        ≡ Ok item → ItemFits item
     by_word true m n h = static_fits line words item (static_from words) refl h
     by_word false true n h = mark_fits line item (mark_from words) h
     by_word false false true h = name_fits line item (name_from words) h
@@ -249,11 +270,22 @@ pub record CellFits (given : Given) (cell : Cell) : Type 0 where
   pub in_range : IsInRange cell
   pub same : is_one_to_one cell ≡ is_one_to_one given.cell
 
-pub resolved_fits : (labels : Labels) (at : ℕ) (given : Given) (cell : Cell) → GivenFits given → resolved labels at given ≡ Some cell → CellFits given cell
+pub resolved_fits : (labels : Labels) (at : ℕ) (given : Given) (cell : Cell) → GivenFits given
+    → resolved labels at given ≡ Some cell → CellFits given cell
 resolved_fits labels at given cell g h = by_target given.target g.target h
   where
-    by_target : (target : Option (List ℕ)) → TargetFits given.cell.op target → resolved_by labels at given.cell target ≡ Some cell → CellFits given cell
+    by_target : (target : Option (List ℕ)) → TargetFits given.cell.op target
+        → resolved_by labels at given.cell target ≡ Some cell → CellFits given cell
     by_target None t h = let same : cell ≡ given.cell = cc in rw same (record { in_range = g.in_range; same = refl })
     by_target (Some name) t h =
-        let p = some_map (λ (place : ℕ). record given.cell { imm = difference_of place at }) (place_of name labels) cell h in
-        rw p.2 (record { in_range = record { a_in = g.in_range.a_in; b_in = g.in_range.b_in; c_in = g.in_range.c_in; imm_in = rw t (omega arith) }; same = refl })
+        let p = some_map (λ (place : ℕ). record given.cell { imm = difference_of place at }) (place_of name labels) cell
+        h in
+        rw p.2 (record {
+          in_range = record {
+            a_in = g.in_range.a_in;
+            b_in = g.in_range.b_in;
+            c_in = g.in_range.c_in;
+            imm_in = rw t (omega arith);
+          };
+          same = refl;
+        })

@@ -1,5 +1,6 @@
 -- A line of words with a space between reads as these words.
-use Rattle.std.proofs.Common.{◌≡◌, ◌∙◌, ap, refl, ℕ, ◌-◌, Bool, true, false, not, ◌==◌, arith, List, [], ◌∷◌, ◌++◌, length, get_or}
+use Rattle.std.proofs.Common.{◌≡◌, ◌∙◌, ap, refl, ℕ, ◌-◌, Bool, true, false, not, ◌==◌, arith, List, [], ◌∷◌, ◌++◌}
+use Rattle.std.proofs.Common.{length, get_or}
 use Rattle.std.specs.Prelude.{◌||◌}
 use Rattle.std.specs.List.{list_all, before_first, position_or_len}
 use Rattle.std.proofs.lemmas.List.Sums.{AllPass-from_list_all}
@@ -24,16 +25,19 @@ not_blank b h = not_so (is_blank b) ((both (is_clean b) (not (is_blank b)) h).1)
 clean_of : (b : ℕ) → is_clean b ≡ true → ((b == 10) ≡ false) × ((b == 13) ≡ false) × ((b == 59) ≡ false)
 clean_of b h = neither (b == 10) (b == 13) (b == 59) h
 
-solid_front : (b : ℕ) (word rest : List ℕ) → is_solid b ≡ true → list_all is_solid word ≡ true → begins_word rest ≡ false
+solid_front : (b : ℕ) (word rest : List ℕ) → is_solid b ≡ true → list_all is_solid word ≡ true
+    → begins_word rest ≡ false
     → words_of (b ∷ (word ++ rest)) ≡ (b ∷ word) ∷ words_of rest
 solid_front b [] rest s a n = rw (not_blank b s, n) refl
 solid_front b (c ∷ word) rest s a n =
     let p = both (is_solid c) (list_all is_solid word) a in
     joined b c (word ++ rest) (not_blank b s) (not_blank c p.0) ∙ ap (onto_first b) (solid_front c word rest p.0 p.1 n)
 
-word_front : (word rest : List ℕ) → is_word word ≡ true → begins_word rest ≡ false → words_of (word ++ rest) ≡ word ∷ words_of rest
+word_front : (word rest : List ℕ) → is_word word ≡ true → begins_word rest ≡ false
+    → words_of (word ++ rest) ≡ word ∷ words_of rest
 word_front [] rest h n = absurd (cc)
-word_front (b ∷ word) rest h n = let p = both (is_solid b) (list_all is_solid word) h in solid_front b word rest p.0 p.1 n
+word_front (b ∷ word) rest h n = let p = both (is_solid b) (list_all is_solid word) h in
+    solid_front b word rest p.0 p.1 n
 
 spaced_begins : (words : List (List ℕ)) → begins_word (spaced words) ≡ false
 spaced_begins [] = refl
@@ -58,7 +62,8 @@ word_clean : (word : List ℕ) → is_word word ≡ true → list_all is_clean w
 word_clean [] h = refl
 word_clean (b ∷ word) h = solid_clean (b ∷ word) h
 
-clean-append : (xs ys : List ℕ) → list_all is_clean xs ≡ true → list_all is_clean ys ≡ true → list_all is_clean (xs ++ ys) ≡ true
+clean-append : (xs ys : List ℕ) → list_all is_clean xs ≡ true → list_all is_clean ys ≡ true
+    → list_all is_clean (xs ++ ys) ≡ true
 clean-append xs ys h g = list_all-append is_clean xs ys ∙ rw (h, g) refl
 
 spaced_clean : (words : List (List ℕ)) → list_all is_word words ≡ true → list_all is_clean (spaced words) ≡ true
@@ -84,7 +89,8 @@ no_comment (b ∷ line) h =
 content_same : (line : List ℕ) → list_all is_clean line ≡ true → content_of line ≡ line
 content_same line h = rw (no_return line h) (no_comment line h)
 
-pub line_front : (line rest : List ℕ) → list_all is_clean line ≡ true → lines_of (line ++ 10 ∷ rest) ≡ line ∷ lines_of rest
+pub line_front : (line rest : List ℕ) → list_all is_clean line ≡ true
+    → lines_of (line ++ 10 ∷ rest) ≡ line ∷ lines_of rest
 line_front [] rest h = refl
 line_front (b ∷ line) rest h =
     let p = both (is_clean b) (list_all is_clean line) h in
@@ -95,10 +101,12 @@ pub record IsSpacedLine (line : List ℕ) (first : List ℕ) (words : List (List
   pub clean : list_all is_clean line ≡ true
   pub reads : words_of (content_of line) ≡ first ∷ words
 
-pub spaced_line : (first : List ℕ) (words : List (List ℕ)) → is_word first ≡ true → list_all is_word words ≡ true → IsSpacedLine (first ++ spaced words) first words
+pub spaced_line : (first : List ℕ) (words : List (List ℕ)) → is_word first ≡ true → list_all is_word words ≡ true
+    → IsSpacedLine (first ++ spaced words) first words
 spaced_line first words f h =
     let clean = clean-append first (spaced words) (word_clean first f) (spaced_clean words h) in
     record {
       clean = clean;
-      reads = ap words_of (content_same (first ++ spaced words) clean) ∙ word_front first (spaced words) f (spaced_begins words) ∙ ap (λ ws. first ∷ ws) (spaced_words words h);
+      reads = ap words_of (content_same (first ++ spaced words) clean)
+          ∙ word_front first (spaced words) f (spaced_begins words) ∙ ap (λ ws. first ∷ ws) (spaced_words words h);
     }

@@ -1,5 +1,6 @@
 -- What the seal answers for code whose cells are fit for an image.
-use Rattle.std.proofs.Common.{◌≡◌, ap, refl, ℕ, ◌<◌, Bool, true, false, not, cond, arith, List, [], ◌∷◌, length, Option, Some, None}
+use Rattle.std.proofs.Common.{◌≡◌, ap, refl, ℕ, ◌<◌, Bool, true, false, not, cond, arith, List, [], ◌∷◌, length, Option}
+use Rattle.std.proofs.Common.{Some, None}
 use Rattle.std.specs.Prelude.{position, count_by, nat_eq, nat_lt}
 use Rattle.std.specs.List.{All, position_or_len}
 use Rattle.std.proofs.lemmas.List.Sums.{passes_at_first}
@@ -37,7 +38,8 @@ refusal_of start finish = cond start (cond finish None (Some NoFinish)) (Some No
 
 pub tests_of : (code : List Cell) → All IsCell code
     → first_seal_refusal code ≡ refusal_of (nat_eq (count_by is_start code) 1) (nat_eq (count_by is_finish code) 1)
-tests_of code cells = ap (λ o. refusal_by o (count_by is_start code) (count_by is_finish code)) (every_one_to_one code cells)
+tests_of code cells = ap (λ o. refusal_by o (count_by is_start code) (count_by is_finish code))
+    (every_one_to_one code cells)
 
 pub accepted : (s f : Bool) → refusal_of s f ≡ None → (s ≡ true) × (f ≡ true)
 accepted true true h = (refl, refl)

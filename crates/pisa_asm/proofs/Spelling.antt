@@ -1,5 +1,6 @@
 -- The words of the listing's lines.
-use Rattle.std.proofs.Common.{◌≡◌, ◌∙◌, ap, sym, refl, ℕ, ◌-◌, ◌<◌, ◌^◌, Bool, true, false, not, cond, ◌==◌, arith, List, [], ◌∷◌, ◌++◌, length}
+use Rattle.std.proofs.Common.{◌≡◌, ◌∙◌, ap, sym, refl, ℕ, ◌-◌, ◌<◌, ◌^◌, Bool, true, false, not, cond, ◌==◌, arith}
+use Rattle.std.proofs.Common.{List, [], ◌∷◌, ◌++◌, length}
 use Rattle.std.specs.Prelude.{◌&&◌, ◌||◌, nat_lt}
 use Rattle.std.specs.List.{list_all}
 use Rattle.std.specs.Fmt.{decimal}
@@ -21,7 +22,8 @@ use Rattle.pisa_asm.specs.declared.operand.Last.TheVariants.{Nothing, Word, Amou
 use Rattle.pisa_asm.specs.Lines.{is_blank}
 use Rattle.pisa_asm.specs.Mnemonics.{mnemonic, static_word, mark_word, name_word}
 use Rattle.pisa_asm.specs.Operands.{last_of}
-use Rattle.pisa_asm.specs.Listing.{signed_text, offset_text, register_text, last_text, cell_text, static_text, mark_text, name_text}
+use Rattle.pisa_asm.specs.Listing.{signed_text, offset_text, register_text, last_text, cell_text, static_text}
+use Rattle.pisa_asm.specs.Listing.{mark_text, name_text}
 
 -- a byte that ends no line and begins no comment
 abbrev pub is_clean : ℕ → Bool
@@ -51,13 +53,15 @@ last_words Offset imm = offset_text imm ∷ []
 
 abbrev pub operand_words : Cell → List (List ℕ)
 operand_words c =
-    register_words (has_a c.op) c.a ++ (register_words (has_b c.op) c.b ++ (register_words (c_is_source c.op) c.c ++ last_words (last_of c.op) c.imm))
+    register_words (has_a c.op) c.a ++ (register_words (has_b c.op) c.b
+    ++ (register_words (c_is_source c.op) c.c ++ last_words (last_of c.op) c.imm))
 
 -- the line of a cell by its words
 
 spaced-append : (xs ys : List (List ℕ)) → spaced (xs ++ ys) ≡ spaced xs ++ spaced ys
 spaced-append [] ys = refl
-spaced-append (x ∷ xs) ys = ap (λ t. 32 ∷ (x ++ t)) (spaced-append xs ys) ∙ ap (λ t. 32 ∷ t) (sym (append_assoc x (spaced xs) (spaced ys)))
+spaced-append (x ∷ xs) ys = ap (λ t. 32 ∷ (x ++ t)) (spaced-append xs ys)
+    ∙ ap (λ t. 32 ∷ t) (sym (append_assoc x (spaced xs) (spaced ys)))
 
 one_spaced : (word : List ℕ) → 32 ∷ word ≡ spaced (word ∷ [])
 one_spaced word = ap (λ t. 32 ∷ t) (sym (append-nil word))
@@ -72,10 +76,12 @@ last_spaced Word imm = one_spaced (signed_text imm)
 last_spaced Amount imm = one_spaced (decimal imm)
 last_spaced Offset imm = one_spaced (offset_text imm)
 
-operands_spaced : (a b c l : List (List ℕ)) → spaced (a ++ (b ++ (c ++ l))) ≡ spaced a ++ (spaced b ++ (spaced c ++ spaced l))
+operands_spaced : (a b c l : List (List ℕ)) → spaced (a ++ (b ++ (c ++ l)))
+    ≡ spaced a ++ (spaced b ++ (spaced c ++ spaced l))
 operands_spaced a b c l = simp spaced-append
 
-regrouped : (m a b c l p q r s : List ℕ) → a ≡ p → b ≡ q → c ≡ r → l ≡ s → (((m ++ a) ++ b) ++ c) ++ l ≡ m ++ (p ++ (q ++ (r ++ s)))
+regrouped : (m a b c l p q r s : List ℕ) → a ≡ p → b ≡ q → c ≡ r → l ≡ s
+    → (((m ++ a) ++ b) ++ c) ++ l ≡ m ++ (p ++ (q ++ (r ++ s)))
 regrouped m a b c l p q r s ea eb ec el = rw (ea, eb, ec, el) (simp append_assoc)
 
 pub cell_spaced : (c : Cell) → cell_text c ≡ mnemonic c.op ++ spaced (operand_words c)
@@ -84,9 +90,11 @@ cell_spaced c =
     let b = register_words (has_b c.op) c.b in
     let t = register_words (c_is_source c.op) c.c in
     let l = last_words (last_of c.op) c.imm in
-    regrouped (mnemonic c.op) (register_text (has_a c.op) c.a) (register_text (has_b c.op) c.b) (register_text (c_is_source c.op) c.c) (last_text (last_of c.op) c.imm)
+    regrouped (mnemonic c.op) (register_text (has_a c.op) c.a) (register_text (has_b c.op) c.b)
+    (register_text (c_is_source c.op) c.c) (last_text (last_of c.op) c.imm)
     (spaced a) (spaced b) (spaced t) (spaced l)
-    (register_spaced (has_a c.op) c.a) (register_spaced (has_b c.op) c.b) (register_spaced (c_is_source c.op) c.c) (last_spaced (last_of c.op) c.imm)
+    (register_spaced (has_a c.op) c.a) (register_spaced (has_b c.op) c.b) (register_spaced (c_is_source c.op) c.c)
+    (last_spaced (last_of c.op) c.imm)
     ∙ ap (λ s. mnemonic c.op ++ s) (sym (operands_spaced a b t l))
 
 pub static_spaced : (word : ℕ) → static_text word ≡ static_word ++ spaced (signed_text word ∷ [])
@@ -122,7 +130,8 @@ digit_solid c h = grind (arith, nat_tests)
 
 digits_solid : (ds : List ℕ) → all_ascii_digits ds ≡ true → list_all is_solid ds ≡ true
 digits_solid [] h = refl
-digits_solid (d ∷ ds) h = let p = both (is_ascii_digit d) (all_ascii_digits ds) h in rw (digit_solid d p.0, digits_solid ds p.1) refl
+digits_solid (d ∷ ds) h = let p = both (is_ascii_digit d) (all_ascii_digits ds) h in
+    rw (digit_solid d p.0, digits_solid ds p.1) refl
 
 pub decimal_digits : (n : ℕ) → n < 2 ^ 64 → all_ascii_digits (decimal n) ≡ true
 decimal_digits n h = digits_decimal (numerals_by_value (λ ds. all_ascii_digits ds ≡ true) tells_all_ascii_digits) n h
@@ -161,15 +170,22 @@ last_is_words Word imm h = rw (signed_word imm h) refl
 last_is_words Amount imm h = rw (decimal_word imm (omega arith)) refl
 last_is_words Offset imm h = rw (offset_word imm h) refl
 
-pub words_append : (xs ys : List (List ℕ)) → list_all is_word xs ≡ true → list_all is_word ys ≡ true → list_all is_word (xs ++ ys) ≡ true
+pub words_append : (xs ys : List (List ℕ)) → list_all is_word xs ≡ true → list_all is_word ys ≡ true
+    → list_all is_word (xs ++ ys) ≡ true
 words_append [] ys h g = g
-words_append (x ∷ xs) ys h g = let p = both (is_word x) (list_all is_word xs) h in rw (p.0, words_append xs ys p.1 g) refl
+words_append (x ∷ xs) ys h g = let p = both (is_word x) (list_all is_word xs) h in
+    rw (p.0, words_append xs ys p.1 g) refl
 
-pub operands_are_words : (c : Cell) → c.a < 32 → c.b < 32 → c.c < 32 → c.imm < 2 ^ 32 → list_all is_word (operand_words c) ≡ true
+pub operands_are_words : (c : Cell) → c.a < 32 → c.b < 32 → c.c < 32 → c.imm < 2 ^ 32
+    → list_all is_word (operand_words c) ≡ true
 operands_are_words c a b t i =
-    words_append (register_words (has_a c.op) c.a) (register_words (has_b c.op) c.b ++ (register_words (c_is_source c.op) c.c ++ last_words (last_of c.op) c.imm)) (register_is_words (has_a c.op) c.a a)
-    (words_append (register_words (has_b c.op) c.b) (register_words (c_is_source c.op) c.c ++ last_words (last_of c.op) c.imm) (register_is_words (has_b c.op) c.b b)
-    (words_append (register_words (c_is_source c.op) c.c) (last_words (last_of c.op) c.imm) (register_is_words (c_is_source c.op) c.c t) (last_is_words (last_of c.op) c.imm i)))
+    words_append (register_words (has_a c.op) c.a) (register_words (has_b c.op) c.b
+    ++ (register_words (c_is_source c.op) c.c ++ last_words (last_of c.op) c.imm))
+    (register_is_words (has_a c.op) c.a a)
+    (words_append (register_words (has_b c.op) c.b) (register_words (c_is_source c.op) c.c
+    ++ last_words (last_of c.op) c.imm) (register_is_words (has_b c.op) c.b b)
+    (words_append (register_words (c_is_source c.op) c.c) (last_words (last_of c.op) c.imm)
+    (register_is_words (c_is_source c.op) c.c t) (last_is_words (last_of c.op) c.imm i)))
 
 pub mnemonic_word : (op : Op) → is_word (mnemonic op) ≡ true
 unfolding mnemonic
@@ -179,7 +195,8 @@ mnemonic_word _ = refl
 pub static_is_word : (word : ℕ) → word < 2 ^ 32 → list_all is_word (signed_text word ∷ []) ≡ true
 static_is_word word h = rw (signed_word word h) refl
 
-pub mark_is_words : (m : Mark) → m.first < 2 ^ 32 → m.end < 2 ^ 32 → m.at < 2 ^ 32 → list_all is_word (mark_words m) ≡ true
+pub mark_is_words : (m : Mark) → m.first < 2 ^ 32 → m.end < 2 ^ 32 → m.at < 2 ^ 32
+    → list_all is_word (mark_words m) ≡ true
 mark_is_words m first end at =
     rw (decimal_word m.first (omega arith), decimal_word m.end (omega arith), decimal_word m.at (omega arith)) refl
 

@@ -1,5 +1,6 @@
 -- The parts of assembly text and what is read of them.
-use Rattle.std.proofs.Common.{◌≡◌, ◌∙◌, ap, sym, refl, ℕ, ◌+◌, ◌-◌, ◌*◌, ◌^◌, ◌<◌, Bool, true, false, not, cond, ◌==◌, arith, List, [], ◌∷◌, ◌++◌, length, get_or, Option, Some, None}
+use Rattle.std.proofs.Common.{◌≡◌, ◌∙◌, ap, sym, refl, ℕ, ◌+◌, ◌-◌, ◌*◌, ◌^◌, ◌<◌, Bool, true, false, not, cond, ◌==◌}
+use Rattle.std.proofs.Common.{arith, List, [], ◌∷◌, ◌++◌, length, get_or, Option, Some, None}
 use Rattle.std.specs.Prelude.{◌&&◌}
 use Rattle.std.specs.Fmt.{decimal}
 use Rattle.std.specs.Char.{is_ascii_digit}
@@ -10,10 +11,12 @@ use Rattle.std.proofs.lemmas.Slice.Eq.{bytes_eq-Decides}
 use Rattle.std.proofs.lemmas.Fmt.{decimal-digits_value}
 use Rattle.rpp_words.specs.Words.{negated}
 use Rattle.pisa_isa.specs.declared.cell.Op.{Op}
-use Rattle.pisa_asm.specs.Numerals.{numeral_from, numeral, below, minus, number_in, unsigned_number, plain_digits, register_number}
+use Rattle.pisa_asm.specs.Numerals.{numeral_from, numeral, below, minus, number_in, unsigned_number, plain_digits}
+use Rattle.pisa_asm.specs.Numerals.{register_number}
 use Rattle.pisa_asm.specs.Mnemonics.{mnemonic, row_among}
 use Rattle.pisa_asm.specs.Operands.{register_from}
-use Rattle.pisa_asm.specs.AssemblyText.{NumberText, plain, plus, minus as minus_text, UnsignedText, RegisterText, RegisterWords}
+use Rattle.pisa_asm.specs.AssemblyText.{NumberText, plain, plus, minus as minus_text, UnsignedText, RegisterText}
+use Rattle.pisa_asm.specs.AssemblyText.{RegisterWords}
 use Rattle.pisa_asm.proofs.Chaining.{some_map, tested}
 use Rattle.pisa_asm.proofs.Ranging.{below_in}
 use Rattle.pisa_asm.proofs.Spelling.{both}
@@ -52,24 +55,28 @@ pub numeral_complete : (bytes : List ℕ) → IsNumeral 10 bytes → numeral byt
 numeral_complete bytes n =
     some_numeral bytes n.0 ∙ numeral_reads bytes 0 (own.from bytes n.1) ∙ ap Some (own.same bytes n.1)
 
-below_complete : (end : ℕ) (bytes : List ℕ) → IsNumeral 10 bytes → digits_value 10 bytes < end → below end (numeral bytes) ≡ Some (digits_value 10 bytes)
+below_complete : (end : ℕ) (bytes : List ℕ) → IsNumeral 10 bytes → digits_value 10 bytes < end
+    → below end (numeral bytes) ≡ Some (digits_value 10 bytes)
 below_complete end bytes n h = ap (below end) (numeral_complete bytes n) ∙ below_same end (digits_value 10 bytes) h
 
-pub number_complete : (low end : ℕ) (bytes : List ℕ) (word : ℕ) → NumberText low end bytes word → number_in low end bytes ≡ Some word
+pub number_complete : (low end : ℕ) (bytes : List ℕ) (word : ℕ) → NumberText low end bytes word
+    → number_in low end bytes ≡ Some word
 number_complete low end bytes word (plain n h e) =
     unsigned low end bytes n.0 (own.from bytes n.1) ∙ below_complete end bytes n h ∙ ap Some (sym e)
 number_complete low end bytes word (plus digits same n h e) = rw same (below_complete end digits n h ∙ ap Some (sym e))
 number_complete low end bytes word (minus_text digits same n h e) =
     rw same (ap minus (below_complete (low + 1) digits n (omega arith)) ∙ ap Some (sym e))
 
-pub number_sound : (low end : ℕ) (bytes : List ℕ) (word : ℕ) → number_in low end bytes ≡ Some word → NumberText low end bytes word
+pub number_sound : (low end : ℕ) (bytes : List ℕ) (word : ℕ) → number_in low end bytes ≡ Some word
+    → NumberText low end bytes word
 number_sound low end [] word h = absurd (cc)
 number_sound low end (first ∷ rest) word h = by_sign (first == 45) (first == 43) refl refl h
   where
     is_first : (k : ℕ) → (first == k) ≡ true → first ∷ rest ≡ k ∷ rest
     is_first k e = let same : first ≡ k = grind (arith, nat_tests) in ap (λ b. b ∷ rest) same
 
-    of_minus : (o : Option ℕ) → below (low + 1) (numeral rest) ≡ o → minus o ≡ Some word → (first == 45) ≡ true → NumberText low end (first ∷ rest) word
+    of_minus : (o : Option ℕ) → below (low + 1) (numeral rest) ≡ o → minus o ≡ Some word → (first == 45) ≡ true
+        → NumberText low end (first ∷ rest) word
     of_minus None e h s = absurd (cc)
     of_minus (Some n) e h s =
         let b = below_in (low + 1) (numeral rest) n e in
@@ -80,7 +87,8 @@ number_sound low end (first ∷ rest) word h = by_sign (first == 45) (first == 4
         minus_text rest (is_first 45 s) numeral.is_numeral (omega arith) (same ∙ ap negated value)
 
     by_sign : (s t : Bool) → (first == 45) ≡ s → (first == 43) ≡ t
-        → cond s (minus (below (low + 1) (numeral rest))) (cond t (below end (numeral rest)) (below end (numeral (first ∷ rest)))) ≡ Some word
+        → cond s (minus (below (low + 1) (numeral rest))) (cond t (below end (numeral rest))
+        (below end (numeral (first ∷ rest)))) ≡ Some word
         → NumberText low end (first ∷ rest) word
     by_sign true t e f h = of_minus (below (low + 1) (numeral rest)) refl h e
     by_sign false true e f h =
@@ -143,14 +151,17 @@ pub record Taken (has : Bool) (words : List (List ℕ)) (r : ℕ) (rest : List (
   pub all : words ≡ here ++ rest
   pub is_register : RegisterWords has here r
 
-pub taken_sound : (has : Bool) (words : List (List ℕ)) (p : ℕ × List (List ℕ)) → register_from has words ≡ Some p → Taken has words p.0 p.1
-taken_sound false words p h = let same : p ≡ (0, words) = cc in rw same (record { here = []; all = refl; is_register = (refl, refl) })
+pub taken_sound : (has : Bool) (words : List (List ℕ)) (p : ℕ × List (List ℕ)) → register_from has words ≡ Some p
+    → Taken has words p.0 p.1
+taken_sound false words p h = let same : p ≡ (0, words) = cc in
+    rw same (record { here = []; all = refl; is_register = (refl, refl) })
 taken_sound true [] p h = absurd (cc)
 taken_sound true (word ∷ words) p h =
     let m = some_map (λ (r : ℕ). (r, words)) (register_number word) p h in
     rw m.2 (record { here = word ∷ []; all = refl; is_register = (word, refl, register_sound word m.0 m.1) })
 
-pub taken_complete : (has : Bool) (here rest : List (List ℕ)) (r : ℕ) → RegisterWords has here r → register_from has (here ++ rest) ≡ Some (r, rest)
+pub taken_complete : (has : Bool) (here rest : List (List ℕ)) (r : ℕ) → RegisterWords has here r
+    → register_from has (here ++ rest) ≡ Some (r, rest)
 taken_complete false here rest r t = rw (t.0, t.1) refl
 taken_complete true here rest r t = rw (t.1, register_complete t.0 r t.2) refl
 

@@ -1,5 +1,6 @@
 -- Which image, with which notes, a list of lines writes.
-use Rattle.std.specs.Prelude.{◌≡◌, ℕ, ◌+◌, ◌^◌, ◌<◌, ◌≤◌, Bool, true, false, List, [], ◌∷◌, ◌++◌, length, map, Some, None, All}
+use Rattle.std.specs.Prelude.{◌≡◌, ℕ, ◌+◌, ◌^◌, ◌<◌, ◌≤◌, Bool, true, false, List, [], ◌∷◌, ◌++◌}
+use Rattle.std.specs.Prelude.{length, map, Some, None, All}
 use Rattle.std.specs.Fmt.{decimal}
 use Rattle.std.specs.Str.Parse.{IsNumeral, digits_value}
 use Rattle.rpp_words.specs.Words.{negated, difference_of}
@@ -16,7 +17,8 @@ use Rattle.pisa_asm.specs.LabelNames.{is_name, Labels, place_of}
 use Rattle.pisa_asm.specs.Mnemonics.{mnemonic, static_word, mark_word, name_word}
 use Rattle.pisa_asm.specs.Operands.{last_of}
 
--- decimal digits with an optional sign, for a number that is at least -low and below `end`, and its word
+-- decimal digits with an optional sign, for a number that is at least -low and below `end`, and its
+-- word
 pub data NumberText (low end : ℕ) (bytes : List ℕ) (word : ℕ) : Type 0 where
   plain : IsNumeral 10 bytes → digits_value 10 bytes < end → word ≡ digits_value 10 bytes
       → NumberText low end bytes word
@@ -47,21 +49,23 @@ abbrev pub LastWords : Labels → ℕ → Last → List (List ℕ) → ℕ → T
 LastWords labels at Nothing words imm = (words ≡ []) × (imm ≡ 0)
 LastWords labels at Word words imm = (word : List ℕ) × (words ≡ word ∷ [])
     × NumberText (2 ^ 31) (2 ^ 32) word imm
-LastWords labels at Amount words imm = (word : List ℕ) × (words ≡ word ∷ []) × NumberText 0 32 word imm
+LastWords labels at Amount words imm = (word : List ℕ) × (words ≡ word ∷ [])
+    × NumberText 0 32 word imm
 LastWords labels at Offset words imm = (word : List ℕ) × (words ≡ word ∷ [])
     × OffsetText labels at word imm
 
 -- an instruction at a place: its mnemonic, its registers in their order, and what else it has
-pub record InstructionText (labels : Labels) (at : ℕ) (words : List (List ℕ)) (cell : Cell) : Type 0 where
-  pub a : List (List ℕ)
-  pub b : List (List ℕ)
-  pub c : List (List ℕ)
-  pub last : List (List ℕ)
-  pub written : words ≡ mnemonic cell.op ∷ (a ++ (b ++ (c ++ last)))
-  pub is_a : RegisterWords (has_a cell.op) a cell.a
-  pub is_b : RegisterWords (has_b cell.op) b cell.b
-  pub is_c : RegisterWords (c_is_source cell.op) c cell.c
-  pub is_last : LastWords labels at (last_of cell.op) last cell.imm
+pub record InstructionText (labels : Labels) (at : ℕ) (words : List (List ℕ)) (cell : Cell) : Type 0
+  where
+    pub a : List (List ℕ)
+    pub b : List (List ℕ)
+    pub c : List (List ℕ)
+    pub last : List (List ℕ)
+    pub written : words ≡ mnemonic cell.op ∷ (a ++ (b ++ (c ++ last)))
+    pub is_a : RegisterWords (has_a cell.op) a cell.a
+    pub is_b : RegisterWords (has_b cell.op) b cell.b
+    pub is_c : RegisterWords (c_is_source cell.op) c cell.c
+    pub is_last : LastWords labels at (last_of cell.op) last cell.imm
 
 -- decimal digits alone, for a word
 pub record UnsignedText (bytes : List ℕ) (n : ℕ) : Type 0 where
@@ -137,7 +141,8 @@ pub data LinesText (labels : Labels) : (at : ℕ) (lines : List (List ℕ)) (wri
 -- each label is none of those before it
 abbrev pub AreNew : (before labels : Labels) → Type 0
 AreNew before [] = Unit {0}
-AreNew before (label ∷ labels) = (place_of label.0 before ≡ None) × AreNew (before ++ label ∷ []) labels
+AreNew before (label ∷ labels) = (place_of label.0 before ≡ None)
+    × AreNew (before ++ label ∷ []) labels
 
 -- the lines write the image and notes that fit it, with labels all of whose names differ
 pub record AssemblyText (lines : List (List ℕ)) (n : NotedImage) : Type 0 where

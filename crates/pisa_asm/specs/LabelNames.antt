@@ -1,5 +1,6 @@
 -- Labels: their names, and their places.
-use Rattle.std.specs.Prelude.{ℕ, Bool, false, List, [], ◌∷◌, ◌==◌, ◌||◌, ◌&&◌, if◌then◌else◌, Option, Some, None}
+use Rattle.std.specs.Prelude.{ℕ, Bool, false, List, [], ◌∷◌, ◌==◌, ◌||◌, ◌&&◌, if◌then◌else◌}
+use Rattle.std.specs.Prelude.{Option, Some, None}
 use Rattle.std.specs.Str.{bytes_eq}
 use Rattle.std.specs.List.{list_all}
 use Rattle.std.specs.Char.{is_ascii_alphabetic, is_ascii_digit}
@@ -38,4 +39,5 @@ Labels = List (List ℕ × ℕ)
 -- the place of a label
 abbrev pub place_of : List ℕ → Labels → Option ℕ
 place_of name [] = None
-place_of name (label ∷ labels) = if bytes_eq name label.0 then Some label.1 else place_of name labels
+place_of name (label ∷ labels) = if bytes_eq name label.0 then Some label.1 else place_of name
+    labels

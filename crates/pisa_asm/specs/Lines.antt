@@ -1,5 +1,6 @@
 -- The lines of a text, and the words of a line.
-use Rattle.std.specs.Prelude.{ℕ, ◌-◌, Bool, false, not, List, [], ◌∷◌, length, take, ◌==◌, ◌||◌, slice_index, if◌then◌else◌}
+use Rattle.std.specs.Prelude.{ℕ, ◌-◌, Bool, false, not, List, [], ◌∷◌, length, take, ◌==◌, ◌||◌}
+use Rattle.std.specs.Prelude.{slice_index, if◌then◌else◌}
 use Rattle.std.specs.List.{before_first}
 
 -- a byte put before the first of these pieces

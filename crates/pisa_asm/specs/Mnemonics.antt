@@ -2,7 +2,11 @@
 use Rattle.std.specs.Prelude.{ℕ, List, [], ◌∷◌, Option, Some, None, codes, if◌then◌else◌}
 use Rattle.std.specs.Str.{bytes_eq}
 use Rattle.pisa_isa.specs.declared.cell.Op.{Op}
-use Rattle.pisa_isa.specs.declared.cell.Op.TheVariants.{Add, Sub, Xor, Neg, Addi, Xori, Rl, Rr, Rlv, Rrv, Andx, Orx, Norx, Sltx, Andix, Orix, Sllx, Srlx, Srax, Sllvx, Srlvx, Sravx, Exch, Swapbr, Bra, Rbra, Beq, Bne, Bgez, Bgtz, Blez, Bltz, Start, Finish, DataWord}
+use Rattle.pisa_isa.specs.declared.cell.Op.TheVariants.{Add, Sub, Xor, Neg, Addi, Xori, Rl, Rr, Rlv}
+use Rattle.pisa_isa.specs.declared.cell.Op.TheVariants.{Rrv, Andx, Orx, Norx, Sltx, Andix, Orix}
+use Rattle.pisa_isa.specs.declared.cell.Op.TheVariants.{Sllx, Srlx, Srax, Sllvx, Srlvx, Sravx, Exch}
+use Rattle.pisa_isa.specs.declared.cell.Op.TheVariants.{Swapbr, Bra, Rbra, Beq, Bne, Bgez, Bgtz}
+use Rattle.pisa_isa.specs.declared.cell.Op.TheVariants.{Blez, Bltz, Start, Finish, DataWord}
 
 -- the mnemonic of a row
 unfoldable pub mnemonic : Op → List ℕ

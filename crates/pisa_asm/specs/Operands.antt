@@ -1,8 +1,11 @@
 -- The operands of an instruction.
-use Rattle.std.specs.Prelude.{ℕ, Bool, true, false, List, [], ◌∷◌, Option, Some, None, if◌then◌else◌}
+use Rattle.std.specs.Prelude.{ℕ, Bool, true, false, List, [], ◌∷◌, Option, Some, None}
+use Rattle.std.specs.Prelude.{if◌then◌else◌}
 use Rattle.std.specs.Option.{option_map, option_and_then}
 use Rattle.pisa_isa.specs.declared.cell.Op.{Op}
-use Rattle.pisa_isa.specs.declared.cell.Op.TheVariants.{Addi, Xori, Rl, Rr, Andix, Orix, Sllx, Srlx, Srax, Bra, Rbra, Beq, Bne, Bgez, Bgtz, Blez, Bltz, DataWord}
+use Rattle.pisa_isa.specs.declared.cell.Op.TheVariants.{Addi, Xori, Rl, Rr, Andix, Orix, Sllx, Srlx}
+use Rattle.pisa_isa.specs.declared.cell.Op.TheVariants.{Srax, Bra, Rbra, Beq, Bne, Bgez, Bgtz, Blez}
+use Rattle.pisa_isa.specs.declared.cell.Op.TheVariants.{Bltz, DataWord}
 use Rattle.pisa_isa.specs.declared.cell.Cell.{Cell}
 use Rattle.pisa_isa.specs.Table.{has_a, has_b, c_is_source}
 use Rattle.pisa_asm.specs.declared.operand.Last.{Last}
@@ -46,11 +49,13 @@ abbrev pub registers_from : Op → List (List ℕ) → Option (Cell × List (Lis
 registers_from op words =
     option_and_then (λ a. option_and_then
     (λ b. option_map (λ c. (record { op = op; a = a.0; b = b.0; c = c.0; imm = 0 }, c.1))
-    (register_from (c_is_source op) b.1)) (register_from (has_b op) a.1)) (register_from (has_a op) words)
+    (register_from (c_is_source op) b.1)) (register_from (has_b op) a.1))
+    (register_from (has_a op) words)
 
 -- an offset is a number or a label's name
 abbrev pub offset_from : List ℕ → Option Operand
-offset_from word = if is_name word then Some (Label word) else option_map Number (offset_number word)
+offset_from word = if is_name word then Some (Label word) else option_map Number
+    (offset_number word)
 
 -- the only word
 abbrev pub sole : List (List ℕ) → Option (List ℕ)

@@ -1,5 +1,6 @@
 -- The meaning of a text: its lines are tried three times from the first on.
-use Rattle.std.specs.Prelude.{ℕ, ◌+◌, nat_lt, nat_eq, List, [], ◌∷◌, ◌++◌, length, Option, Some, None, Result, Ok, Err, count_by, if◌then◌else◌}
+use Rattle.std.specs.Prelude.{ℕ, ◌+◌, nat_lt, nat_eq, List, [], ◌∷◌, ◌++◌, length, Option, Some}
+use Rattle.std.specs.Prelude.{None, Result, Ok, Err, count_by, if◌then◌else◌}
 use Rattle.std.specs.Option.{option_map}
 use Rattle.rpp_words.specs.Words.{difference_of}
 use Rattle.pisa_isa.specs.declared.cell.Cell.{Cell}
@@ -10,7 +11,9 @@ use Rattle.pisa_isa.specs.declared.notes.Mark.{Mark}
 use Rattle.pisa_isa.specs.declared.notes.FieldName.{FieldName}
 use Rattle.pisa_isa.specs.Notes.{NoteLists, NotedImage, no_notes, fits}
 use Rattle.pisa_asm.specs.declared.error.AsmError.{AsmError}
-use Rattle.pisa_asm.specs.declared.error.AsmError.TheVariants.{DuplicateLabel, UnknownLabel, NotOneToOne, NoStart, NoFinish, TooManyCells, BadNote}
+use Rattle.pisa_asm.specs.declared.error.AsmError.TheVariants.{DuplicateLabel, UnknownLabel}
+use Rattle.pisa_asm.specs.declared.error.AsmError.TheVariants.{NotOneToOne, NoStart, NoFinish}
+use Rattle.pisa_asm.specs.declared.error.AsmError.TheVariants.{TooManyCells, BadNote}
 use Rattle.pisa_asm.specs.declared.operand.Given.{Given}
 use Rattle.pisa_asm.specs.declared.item.Item.{Item}
 use Rattle.pisa_asm.specs.declared.item.Item.TheVariants.{Nothing, Code, Static, Marked, Named}
@@ -86,7 +89,8 @@ with_cell line code (Some cell) = Ok (code ++ cell ∷ [])
 -- the code with what stands behind the labels of a line
 abbrev pub linked_item : ℕ → Labels → List Cell → Item → Result (List Cell) AsmError
 linked_item line labels code Nothing = Ok code
-linked_item line labels code (Code given) = with_cell line code (resolved labels (length code) given)
+linked_item line labels code (Code given) = with_cell line code
+    (resolved labels (length code) given)
 linked_item line labels code (Static word) = Ok code
 linked_item line labels code (Marked mark) = Ok code
 linked_item line labels code (Named name) = Ok code
@@ -96,7 +100,8 @@ abbrev pub linked : ℕ → Labels → List Cell → List (List ℕ) → Result 
 linked number labels code [] = Ok code
 linked number labels code (line ∷ lines) =
     and_then (item_from number (after_labels (words_of (content_of line)))) (λ item.
-    and_then (linked_item number labels code item) (λ longer. linked (number + 1) labels longer lines))
+    and_then (linked_item number labels code item)
+    (λ longer. linked (number + 1) labels longer lines))
 
 -- an image has one START and one FINISH
 abbrev pub sealed : List Cell → List ℕ → Result Segments AsmError

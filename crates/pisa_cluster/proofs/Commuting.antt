@@ -1,5 +1,6 @@
 -- Steps of two processors that touch no cell both can change places.
-use Rattle.std.proofs.Common.{◌≡◌, ◌≢◌, ◌∙◌, sym, ap, ap₂, subst, refl, ℕ, zero, suc, Bool, true, false, cond, List, [], ◌∷◌, ◌++◌, length, set, slice_get, slice_set, Option, Some, None, All, subst₂, ne_eqb}
+use Rattle.std.proofs.Common.{◌≡◌, ◌≢◌, ◌∙◌, sym, ap, ap₂, subst, refl, ℕ, zero, suc, Bool, true, false, cond, List, []}
+use Rattle.std.proofs.Common.{◌∷◌, ◌++◌, length, set, slice_get, slice_set, Option, Some, None, All, subst₂, ne_eqb}
 use Rattle.std.proofs.lemmas.List.Elements.{All-head, All-tail}
 use Rattle.std.proofs.lemmas.Option.{same_Some}
 use lib.Seq.{set_comm}
@@ -7,9 +8,11 @@ use borrow.Author.Tests.{eqb-false}
 use Rattle.pisa_isa.specs.Machine.{stop, next}
 use Rattle.pisa_cluster.specs.declared.processor.Processor.{Processor}
 use Rattle.pisa_cluster.specs.declared.processor.Kept.{Kept}
-use Rattle.pisa_cluster.specs.Replay.{Joint, processor_at, seen, in_state, touches, step_of, cstep, replay, Goes, AllGo, makers}
+use Rattle.pisa_cluster.specs.Replay.{Joint, processor_at, seen, in_state, touches, step_of, cstep, replay, Goes, AllGo}
+use Rattle.pisa_cluster.specs.Replay.{makers}
 use Rattle.pisa_cluster.specs.Schedules.{is_same_cell, next_touch}
-use Rattle.pisa_cluster.proofs.Locality.{written, put_by, next-same, stop-same, next-cells, length-written, read-written, written-written}
+use Rattle.pisa_cluster.proofs.Locality.{written, put_by, next-same, stop-same, next-cells, length-written}
+use Rattle.pisa_cluster.proofs.Locality.{read-written, written-written}
 
 -- look-ups behind a change of a list
 module _ {X : Type 0} where
@@ -36,7 +39,8 @@ module _ {X : Type 0} where
 -- the next state of a processor, whatever stands in the cells that it does not touch
 in_next : (p : Processor) (t : Option ℕ) (w : ℕ) (cells : List ℕ) → is_same_cell (touches p) t ≡ false
     → in_state p (next p.image.code (seen p (written t w cells))) ≡ in_state p (next p.image.code (seen p cells))
-in_next p t w cells apart = ap (in_state p) (next-same p (written t w cells) cells (read-written (touches p) t w cells apart))
+in_next p t w cells apart = ap (in_state p) (next-same p (written t w cells) cells
+    (read-written (touches p) t w cells apart))
 
 same_turned : (t u : Option ℕ) → is_same_cell t u ≡ false → is_same_cell u t ≡ false
 same_turned None None h = refl
@@ -54,16 +58,19 @@ module _ (s : Joint) (i k : ℕ) (p q : Processor) where
       let second = next-cells q s.cells in
       let p1 = in_state p (next p.image.code (seen p s.cells)) in
       let q1 = in_state q (next q.image.code (seen q s.cells)) in
-      let left_cells : (next q.image.code (seen q (next p.image.code (seen p s.cells)).cells)).cells ≡ written (touches q) (put_by q) (written (touches p) (put_by p) s.cells)
+      let left_cells : (next q.image.code (seen q (next p.image.code (seen p s.cells)).cells)).cells
+      ≡ written (touches q) (put_by q) (written (touches p) (put_by p) s.cells)
       = next-cells q (next p.image.code (seen p s.cells)).cells ∙ ap (written (touches q) (put_by q)) first in
-      let right_cells : (next p.image.code (seen p (next q.image.code (seen q s.cells)).cells)).cells ≡ written (touches p) (put_by p) (written (touches q) (put_by q) s.cells)
+      let right_cells : (next p.image.code (seen p (next q.image.code (seen q s.cells)).cells)).cells
+      ≡ written (touches p) (put_by p) (written (touches q) (put_by q) s.cells)
       = next-cells p (next q.image.code (seen q s.cells)).cells ∙ ap (written (touches p) (put_by p)) second in
       let q2 : in_state q (next q.image.code (seen q (next p.image.code (seen p s.cells)).cells)) ≡ q1
       = ap (λ c. in_state q (next q.image.code (seen q c))) first ∙ in_next q (touches p) (put_by p) s.cells turned in
       let p2 : in_state p (next p.image.code (seen p (next q.image.code (seen q s.cells)).cells)) ≡ p1
       = ap (λ c. in_state p (next p.image.code (seen p c))) second ∙ in_next p (touches q) (put_by q) s.cells free in
       ap₂ (λ x c. record { processors = slice_set (slice_set s.processors i p1) k x; cells = c }) q2 left_cells
-      ∙ ap₂ (λ ps c. record { processors = ps; cells = c }) (set_comm s.processors i k p1 q1 apart) (written-written (touches q) (touches p) (put_by q) (put_by p) s.cells turned)
+      ∙ ap₂ (λ ps c. record { processors = ps; cells = c }) (set_comm s.processors i k p1 q1 apart)
+      (written-written (touches q) (touches p) (put_by q) (put_by p) s.cells turned)
       ∙ sym (ap₂ (λ x c. record { processors = slice_set (slice_set s.processors k q1) i x; cells = c }) p2 right_cells)
 
 -- a step, and a step of another processor behind it
@@ -72,7 +79,8 @@ pub record Swapped (s : Joint) (step later : Kept) : Type 0 where
   pub second : Goes (cstep s later.who) step
   pub same : cstep (cstep s step.who) later.who ≡ cstep (cstep s later.who) step.who
 
-swapped_at : (s : Joint) (i k : ℕ) (step later : Kept) → step.who ≡ suc i → later.who ≡ suc k → i ≢ k → (g : Goes s step) → (h : Goes (cstep s step.who) later)
+swapped_at : (s : Joint) (i k : ℕ) (step later : Kept) → step.who ≡ suc i → later.who ≡ suc k → i ≢ k
+    → (g : Goes s step) → (h : Goes (cstep s step.who) later)
     → is_same_cell step.touched later.touched ≡ false → Swapped s step later
 swapped_at s i k step later mine its apart g h free =
     let p = g.processor in
@@ -80,20 +88,29 @@ swapped_at s i k step later mine its apart g h free =
     let there : slice_get s.processors i ≡ Some p = subst (λ n. processor_at s n ≡ Some p) mine g.there in
     let led : cstep s step.who ≡ step_of s i (Some p) = ap (cstep s) mine ∙ ap (step_of s i) there in
     let found : slice_get (step_of s i (Some p)).processors k ≡ Some q =
-    subst (λ (t : Joint). slice_get t.processors k ≡ Some q) led (subst (λ n. processor_at (cstep s step.who) n ≡ Some q) its h.there) in
-    let its_there : slice_get s.processors k ≡ Some q = sym (slice_get-set_other s.processors i k (in_state p (next p.image.code (seen p s.cells))) (λ e. apart (sym e))) ∙ found in
+    subst (λ (t : Joint). slice_get t.processors k ≡ Some q) led
+    (subst (λ n. processor_at (cstep s step.who) n ≡ Some q) its h.there) in
+    let its_there : slice_get s.processors k ≡ Some q = sym
+    (slice_get-set_other s.processors i k (in_state p (next p.image.code (seen p s.cells))) (λ e. apart (sym e)))
+    ∙ found in
     let its_led : cstep s later.who ≡ step_of s k (Some q) = ap (cstep s) its ∙ ap (step_of s k) its_there in
-    let free_now : is_same_cell (touches p) (touches q) ≡ false = subst₂ (λ t u. is_same_cell t u ≡ false) g.touched h.touched free in
-    let long : length (step_of s i (Some p)).cells ≡ length s.cells = ap length (next-cells p s.cells) ∙ length-written (touches p) (put_by p) s.cells in
-    let its_long : length (step_of s k (Some q)).cells ≡ length s.cells = ap length (next-cells q s.cells) ∙ length-written (touches q) (put_by q) s.cells in
+    let free_now : is_same_cell (touches p) (touches q) ≡ false =
+    subst₂ (λ t u. is_same_cell t u ≡ false) g.touched h.touched free in
+    let long : length (step_of s i (Some p)).cells ≡ length s.cells = ap length (next-cells p s.cells)
+    ∙ length-written (touches p) (put_by p) s.cells in
+    let its_long : length (step_of s k (Some q)).cells ≡ length s.cells = ap length (next-cells q s.cells)
+    ∙ length-written (touches q) (put_by q) s.cells in
     let goes_first : stop q.image.code (seen q s.cells) ≡ None =
-    stop-same q s.cells (step_of s i (Some p)).cells (sym long) ∙ subst (λ (t : Joint). stop q.image.code (seen q t.cells) ≡ None) led h.goes in
+    stop-same q s.cells (step_of s i (Some p)).cells (sym long)
+    ∙ subst (λ (t : Joint). stop q.image.code (seen q t.cells) ≡ None) led h.goes in
     let goes_second : stop p.image.code (seen p (step_of s k (Some q)).cells) ≡ None =
     stop-same p (step_of s k (Some q)).cells s.cells its_long ∙ g.goes in
     let there_second : slice_get (step_of s k (Some q)).processors i ≡ Some p =
     slice_get-set_other s.processors k i (in_state q (next q.image.code (seen q s.cells))) apart ∙ there in
-    let second_led : cstep (step_of s k (Some q)) step.who ≡ step_of (step_of s k (Some q)) i (Some p) = ap (cstep (step_of s k (Some q))) mine ∙ ap (step_of (step_of s k (Some q)) i) there_second in
-    let first_led : cstep (step_of s i (Some p)) later.who ≡ step_of (step_of s i (Some p)) k (Some q) = ap (cstep (step_of s i (Some p))) its ∙ ap (step_of (step_of s i (Some p)) k) found in
+    let second_led : cstep (step_of s k (Some q)) step.who ≡ step_of (step_of s k (Some q)) i (Some p) =
+    ap (cstep (step_of s k (Some q))) mine ∙ ap (step_of (step_of s k (Some q)) i) there_second in
+    let first_led : cstep (step_of s i (Some p)) later.who ≡ step_of (step_of s i (Some p)) k (Some q) =
+    ap (cstep (step_of s i (Some p))) its ∙ ap (step_of (step_of s i (Some p)) k) found in
     record {
       first = record {
         processor = q;
@@ -108,7 +125,8 @@ swapped_at s i k step later mine its apart g h free =
         touched = g.touched;
       });
       same =
-          ap (λ (t : Joint). cstep t later.who) led ∙ first_led ∙ others s i k p q free_now apart ∙ sym second_led ∙ ap (λ (t : Joint). cstep t step.who) (sym its_led);
+          ap (λ (t : Joint). cstep t later.who) led ∙ first_led ∙ others s i k p q free_now apart ∙ sym second_led
+          ∙ ap (λ (t : Joint). cstep t step.who) (sym its_led);
     }
 
 -- numbers of processors are not 0
@@ -116,7 +134,8 @@ numbered : (s : Joint) (who : ℕ) (p : Processor) → processor_at s who ≡ So
 numbered s zero p h = absurd (none-some p h)
 numbered s (suc i) p h = (i, refl)
 
-pub swapped : (s : Joint) (step later : Kept) → later.who ≢ step.who → Goes s step → Goes (cstep s step.who) later → is_same_cell step.touched later.touched ≡ false → Swapped s step later
+pub swapped : (s : Joint) (step later : Kept) → later.who ≢ step.who → Goes s step → Goes (cstep s step.who) later
+    → is_same_cell step.touched later.touched ≡ false → Swapped s step later
 swapped s step later apart g h free =
     let mine = numbered s step.who g.processor g.there in
     let its = numbered (cstep s step.who) later.who h.processor h.there in
@@ -128,16 +147,19 @@ pub record Behind (s : Joint) (step : Kept) (later : List Kept) : Type 0 where
   pub goes : Goes (replay s (makers later)) step
   pub leads : replay (cstep s step.who) (makers later) ≡ cstep (replay s (makers later)) step.who
 
-not_found : {X : Type 0} (found : Bool) (x : X) (rest : Option X) → cond found (Some x) rest ≡ None → (found ≡ false) × (rest ≡ None)
+not_found : {X : Type 0} (found : Bool) (x : X) (rest : Option X) → cond found (Some x) rest ≡ None
+    → (found ≡ false) × (rest ≡ None)
 not_found true x rest h = absurd (none-some x (sym h))
 not_found false x rest h = (refl, h)
 
-pub behind : (later : List Kept) (s : Joint) (step : Kept) → Goes s step → AllGo (cstep s step.who) later → All (λ (k : Kept). k.who ≢ step.who) later → next_touch step later ≡ None → Behind s step later
+pub behind : (later : List Kept) (s : Joint) (step : Kept) → Goes s step → AllGo (cstep s step.who) later
+    → All (λ (k : Kept). k.who ≢ step.who) later → next_touch step later ≡ None → Behind s step later
 behind [] s step g follows others_all free = record { follows = tt; goes = g; leads = refl }
 behind (k ∷ later) s step g follows others_all free =
     let test = not_found (is_same_cell step.touched k.touched) k (next_touch step later) free in
     let swap = swapped s step k (All-head (λ (x : Kept). x.who ≢ step.who) k later others_all) g follows.0 test.0 in
-    let rest = behind later (cstep s k.who) step swap.second (subst (λ t. AllGo t later) swap.same follows.1) (All-tail (λ (x : Kept). x.who ≢ step.who) k later others_all) test.1 in
+    let rest = behind later (cstep s k.who) step swap.second (subst (λ t. AllGo t later) swap.same follows.1)
+    (All-tail (λ (x : Kept). x.who ≢ step.who) k later others_all) test.1 in
     record {
       follows = (swap.first, rest.follows);
       goes = rest.goes;
@@ -145,7 +167,8 @@ behind (k ∷ later) s step g follows others_all free =
     }
 
 -- lists of steps in two parts
-pub replay-append : (xs ys : List Kept) (s : Joint) → replay s (makers (xs ++ ys)) ≡ replay (replay s (makers xs)) (makers ys)
+pub replay-append : (xs ys : List Kept) (s : Joint) → replay s (makers (xs ++ ys))
+    ≡ replay (replay s (makers xs)) (makers ys)
 replay-append [] ys s = refl
 replay-append (x ∷ xs) ys s = replay-append xs ys (cstep s x.who)
 

@@ -3,3 +3,4 @@ pub mod Commuting
 pub mod Keeping
 pub mod Undoing
 pub mod Calls
+pub mod LastFree

@@ -1,5 +1,6 @@
 -- Several processors on one memory: where a list of their steps leads.
-use Rattle.std.specs.Prelude.{◌≡◌, ℕ, zero, suc, pos, false, List, [], ◌∷◌, length, map, replicate, Option, Some, None, slice_get, slice_set, slice_index}
+use Rattle.std.specs.Prelude.{◌≡◌, ℕ, zero, suc, pos, false, List, [], ◌∷◌, length, map, replicate}
+use Rattle.std.specs.Prelude.{Option, Some, None, slice_get, slice_set, slice_index}
 use Rattle.pisa_isa.specs.declared.cell.Op.{Op}
 use Rattle.pisa_isa.specs.declared.cell.Op.TheVariants.{Exch}
 use Rattle.pisa_isa.specs.declared.cell.Cell.{Cell}
@@ -42,7 +43,10 @@ touches p = address_at (fetch p.image.code p.core.pc) p.core.regs
 
 -- a processor's next state, and its cells as the common ones
 abbrev pub with_state : Joint → (i : ℕ) → Processor → State → Joint
-with_state s i p m = record { processors = slice_set s.processors i (in_state p m); cells = m.cells }
+with_state s i p m = record {
+  processors = slice_set s.processors i (in_state p m);
+  cells = m.cells;
+}
 
 abbrev pub step_of : Joint → (i : ℕ) → Option Processor → Joint
 step_of s i None = s

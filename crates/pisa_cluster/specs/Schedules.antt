@@ -1,5 +1,6 @@
 -- Clusters, and where their calls lead.
-use Rattle.std.specs.Prelude.{◌≡◌, ◌≢◌, ◌≤◌, ◌+◌, ℕ, Bool, false, nat_eq, List, [], ◌∷◌, ◌++◌, length, find, Option, Some, None}
+use Rattle.std.specs.Prelude.{◌≡◌, ◌≢◌, ◌≤◌, ◌+◌, ℕ, Bool, false, nat_eq, List, [], ◌∷◌, ◌++◌}
+use Rattle.std.specs.Prelude.{length, find, Option, Some, None}
 use Rattle.std.specs.List.{All}
 use Rattle.pisa_isa.specs.declared.machine.Stop.{Stop}
 use Rattle.pisa_isa.specs.Image.{Segments, IsImage}
@@ -10,7 +11,8 @@ use Rattle.pisa_cluster.specs.declared.cluster.Moved.{Moved}
 use Rattle.pisa_cluster.specs.declared.cluster.Moved.TheVariants.{Made, Stopped}
 use Rattle.pisa_cluster.specs.declared.cluster.Undone.{Undone}
 use Rattle.pisa_cluster.specs.declared.cluster.Undone.TheVariants.{Done, Nothing, Blocked}
-use Rattle.pisa_cluster.specs.Replay.{Joint, begun, processor_at, seen, touches, cstep, replay, AllGo, makers, start_of_joint}
+use Rattle.pisa_cluster.specs.Replay.{Joint, begun, processor_at, seen, touches, cstep, replay}
+use Rattle.pisa_cluster.specs.Replay.{AllGo, makers, start_of_joint}
 
 -- what contracts see of a cluster: its state, its kept steps in order, and the serial number of the
 -- next one
@@ -77,7 +79,8 @@ is_same_cell _ _ = false
 abbrev pub next_touch : Kept → List Kept → Option Kept
 next_touch step later = find (λ (k : Kept). is_same_cell step.touched k.touched) later
 
--- the step at a place of the kept ones is its processor's last one, and no later step touched its cell
+-- the step at a place of the kept ones is its processor's last one, and no later step touched its
+-- cell
 pub record IsFree (at : ℕ) (kept : List Kept) : Type 0 where
   pub who : ℕ
   pub last : LastOf who kept

@@ -10,5 +10,5 @@ mod processor;
 mod search;
 
 pub use cluster::{Cluster, Moved, Undone};
-pub use laws::schedules_replay;
+pub use laws::{last_step_is_free, schedules_replay};
 pub use processor::{Kept, Processor};

@@ -1,10 +1,14 @@
 -- A row has its number, and the number its row.
-use Rattle.std.proofs.Common.{◌≡◌, refl, ap, ℕ, zero, suc, ◌+◌, ◌-◌, arith, Bool, true, false, cond, List, [], ◌∷◌, Option, Some, None}
+use Rattle.std.proofs.Common.{◌≡◌, refl, ap, ℕ, zero, suc, ◌+◌, ◌-◌, arith, Bool, true, false, cond, List, [], ◌∷◌}
+use Rattle.std.proofs.Common.{Option, Some, None}
 use Rattle.std.specs.Prelude.{nat_eq, ◌&&◌, slice_get}
 use Rattle.std.proofs.lemmas.Bool.{eqb-true}
 use Rattle.std.proofs.lemmas.Bool.Decides.{nat_tests}
 use Rattle.pisa_isa.specs.declared.cell.Op.{Op}
-use Rattle.pisa_isa.specs.declared.cell.Op.TheVariants.{Add, Sub, Xor, Neg, Addi, Xori, Rl, Rr, Rlv, Rrv, Andx, Orx, Norx, Sltx, Andix, Orix, Sllx, Srlx, Srax, Sllvx, Srlvx, Sravx, Exch, Swapbr, Bra, Rbra, Beq, Bne, Bgez, Bgtz, Blez, Bltz, Start, Finish, DataWord}
+use Rattle.pisa_isa.specs.declared.cell.Op.TheVariants.{Add, Sub, Xor, Neg, Addi, Xori, Rl, Rr, Rlv, Rrv, Andx, Orx}
+use Rattle.pisa_isa.specs.declared.cell.Op.TheVariants.{Norx, Sltx, Andix, Orix, Sllx, Srlx, Srax, Sllvx, Srlvx, Sravx}
+use Rattle.pisa_isa.specs.declared.cell.Op.TheVariants.{Exch, Swapbr, Bra, Rbra, Beq, Bne, Bgez, Bgtz, Blez, Bltz}
+use Rattle.pisa_isa.specs.declared.cell.Op.TheVariants.{Start, Finish, DataWord}
 use Rattle.pisa_image.specs.declared.rows.TheConstants.{ROWS}
 use Rattle.pisa_image.specs.Rows.{number_of, row_in, row_with}
 
@@ -69,7 +73,8 @@ numbered n (op ∷ rows) e =
     let rest = numbered (suc n) rows g.1 in
     record { at_place = λ k x s. here k x s (eqb-true (number_of op) n g.0) rest }
   where
-    here : (k : ℕ) (x : Op) → slice_get (op ∷ rows) k ≡ Some x → number_of op ≡ n → Numbered (suc n) rows → number_of x ≡ k + n
+    here : (k : ℕ) (x : Op) → slice_get (op ∷ rows) k ≡ Some x → number_of op ≡ n → Numbered (suc n) rows
+        → number_of x ≡ k + n
     here zero x s first rest = let same : op ≡ x = cc in omega (arith, ap number_of same)
     here (suc k) x s first rest = let found : number_of x ≡ k + suc n = rest.at_place k x s in omega arith
 

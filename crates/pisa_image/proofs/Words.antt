@@ -1,8 +1,10 @@
 -- A number that is read has these four bytes, and these four bytes are read as it.
-use Rattle.std.proofs.Common.{◌≡◌, ℕ, ◌+◌, ◌≤◌, Bool, true, false, cond, ltb, List, ◌++◌, length, take, drop, Result, Ok, Err, refl, sym, ap, subst, ◌∙◌, arith, inl, inr}
+use Rattle.std.proofs.Common.{◌≡◌, ℕ, ◌+◌, ◌≤◌, Bool, true, false, cond, ltb, List, ◌++◌, length, take, drop, Result}
+use Rattle.std.proofs.Common.{Ok, Err, refl, sym, ap, subst, ◌∙◌, arith, inl, inr}
 use Rattle.std.specs.Int.{w32, from_le_bytes}
 use Rattle.std.proofs.lemmas.Bool.{cases_lt, ltb-false, le-ltb}
-use Rattle.std.proofs.lemmas.List.{take_at, drop_at, take-append-drop, length-append, length-take, get_or-drop, get_or-take, get_or_past}
+use Rattle.std.proofs.lemmas.List.{take_at, drop_at, take-append-drop, length-append, length-take, get_or-drop}
+use Rattle.std.proofs.lemmas.List.{get_or-take, get_or_past}
 use Rattle.std.proofs.lemmas.Nat.{le_bytes_4, from_le_bytes-to_le_bytes_4}
 use Rattle.rpp_words.specs.Words.{IsWord}
 use Rattle.pisa_image.specs.Numbers.{word_bytes, word_at}
@@ -33,9 +35,15 @@ word_takes cut at bytes x fits e =
     let g = guard_ok (ltb (length bytes) 4) (cut (at + length bytes)) read x e in
     let long : 4 ≤ length bytes = ltb-false _ _ g.0 in
     let front_fits = IsBytes-take 4 bytes fits in
-    let spelled : word_bytes (from_le_bytes w32 front) ≡ front = le_bytes_4 front _ (omega (arith, length-take 4 bytes)) front_fits refl in
-    subst (λ (y : ℕ × List ℕ). Takes bytes (word_bytes y.0) y.1 × IsWord y.0) g.1
-    (record { parts = sym (take-append-drop 4 bytes) ∙ ap (λ (t : List ℕ). t ++ drop 4 bytes) (sym spelled); rest_fits = IsBytes-drop 4 bytes fits }, word_below front front_fits)
+    let spelled : word_bytes (from_le_bytes w32 front) ≡ front =
+    le_bytes_4 front _ (omega (arith, length-take 4 bytes)) front_fits refl in
+    subst (λ (y : ℕ × List ℕ). Takes bytes (word_bytes y.0) y.1 × IsWord y.0) g.1 (
+      record {
+        parts = sym (take-append-drop 4 bytes) ∙ ap (λ (t : List ℕ). t ++ drop 4 bytes) (sym spelled);
+        rest_fits = IsBytes-drop 4 bytes fits;
+      },
+      word_below front front_fits,
+    )
 
 abbrev read : {E : Type 0} → ℕ → List ℕ → Result (ℕ × List ℕ) E
 read n rest = Ok (n, rest)
@@ -50,4 +58,5 @@ word_again {E = E} cut at n rest lt =
     let front : take 4 bytes ≡ word_bytes n = take_at (word_bytes n) rest 4 refl in
     let behind : drop 4 bytes ≡ rest = drop_at (word_bytes n) rest 4 refl in
     let one : from_le_bytes w32 (take 4 bytes) ≡ n = ap (from_le_bytes w32) front ∙ from_le_bytes-to_le_bytes_4 n lt in
-    ap (λ b. cond b (Err (cut (at + length bytes))) (read (from_le_bytes w32 (take 4 bytes)) (drop 4 bytes))) long ∙ same_read {E = E} _ _ _ _ one behind
+    ap (λ b. cond b (Err (cut (at + length bytes))) (read (from_le_bytes w32 (take 4 bytes)) (drop 4 bytes))) long
+    ∙ same_read {E = E} _ _ _ _ one behind

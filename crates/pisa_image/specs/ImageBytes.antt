@@ -48,4 +48,5 @@ old_image_bytes image = segment_bytes OLD_VERSION image
 
 -- an image with its notes has these bytes, or one without notes had them in the version before
 abbrev pub AreBytesOf : NotedImage → List ℕ → Type 0
-AreBytesOf n bytes = (bytes ≡ image_bytes n) ⊎ ((n.notes ≡ no_notes) × (bytes ≡ old_image_bytes n.image))
+AreBytesOf n bytes = (bytes ≡ image_bytes n) ⊎
+    ((n.notes ≡ no_notes) × (bytes ≡ old_image_bytes n.image))

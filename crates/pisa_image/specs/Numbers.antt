@@ -1,5 +1,6 @@
 -- Numbers of 32 bits as bytes, the lowest byte first.
-use Rattle.std.specs.Prelude.{ℕ, zero, suc, ◌+◌, List, [], ◌∷◌, length, take, drop, Result, Ok, Err, nat_lt, if◌then◌else◌}
+use Rattle.std.specs.Prelude.{ℕ, zero, suc, ◌+◌, List, [], ◌∷◌, length, take, drop, Result, Ok, Err}
+use Rattle.std.specs.Prelude.{nat_lt, if◌then◌else◌}
 use Rattle.std.specs.List.{flat_map}
 use Rattle.std.specs.Int.{w32, to_le_bytes, from_le_bytes}
 
@@ -30,5 +31,6 @@ many_at one size (suc count) at bytes = do
   others ← many_at one size count (at + size) first.1
   Ok (first.0 ∷ others.0, others.1)
 
-abbrev pub words_at : {E : Type 0} → (cut : ℕ → E) → (count at : ℕ) → List ℕ → Result (List ℕ × List ℕ) E
+abbrev pub words_at : {E : Type 0} → (cut : ℕ → E) → (count at : ℕ) → List ℕ
+    → Result (List ℕ × List ℕ) E
 words_at cut count at bytes = many_at (word_at cut) 4 count at bytes

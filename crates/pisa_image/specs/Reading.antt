@@ -1,5 +1,7 @@
 -- Reading an image from its front, with the first refusal that is met.
-use Rattle.std.specs.Prelude.{◌≡◌, ℕ, zero, suc, ◌+◌, ◌-◌, ◌*◌, Bool, true, false, ◌&&◌, List, [], ◌∷◌, length, Option, Some, None, Result, Ok, Err, nat_eq, nat_lt, nat_le, count_by, if◌then◌else◌}
+use Rattle.std.specs.Prelude.{◌≡◌, ℕ, zero, suc, ◌+◌, ◌-◌, ◌*◌, Bool, true, false, ◌&&◌, List, []}
+use Rattle.std.specs.Prelude.{◌∷◌, length, Option, Some, None, Result, Ok, Err, nat_eq, nat_lt}
+use Rattle.std.specs.Prelude.{nat_le, count_by, if◌then◌else◌}
 use Rattle.pisa_isa.specs.declared.cell.Op.{Op}
 use Rattle.pisa_isa.specs.declared.cell.Cell.{Cell}
 use Rattle.pisa_isa.specs.declared.image.TheConstants.{MOST_CELLS, MOST_STATICS}
@@ -7,7 +9,8 @@ use Rattle.pisa_isa.specs.declared.image.SealError.{SealError}
 use Rattle.pisa_isa.specs.declared.image.SealError.TheVariants as seal
 use Rattle.rpp_words.specs.declared.input.TheConstants.{FIXED_CELLS}
 use Rattle.std.specs.Char.{is_ascii_alphabetic}
-use Rattle.pisa_isa.specs.declared.notes.TheConstants.{MOST_MARKS, LAST_PLACE, MOST_NAMES, MOST_NAME_BYTES}
+use Rattle.pisa_isa.specs.declared.notes.TheConstants.{MOST_MARKS, LAST_PLACE, MOST_NAMES}
+use Rattle.pisa_isa.specs.declared.notes.TheConstants.{MOST_NAME_BYTES}
 use Rattle.pisa_isa.specs.declared.notes.Mark.{Mark}
 use Rattle.pisa_isa.specs.declared.notes.FieldName.{FieldName}
 use Rattle.pisa_isa.specs.Notes.{NoteLists, NotedImage, no_notes, is_name_byte}
@@ -15,7 +18,10 @@ use Rattle.pisa_isa.specs.Table.{has_a, has_b, c_is_source, register_end, imm_en
 use Rattle.pisa_isa.specs.Image.{Segments, is_start, is_finish}
 use Rattle.pisa_image.specs.declared.reading.TheConstants.{MARK, VERSION, OLD_VERSION}
 use Rattle.pisa_image.specs.declared.error.ImageError.{ImageError}
-use Rattle.pisa_image.specs.declared.error.ImageError.TheVariants.{NotOneToOne, NoStart, NoFinish, ImageTruncated, ImageMagic, ImageField, ImageTrailing, NoMemory}
+use Rattle.pisa_image.specs.declared.error.ImageError.TheVariants.{NotOneToOne, NoStart, NoFinish}
+use Rattle.pisa_image.specs.declared.error.ImageError.TheVariants.{ImageTruncated, ImageMagic}
+use Rattle.pisa_image.specs.declared.error.ImageError.TheVariants.{ImageField, ImageTrailing}
+use Rattle.pisa_image.specs.declared.error.ImageError.TheVariants.{NoMemory}
 use Rattle.pisa_image.specs.Numbers.{◌>>=◌, word_at, many_at, words_at}
 use Rattle.pisa_image.specs.Rows.{row_with}
 
@@ -137,11 +143,13 @@ unfoldable pub names_at : (statics left count at : ℕ) → List ℕ
 names_at statics left zero at bytes = Ok ([], at, bytes)
 names_at statics left (suc count) at bytes = do
   first ← name_at statics left at bytes
-  others ← names_at statics (left - length first.0.text) count (at + 8 + length first.0.text) first.1
+  others ← names_at statics (left - length first.0.text) count (at + 8 + length first.0.text)
+      first.1
   Ok (first.0 ∷ others.0, others.1, others.2)
 
 -- the notes of code of so many cells and so many static cells, and the place behind them
-unfoldable pub notes_at : (cells statics at : ℕ) → List ℕ → Result (NoteLists × ℕ × List ℕ) ImageError
+unfoldable pub notes_at : (cells statics at : ℕ) → List ℕ
+    → Result (NoteLists × ℕ × List ℕ) ImageError
 notes_at cells statics at bytes = do
   count ← number_between 0 MOST_MARKS at bytes
   marks ← marks_at cells count.0 (at + 4) count.1
@@ -150,7 +158,8 @@ notes_at cells statics at bytes = do
   Ok (record { marks = marks.0; names = names.0 }, names.1, names.2)
 
 -- the version before has no notes
-abbrev pub notes_of : (version cells statics at : ℕ) → List ℕ → Result (NoteLists × ℕ × List ℕ) ImageError
+abbrev pub notes_of : (version cells statics at : ℕ) → List ℕ
+    → Result (NoteLists × ℕ × List ℕ) ImageError
 notes_of version cells statics at bytes =
     if nat_eq version OLD_VERSION then Ok (no_notes, at, bytes) else notes_at cells statics at bytes
 
@@ -169,7 +178,8 @@ abbrev pub noted : NoteLists → Segments → NotedImage
 noted notes image = record { image = image; notes = notes }
 
 -- the image of these segments with the notes behind them, which end the bytes
-unfoldable pub noted_at : (version cells statics : ℕ) → Segments → List ℕ → Result NotedImage ImageError
+unfoldable pub noted_at : (version cells statics : ℕ) → Segments → List ℕ
+    → Result NotedImage ImageError
 noted_at version cells statics image bytes = do
   notes ← notes_of version cells statics (16 + 8 * cells + 4 * statics) bytes
   whole ← ended notes.0 notes.1 notes.2

@@ -1,5 +1,6 @@
 -- What stepping back needs, where a step led here.
-use Rattle.std.proofs.Common.{◌≡◌, ◌≢◌, ◌∙◌, sym, ap, refl, ℕ, ◌^◌, ◌<◌, Bool, true, false, not, cond, arith, List, length, get_or, ℤ, pos, negsuc, ◌+ℤ◌, ◌≤ℤ◌, ◌<ℤ◌, Option, Some, None, length-set}
+use Rattle.std.proofs.Common.{◌≡◌, ◌≢◌, ◌∙◌, sym, ap, refl, ℕ, ◌^◌, ◌<◌, Bool, true, false, not, cond, arith, List}
+use Rattle.std.proofs.Common.{length, get_or, ℤ, pos, negsuc, ◌+ℤ◌, ◌≤ℤ◌, ◌<ℤ◌, Option, Some, None, length-set}
 use Rattle.std.proofs.lemmas.List.{get_or-set_other}
 use Rattle.std.proofs.lemmas.List.Elements.{All-get_or}
 use Rattle.std.proofs.lemmas.Option.{slice_get_within}
@@ -11,7 +12,8 @@ use Rattle.pisa_isa.specs.declared.cell.Op.TheVariants.{Exch, Swapbr, Bra, Rbra,
 use Rattle.pisa_isa.specs.declared.cell.Cell.{Cell}
 use Rattle.pisa_isa.specs.Table.{IsCell, b_is_source}
 use Rattle.pisa_isa.proofs.Ranges.{a_below}
-use Rattle.pisa_isa.specs.Machine.{State, IsState, IsCode, IsNext, turned, moved, place_moved, stride, effect, effect_at, row, row_of, faced, has_cell, fetch, is_taken, stop_at, next, back}
+use Rattle.pisa_isa.specs.Machine.{State, IsState, IsCode, IsNext, turned, moved, place_moved, stride, effect}
+use Rattle.pisa_isa.specs.Machine.{effect_at, row, row_of, faced, has_cell, fetch, is_taken, stop_at, next, back}
 use Rattle.pisa_isa.proofs.Facing.{has_cell-from_none, IsCell-faced}
 use Rattle.pisa_isa.proofs.Effect.{state, cell}
 use Rattle.pisa_isa.proofs.Back.{Apart-cell, moved-twice, effect-pc, IsCell-fetch}
@@ -40,14 +42,19 @@ row-br Rbra a b c i m s h = omega arith
 row-br Bra a b c i m s h = omega arith
 row-br Beq a b c i m s h = taken_word (is_taken Beq (get_or m.regs a 0) (get_or m.regs b 0)) _ _ (omega arith) s.br_word
 row-br Bne a b c i m s h = taken_word (is_taken Bne (get_or m.regs a 0) (get_or m.regs b 0)) _ _ (omega arith) s.br_word
-row-br Bgez a b c i m s h = taken_word (is_taken Bgez (get_or m.regs a 0) (get_or m.regs b 0)) _ _ (omega arith) s.br_word
-row-br Bgtz a b c i m s h = taken_word (is_taken Bgtz (get_or m.regs a 0) (get_or m.regs b 0)) _ _ (omega arith) s.br_word
-row-br Blez a b c i m s h = taken_word (is_taken Blez (get_or m.regs a 0) (get_or m.regs b 0)) _ _ (omega arith) s.br_word
-row-br Bltz a b c i m s h = taken_word (is_taken Bltz (get_or m.regs a 0) (get_or m.regs b 0)) _ _ (omega arith) s.br_word
+row-br Bgez a b c i m s h = taken_word (is_taken Bgez (get_or m.regs a 0) (get_or m.regs b 0)) _ _ (omega arith)
+    s.br_word
+row-br Bgtz a b c i m s h = taken_word (is_taken Bgtz (get_or m.regs a 0) (get_or m.regs b 0)) _ _ (omega arith)
+    s.br_word
+row-br Blez a b c i m s h = taken_word (is_taken Blez (get_or m.regs a 0) (get_or m.regs b 0)) _ _ (omega arith)
+    s.br_word
+row-br Bltz a b c i m s h = taken_word (is_taken Bltz (get_or m.regs a 0) (get_or m.regs b 0)) _ _ (omega arith)
+    s.br_word
 row-br _ a b c i m s h = s.br_word
 
 pub effect-br : (c : Cell) (m : State) → IsCell c → IsState m → (effect c m).br < 2 ^ 32
-effect-br c m k s = let d = faced m.back c in row-br d.op d.a d.b d.c d.imm m s (a_below d (IsCell-faced m.back c k).in_range)
+effect-br c m k s = let d = faced m.back c in row-br d.op d.a d.b d.c d.imm m s
+    (a_below d (IsCell-faced m.back c k).in_range)
 
 place_moved_bounds : (b : Bool) (p : ℤ) (br : ℕ) → br < 2 ^ 32 → pos 0 ≤ℤ p → p ≤ℤ pos 8050000
     → (pos 0 ≤ℤ (place_moved b p br +ℤ pos (2 ^ 32))) × (place_moved b p br ≤ℤ pos (2 ^ 32))
@@ -59,15 +66,23 @@ fetch_place code (pos n) c e = let h = slice_get_within code n c e in (omega (ar
 fetch_place code (negsuc n) c e = absurd (cc)
 
 -- an EXCH still has its cell afterwards
-pub has_cell-effect : (op : Op) (a b c i : ℕ) (pc : ℤ) (br : ℕ) (back : Bool) (regs cells : List ℕ) → (b_is_source op ≡ true → b ≢ a) → has_cell op b (state pc br back regs cells) ≡ true
+pub has_cell-effect : (op : Op) (a b c i : ℕ) (pc : ℤ) (br : ℕ) (back : Bool) (regs cells : List ℕ)
+    → (b_is_source op ≡ true → b ≢ a) → has_cell op b (state pc br back regs cells) ≡ true
     → has_cell op b (turned (effect (cell op a b c i) (state pc br back regs cells))) ≡ true
 has_cell-effect Exch a b c i pc br true regs cells ne h =
-    rw (get_or-set_other regs a b (get_or cells (get_or regs b 0) 0) 0 (ne refl), length-set cells (get_or regs b 0) (get_or regs a 0)) h
+    rw (
+      get_or-set_other regs a b (get_or cells (get_or regs b 0) 0) 0 (ne refl),
+      length-set cells (get_or regs b 0) (get_or regs a 0),
+    ) h
 has_cell-effect Exch a b c i pc br false regs cells ne h =
-    rw (get_or-set_other regs a b (get_or cells (get_or regs b 0) 0) 0 (ne refl), length-set cells (get_or regs b 0) (get_or regs a 0)) h
+    rw (
+      get_or-set_other regs a b (get_or cells (get_or regs b 0) 0) 0 (ne refl),
+      length-set cells (get_or regs b 0) (get_or regs a 0),
+    ) h
 has_cell-effect _ a b c i pc br back regs cells ne h = refl
 
-came_at : (code : List Cell) (m s : State) (o : Option Cell) → IsCode code → IsState s → fetch code s.pc ≡ o → stop_at o s ≡ None → m ≡ next code s → CameBy code m
+came_at : (code : List Cell) (m s : State) (o : Option Cell) → IsCode code → IsState s → fetch code s.pc ≡ o
+    → stop_at o s ≡ None → m ≡ next code s → CameBy code m
 came_at code m s None k ok e h n = absurd (cc)
 came_at code m s (Some c) k ok e h n =
     let is_cell : IsCell c = IsCell-fetch code s.pc c k e in
@@ -86,7 +101,8 @@ came_at code m s (Some c) k ok e h n =
       high = rw pc_is bounds.1;
       there = ap (λ x. fetch code x.pc) before ∙ ap (fetch code) (effect-pc c s) ∙ e;
       found = ap (has_cell c.op c.b) before
-          ∙ has_cell-effect c.op c.a c.b c.c c.imm s.pc s.br s.back s.regs s.cells (Apart-cell c is_cell).from_b (has_cell-from_none c.op c s h);
+          ∙ has_cell-effect c.op c.a c.b c.c c.imm s.pc s.br s.back s.regs s.cells (Apart-cell c is_cell).from_b
+          (has_cell-from_none c.op c s h);
     }
 
 pub came_by : (code : List Cell) (m : State) → IsCode code → IsNext code m → CameBy code m
@@ -96,16 +112,20 @@ came_by code m k n = came_at code m (back code m) (fetch code (back code m).pc) 
 -- the place before
 
 row-apart : (op : Op) (a b c i : ℕ) (pc p : ℤ) (br : ℕ) (back : Bool) (regs cells : List ℕ)
-    → record (row op a b c i (state pc br back regs cells)) { pc = p } ≡ turned (row op a b c i (state p br (not back) regs cells))
+    → record (row op a b c i (state pc br back regs cells)) { pc = p }
+    ≡ turned (row op a b c i (state p br (not back) regs cells))
 row-apart Rbra a b c i pc p br true regs cells = refl
 row-apart Rbra a b c i pc p br false regs cells = refl
 row-apart _ a b c i pc p br true regs cells = refl
 row-apart _ a b c i pc p br false regs cells = refl
 
-effect-apart : (c : Cell) (m : State) → record (row_of (faced (not m.back) c) m) { pc = (moved (turned m)).pc } ≡ turned (effect c (moved (turned m)))
-effect-apart c m = let d = faced (not m.back) c in row-apart d.op d.a d.b d.c d.imm m.pc (moved (turned m)).pc m.br m.back m.regs m.cells
+effect-apart : (c : Cell) (m : State) → record (row_of (faced (not m.back) c) m) { pc = (moved (turned m)).pc }
+    ≡ turned (effect c (moved (turned m)))
+effect-apart c m = let d = faced (not m.back) c in row-apart d.op d.a d.b d.c d.imm m.pc (moved (turned m)).pc m.br
+    m.back m.regs m.cells
 
-pub stepped_back : (code : List Cell) (m : State) (c : Cell) (s : State) (p : ℤ) → fetch code (moved (turned m)).pc ≡ Some c
+pub stepped_back : (code : List Cell) (m : State) (c : Cell) (s : State) (p : ℤ)
+    → fetch code (moved (turned m)).pc ≡ Some c
     → s ≡ row_of (faced (not m.back) c) m → p ≡ (moved (turned m)).pc → record s { pc = p } ≡ back code m
 stepped_back code m c s p there acts place =
     let u : State = moved (turned m) in

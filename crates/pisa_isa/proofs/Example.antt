@@ -1,5 +1,6 @@
 -- Small programs, run by their definition.
-use Rattle.std.proofs.Common.{◌≡◌, refl, ℕ, List, [], ◌∷◌, Option, Some, None, pos, negsuc, ℤ, Bool, true, false, replicate, map}
+use Rattle.std.proofs.Common.{◌≡◌, refl, ℕ, List, [], ◌∷◌, Option, Some, None, pos, negsuc, ℤ, Bool, true, false}
+use Rattle.std.proofs.Common.{replicate, map}
 use Rattle.pisa_isa.specs.declared.cell.Op.{Op}
 use Rattle.pisa_isa.specs.declared.cell.Op.TheVariants.{Addi, Neg, Swapbr, Bra, Rbra, Exch, Start, Finish}
 use Rattle.pisa_isa.specs.declared.cell.Cell.{Cell}
@@ -40,28 +41,57 @@ runs_10 = refl
 
 -- a turn at once leads back to START
 returns : from_start (at Start 0 0 0 ∷ at Rbra 0 0 0 ∷ at Finish 0 0 0 ∷ [])
-    ≡ record { why = Returned; spent = 3; last = record { pc = pos 0; br = 0; back = true; regs = zero_registers; cells = [] } }
+    ≡ record {
+      why = Returned;
+      spent = 3;
+      last = record {
+        pc = pos 0;
+        br = 0;
+        back = true;
+        regs = zero_registers;
+        cells = [];
+      };
+    }
 returns = refl
 
 -- an address that no cell has
 exchanges : from_start (at Start 0 0 0 ∷ at Addi 1 0 4294967295 ∷ at Exch 2 1 0 ∷ at Finish 0 0 0 ∷ [])
-    ≡ record { why = BadAddress 4294967295; spent = 3; last = record { pc = pos 2; br = 0; back = false; regs = 0 ∷ 4294967295 ∷ replicate 30 0; cells = [] } }
+    ≡ record {
+      why = BadAddress 4294967295;
+      spent = 3;
+      last = record
+          { pc = pos 2; br = 0; back = false; regs = 0 ∷ 4294967295 ∷ replicate 30 0; cells = [] };
+    }
 exchanges = refl
 
 -- branches that lead off the code
 past_the_end : from_start (at Start 0 0 0 ∷ at Bra 0 0 5 ∷ at Finish 0 0 0 ∷ [])
-    ≡ record { why = OffCode (pos 6); spent = 2; last = record { pc = pos 6; br = 5; back = false; regs = zero_registers; cells = [] } }
+    ≡ record {
+      why = OffCode (pos 6);
+      spent = 2;
+      last = record
+          { pc = pos 6; br = 5; back = false; regs = zero_registers; cells = [] };
+    }
 past_the_end = refl
 
 before_the_start : from_start (at Start 0 0 0 ∷ at Bra 0 0 4294967295 ∷ at Finish 0 0 0 ∷ [])
-    ≡ record { why = OffCode (negsuc 0); spent = 3; last = record { pc = negsuc 0; br = 4294967295; back = false; regs = zero_registers; cells = [] } }
+    ≡ record {
+      why = OffCode (negsuc 0);
+      spent = 3;
+      last = record
+          { pc = negsuc 0; br = 4294967295; back = false; regs = zero_registers; cells = [] };
+    }
 before_the_start = refl
 
 -- the shortest program, and the places of its steps
 abbrev empty : List Cell
 empty = at Start 0 0 0 ∷ at Finish 0 0 0 ∷ []
 
-finishes_at_once : from_start empty ≡ record { why = Finished; spent = 2; last = record { pc = pos 1; br = 0; back = false; regs = zero_registers; cells = [] } }
+finishes_at_once : from_start empty ≡ record {
+  why = Finished;
+  spent = 2;
+  last = record { pc = pos 1; br = 0; back = false; regs = zero_registers; cells = [] };
+}
 finishes_at_once = refl
 
 visits_both : map (λ m. m.pc) (visited empty 1000 (started empty zero_registers [])) ≡ pos 0 ∷ pos 1 ∷ []

@@ -1,5 +1,6 @@
 -- The flipped code of an image is the code of an image, and flipping it again gives the code back.
-use Rattle.std.proofs.Common.{◌≡◌, ◌∙◌, sym, ap, subst, refl, ℕ, ◌+◌, ◌-◌, ◌<◌, Bool, cond, arith, List, [], ◌∷◌, length, get_or, map}
+use Rattle.std.proofs.Common.{◌≡◌, ◌∙◌, sym, ap, subst, refl, ℕ, ◌+◌, ◌-◌, ◌<◌, Bool, cond, arith, List, [], ◌∷◌}
+use Rattle.std.proofs.Common.{length, get_or, map}
 use Rattle.std.specs.Prelude.{count_by}
 use Rattle.std.specs.List.{All}
 use Rattle.std.proofs.lemmas.List.{same_lists, length-reverse, length-map}
@@ -22,8 +23,10 @@ any_default : (code : List Cell) (k : ℕ) (d e : Cell) → k < length code → 
 any_default code k d e h = get_or_from_slice_get code k (get_or code k e) d (slice_get-get_or code k e h)
 
 -- the cell at a place of the flipped code
-pub cell-flipped : (code : List Cell) (k : ℕ) (d : Cell) → k < length code → get_or (flipped code) k d ≡ inverse_of (get_or code (length code - 1 - k) d)
-cell-flipped code k d h = any_default (flipped code) k d (inverse_of d) (omega (arith, length-flipped code)) ∙ get_or-flipped code k d h
+pub cell-flipped : (code : List Cell) (k : ℕ) (d : Cell) → k < length code
+    → get_or (flipped code) k d ≡ inverse_of (get_or code (length code - 1 - k) d)
+cell-flipped code k d h = any_default (flipped code) k d (inverse_of d) (omega (arith, length-flipped code))
+    ∙ get_or-flipped code k d h
 
 pub flipped-flipped : (code : List Cell) → All IsCell code → flipped (flipped code) ≡ code
 flipped-flipped code cells =
@@ -43,7 +46,8 @@ cells-flipped code cells = λ k d h.
     let in_code : k < length code = omega (arith, length-flipped code) in
     subst IsCell (sym (cell-flipped code k d in_code)) (IsCell-inverse _ (cells (length code - 1 - k) d (omega arith)))
 
-count-map : (p q : Cell → Bool) → ((c : Cell) → p (inverse_of c) ≡ q c) → (code : List Cell) → count_by p (map inverse_of code) ≡ count_by q code
+count-map : (p q : Cell → Bool) → ((c : Cell) → p (inverse_of c) ≡ q c) → (code : List Cell)
+    → count_by p (map inverse_of code) ≡ count_by q code
 count-map p q same [] = refl
 count-map p q same (c ∷ code) =
     sum_by-cons (λ x. cond (p x) 1 0) (inverse_of c) (map inverse_of code)
@@ -51,15 +55,20 @@ count-map p q same (c ∷ code) =
     ∙ ap (λ k. cond (q c) 1 0 + k) (count-map p q same code)
     ∙ sym (sum_by-cons (λ x. cond (q x) 1 0) c code)
 
-count-flipped : (p q : Cell → Bool) → ((c : Cell) → p (inverse_of c) ≡ q c) → (code : List Cell) → count_by p (flipped code) ≡ count_by q code
+count-flipped : (p q : Cell → Bool) → ((c : Cell) → p (inverse_of c) ≡ q c) → (code : List Cell)
+    → count_by p (flipped code) ≡ count_by q code
 count-flipped p q same code =
-    sum_by-IsPermutation (λ x. cond (p x) 1 0) (map inverse_of code) (flipped code) (IsPermutation-reverse (map inverse_of code)) ∙ count-map p q same code
+    sum_by-IsPermutation (λ x. cond (p x) 1 0) (map inverse_of code) (flipped code)
+    (IsPermutation-reverse (map inverse_of code)) ∙ count-map p q same code
 
 pub IsImage-flipped : (image : Segments) → IsImage image → IsImage (flipped_image image)
 IsImage-flipped image i =
     let limit = i.is_code.in_limit in
     record {
-      is_code = record { in_limit = omega (arith, length-flipped image.code); cells = cells-flipped image.code i.is_code.cells };
+      is_code = record {
+        in_limit = omega (arith, length-flipped image.code);
+        cells = cells-flipped image.code i.is_code.cells;
+      };
       one_start = count-flipped is_start is_finish (λ c. is_start-inverse_op c.op) image.code ∙ i.one_finish;
       one_finish = count-flipped is_finish is_start (λ c. is_finish-inverse_op c.op) image.code ∙ i.one_start;
       statics_in_limit = i.statics_in_limit;

@@ -1,5 +1,6 @@
 -- How many cells the loaded memory has, and one that is computed.
-use Rattle.std.proofs.Common.{◌≡◌, ◌∙◌, refl, ℕ, ◌+◌, ◌-◌, ◌*◌, ◌/◌, ◌^◌, ◌<◌, ◌≤◌, arith, List, [], ◌∷◌, ◌++◌, length, take, drop, replicate, length-append, length-set}
+use Rattle.std.proofs.Common.{◌≡◌, ◌∙◌, refl, ℕ, ◌+◌, ◌-◌, ◌*◌, ◌/◌, ◌^◌, ◌<◌, ◌≤◌, arith, List, [], ◌∷◌, ◌++◌, length}
+use Rattle.std.proofs.Common.{take, drop, replicate, length-append, length-set}
 use Rattle.std.proofs.lemmas.List.{length-replicate}
 use Rattle.std.proofs.lemmas.Nat.{pow_pos}
 use Rattle.std.proofs.Math.Nat.{mul_comm, div-add-mod, mod-lt}
@@ -19,19 +20,32 @@ length-with_words [] statics = refl
 length-with_words (entry ∷ input) statics = length-with_words input _ ∙ length-set statics (2 + entry.field) entry.word
 
 length-empty_heads : (heap base : ℕ) → 0 < heap → length (empty_heads heap base) ≡ heap
-length-empty_heads heap base h = omega (arith, length-append (replicate (heap - 1) 0) (base ∷ []), length-replicate {A = ℕ} (heap - 1) 0)
+length-empty_heads heap base h = omega (
+  arith,
+  length-append (replicate (heap - 1) 0) (base ∷ []),
+  length-replicate {A = ℕ} (heap - 1) 0,
+)
 
-length-fixed_cells : (heap deep base : ℕ) (heads : List ℕ) → length heads ≤ 31 → length (fixed_cells heap deep base heads) ≡ 40
+length-fixed_cells : (heap deep base : ℕ) (heads : List ℕ) → length heads ≤ 31
+    → length (fixed_cells heap deep base heads) ≡ 40
 length-fixed_cells heap deep base heads h =
     omega (arith, length-append heads (replicate (31 - length heads) 0), length-replicate {A = ℕ} (31 - length heads) 0)
 
-lengths : (fixed words gap heap stack : List ℕ) (s base h d : ℕ) → length fixed ≡ 40 → length words ≡ s → length gap ≡ base - 40 - s → length heap ≡ h → length stack ≡ d → 40 + s ≤ base
+lengths : (fixed words gap heap stack : List ℕ) (s base h d : ℕ) → length fixed ≡ 40 → length words ≡ s
+    → length gap ≡ base - 40 - s → length heap ≡ h → length stack ≡ d → 40 + s ≤ base
     → length (fixed ++ words ++ gap ++ heap ++ stack) ≡ base + h + d
 lengths fixed words gap heap stack s base h d f w g p t le =
-    omega (arith, length-append (fixed ++ words ++ gap ++ heap) stack, length-append (fixed ++ words ++ gap) heap, length-append (fixed ++ words) gap, length-append fixed words)
+    omega (
+      arith,
+      length-append (fixed ++ words ++ gap ++ heap) stack,
+      length-append (fixed ++ words ++ gap) heap,
+      length-append (fixed ++ words) gap,
+      length-append fixed words,
+    )
 
 pub length-loaded : (statics : List ℕ) (limits : Limits) (input : List FieldWord) → 0 < limits.heap → limits.heap ≤ 31
-    → length (loaded statics limits input) ≡ heap_base limits.heap (length statics) + 2 ^ limits.heap + 512 * limits.deep
+    → length (loaded statics limits input) ≡ heap_base limits.heap (length statics) + 2 ^ limits.heap + 512 *
+    limits.deep
 length-loaded statics limits input low high =
     let base : ℕ = heap_base limits.heap (length statics) in
     let fixed : List ℕ = fixed_cells limits.heap limits.deep base (empty_heads limits.heap base) in
@@ -43,7 +57,8 @@ length-loaded statics limits input low high =
     lengths fixed words gap heap stack (length statics) base (2 ^ limits.heap) (512 * limits.deep)
     (length-fixed_cells limits.heap limits.deep base (empty_heads limits.heap base) (omega arith))
     (length-with_words input statics) (length-replicate (base - statics_at - length statics) 0)
-    (length-replicate (2 ^ limits.heap) 0) (length-replicate (512 * limits.deep) 0) (heap_base-ge limits.heap (length statics))
+    (length-replicate (2 ^ limits.heap) 0) (length-replicate (512 * limits.deep) 0)
+    (heap_base-ge limits.heap (length statics))
 
 -- a heap of two words and one frame of stack, with the input 5 in the first field
 abbrev small : List ℕ

@@ -1,5 +1,6 @@
 -- A step of the flipped code is the step of the code in the mirror.
-use Rattle.std.proofs.Common.{◌≡◌, ◌∙◌, sym, ap, refl, ℕ, ◌-◌, ◌^◌, ◌<◌, Bool, true, false, not, arith, List, length, get_or, ℤ, pos, negsuc, ◌+ℤ◌, ◌-ℤ◌, Some, map}
+use Rattle.std.proofs.Common.{◌≡◌, ◌∙◌, sym, ap, refl, ℕ, ◌-◌, ◌^◌, ◌<◌, Bool, true, false, not, arith, List, length}
+use Rattle.std.proofs.Common.{get_or, ℤ, pos, negsuc, ◌+ℤ◌, ◌-ℤ◌, Some, map}
 use Rattle.std.proofs.lemmas.List.{get_or-reverse, get_or-map, length-reverse, length-map}
 use Rattle.std.proofs.lemmas.Option.{slice_get_within, get_or_from_slice_get, slice_get_read}
 use Rattle.std.proofs.lemmas.Int.{ints}
@@ -11,7 +12,8 @@ use Rattle.pisa_isa.specs.Table.{IsCell, inverse_op, inverse_word, inverse_of}
 use Rattle.pisa_isa.proofs.Effect.{cell}
 use Rattle.pisa_isa.proofs.Ranges.{imm_word}
 use Rattle.pisa_isa.specs.Flipped.{flipped}
-use Rattle.pisa_isa.specs.Machine.{State, moved, place_moved, stride, effect, effect_at, row, row_of, faced, fetch, next}
+use Rattle.pisa_isa.specs.Machine.{State, moved, place_moved, stride, effect, effect_at, row, row_of, faced, fetch}
+use Rattle.pisa_isa.specs.Machine.{next}
 
 -- the place counted from the other end, and the other direction
 abbrev pub mirrored : ℕ → State → State
@@ -37,7 +39,8 @@ same_cell : {op op' : Op} {i i' : ℕ} (a b c : ℕ) → op ≡ op' → i ≡ i'
 same_cell a b c e f = cc
 
 pub inverse_of-twice : (c : Cell) → IsCell c → inverse_of (inverse_of c) ≡ c
-inverse_of-twice c k = same_cell c.a c.b c.c (inverse_op-twice c.op) (inverse_word-twice c.op c.imm (imm_word c k.in_range))
+inverse_of-twice c k = same_cell c.a c.b c.c (inverse_op-twice c.op)
+    (inverse_word-twice c.op c.imm (imm_word c k.in_range))
 
 faced-mirror : (b : Bool) (c : Cell) → IsCell c → faced (not b) (inverse_of c) ≡ faced b c
 faced-mirror true c k = refl
@@ -47,7 +50,8 @@ row-mirror : (op : Op) (a b c i n : ℕ) (m : State) → row op a b c i (mirrore
 row-mirror Add a b c i n m = refl
 row-mirror _ a b c i n m = refl
 
-effect-mirror : (c : Cell) (n : ℕ) (m : State) → IsCell c → effect (inverse_of c) (mirrored n m) ≡ mirrored n (effect c m)
+effect-mirror : (c : Cell) (n : ℕ) (m : State) → IsCell c
+    → effect (inverse_of c) (mirrored n m) ≡ mirrored n (effect c m)
 effect-mirror c n m k =
     let d = faced m.back c in
     ap (λ e. row_of e (mirrored n m)) (faced-mirror m.back c k) ∙ row-mirror d.op d.a d.b d.c d.imm n m
@@ -58,14 +62,16 @@ plus_mirror n p k = omega (arith, ints)
 minus_mirror : (n p k : ℤ) → (n -ℤ p) -ℤ k ≡ n -ℤ (p +ℤ k)
 minus_mirror n p k = omega (arith, ints)
 
-place-mirror : (b : Bool) (n : ℕ) (p : ℤ) (br : ℕ) → place_moved (not b) ((pos n -ℤ pos 1) -ℤ p) br ≡ (pos n -ℤ pos 1) -ℤ place_moved b p br
+place-mirror : (b : Bool) (n : ℕ) (p : ℤ) (br : ℕ) → place_moved (not b) ((pos n -ℤ pos 1) -ℤ p) br
+    ≡ (pos n -ℤ pos 1) -ℤ place_moved b p br
 place-mirror true n p br = plus_mirror (pos n -ℤ pos 1) p (stride br)
 place-mirror false n p br = minus_mirror (pos n -ℤ pos 1) p (stride br)
 
 pub moved-mirror : (n : ℕ) (m : State) → moved (mirrored n m) ≡ mirrored n (moved m)
 moved-mirror n m = ap (λ p. record m { pc = p; back = not m.back }) (place-mirror m.back n m.pc m.br)
 
-pub fetch-flipped : (code : List Cell) (p : ℤ) (c : Cell) → fetch code p ≡ Some c → fetch (flipped code) ((pos (length code) -ℤ pos 1) -ℤ p) ≡ Some (inverse_of c)
+pub fetch-flipped : (code : List Cell) (p : ℤ) (c : Cell) → fetch code p ≡ Some c
+    → fetch (flipped code) ((pos (length code) -ℤ pos 1) -ℤ p) ≡ Some (inverse_of c)
 fetch-flipped code (negsuc k) c e = absurd (cc)
 fetch-flipped code (pos k) c e =
     let h : k < length code = slice_get_within code k c e in
@@ -80,7 +86,8 @@ fetch-flipped code (pos k) c e =
     ∙ get_or-map inverse_of code k c (inverse_of c) h
     ∙ ap inverse_of (get_or_from_slice_get code k c c e) in
     let all : length code ≡ length (flipped code) = sym (length-reverse xs ∙ n) in
-    rw place (slice_get_read (flipped code) (length code) (length code - 1 - k) (inverse_of c) all (omega arith) (sym read))
+    rw place (slice_get_read (flipped code) (length code) (length code - 1 - k) (inverse_of c) all (omega arith)
+    (sym read))
 
 pub next-mirror : (code : List Cell) (m : State) (c : Cell) → IsCell c → fetch code m.pc ≡ Some c
     → next (flipped code) (mirrored (length code) m) ≡ mirrored (length code) (next code m)

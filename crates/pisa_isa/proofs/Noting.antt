@@ -1,5 +1,6 @@
 -- The notes of the flipped image fit it, and turning them again gives the notes back.
-use Rattle.std.proofs.Common.{◌≡◌, ◌∙◌, ap, subst, refl, sym, ℕ, ◌-◌, ◌≤◌, Bool, true, false, arith, List, [], ◌∷◌, length, map, get_or}
+use Rattle.std.proofs.Common.{◌≡◌, ◌∙◌, ap, subst, refl, sym, ℕ, ◌-◌, ◌≤◌, Bool, true, false, arith, List, [], ◌∷◌}
+use Rattle.std.proofs.Common.{length, map, get_or}
 use Rattle.std.specs.Prelude.{nat_le, ◌&&◌, IsTrue}
 use Rattle.std.specs.List.{list_all, All}
 use Rattle.std.proofs.lemmas.Bool.{and_parts, and_from}
@@ -11,7 +12,8 @@ use Rattle.pisa_isa.specs.declared.notes.Mark.{Mark}
 use Rattle.pisa_isa.specs.Table.{inverse_of}
 use Rattle.pisa_isa.specs.Image.{Segments, IsImage}
 use Rattle.pisa_isa.specs.Flipped.{flipped, flipped_image}
-use Rattle.pisa_isa.specs.Notes.{NoteLists, NotedImage, is_within, mark_fits, marks_fit, names_fit, fits, turned_mark, turned_notes, flipped_noted}
+use Rattle.pisa_isa.specs.Notes.{NoteLists, NotedImage, is_within, mark_fits, marks_fit, names_fit, fits, turned_mark}
+use Rattle.pisa_isa.specs.Notes.{turned_notes, flipped_noted}
 use Rattle.pisa_isa.proofs.Flips.{length-flipped, flipped-flipped}
 
 record Within (cells : ℕ) (m : Mark) : Type 0 where
@@ -24,7 +26,8 @@ is_within_means cells m e =
     record { ordered = grind (arith, nat_tests); in_code = grind (arith, nat_tests) }
 
 from_within : (cells : ℕ) (m : Mark) → Within cells m → is_within cells m ≡ true
-from_within cells m w = and_from (nat_le m.first m.end) (nat_le m.end cells) (grind (arith, nat_tests, w.ordered)) (grind (arith, nat_tests, w.in_code))
+from_within cells m w = and_from (nat_le m.first m.end) (nat_le m.end cells) (grind (arith, nat_tests, w.ordered))
+    (grind (arith, nat_tests, w.in_code))
 
 mark_turned : (cells : ℕ) (m : Mark) → mark_fits cells m ≡ true → mark_fits cells (turned_mark cells m) ≡ true
 mark_turned cells m e =
@@ -34,7 +37,8 @@ mark_turned cells m e =
     let in_code : cells - m.first ≤ cells = omega arith in
     and_from _ _ (from_within cells (turned_mark cells m) (record { ordered = ordered; in_code = in_code })) p.1
 
-marks_turned : (cells : ℕ) (marks : List Mark) → list_all (mark_fits cells) marks ≡ true → list_all (mark_fits cells) (map (turned_mark cells) marks) ≡ true
+marks_turned : (cells : ℕ) (marks : List Mark) → list_all (mark_fits cells) marks ≡ true
+    → list_all (mark_fits cells) (map (turned_mark cells) marks) ≡ true
 marks_turned cells [] e = refl
 marks_turned cells (m ∷ marks) e =
     let p = and_parts (mark_fits cells m) (list_all (mark_fits cells) marks) e in
@@ -49,9 +53,11 @@ pub record Fitting (image : Segments) (notes : NoteLists) : Type 0 where
 
 pub fitting : (image : Segments) (notes : NoteLists) → fits image notes ≡ true → Fitting image notes
 fitting image notes e =
-    let a = and_parts (marks_fit (length image.code) notes.marks && nat_le (length notes.names) MOST_NAMES) (names_fit (length image.statics) MOST_NAME_BYTES notes.names) e in
+    let a = and_parts (marks_fit (length image.code) notes.marks && nat_le (length notes.names) MOST_NAMES)
+    (names_fit (length image.statics) MOST_NAME_BYTES notes.names) e in
     let b = and_parts (marks_fit (length image.code) notes.marks) (nat_le (length notes.names) MOST_NAMES) a.0 in
-    let c = and_parts (nat_le (length notes.marks) MOST_MARKS) (list_all (mark_fits (length image.code)) notes.marks) b.0 in
+    let c = and_parts (nat_le (length notes.marks) MOST_MARKS) (list_all (mark_fits (length image.code)) notes.marks)
+    b.0 in
     record { few_marks = c.0; each_mark = c.1; few_names = b.1; names = a.1 }
 
 pub fits_by : (image : Segments) (notes : NoteLists) → Fitting image notes → fits image notes ≡ true
@@ -60,23 +66,27 @@ fits_by image notes f =
     (and_from (marks_fit (length image.code) notes.marks) _ (and_from _ _ f.few_marks f.each_mark) f.few_names) f.names
 
 -- the notes of the flipped image fit it
-pub fits-flipped : (n : NotedImage) → fits n.image n.notes ≡ true → fits (flipped_image n.image) (turned_notes (length n.image.code) n.notes) ≡ true
+pub fits-flipped : (n : NotedImage) → fits n.image n.notes ≡ true
+    → fits (flipped_image n.image) (turned_notes (length n.image.code) n.notes) ≡ true
 fits-flipped n e =
     let f = fitting n.image n.notes e in
     let cells = length n.image.code in
     let marks = marks_turned cells n.notes.marks f.each_mark in
     fits_by (flipped_image n.image) (turned_notes cells n.notes) (record {
       few_marks = ap (λ k. nat_le k MOST_MARKS) (length-map n.notes.marks (turned_mark cells)) ∙ f.few_marks;
-      each_mark = subst (λ k. list_all (mark_fits k) (map (turned_mark cells) n.notes.marks) ≡ true) (sym (length-flipped n.image.code)) marks;
+      each_mark = subst (λ k. list_all (mark_fits k) (map (turned_mark cells) n.notes.marks) ≡ true)
+          (sym (length-flipped n.image.code)) marks;
       few_names = f.few_names;
       names = f.names;
     })
 
 -- each mark is within the code
-pub marks_within : (image : Segments) (notes : NoteLists) → fits image notes ≡ true → All (λ m. IsTrue (is_within (length image.code) m)) notes.marks
+pub marks_within : (image : Segments) (notes : NoteLists) → fits image notes ≡ true
+    → All (λ m. IsTrue (is_within (length image.code) m)) notes.marks
 marks_within image notes e =
     let f = fitting image notes e in
-    λ k d h. (and_parts (is_within (length image.code) (get_or notes.marks k d)) _ (AllPass-from_list_all (mark_fits (length image.code)) notes.marks f.each_mark k d h)).0
+    λ k d h. (and_parts (is_within (length image.code) (get_or notes.marks k d)) _
+    (AllPass-from_list_all (mark_fits (length image.code)) notes.marks f.each_mark k d h)).0
 
 mark_twice : (cells : ℕ) (m : Mark) → mark_fits cells m ≡ true → turned_mark cells (turned_mark cells m) ≡ m
 mark_twice cells m e =
@@ -85,13 +95,15 @@ mark_twice cells m e =
     let end : cells - (cells - m.end) ≡ m.end = let b = w.in_code in omega arith in
     rw (first, end) refl
 
-marks_twice : (cells : ℕ) (marks : List Mark) → list_all (mark_fits cells) marks ≡ true → map (turned_mark cells) (map (turned_mark cells) marks) ≡ marks
+marks_twice : (cells : ℕ) (marks : List Mark) → list_all (mark_fits cells) marks ≡ true
+    → map (turned_mark cells) (map (turned_mark cells) marks) ≡ marks
 marks_twice cells [] e = refl
 marks_twice cells (m ∷ marks) e =
     let p = and_parts (mark_fits cells m) (list_all (mark_fits cells) marks) e in
     rw (mark_twice cells m p.0, marks_twice cells marks p.1) refl
 
-pub notes_twice : (n : NotedImage) → fits n.image n.notes ≡ true → turned_notes (length n.image.code) (turned_notes (length n.image.code) n.notes) ≡ n.notes
+pub notes_twice : (n : NotedImage) → fits n.image n.notes ≡ true
+    → turned_notes (length n.image.code) (turned_notes (length n.image.code) n.notes) ≡ n.notes
 notes_twice n e = rw (marks_twice (length n.image.code) n.notes.marks (fitting n.image n.notes e).each_mark) refl
 
 abbrev noted : Segments → NoteLists → NotedImage
@@ -100,9 +112,11 @@ noted image notes = record { image = image; notes = notes }
 same_noted : (a b : Segments) (s t : NoteLists) → a ≡ b → s ≡ t → noted a s ≡ noted b t
 same_noted a b s t e f = rw (e, f) refl
 
-pub flipped_noted-twice : (n : NotedImage) → IsImage n.image → fits n.image n.notes ≡ true → flipped_noted (flipped_noted n) ≡ n
+pub flipped_noted-twice : (n : NotedImage) → IsImage n.image → fits n.image n.notes ≡ true
+    → flipped_noted (flipped_noted n) ≡ n
 flipped_noted-twice n i e =
-    let code : flipped_image (flipped_image n.image) ≡ n.image = ap (λ code. record n.image { code = code }) (flipped-flipped n.image.code i.is_code.cells) in
+    let code : flipped_image (flipped_image n.image) ≡ n.image =
+    ap (λ code. record n.image { code = code }) (flipped-flipped n.image.code i.is_code.cells) in
     let cells : length (flipped n.image.code) ≡ length n.image.code = length-flipped n.image.code in
     let notes : turned_notes (length (flipped n.image.code)) (turned_notes (length n.image.code) n.notes) ≡ n.notes =
     ap (λ k. turned_notes k (turned_notes (length n.image.code) n.notes)) cells ∙ notes_twice n e in

@@ -3,7 +3,8 @@ use Rattle.std.proofs.Common.{◌≡◌, refl, ℕ, ◌^◌, ◌<◌, ◌≤◌,
 use Rattle.pisa_isa.specs.declared.cell.Op.{Op}
 use Rattle.pisa_isa.specs.declared.cell.Op.TheVariants.{Add, Addi, Bra, Rbra, Beq, Bne, Bgez, Bgtz, Blez, Bltz}
 use Rattle.pisa_isa.specs.declared.cell.Cell.{Cell}
-use Rattle.pisa_isa.specs.Table.{IsInRange, inverse_op, inverse_word, inverse_of, has_a, has_b, b_is_source, c_is_source, register_end, imm_end}
+use Rattle.pisa_isa.specs.Table.{IsInRange, inverse_op, inverse_word, inverse_of, has_a, has_b, b_is_source}
+use Rattle.pisa_isa.specs.Table.{c_is_source, register_end, imm_end}
 
 register_end-le : (has : Bool) → register_end has ≤ 32
 register_end-le true = omega arith

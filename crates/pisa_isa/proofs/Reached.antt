@@ -18,16 +18,19 @@ counted-stop_at_bound None pc = refl
 counted-stop_at_bound (Some c) pc = refl
 
 -- a stop is one of the steps that are spent
-counted_le_after : (o : Option Stop) (m : State) (rest : End) → counted rest.why ≤ rest.spent → counted (after_step o m rest).why ≤ (after_step o m rest).spent
+counted_le_after : (o : Option Stop) (m : State) (rest : End) → counted rest.why ≤ rest.spent
+    → counted (after_step o m rest).why ≤ (after_step o m rest).spent
 counted_le_after None m rest h = omega arith
 counted_le_after (Some e) m rest h = omega arith
 
 pub counted_le_spent : (code : List Cell) (n : ℕ) (m : State) → counted (run code n m).why ≤ (run code n m).spent
 counted_le_spent code zero m = omega (arith, counted-stop_at_bound (fetch code m.pc) m.pc)
-counted_le_spent code (suc n) m = counted_le_after (stop code m) m (run code n (next code m)) (counted_le_spent code n (next code m))
+counted_le_spent code (suc n) m = counted_le_after (stop code m) m (run code n (next code m))
+    (counted_le_spent code n (next code m))
 
 -- no more steps are spent than are allowed
-spent_le_after : (n : ℕ) (o : Option Stop) (m : State) (rest : End) → rest.spent ≤ n → (after_step o m rest).spent ≤ suc n
+spent_le_after : (n : ℕ) (o : Option Stop) (m : State) (rest : End) → rest.spent ≤ n
+    → (after_step o m rest).spent ≤ suc n
 spent_le_after n None m rest h = omega arith
 spent_le_after n (Some e) m rest h = omega (arith, counted-le e)
 
@@ -36,15 +39,18 @@ spent-le code zero m = omega arith
 spent-le code (suc n) m = spent_le_after n (stop code m) m (run code n (next code m)) (spent-le code n (next code m))
 
 -- the position after a run from a position
-reached_by_step : (code : List Cell) (k : ℕ) (m : State) (o : Option Stop) (rest : End) → IsReached code k m → counted rest.why ≤ rest.spent
-    → (o ≡ None → IsReached code (suc k + made_in rest) rest.last) → IsReached code (k + made_in (after_step o m rest)) (after_step o m rest).last
+reached_by_step : (code : List Cell) (k : ℕ) (m : State) (o : Option Stop) (rest : End) → IsReached code k m
+    → counted rest.why ≤ rest.spent
+    → (o ≡ None → IsReached code (suc k + made_in rest) rest.last)
+    → IsReached code (k + made_in (after_step o m rest)) (after_step o m rest).last
 reached_by_step code k m None rest r h later =
     let e : k + (suc rest.spent - counted rest.why) ≡ suc k + (rest.spent - counted rest.why) = omega arith in
     rw e (later refl)
 reached_by_step code k m (Some why) rest r h later =
     let e : k + (counted why - counted why) ≡ k = omega arith in rw e r
 
-pub reached_run : (code : List Cell) (n k : ℕ) (m : State) → IsCode code → IsReached code k m → IsReached code (k + made_in (run code n m)) (run code n m).last
+pub reached_run : (code : List Cell) (n k : ℕ) (m : State) → IsCode code → IsReached code k m
+    → IsReached code (k + made_in (run code n m)) (run code n m).last
 reached_run code zero k m c r =
     let e : k + (0 - counted (stop_at_bound (fetch code m.pc) m.pc)) ≡ k = omega arith in rw e r
 reached_run code (suc n) k m c r =
@@ -52,7 +58,8 @@ reached_run code (suc n) k m c r =
     (λ none. reached_run code n (suc k) (next code m) c (reached_after code k m c r none))
 
 -- the start of a run is a position
-pub reached_first : (code : List Cell) (regs cells : List ℕ) → length regs ≡ 32 → All IsWord regs → All IsWord cells → IsReached code 0 (started code regs cells)
+pub reached_first : (code : List Cell) (regs cells : List ℕ) → length regs ≡ 32 → All IsWord regs → All IsWord cells
+    → IsReached code 0 (started code regs cells)
 reached_first code regs cells count words cell_words = record {
   is_state = record { br_word = omega arith; count = count; words = words; cell_words = cell_words };
   reaches = refl;

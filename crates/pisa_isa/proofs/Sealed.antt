@@ -1,5 +1,6 @@
 -- Cells that no refusal meets are the code of an image, and it has a START cell.
-use Rattle.std.proofs.Common.{◌≡◌, ◌∙◌, ap, refl, ℕ, suc, ◌+◌, ◌<◌, ◌≤◌, Bool, true, false, not, cond, arith, List, [], ◌∷◌, length, Option, Some, None}
+use Rattle.std.proofs.Common.{◌≡◌, ◌∙◌, ap, refl, ℕ, suc, ◌+◌, ◌<◌, ◌≤◌, Bool, true, false, not, cond, arith, List, []}
+use Rattle.std.proofs.Common.{◌∷◌, length, Option, Some, None}
 use Rattle.std.specs.Prelude.{position, count_by, filter, nat_lt}
 use Rattle.std.specs.List.{All, position_or_len}
 use Rattle.std.proofs.lemmas.List.Sums.{fails_before_first, passes_at_first, length-filter}
@@ -16,7 +17,11 @@ record PassesAll (o : Option ℕ) (starts finishes : ℕ) : Type 0 where
 
 passes_all : (o : Option ℕ) (starts finishes : ℕ) → refusal_by o starts finishes ≡ None → PassesAll o starts finishes
 passes_all (Some at) starts finishes e = absurd (cc)
-passes_all None starts finishes e = record { all_one_to_one = refl; one_start = grind (arith, nat_tests); one_finish = grind (arith, nat_tests) }
+passes_all None starts finishes e = record {
+  all_one_to_one = refl;
+  one_start = grind (arith, nat_tests);
+  one_finish = grind (arith, nat_tests);
+}
 
 -- where no element passes, its place is the length
 none_passes : {X : Type 0} (p : X → Bool) (xs : List X) → position p xs ≡ None → length xs ≤ position_or_len p xs
@@ -37,7 +42,8 @@ cells_of code ranges e =
       one_to_one = not_false _ (fails_before_first (λ c. not (is_one_to_one c)) code k d (omega arith));
     }
 
-pub IsImage-sealed : (code : List Cell) (statics : List ℕ) → length code ≤ MOST_CELLS → length statics ≤ MOST_STATICS → All IsInRange code → first_seal_refusal code ≡ None
+pub IsImage-sealed : (code : List Cell) (statics : List ℕ) → length code ≤ MOST_CELLS → length statics ≤ MOST_STATICS
+    → All IsInRange code → first_seal_refusal code ≡ None
     → IsImage (record { code = code; statics = statics })
 IsImage-sealed code statics in_limit statics_in_limit ranges e =
     let passes = passes_all _ (count_by is_start code) (count_by is_finish code) e in
@@ -53,7 +59,8 @@ IsImage-sealed code statics in_limit statics_in_limit ranges e =
 filter_none : {X : Type 0} (p : X → Bool) (xs : List X) → length xs ≤ position_or_len p xs → length (filter p xs) ≡ 0
 filter_none p [] h = refl
 filter_none p (x ∷ xs) h =
-    elim (p x) as (λ b. suc (length xs) ≤ cond (not b) (1 + position_or_len p xs) 0 → length (cond b (x ∷ filter p xs) (filter p xs)) ≡ 0)
+    elim (p x) as (λ b. suc (length xs) ≤ cond (not b) (1 + position_or_len p xs) 0
+    → length (cond b (x ∷ filter p xs) (filter p xs)) ≡ 0)
     [ true ↦ λ h. absurd (omega arith) | false ↦ λ h. filter_none p xs (omega arith) ] h
 
 pub has_start : (code : List Cell) → count_by is_start code ≡ 1 → position is_start code ≡ None → ⊥
@@ -64,7 +71,8 @@ has_start code one e =
 
 pub start_of-lt : (code : List Cell) → count_by is_start code ≡ 1 → start_of code < length code
 start_of-lt code one =
-    let never : length code ≤ position_or_len is_start code → ⊥ = λ h. let none = filter_none is_start code h in let same = length-filter is_start code in omega arith in
+    let never : length code ≤ position_or_len is_start code
+    → ⊥ = λ h. let none = filter_none is_start code h in let same = length-filter is_start code in omega arith in
     omega (arith, never)
 
 -- some cell of code that has one
@@ -89,5 +97,6 @@ every_one_to_one code cells =
 -- the code of an image is not refused
 pub accepted_by_seal : (image : Segments) → IsImage image → first_seal_refusal image.code ≡ None
 accepted_by_seal image i =
-    ap (λ o. refusal_by o (count_by is_start image.code) (count_by is_finish image.code)) (every_one_to_one image.code i.is_code.cells)
+    ap (λ o. refusal_by o (count_by is_start image.code) (count_by is_finish image.code))
+    (every_one_to_one image.code i.is_code.cells)
     ∙ rw (i.one_start, i.one_finish)

@@ -1,8 +1,11 @@
 -- Rows in a direction, with no cell faced: where the registers a and b hold x and y.
-use Rattle.std.specs.Prelude.{ℕ, Bool, not, ◌&&◌, true, nat_lt, if◌then◌else◌, length, Option, Some, None, slice_set}
+use Rattle.std.specs.Prelude.{ℕ, Bool, not, ◌&&◌, true, nat_lt, if◌then◌else◌, length, Option, Some}
+use Rattle.std.specs.Prelude.{None, slice_set}
 use Rattle.rpp_words.specs.Words.{sum_of, difference_of, negated, turned_left, turned_right}
 use Rattle.pisa_isa.specs.declared.cell.Op.{Op}
-use Rattle.pisa_isa.specs.declared.cell.Op.TheVariants.{Add, Sub, Addi, Rl, Rr, Rlv, Rrv, Exch, Swapbr, Bra, Rbra, Beq, Bne, Bgez, Bgtz, Blez, Bltz, Start, Finish, DataWord}
+use Rattle.pisa_isa.specs.declared.cell.Op.TheVariants.{Add, Sub, Addi, Rl, Rr, Rlv, Rrv, Exch}
+use Rattle.pisa_isa.specs.declared.cell.Op.TheVariants.{Swapbr, Bra, Rbra, Beq, Bne, Bgez, Bgtz}
+use Rattle.pisa_isa.specs.declared.cell.Op.TheVariants.{Blez, Bltz, Start, Finish, DataWord}
 use Rattle.pisa_isa.specs.declared.machine.Stop.{Stop}
 use Rattle.pisa_isa.specs.declared.machine.Stop.TheVariants.{Finished, Returned, Trap, BadAddress}
 use Rattle.pisa_isa.specs.Table.{new_value}

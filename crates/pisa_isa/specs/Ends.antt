@@ -1,5 +1,6 @@
 -- How a run passes the START and the FINISH cell.
-use Rattle.std.specs.Prelude.{◌≡◌, ℕ, Bool, false, not, ◌&&◌, IsTrue, IsFalse, List, All, drop, Option, Some, None}
+use Rattle.std.specs.Prelude.{◌≡◌, ℕ, Bool, false, not, ◌&&◌, IsTrue, IsFalse, List, All, drop}
+use Rattle.std.specs.Prelude.{Option, Some, None}
 use Rattle.pisa_isa.specs.declared.cell.Cell.{Cell}
 use Rattle.pisa_isa.specs.declared.machine.Stop.TheVariants.{Finished}
 use Rattle.pisa_isa.specs.Machine.{State, fetch, stop, is_zero}
@@ -33,7 +34,8 @@ pub record IsCleanFinish (code : List Cell) (n : ℕ) (m : State) : Type 0 where
   pub begins_once : All (λ s. IsFalse (begins code s)) (drop 1 (visited code n m))
   pub never_backward : All (λ s. IsFalse (begins_backward code s)) (visited code n m)
 
--- a step at START is only the first one, and a step at FINISH only the one that stops the run as Finished
+-- a step at START is only the first one, and a step at FINISH only the one that stops the run as
+-- Finished
 pub record MeetsEndsOnce (code : List Cell) (n : ℕ) (m : State) : Type 0 where
   pub start_is_first : All (λ s. IsFalse (is_at_start code s)) (drop 1 (visited code n m))
   pub finish_is_last : All (λ s. IsTrue (is_at_finish code s) → stop code s ≡ Some Finished)

@@ -17,7 +17,8 @@ flipped_image image = record image { code = flipped image.code }
 -- where a run ended so, the run of the flipped code from its registers and cells finishes cleanly,
 -- in as many steps, with these
 pub record Restores (code : List Cell) (end : End) (bound : ℕ) (regs cells : List ℕ) : Type 0 where
-  pub clean : IsCleanFinish (flipped code) bound (started (flipped code) end.last.regs end.last.cells)
+  pub clean : IsCleanFinish (flipped code) bound
+      (started (flipped code) end.last.regs end.last.cells)
   pub in_as_many : (run (flipped code) bound
       (started (flipped code) end.last.regs end.last.cells)).spent ≡ end.spent
   pub registers : (run (flipped code) bound

@@ -1,5 +1,6 @@
 -- Images: their code, their static cells, and when they are refused.
-use Rattle.std.specs.Prelude.{◌≡◌, ◌≤◌, ℕ, Bool, true, false, not, nat_eq, if◌then◌else◌, List, length, Option, Some, None, position, count_by}
+use Rattle.std.specs.Prelude.{◌≡◌, ◌≤◌, ℕ, Bool, true, false, not, nat_eq, if◌then◌else◌, List}
+use Rattle.std.specs.Prelude.{length, Option, Some, None, position, count_by}
 use Rattle.std.specs.List.{position_or_len}
 use Rattle.pisa_isa.specs.declared.cell.Op.{Op}
 use Rattle.pisa_isa.specs.declared.cell.Op.TheVariants.{Start, Finish}
@@ -40,7 +41,8 @@ pub record IsImage (image : Segments) : Type 0 where
   pub one_finish : count_by is_finish image.code ≡ 1
   pub statics_in_limit : length image.statics ≤ MOST_STATICS
 
--- the first refusal: a cell that is not one-to-one, else not one START cell, else not one FINISH cell
+-- the first refusal: a cell that is not one-to-one, else not one START cell, else not one FINISH
+-- cell
 abbrev pub refusal_by : Option ℕ → (starts finishes : ℕ) → Option SealError
 refusal_by (Some at) starts finishes = Some (NotOneToOne at)
 refusal_by None starts finishes = if nat_eq starts 1

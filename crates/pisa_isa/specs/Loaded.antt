@@ -1,5 +1,6 @@
 -- The memory that a run begins with.
-use Rattle.std.specs.Prelude.{ℕ, ◌+◌, ◌-◌, ◌*◌, ◌/◌, ◌^◌, List, [], ◌∷◌, ◌++◌, length, replicate, slice_set}
+use Rattle.std.specs.Prelude.{ℕ, ◌+◌, ◌-◌, ◌*◌, ◌/◌, ◌^◌, List, [], ◌∷◌, ◌++◌, length, replicate}
+use Rattle.std.specs.Prelude.{slice_set}
 use Rattle.rpp_words.specs.declared.input.FieldWord.{FieldWord}
 use Rattle.rpp_words.specs.declared.input.Limits.{Limits}
 use Rattle.rpp_words.specs.declared.input.TheConstants.{FIXED_CELLS, FRAME_WORDS}
@@ -29,7 +30,8 @@ empty_heads heap base = replicate (heap - 1) 0 ++ base ∷ []
 -- the static cells with the input's words in the main object's fields
 abbrev pub with_words : List FieldWord → List ℕ → List ℕ
 with_words [] statics = statics
-with_words (entry ∷ input) statics = with_words input (slice_set statics (2 + entry.field) entry.word)
+with_words (entry ∷ input) statics = with_words input
+    (slice_set statics (2 + entry.field) entry.word)
 
 -- all cells, from the first one to the end of the stack
 abbrev pub loaded : List ℕ → Limits → List FieldWord → List ℕ
@@ -43,4 +45,5 @@ loaded statics limits input =
 
 -- where the run of an image begins with these limits and this input
 abbrev pub loaded_state : Segments → Limits → List FieldWord → State
-loaded_state image limits input = started image.code zero_registers (loaded image.statics limits input)
+loaded_state image limits input = started image.code zero_registers
+    (loaded image.statics limits input)

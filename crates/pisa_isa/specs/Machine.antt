@@ -1,14 +1,18 @@
 -- States, stops and steps.
-use Rattle.std.specs.Prelude.{◌≡◌, ◌≤◌, ◌<◌, ◌^◌, ℕ, ℤ, pos, negsuc, ◌+ℤ◌, ◌-ℤ◌, Bool, true, false, not, ◌&&◌, ◌||◌, nat_eq, nat_lt, nat_le, if◌then◌else◌, List, length, Option, Some, None, slice_get, slice_index, slice_set}
+use Rattle.std.specs.Prelude.{◌≡◌, ◌≤◌, ◌<◌, ◌^◌, ℕ, ℤ, pos, negsuc, ◌+ℤ◌, ◌-ℤ◌, Bool, true, false}
+use Rattle.std.specs.Prelude.{not, ◌&&◌, ◌||◌, nat_eq, nat_lt, nat_le, if◌then◌else◌, List, length}
+use Rattle.std.specs.Prelude.{Option, Some, None, slice_get, slice_index, slice_set}
 use Rattle.std.specs.List.{All}
 use Rattle.rpp_words.specs.Words.{IsWord, sum_of, negated, signed}
 use Rattle.pisa_isa.specs.declared.cell.Op.{Op}
-use Rattle.pisa_isa.specs.declared.cell.Op.TheVariants.{Exch, Swapbr, Bra, Rbra, Beq, Bne, Bgez, Bgtz, Blez, Bltz, Start, Finish, DataWord}
+use Rattle.pisa_isa.specs.declared.cell.Op.TheVariants.{Exch, Swapbr, Bra, Rbra, Beq, Bne, Bgez}
+use Rattle.pisa_isa.specs.declared.cell.Op.TheVariants.{Bgtz, Blez, Bltz, Start, Finish, DataWord}
 use Rattle.pisa_isa.specs.declared.cell.Cell.{Cell}
 use Rattle.pisa_isa.specs.declared.image.TheConstants.{MOST_CELLS}
 use Rattle.pisa_isa.specs.declared.machine.Core.{Core}
 use Rattle.pisa_isa.specs.declared.machine.Stop.{Stop}
-use Rattle.pisa_isa.specs.declared.machine.Stop.TheVariants.{Finished, Returned, Trap, BadAddress, OffCode}
+use Rattle.pisa_isa.specs.declared.machine.Stop.TheVariants.{Finished, Returned, Trap, BadAddress}
+use Rattle.pisa_isa.specs.declared.machine.Stop.TheVariants.{OffCode}
 use Rattle.pisa_isa.specs.Table.{new_value, inverse_of, IsCell}
 
 -- `back` says that the direction is -1

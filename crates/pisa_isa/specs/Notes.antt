@@ -1,9 +1,11 @@
 -- Notes of images: which statement of the source code cells belong to, and the names of data cells.
-use Rattle.std.specs.Prelude.{ℕ, ◌+◌, ◌-◌, Bool, true, false, nat_le, nat_lt, List, [], ◌∷◌, ◌==◌, ◌||◌, ◌&&◌, if◌then◌else◌, length, map}
+use Rattle.std.specs.Prelude.{ℕ, ◌+◌, ◌-◌, Bool, true, false, nat_le, nat_lt, List, [], ◌∷◌, ◌==◌}
+use Rattle.std.specs.Prelude.{◌||◌, ◌&&◌, if◌then◌else◌, length, map}
 use Rattle.std.specs.List.{list_all}
 use Rattle.std.specs.Char.{is_ascii_alphabetic, is_ascii_digit}
 use Rattle.rpp_words.specs.declared.input.TheConstants.{FIXED_CELLS}
-use Rattle.pisa_isa.specs.declared.notes.TheConstants.{MOST_MARKS, LAST_PLACE, MOST_NAMES, MOST_NAME_BYTES}
+use Rattle.pisa_isa.specs.declared.notes.TheConstants.{MOST_MARKS, LAST_PLACE, MOST_NAMES}
+use Rattle.pisa_isa.specs.declared.notes.TheConstants.{MOST_NAME_BYTES}
 use Rattle.pisa_isa.specs.declared.notes.Mark.{Mark}
 use Rattle.pisa_isa.specs.declared.notes.FieldName.{FieldName}
 use Rattle.pisa_isa.specs.Image.{Segments}

@@ -1,8 +1,14 @@
 -- The table of instructions, row by row.
-use Rattle.std.specs.Prelude.{ℕ, ◌-◌, ◌^◌, ◌<◌, Bool, true, false, not, ◌&&◌, nat_eq, if◌then◌else◌, bit_and, bit_or, bit_xor, IsTrue}
-use Rattle.rpp_words.specs.Words.{sum_of, difference_of, negated, is_less, shifted_left, shifted_right, shifted_right_signed, turned_left, turned_right}
+use Rattle.std.specs.Prelude.{ℕ, ◌-◌, ◌^◌, ◌<◌, Bool, true, false, not, ◌&&◌, nat_eq, if◌then◌else◌}
+use Rattle.std.specs.Prelude.{bit_and, bit_or, bit_xor, IsTrue}
+use Rattle.rpp_words.specs.Words.{sum_of, difference_of, negated, is_less, shifted_left}
+use Rattle.rpp_words.specs.Words.{shifted_right, shifted_right_signed, turned_left, turned_right}
 use Rattle.pisa_isa.specs.declared.cell.Op.{Op}
-use Rattle.pisa_isa.specs.declared.cell.Op.TheVariants.{Add, Sub, Xor, Neg, Addi, Xori, Rl, Rr, Rlv, Rrv, Andx, Orx, Norx, Sltx, Andix, Orix, Sllx, Srlx, Srax, Sllvx, Srlvx, Sravx, Exch, Bra, Rbra, Beq, Bne, Bgez, Bgtz, Blez, Bltz, Start, Finish, DataWord}
+use Rattle.pisa_isa.specs.declared.cell.Op.TheVariants.{Add, Sub, Xor, Neg, Addi, Xori, Rl, Rr, Rlv}
+use Rattle.pisa_isa.specs.declared.cell.Op.TheVariants.{Rrv, Andx, Orx, Norx, Sltx, Andix, Orix}
+use Rattle.pisa_isa.specs.declared.cell.Op.TheVariants.{Sllx, Srlx, Srax, Sllvx, Srlvx, Sravx, Exch}
+use Rattle.pisa_isa.specs.declared.cell.Op.TheVariants.{Bra, Rbra, Beq, Bne, Bgez, Bgtz, Blez, Bltz}
+use Rattle.pisa_isa.specs.declared.cell.Op.TheVariants.{Start, Finish, DataWord}
 use Rattle.pisa_isa.specs.declared.cell.Cell.{Cell}
 
 -- the complement of a word
@@ -13,7 +19,8 @@ complement a = 2 ^ 32 - 1 - a
 abbrev pub word_of : Bool → ℕ
 word_of b = if b then 1 else 0
 
--- rows 1 to 22: what becomes of the target x, where the sources hold y and z, and the cell has the word i
+-- rows 1 to 22: what becomes of the target x, where the sources hold y and z, and the cell has the
+-- word i
 abbrev pub new_value : Op → (x y z i : ℕ) → ℕ
 new_value Add x y z i = sum_of x y
 new_value Sub x y z i = difference_of x y
@@ -126,7 +133,8 @@ abbrev pub register_end : Bool → ℕ
 register_end true = 32
 register_end false = 1
 
--- the end of the range of imm: an amount is below 32, a word below 2 ^ 32, and a row without either has 0
+-- the end of the range of imm: an amount is below 32, a word below 2 ^ 32, and a row without either
+-- has 0
 abbrev pub imm_end : Op → ℕ
 imm_end Addi = 2 ^ 32
 imm_end Xori = 2 ^ 32

@@ -1,5 +1,7 @@
 -- What the lines of an input say, and the first refusal.
-use Rattle.std.specs.Prelude.{ℕ, ◌+◌, ◌-◌, ◌*◌, ◌^◌, Bool, true, false, not, ◌&&◌, ◌||◌, nat_eq, nat_lt, nat_le, IsTrue, All, if◌then◌else◌, List, [], ◌∷◌, ◌++◌, drop, Option, Some, None, Result, Ok, Err}
+use Rattle.std.specs.Prelude.{ℕ, ◌+◌, ◌-◌, ◌*◌, ◌^◌, Bool, true, false, not, ◌&&◌, ◌||◌, nat_eq}
+use Rattle.std.specs.Prelude.{nat_lt, nat_le, IsTrue, All, if◌then◌else◌, List, [], ◌∷◌, ◌++◌, drop}
+use Rattle.std.specs.Prelude.{Option, Some, None, Result, Ok, Err}
 use Rattle.std.specs.List.{prefix_len, take_while, list_all, list_any, slice_split}
 use Rattle.std.specs.Option.{option_and_then}
 use Rattle.std.specs.Char.{is_ascii_alphabetic, is_ascii_digit}
@@ -76,7 +78,8 @@ abbrev pub is_set : List FieldWord → ℕ → Bool
 is_set words field = list_any (λ word. nat_eq word.field field) words
 
 -- a field that no earlier line set is set
-abbrev pub new_word : (line : ℕ) → List FieldWord → Option ℕ → ℕ → Result (Option FieldWord) LoadError
+abbrev pub new_word : (line : ℕ) → List FieldWord → Option ℕ → ℕ
+    → Result (Option FieldWord) LoadError
 new_word line words None word = Err (UnknownField line)
 new_word line words (Some field) word = if is_set words field then Err (UnknownField line)
     else Ok (Some (record { field = field; word = word }))
@@ -101,7 +104,8 @@ unfoldable pub words_from : List InputField → (line : ℕ) → List FieldWord 
     → Result (List FieldWord) LoadError
 words_from fields line words [] = Ok words
 words_from fields line words (text ∷ texts) =
-    line_word fields line words text >>= λ word. words_from fields (line + 1) (with_word words word) texts
+    line_word fields line words text >>= λ word. words_from fields (line + 1) (with_word words word)
+    texts
 
 -- line feeds part the lines
 abbrev pub input_of : List InputField → List ℕ → Result (List FieldWord) LoadError

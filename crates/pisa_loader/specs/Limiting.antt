@@ -1,5 +1,6 @@
 -- The limits of a run, and the size of its memory.
-use Rattle.std.specs.Prelude.{ℕ, ◌+◌, ◌*◌, ◌^◌, ◌<◌, ◌≤◌, Bool, ◌||◌, nat_eq, nat_lt, List, All, length, Option, Some, None, if◌then◌else◌}
+use Rattle.std.specs.Prelude.{ℕ, ◌+◌, ◌*◌, ◌^◌, ◌<◌, ◌≤◌, Bool, ◌||◌, nat_eq, nat_lt, List, All}
+use Rattle.std.specs.Prelude.{length, Option, Some, None, if◌then◌else◌}
 use Rattle.rpp_words.specs.declared.input.FieldWord.{FieldWord}
 use Rattle.rpp_words.specs.declared.input.Limits.{Limits}
 use Rattle.pisa_isa.specs.Loaded.{heap_base}
@@ -19,7 +20,8 @@ limits_refusal heap deep most =
 
 -- the end of the stack is that of the memory
 abbrev pub memory_size : (statics : ℕ) → Limits → ℕ
-memory_size statics limits = heap_base limits.heap statics + 2 ^ limits.heap + FRAME_WORDS * limits.deep
+memory_size statics limits = heap_base limits.heap statics + 2 ^ limits.heap + FRAME_WORDS *
+    limits.deep
 
 -- the cells that an input sets are static cells
 abbrev pub IsInputOf : List ℕ → List FieldWord → Type 0

@@ -1,5 +1,6 @@
 -- The bytes of a state file, and how they are read, with the first refusal.
-use Rattle.std.specs.Prelude.{◌≡◌, ℕ, ◌+◌, ◌*◌, List, ◌++◌, All, length, codes, Result, Ok, Err, nat_eq, if◌then◌else◌}
+use Rattle.std.specs.Prelude.{◌≡◌, ℕ, ◌+◌, ◌*◌, List, ◌++◌, All, length, codes, Result, Ok, Err}
+use Rattle.std.specs.Prelude.{nat_eq, if◌then◌else◌}
 use Rattle.rpp_words.specs.Words.{IsWord}
 use Rattle.pisa_isa.specs.Image.{Segments}
 use Rattle.pisa_isa.specs.Machine.{Memory}

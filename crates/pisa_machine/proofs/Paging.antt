@@ -1,11 +1,13 @@
 -- The words of pages: how many there are, where each stands, and what a change of one does.
-use Rattle.std.proofs.Common.{◌≡◌, ℕ, zero, suc, ◌+◌, ◌-◌, ◌*◌, ◌/◌, ◌%◌, ◌<◌, ◌≤◌, List, [], ◌∷◌, ◌++◌, length, refl, sym, ap, subst, ◌∙◌, inl, inr, append_assoc, arith}
+use Rattle.std.proofs.Common.{◌≡◌, ℕ, zero, suc, ◌+◌, ◌-◌, ◌*◌, ◌/◌, ◌%◌, ◌<◌, ◌≤◌, List, [], ◌∷◌, ◌++◌, length, refl}
+use Rattle.std.proofs.Common.{sym, ap, subst, ◌∙◌, inl, inr, append_assoc, arith}
 use Rattle.std.specs.Prelude.{take, replicate, min}
 use Rattle.std.specs.List.{flat_map}
 use Rattle.std.proofs.Math.ListN.{get_or, set}
 use Rattle.std.proofs.Math.Seq.{take-set-lt, take-nil}
 use Rattle.std.proofs.Math.Nat.{mod-add-div, min-eq_left, min-eq_right}
-use Rattle.std.proofs.lemmas.List.{length-append, length-take, length-take-le, get_or-take, take-append-le, append-nil, get_or_append_left, get_or-append_right, set-append_left, set-append_right}
+use Rattle.std.proofs.lemmas.List.{length-append, length-take, length-take-le, get_or-take, take-append-le, append-nil}
+use Rattle.std.proofs.lemmas.List.{get_or_append_left, get_or-append_right, set-append_left, set-append_right}
 use Rattle.std.proofs.lemmas.Grind.{flat_map-append, get_or_default_zero}
 use Rattle.std.proofs.lemmas.Bool.{cases_lt}
 use Rattle.pisa_machine.specs.declared.page.Page.{Page}
@@ -15,11 +17,14 @@ pub all_words : (pages : List Page) → length (flat_map words_in pages) ≡ len
 all_words [] = refl
 all_words (page ∷ pages) =
     let rest = all_words pages in
-    let e : length (words_in page) + length (flat_map words_in pages) ≡ suc (length pages) * 4096 = omega (arith, page.whole, rest) in
+    let e : length (words_in page) + length (flat_map words_in pages) ≡ suc (length pages) * 4096 =
+    omega (arith, page.whole, rest) in
     length-append (words_in page) (flat_map words_in pages) ∙ e
 
-pub words_counted : (pages : List Page) (count : ℕ) → count ≤ length pages * 4096 → count ≡ length (words_of pages count)
-words_counted pages count h = sym (length-take-le count (flat_map words_in pages) (subst (λ n. count ≤ n) (sym (all_words pages)) h))
+pub words_counted : (pages : List Page) (count : ℕ) → count ≤ length pages * 4096
+    → count ≡ length (words_of pages count)
+words_counted pages count h = sym (length-take-le count (flat_map words_in pages)
+    (subst (λ n. count ≤ n) (sym (all_words pages)) h))
 
 -- a word of a page among all words
 word_of : (pages : List Page) (page place : ℕ) (d : Page) → page < length pages → place < 4096 →
@@ -28,7 +33,8 @@ word_of [] page place d h k = absurd (omega (h, arith))
 word_of (x ∷ xs) zero place d h k =
     let low : place < length (words_in x) = omega (k, x.whole, arith) in
     let e : 0 * 4096 + place ≡ place = omega arith in
-    ap (λ i. get_or (words_in x ++ flat_map words_in xs) i 0) e ∙ get_or_append_left (words_in x) (flat_map words_in xs) 0 place low
+    ap (λ i. get_or (words_in x ++ flat_map words_in xs) i 0) e
+    ∙ get_or_append_left (words_in x) (flat_map words_in xs) 0 place low
 word_of (x ∷ xs) (suc page) place d h k =
     let high : 4096 ≤ suc page * 4096 + place = omega arith in
     let e : suc page * 4096 + place - 4096 ≡ page * 4096 + place = omega arith in
@@ -79,17 +85,20 @@ pub cell_changed : (pages : List Page) (count at word : ℕ) (d new : Page) → 
     words_in new ≡ set (words_in (get_or pages (at / 4096) d)) (at % 4096) word →
     words_of (set pages (at / 4096) new) count ≡ set (words_of pages count) at word
 cell_changed pages count at word d new h room is =
-    ap (take count) (changed_in pages (at / 4096) (at % 4096) word d new (page_below at count (length pages) h room) (place_low at) is)
+    ap (take count) (changed_in pages (at / 4096) (at % 4096) word d new (page_below at count (length pages) h room)
+    (place_low at) is)
     ∙ ap (λ i. take count (set (flat_map words_in pages) i word)) (place_found at)
     ∙ take-set-lt count (flat_map words_in pages) at word h
 
 take_whole : (n : ℕ) (words : List ℕ) → length words ≤ n → take n words ≡ words
 take_whole n [] h = take-nil n
 take_whole zero (w ∷ ws) h = absurd (omega (h, arith))
-take_whole (suc n) (w ∷ ws) h = let less : length ws ≤ n = omega (h, arith) in ap (λ rest. w ∷ rest) (take_whole n ws less)
+take_whole (suc n) (w ∷ ws) h = let less : length ws ≤ n = omega (h, arith) in
+    ap (λ rest. w ∷ rest) (take_whole n ws less)
 
 -- a page that words begin
-pub filled : (words : List ℕ) → length words ≤ 4096 → take 4096 words ++ replicate (4096 - length words) 0 ≡ words ++ replicate (4096 - length words) 0
+pub filled : (words : List ℕ) → length words ≤ 4096 → take 4096 words ++ replicate (4096 - length words) 0
+    ≡ words ++ replicate (4096 - length words) 0
 filled words h = ap (λ ws. ws ++ replicate (4096 - length words) 0) (take_whole 4096 words h)
 
 -- pages hold the words but for those that are left
@@ -101,11 +110,14 @@ pub nothing_paged : (words : List ℕ) → IsPaged words [] words
 nothing_paged words = record { whole = take_whole (length words) words (omega arith); full = λ some. omega arith }
 
 -- a page behind others
-page_behind : (pages : List Page) (page : Page) → flat_map words_in (pages ++ page ∷ []) ≡ flat_map words_in pages ++ words_in page
-page_behind pages page = flat_map-append words_in pages (page ∷ []) ∙ ap (λ ws. flat_map words_in pages ++ ws) (append-nil (words_in page))
+page_behind : (pages : List Page) (page : Page) → flat_map words_in (pages ++ page ∷ [])
+    ≡ flat_map words_in pages ++ words_in page
+page_behind pages page = flat_map-append words_in pages (page ∷ [])
+    ∙ ap (λ ws. flat_map words_in pages ++ ws) (append-nil (words_in page))
 
 -- one page more, where it is full
-page_full : (front chunk behind page : List ℕ) → length chunk ≡ 4096 → page ≡ chunk ++ replicate (4096 - length chunk) 0 →
+page_full : (front chunk behind page : List ℕ) → length chunk ≡ 4096 → page ≡ chunk ++ replicate (4096 - length chunk) 0
+    →
     (front ++ page) ++ behind ≡ front ++ (chunk ++ behind)
 page_full front chunk behind page count is =
     let none : 4096 - length chunk ≡ 0 = omega (count, arith) in
@@ -113,7 +125,8 @@ page_full front chunk behind page count is =
     ap (λ ws. (front ++ ws) ++ behind) all ∙ append_assoc front chunk behind
 
 -- the last page
-page_last : (words front chunk behind page : List ℕ) → length behind ≡ 0 → page ≡ chunk ++ replicate (4096 - length chunk) 0 →
+page_last : (words front chunk behind page : List ℕ) → length behind ≡ 0
+    → page ≡ chunk ++ replicate (4096 - length chunk) 0 →
     length front + length (chunk ++ behind) ≡ length words → take (length words) (front ++ (chunk ++ behind)) ≡ words →
     take (length words) ((front ++ page) ++ behind) ≡ words
 page_last words front chunk [] page none is full whole =
@@ -122,21 +135,28 @@ page_last words front chunk [] page none is full whole =
     let regrouped : (front ++ page) ++ [] ≡ (front ++ chunk) ++ zeros =
     append-nil (front ++ page) ∙ ap (λ ws. front ++ ws) is ∙ sym (append_assoc front chunk zeros) in
     let enough : length words ≤ length (front ++ chunk) =
-    omega (arith, length-append front chunk, subst (λ (ws : List ℕ). length front + length ws ≡ length words) alone full) in
+    omega (
+      arith,
+      length-append front chunk,
+      subst (λ (ws : List ℕ). length front + length ws ≡ length words) alone
+          full,
+    ) in
     ap (take (length words)) regrouped
     ∙ take-append-le (length words) (front ++ chunk) zeros enough
     ∙ ap (λ ws. take (length words) (front ++ ws)) (sym alone) ∙ whole
 page_last words front chunk (w ∷ ws) page none is full whole = absurd (omega (none, arith))
 
 -- one page more
-pub page_more : (words : List ℕ) (pages : List Page) (rest chunk behind : List ℕ) (page : Page) → 0 < length rest → rest ≡ chunk ++ behind →
+pub page_more : (words : List ℕ) (pages : List Page) (rest chunk behind : List ℕ) (page : Page) → 0 < length rest
+    → rest ≡ chunk ++ behind →
     length chunk ≡ min 4096 (length rest) → words_in page ≡ chunk ++ replicate (4096 - length chunk) 0 →
     IsPaged words pages rest → IsPaged words (pages ++ page ∷ []) behind
 page_more words pages rest chunk behind page some cut count is h =
     let front = flat_map words_in pages in
     let more = page_behind pages page in
     let full = h.full some in
-    let parts : length rest ≡ length chunk + length behind = ap (λ (ws : List ℕ). length ws) cut ∙ length-append chunk behind in
+    let parts : length rest ≡ length chunk + length behind = ap (λ (ws : List ℕ). length ws) cut
+    ∙ length-append chunk behind in
     elim (cases_lt (length rest) 4096) [
       | inr many ↦
           let whole_page : length chunk ≡ 4096 = count ∙ min-eq_left many in
@@ -162,7 +182,8 @@ page_more words pages rest chunk behind page some cut count is h =
     ]
 
 -- no page more
-pub paged_out : (words : List ℕ) (pages : List Page) (rest : List ℕ) → length rest ≡ 0 → IsPaged words pages rest → IsPaged words pages []
+pub paged_out : (words : List ℕ) (pages : List Page) (rest : List ℕ) → length rest ≡ 0 → IsPaged words pages rest
+    → IsPaged words pages []
 paged_out words pages [] none h = h
 paged_out words pages (w ∷ ws) none h = absurd (omega (none, arith))
 
@@ -175,5 +196,6 @@ pages_room words pages h =
     omega (arith, length-take (length words) (flat_map words_in pages), count, all_words pages)
 
 -- a read of a list of numbers, whatever it would be past the end
-pub same_or : (words : List ℕ) (at word : ℕ) → at < length words → word ≡ get_or words at word → word ≡ get_or words at 0
+pub same_or : (words : List ℕ) (at word : ℕ) → at < length words → word ≡ get_or words at word
+    → word ≡ get_or words at 0
 same_or words at word h is = is ∙ get_or_default_zero words at word h

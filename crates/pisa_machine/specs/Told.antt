@@ -34,6 +34,7 @@ pub record BreaksOff (bound : ℕ) (old new : Position) (count counted : ℕ)
   pub made : new.made ≡ old.made + made_in (run old.image.code (whole + 1) old.state)
   pub counter : counted ≡ count + (whole + 1)
   pub lines : List (List ℕ)
-  pub lines_before : lines ≡ before ++ lines_after (counted_steps old.image.code whole old.state) watches
+  pub lines_before : lines ≡ before ++ lines_after (counted_steps old.image.code whole old.state)
+      watches
   pub cut_short : IsCutShort (step_at last)
       (left_after (counted_steps old.image.code whole old.state) watches) left lines after

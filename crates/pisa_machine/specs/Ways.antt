@@ -6,7 +6,13 @@ use Rattle.pisa_machine.specs.declared.rows.Outcome.{Outcome}
 use Rattle.pisa_machine.specs.declared.rows.Outcome.TheVariants.{Goes, Turns, Stops}
 
 abbrev pub state_at : (pc : ℤ) (br : ℕ) (back : Bool) (regs cells : List ℕ) → State
-state_at pc br back regs cells = record { pc = pc; br = br; back = back; regs = regs; cells = cells }
+state_at pc br back regs cells = record {
+  pc = pc;
+  br = br;
+  back = back;
+  regs = regs;
+  cells = cells;
+}
 
 -- why a row stops the machine, if it does
 abbrev pub stop_of : Outcome → Option Stop

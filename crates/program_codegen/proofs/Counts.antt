@@ -1,5 +1,6 @@
 -- How many cells, marks and routines a program has, by its tokens.
-use Rattle.std.proofs.Common.{◌≡◌, ap, refl, ℕ, zero, suc, ◌+◌, ◌*◌, ◌<◌, ◌≤◌, List, [], ◌∷◌, length, arith, length-append}
+use Rattle.std.proofs.Common.{◌≡◌, ap, refl, ℕ, zero, suc, ◌+◌, ◌*◌, ◌<◌, ◌≤◌, List, [], ◌∷◌, length, arith}
+use Rattle.std.proofs.Common.{length-append}
 use Rattle.std.specs.Prelude.{sum_by}
 use Rattle.std.specs.List.{AllZip}
 use Rattle.std.proofs.lemmas.List.Sums.{sum_by-cons, sum_by-append}
@@ -9,7 +10,7 @@ use Rattle.class_table.specs.Members.{class_at}
 use Rattle.class_table.proofs.InheritedSlots.{class_there}
 use Rattle.paired_code.specs.Code.{Code, bodies, marks_size}
 use Rattle.paired_code.specs.Link.{routines_size}
-use Rattle.program_laws.specs.Methods.{Entry, entries_of, entries_from, entries, methods_before}
+use Rattle.refine_program.specs.Methods.{Entry, entries_of, entries_from, entries, methods_before}
 use Rattle.program_codegen.specs.Routines.{IsRoutine}
 use Rattle.program_codegen.proofs.Tables.{firsts_next}
 
@@ -18,12 +19,19 @@ entry_tokens entry = procedure_tokens entry.method
 
 -- ---- the methods and their tokens
 
-of_class : (class : ℕ) (methods : List Procedure) → sum_by entry_tokens (entries_of class methods) ≡ sum_by procedure_tokens methods
+of_class : (class : ℕ) (methods : List Procedure) → sum_by entry_tokens (entries_of class methods)
+    ≡ sum_by procedure_tokens methods
 of_class class [] = refl
 of_class class (m ∷ methods) =
-    omega (arith, sum_by-cons entry_tokens (record { class = class; method = m }) (entries_of class methods), sum_by-cons procedure_tokens m methods, of_class class methods)
+    omega (
+      arith,
+      sum_by-cons entry_tokens (record { class = class; method = m }) (entries_of class methods),
+      sum_by-cons procedure_tokens m methods,
+      of_class class methods,
+    )
 
-of_classes : (number : ℕ) (classes : List ClassText) → sum_by entry_tokens (entries_from number classes) ≤ sum_by class_tokens classes
+of_classes : (number : ℕ) (classes : List ClassText) → sum_by entry_tokens (entries_from number classes) ≤ sum_by
+    class_tokens classes
 of_classes number [] = omega arith
 of_classes number (c ∷ classes) =
     omega (
@@ -49,17 +57,24 @@ many_of : (class : ℕ) (methods : List Procedure) → length (entries_of class 
 many_of class [] = refl
 many_of class (m ∷ methods) = ap suc (many_of class methods)
 
-before_few : (number : ℕ) (classes : List ClassText) (class : ℕ) → methods_before classes class ≤ length (entries_from number classes)
+before_few : (number : ℕ) (classes : List ClassText) (class : ℕ)
+    → methods_before classes class ≤ length (entries_from number classes)
 before_few number [] class = omega arith
 before_few number (c ∷ classes) zero = omega arith
 before_few number (c ∷ classes) (suc class) =
-    omega (arith, length-append (entries_of number c.methods) (entries_from (number + 1) classes), many_of number c.methods, before_few (number + 1) classes class)
+    omega (
+      arith,
+      length-append (entries_of number c.methods) (entries_from (number + 1) classes),
+      many_of number c.methods,
+      before_few (number + 1) classes class,
+    )
 
 pub methods_few : (program : Source) (class : ℕ) → methods_before program.classes class ≤ source_tokens program
 methods_few program class = omega (arith, before_few 0 program.classes class, entries_few program)
 
 -- the methods of a class are few
-pub class_few : (program : Source) (class : ℕ) → class < length program.classes → length (class_at program class).methods ≤ source_tokens program
+pub class_few : (program : Source) (class : ℕ) → class < length program.classes
+    → length (class_at program class).methods ≤ source_tokens program
 class_few program class inside =
     omega (
       arith,
@@ -70,7 +85,8 @@ class_few program class inside =
 -- ---- the pieces of their routines
 
 module _ (program : Source) where
-  pub cells_few : (es : List Entry) (ps : List Code) → AllZip (IsRoutine program) es ps → routines_size (bodies ps) ≤ 200 * sum_by entry_tokens es
+  pub cells_few : (es : List Entry) (ps : List Code) → AllZip (IsRoutine program) es ps
+      → routines_size (bodies ps) ≤ 200 * sum_by entry_tokens es
   cells_few [] [] h = omega arith
   cells_few [] (p ∷ ps) h = absurd h
   cells_few (e ∷ es) [] h = absurd h
@@ -79,7 +95,8 @@ module _ (program : Source) where
       let more = cells_few es ps h.1 in
       omega (arith, sum_by-cons entry_tokens e es)
 
-  pub marks_few : (es : List Entry) (ps : List Code) → AllZip (IsRoutine program) es ps → marks_size ps ≤ sum_by entry_tokens es
+  pub marks_few : (es : List Entry) (ps : List Code) → AllZip (IsRoutine program) es ps
+      → marks_size ps ≤ sum_by entry_tokens es
   marks_few [] [] h = omega arith
   marks_few [] (p ∷ ps) h = absurd h
   marks_few (e ∷ es) [] h = absurd h

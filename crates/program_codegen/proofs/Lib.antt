@@ -10,3 +10,4 @@ pub mod Tables
 pub mod Unmarked
 pub mod RoutineMade
 pub mod ImageMade
+pub mod RunsOn

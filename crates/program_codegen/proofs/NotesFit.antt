@@ -1,5 +1,6 @@
 -- The marks of a linked image, with the names of the main object's int fields, are notes that fit it.
-use Rattle.std.proofs.Common.{◌≡◌, ◌∙◌, sym, ap, subst, refl, ℕ, suc, ◌+◌, ◌-◌, ◌*◌, ◌<◌, ◌≤◌, Bool, true, false, cond, List, [], ◌∷◌, length, arith, lit≤, length-append, replicate}
+use Rattle.std.proofs.Common.{◌≡◌, ◌∙◌, sym, ap, subst, refl, ℕ, suc, ◌+◌, ◌-◌, ◌*◌, ◌<◌, ◌≤◌, Bool, true, false, cond}
+use Rattle.std.proofs.Common.{List, [], ◌∷◌, length, arith, lit≤, length-append, replicate}
 use Rattle.std.specs.Prelude.{sum_by, nat_le, nat_lt, ◌&&◌, if◌then◌else◌}
 use Rattle.std.specs.List.{list_all}
 use Rattle.std.specs.Char.{is_ascii_alphabetic}
@@ -40,7 +41,8 @@ no_name text = cond (is_name text) 0 1
 
 name_is : (text : List ℕ) → IsName text → is_name text ≡ true
 name_is [] named = let letter = named.letter in absurd (cc)
-name_is (first ∷ rest) named = and_from (is_ascii_alphabetic first) (list_all is_name_byte rest) named.letter (list_all-from_AllPass is_name_byte rest (All-tail (λ b. is_name_byte b ≡ true) first rest named.name_bytes))
+name_is (first ∷ rest) named = and_from (is_ascii_alphabetic first) (list_all is_name_byte rest) named.letter
+    (list_all-from_AllPass is_name_byte rest (All-tail (λ b. is_name_byte b ≡ true) first rest named.name_bytes))
 
 counts_none : (name : Ident) → IsName name.text → name_count no_name name ≤ 0
 counts_none name named = subst (λ b. cond b 0 1 ≤ 0) (sym (name_is name.text named)) (lit≤ tt)
@@ -54,17 +56,21 @@ length-field_names cell [] = omega arith
 length-field_names cell (var ∷ vars) = by (is_int_type var.kind) (length-field_names (cell + 1) vars)
   where
     by : (b : Bool) → length (field_names (cell + 1) vars) ≤ length vars
-        → length (if b then record { cell = cell; text = var.name.text } ∷ field_names (cell + 1) vars else field_names (cell + 1) vars) ≤ suc (length vars)
+        → length (if b then record { cell = cell; text = var.name.text }
+        ∷ field_names (cell + 1) vars else field_names (cell + 1) vars) ≤ suc (length vars)
     by true rest = omega arith
     by false rest = omega arith
 
 abbrev name_in : (cell : ℕ) → Var → FieldName
 name_in cell var = record { cell = cell; text = var.name.text }
 
-each_name : (statics left cell : ℕ) (vars : List Var) → 40 ≤ cell → cell + length vars ≤ 40 + statics → sum_by (field_count length) vars ≤ left → sum_by (field_count no_name) vars ≤ 0 → names_fit statics left (field_names cell vars) ≡ true
+each_name : (statics left cell : ℕ) (vars : List Var) → 40 ≤ cell → cell + length vars ≤ 40 + statics
+    → sum_by (field_count length) vars ≤ left → sum_by (field_count no_name) vars ≤ 0
+    → names_fit statics left (field_names cell vars) ≡ true
 each_name statics left cell [] low within few named = refl
 each_name statics left cell (var ∷ vars) low within few named =
-    by (is_int_type var.kind) (λ less h. each_name statics less (cell + 1) vars (omega arith) (omega arith) h (omega (arith, names)))
+    by (is_int_type var.kind) (λ less h. each_name statics less (cell + 1) vars (omega arith) (omega arith) h
+    (omega (arith, names)))
   where
     sizes : sum_by (field_count length) (var ∷ vars) ≡ length var.name.text + sum_by (field_count length) vars
     sizes = sum_by-cons (field_count length) var vars
@@ -74,27 +80,34 @@ each_name statics left cell (var ∷ vars) low within few named =
 
     own_fits : name_fits statics left (name_in cell var) ≡ true
     own_fits =
-        and_from (nat_le FIXED_CELLS cell && nat_lt (cell - FIXED_CELLS) statics && nat_le (length var.name.text) left) (is_name var.name.text)
+        and_from (nat_le FIXED_CELLS cell && nat_lt (cell - FIXED_CELLS) statics && nat_le (length var.name.text) left)
+        (is_name var.name.text)
         (and_from (nat_le FIXED_CELLS cell && nat_lt (cell - FIXED_CELLS) statics) (nat_le (length var.name.text) left)
-        (and_from (nat_le FIXED_CELLS cell) (nat_lt (cell - FIXED_CELLS) statics) (at_most FIXED_CELLS cell low) (let h : cell - 40 < statics = omega arith in grind (arith, nat_tests)))
+        (and_from (nat_le FIXED_CELLS cell) (nat_lt (cell - FIXED_CELLS) statics) (at_most FIXED_CELLS cell low)
+        (let h : cell - 40 < statics = omega arith in grind (arith, nat_tests)))
         (at_most (length var.name.text) left (omega (arith, sizes))))
         (is_one (is_name var.name.text) (omega (arith, names)))
 
-    by : (b : Bool) → ((less : ℕ) → sum_by (field_count length) vars ≤ less → names_fit statics less (field_names (cell + 1) vars) ≡ true)
-        → names_fit statics left (if b then name_in cell var ∷ field_names (cell + 1) vars else field_names (cell + 1) vars) ≡ true
-    by true rest = and_from (name_fits statics left (name_in cell var)) _ own_fits (rest (left - length var.name.text) (omega (arith, sizes)))
+    by : (b : Bool) → ((less : ℕ) → sum_by (field_count length) vars ≤ less
+        → names_fit statics less (field_names (cell + 1) vars) ≡ true)
+        → names_fit statics left (if b then name_in cell var
+        ∷ field_names (cell + 1) vars else field_names (cell + 1) vars) ≡ true
+    by true rest = and_from (name_fits statics left (name_in cell var)) _ own_fits
+        (rest (left - length var.name.text) (omega (arith, sizes)))
     by false rest = rest left (omega (arith, sizes))
 
 -- ---- the notes of a program
 
 -- the main object stands before the class tables
-long_enough : (program : Source) (image : Segments) → StandsFor program image → 2 + length (main_fields program) ≤ length image.statics
+long_enough : (program : Source) (image : Segments) → StandsFor program image
+    → 2 + length (main_fields program) ≤ length image.statics
 long_enough program image stands =
     let words = ap length stands.statics.words in
     let main = length-append (replicate (length (main_fields program)) 0) (tables 1 stands.statics.places) in
     omega (arith, words, main, length-replicate {A = ℕ} (length (main_fields program)) 0)
 
-pub notes_fit : (program : Source) (image : Segments) (notes : NoteLists) → IsAccepted program → fits image notes ≡ true → StandsFor program image → length (main_fields program) ≤ 64
+pub notes_fit : (program : Source) (image : Segments) (notes : NoteLists) → IsAccepted program → fits image notes ≡ true
+    → StandsFor program image → length (main_fields program) ≤ 64
     → fits image (record { marks = notes.marks; names = field_names 42 (main_fields program) }) ≡ true
 notes_fit program image notes accepted fit stands few =
     let fields = main_fields program in
@@ -103,29 +116,42 @@ notes_fit program image notes accepted fit stands few =
     let names = field_names_sum no_name program (main_of program).class (class_inside program accepted) in
     let limits = accepted.limits in
     let none : sum_by (name_count no_name) (source_names program) ≤ length (source_names program) * 0 =
-    sum_by-le (name_count no_name) 0 (source_names program) (All-weaker (λ name. IsName name.text) (λ name. name_count no_name name ≤ 0) counts_none (source_names program) limits.names)
+    sum_by-le (name_count no_name) 0 (source_names program)
+    (All-weaker (λ name. IsName name.text) (λ name. name_count no_name name ≤ 0) counts_none (source_names program)
+    limits.names)
     in
     let before = fitting image notes fit in
     fits_by image (record { marks = notes.marks; names = field_names 42 fields }) (record {
       few_marks = before.few_marks;
       each_mark = before.each_mark;
-      few_names = at_most (length (field_names 42 fields)) MOST_NAMES (omega (arith, length-field_names 42 fields, few));
-      names = each_name (length image.statics) MOST_NAME_BYTES 42 fields (lit≤ tt) (omega (arith, long)) (omega (arith, bytes, limits.name_bytes)) (omega (arith, names, none));
+      few_names = at_most (length (field_names 42 fields)) MOST_NAMES
+          (omega (arith, length-field_names 42 fields, few));
+      names = each_name (length image.statics) MOST_NAME_BYTES 42 fields (lit≤ tt) (omega (arith, long))
+          (omega (arith, bytes, limits.name_bytes)) (omega (arith, names, none));
     })
 
 -- the same of an image and notes that are these
-pub sealed_fit : (program : Source) (whole image : Segments) (notes : NoteLists) (marks : List Mark) (names : List FieldName) → IsAccepted program → fits image notes ≡ true → StandsFor program image
-    → length (main_fields program) ≤ 64 → whole ≡ image → marks ≡ notes.marks → names ≡ field_names 42 (main_fields program) → fits whole (record { marks = marks; names = names }) ≡ true
+pub sealed_fit : (program : Source) (whole image : Segments) (notes : NoteLists) (marks : List Mark)
+    (names : List FieldName) → IsAccepted program → fits image notes ≡ true → StandsFor program image
+    → length (main_fields program) ≤ 64 → whole ≡ image → marks ≡ notes.marks
+    → names ≡ field_names 42 (main_fields program) → fits whole (record { marks = marks; names = names }) ≡ true
 sealed_fit program whole image notes marks names accepted fit stands few whole_is marks_are names_are =
     ap (λ i. fits i (record { marks = marks; names = names })) whole_is
     ∙ ap (λ ms. fits image (record { marks = ms; names = names })) marks_are
     ∙ ap (λ ns. fits image (record { marks = notes.marks; names = ns })) names_are
     ∙ notes_fit program image notes accepted fit stands few
 
-pub sealed_notes : (program : Source) (sealed : NotedImage) (whole image : Segments) (notes : NoteLists) (marks : List Mark) (names : List FieldName) → sealed ≡ record { image = whole; notes = record { marks = marks; names = names } }
-    → whole ≡ image → marks ≡ notes.marks → names ≡ field_names 42 (main_fields program) → HasMarks program image notes.marks → AreNotes program sealed.image sealed.notes
+pub sealed_notes : (program : Source) (sealed : NotedImage) (whole image : Segments) (notes : NoteLists)
+    (marks : List Mark) (names : List FieldName) → sealed
+    ≡ record { image = whole; notes = record { marks = marks; names = names } }
+    → whole ≡ image → marks ≡ notes.marks → names ≡ field_names 42 (main_fields program)
+    → HasMarks program image notes.marks → AreNotes program sealed.image sealed.notes
 sealed_notes program sealed whole image notes marks names sealed_is whole_is marks_are names_are has =
-    let same : sealed ≡ record { image = image; notes = record { marks = notes.marks; names = field_names 42 (main_fields program) } } =
+    let same : sealed ≡ record {
+      image = image;
+      notes = record
+          { marks = notes.marks; names = field_names 42 (main_fields program) };
+    } =
     sealed_is
     ∙ ap (λ i. record { image = i; notes = record { marks = marks; names = names } }) whole_is
     ∙ ap (λ ms. record { image = image; notes = record { marks = ms; names = names } }) marks_are

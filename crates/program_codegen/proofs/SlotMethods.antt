@@ -1,5 +1,6 @@
 -- Each slot of a class leads to a method of the program, which has a routine.
-use Rattle.std.proofs.Common.{◌≡◌, ◌∙◌, sym, ap, subst, refl, ℕ, ◌+◌, ◌^◌, ◌<◌, ◌≤◌, List, [], ◌∷◌, ◌++◌, length, Option, Some, None, arith, slice_get}
+use Rattle.std.proofs.Common.{◌≡◌, ◌∙◌, sym, ap, subst, refl, ℕ, ◌+◌, ◌^◌, ◌<◌, ◌≤◌, List, [], ◌∷◌, ◌++◌, length}
+use Rattle.std.proofs.Common.{Option, Some, None, arith, slice_get}
 use Rattle.std.specs.Prelude.{slice_index}
 use Rattle.std.specs.Option.{unwrap_or}
 use Rattle.rpp_tree.specs.Parts.{source_tokens}
@@ -20,8 +21,8 @@ use Rattle.class_table.proofs.InheritedSlots.{there_at, run_is, AreEntries, entr
 use Rattle.class_table.proofs.Numbers.{length-each_below}
 use Rattle.class_table.proofs.Tables.{table_reads}
 use Rattle.roopl_semantics.proofs.MainPlace.{first_of_mains, table_rules, class_inside}
-use Rattle.program_laws.specs.Methods.{methods_before, routine_of}
-use Rattle.program_laws.proofs.Stated.{methods_have_routines}
+use Rattle.refine_program.specs.Methods.{methods_before, routine_of}
+use Rattle.refine_program.proofs.Stated.{methods_have_routines}
 use Rattle.program_codegen.proofs.Counts.{entries_few}
 use Rattle.program_codegen.proofs.Tables.{first_read}
 
@@ -31,18 +32,24 @@ pub record IsMethod (program : Source) (id : MethodId) : Type 0 where
   pub method : Procedure
   pub there : slice_get (class_at program id.class).methods id.method ≡ Some method
 
-own_inside : (program : Source) (own : ℕ) → own < length program.classes → (number : ℕ) → Some own ≡ Some number → number < length program.classes
+own_inside : (program : Source) (own : ℕ) → own < length program.classes → (number : ℕ) → Some own ≡ Some number
+    → number < length program.classes
 own_inside program own h number e = let s : own ≡ number = cc in subst (λ n. n < length program.classes) s h
 
-pub slot_method : (program : Source) (own slot : ℕ) → own < length program.classes → slot < length (class_slots program own) → IsMethod program (run_at (class_slots program own) slot)
+pub slot_method : (program : Source) (own slot : ℕ) → own < length program.classes
+    → slot < length (class_slots program own) → IsMethod program (run_at (class_slots program own) slot)
 slot_method program own slot own_in low =
     let x = there_at (class_slots program own) slot low in
     let line = has_line program own slot x.0 x.1 in
     let whole = line.shorter ++ own ∷ [] in
-    let entries : AreEntries program whole (slots_along program [] whole) = entries_along program whole whole [] (λ q g. g) (record { at = λ p y g. absurd (nothing p y g) }) in
+    let entries : AreEntries program whole (slots_along program [] whole) =
+    entries_along program whole whole [] (λ q g. g) (record { at = λ p y g. absurd (nothing p y g) }) in
     let entry = entries.at slot x.0 (ap (λ l. slice_get (slots_along program [] l) slot) (sym line.is) ∙ x.1) in
-    let class_in : x.0.1.class < length program.classes = in_range (length program.classes) (length program.classes) (parents program) (Some own) whole x.0.1.class (parents_in program) (own_inside program own own_in) line.chain_is entry.known in
-    subst (IsMethod program) (sym (run_is (class_slots program own) slot x.0 x.1)) (record { inside = class_in; method = entry.method; there = entry.there })
+    let class_in : x.0.1.class < length program.classes =
+    in_range (length program.classes) (length program.classes) (parents program) (Some own) whole x.0.1.class
+    (parents_in program) (own_inside program own own_in) line.chain_is entry.known in
+    subst (IsMethod program) (sym (run_is (class_slots program own) slot x.0 x.1))
+    (record { inside = class_in; method = entry.method; there = entry.there })
   where
     nothing : (p : ℕ) (y : List ℕ × MethodId) → slice_get [] p ≡ Some y → ⊥
     nothing p y g = cc
@@ -53,13 +60,21 @@ pub record SlotRead (program : Source) (class slot : ℕ) (id : MethodId) : Type
   pub runs : id ≡ run_at (class_slots program class) slot
   pub method : IsMethod program id
 
-pub slot_read : (program : Source) (table : Table) (class slot count : ℕ) (id : MethodId) → table ≡ table_of program → class < length program.classes
-    → count ≡ length (slots_in table class) → slot < count → id ≡ dispatch_in table class slot → SlotRead program class slot id
+pub slot_read : (program : Source) (table : Table) (class slot count : ℕ) (id : MethodId) → table ≡ table_of program
+    → class < length program.classes
+    → count ≡ length (slots_in table class) → slot < count → id ≡ dispatch_in table class slot
+    → SlotRead program class slot id
 slot_read program table class slot count id table_is inside count_is below id_is =
-    let slots : slots_in table class ≡ class_slots program class = ap (λ (t : Table). slots_in t class) table_is ∙ (table_reads program class inside).slots in
+    let slots : slots_in table class ≡ class_slots program class = ap (λ (t : Table). slots_in t class) table_is
+    ∙ (table_reads program class inside).slots in
     let low : slot < length (class_slots program class) = omega (arith, count_is, ap (λ (s : Slots). length s) slots) in
     let runs : id ≡ run_at (class_slots program class) slot = id_is ∙ ap (λ (s : Slots). run_at s slot) slots in
-    record { low = low; runs = runs; method = subst (IsMethod program) (sym runs) (slot_method program class slot inside low) }
+    record {
+      low = low;
+      runs = runs;
+      method = subst (IsMethod program) (sym runs)
+          (slot_method program class slot inside low);
+    }
 
 -- the number of a method's routine, from the first one of its class
 pub record NumberRead (program : Source) (firsts : List ℕ) (id : MethodId) : Type 0 where
@@ -67,13 +82,20 @@ pub record NumberRead (program : Source) (firsts : List ℕ) (id : MethodId) : T
   pub is : slice_index firsts id.class + id.method ≡ routine_of program id
   pub small : 1 + (slice_index firsts id.class + id.method) < 2 ^ 32
 
-pub number_read : (program : Source) (firsts : List ℕ) (id : MethodId) → firsts ≡ each_below (methods_before program.classes) (length program.classes)
+pub number_read : (program : Source) (firsts : List ℕ) (id : MethodId)
+    → firsts ≡ each_below (methods_before program.classes) (length program.classes)
     → source_tokens program ≤ 20000 → IsMethod program id → NumberRead program firsts id
 number_read program firsts id firsts_are few m =
-    let is : slice_index firsts id.class + id.method ≡ routine_of program id = ap (λ n. n + id.method) (first_read program firsts id.class firsts_are m.inside) in
+    let is : slice_index firsts id.class + id.method ≡ routine_of program id =
+    ap (λ n. n + id.method) (first_read program firsts id.class firsts_are m.inside) in
     let below = (methods_have_routines program id m.method m.there).below in
     record {
-      inside = omega (arith, m.inside, ap (λ (xs : List ℕ). length xs) firsts_are, length-each_below (methods_before program.classes) (length program.classes));
+      inside = omega (
+        arith,
+        m.inside,
+        ap (λ (xs : List ℕ). length xs) firsts_are,
+        length-each_below (methods_before program.classes) (length program.classes),
+      );
       is = is;
       small = omega (arith, is, below, entries_few program);
     }
@@ -82,8 +104,10 @@ number_read program firsts id firsts_are few m =
 pub main_method : (program : Source) → IsAccepted program → IsMethod program (main_of program)
 main_method program accepted =
     let place = first_of_mains 0 program.classes (mains program) refl (table_rules program accepted.classes).one_main in
-    let class_is : (main_of program).class ≡ place.index = place.class_is ∙ (let e : 0 + place.index ≡ place.index = omega arith in e) in
-    let number_is : (main_of program).method ≡ place.found.index = place.found.number_is ∙ (let e : 0 + place.found.index ≡ place.found.index = omega arith in e) in
+    let class_is : (main_of program).class ≡ place.index = place.class_is
+    ∙ (let e : 0 + place.index ≡ place.index = omega arith in e) in
+    let number_is : (main_of program).method ≡ place.found.index = place.found.number_is
+    ∙ (let e : 0 + place.found.index ≡ place.found.index = omega arith in e) in
     record {
       inside = class_inside program accepted;
       method = place.found.method;

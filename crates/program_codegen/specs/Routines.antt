@@ -8,8 +8,8 @@ use Rattle.paired_code.specs.Code.{Code}
 use Rattle.buddy_pisa.specs.Promise.{AllocatorLaw}
 use Rattle.block_codegen.specs.Ranges.{MarksOf}
 use Rattle.block_codegen.specs.Pieces.{IsRowCode, cells_a_token}
-use Rattle.program_laws.specs.Methods.{Entry, entries, methods_before}
-use Rattle.program_laws.specs.Laws.{IsRoutineCode}
+use Rattle.refine_program.specs.Methods.{Entry, entries, methods_before}
+use Rattle.refine_program.specs.Laws.{IsRoutineCode}
 use Rattle.program_codegen.specs.Notes.{method_rows, unmarked_from}
 
 -- it has the law of the method, a mark for each of its statements, and so many cells

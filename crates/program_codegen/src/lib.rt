@@ -5,9 +5,11 @@
 #![tactic(auto)]
 
 mod images;
+mod laws;
 mod notes;
 mod numbers;
 mod routines;
 mod statics;
 
 pub use images::compile;
+pub use laws::endless_images_run_on;

@@ -3,8 +3,8 @@ ghost use Rattle.std.specs.Prelude.{◌≡◌, ◌≤◌, length, IfOk};
 ghost use Rattle.roopl_semantics.specs.Source.{is_int_type};
 ghost use Rattle.program_codegen.specs.Notes.{field_names as names_of};
 
+use code_conventions::memory::FIRST_FIELD;
 use pisa_isa::{FieldName, NoteText};
-use roopl_semantics::FIRST_FIELD;
 use rpp_tree::tree::{Var, VarType};
 use rpp_words::NoMemory;
 use std::alloc::Global;

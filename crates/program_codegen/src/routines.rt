@@ -3,13 +3,13 @@ ghost use Rattle.std.specs.Prelude.{◌≡◌, ◌<◌, ◌≤◌, Some, map, le
 ghost use Rattle.std.specs.List.{AllZip};
 ghost use Rattle.rpp_tree.specs.Views.{procedure_of, source_of};
 ghost use Rattle.class_table.specs.Members.{class_at};
-ghost use Rattle.program_laws.specs.Methods.{entries_of, entries};
+ghost use Rattle.refine_program.specs.Methods.{entries_of, entries};
 ghost use Rattle.program_codegen.specs.Routines.{IsRoutine, AreRoutines};
 
 use block_codegen::block_code;
 use buddy_pisa::allocator;
 use class_table::{Checked, MethodId, methods_at};
-use method_scope::Scope;
+use code_scope::Scope;
 use paired_code::Piece;
 use rpp_tree::tree::Method;
 use rpp_words::NoMemory;

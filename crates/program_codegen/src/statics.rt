@@ -5,7 +5,7 @@ ghost use Rattle.roopl_semantics.specs.Layout.{tables};
 ghost use Rattle.roopl_semantics.specs.Source.{main_fields};
 ghost use Rattle.paired_code.specs.declared.part.StaticWord.TheVariants.{Word};
 ghost use Rattle.paired_code.specs.Link.{static_word};
-ghost use Rattle.program_laws.specs.Methods.{slot_places, table_places, statics_of};
+ghost use Rattle.refine_program.specs.Methods.{slot_places, table_places, statics_of};
 ghost use Rattle.program_codegen.specs.Routines.{first_numbers};
 ghost use Rattle.program_codegen.specs.declared.numbers.TheConstants.{FIRST_METHOD};
 

@@ -5,4 +5,3 @@ pub mod ProgramTargets
 pub mod Sizes
 pub mod Telling
 pub mod Watched
-pub mod GivenTexts

@@ -11,110 +11,135 @@ use Rattle.rpp_words.specs.declared.input.FieldWord.{FieldWord}
 use Rattle.pisa_loader.specs.declared.error.LoadError.{LoadError}
 use Rattle.program_commands.specs.Inputs.{given_input}
 use Rattle.class_table.specs.Refusal.{Refusal}
-use Rattle.rpp_plan.specs.Plans.{Planned, WithInput, WritesOnly}
+use Rattle.command_plan.specs.Plans.{Planned, WritesOnly}
 use Rattle.rpp_probes.specs.Tally.{Watch}
-use Rattle.program_commands.specs.ProgramPlans.{OfProgram, WritesImage, IsCheckPlan, IsCompilePlan, ChecksFile, CompilesFile, ReportsStop, RunsImage}
-use Rattle.program_commands.specs.RunPlans.{RefusesInput, RefusesSizes, RefusesRun, IsGoPlan, IsTurnPlan, IsProfilePlan, GoesOn, TurnsFile, ProfilesFile}
+use Rattle.program_commands.specs.ProgramPlans.{OfProgram, WritesImage, IsCheckPlan, IsCompilePlan, ChecksFile}
+use Rattle.program_commands.specs.ProgramPlans.{CompilesFile, ReportsStop, RunsImage}
+use Rattle.program_commands.specs.RunPlans.{RefusesInput, RefusesSizes, RefusesRun, IsGoPlan, IsTurnPlan, IsProfilePlan}
+use Rattle.program_commands.specs.RunPlans.{GoesOn, TurnsFile, ProfilesFile}
 use Rattle.roopl_semantics.specs.Run.{Run, Done as OverWith, Fault, More}
 use Rattle.roopl_semantics.specs.Store.{State}
 use Rattle.roopl_semantics.specs.Source.{source}
 use Rattle.pisa_loader.specs.Limiting.{limits_refusal}
 use Rattle.source_meaning.specs.declared.whole.TheConstants.{MOST_OPEN}
 use Rattle.program_commands.specs.Explained.{explained, IsExplainedInput, IsExplainedWithin, IsExplainPlan, Explains}
-use Rattle.rpp_plan.proofs.Writes.{of_text, along}
+use Rattle.command_plan.proofs.Writes.{along}
 
-stop_writes : (turns : Bool) (why : Stop) (program : Source) (limits : Limits) (input : List FieldWord) (cells first : List ℕ) (spent steps : ℕ) (p : Planned) → ReportsStop turns why program limits input cells first spent steps p → WritesOnly p None
-stop_writes false Finished program limits input cells first spent steps p h = along p _ None h.reported (inl refl)
-stop_writes true Finished program limits input cells first spent steps p h = along p _ None h.reported (inl refl)
-stop_writes turns (Trap code) program limits input cells first spent steps p h = along p _ None h.reported (inl refl)
-stop_writes turns Bound program limits input cells first spent steps p h = along p _ None h.reported (inl refl)
-stop_writes turns Returned program limits input cells first spent steps p h = absurd h
-stop_writes turns (BadAddress a) program limits input cells first spent steps p h = absurd h
-stop_writes turns (OffCode a) program limits input cells first spent steps p h = absurd h
+stop_writes : (turns : Bool) (why : Stop) (program : Source) (limits : Limits) (input : List FieldWord)
+    (first : List ℕ) (spent steps : ℕ) (p : Planned)
+    → ReportsStop turns why program limits input first spent steps p → WritesOnly p None
+stop_writes false Finished program limits input first spent steps p h = along p _ None h.reported (inl refl)
+stop_writes true Finished program limits input first spent steps p h = along p _ None h.reported (inl refl)
+stop_writes turns (Trap code) program limits input first spent steps p h = along p _ None h.reported (inl refl)
+stop_writes turns Bound program limits input first spent steps p h = along p _ None h.reported (inl refl)
+stop_writes turns Returned program limits input first spent steps p h = absurd h
+stop_writes turns (BadAddress a) program limits input first spent steps p h = absurd h
+stop_writes turns (OffCode a) program limits input first spent steps p h = absurd h
 
 -- what holds of the plans that P tells holds of all plans of a text: a refusal writes nothing
-pub judged_writes : (judgement : Result Source Refusal) (P : Source → Planned → Type 0) (name : Option (List ℕ)) (p : Planned) → ((program : Source) (q : Planned) → P program q → WritesOnly q name) → OfProgram P judgement p → WritesOnly p name
+pub judged_writes : (judgement : Result Source Refusal) (P : Source → Planned → Type 0) (name : Option (List ℕ))
+    (p : Planned) → ((program : Source) (q : Planned) → P program q → WritesOnly q name) → OfProgram P judgement p
+    → WritesOnly p name
 judged_writes (Err refusal) P name p f h = along p _ name h (inl refl)
 judged_writes (Ok program) P name p f h = f program p h
 
-input_refused_writes : (input : Result (List FieldWord) LoadError) (p : Planned) → RefusesInput input p → WritesOnly p None
+input_refused_writes : (input : Result (List FieldWord) LoadError) (p : Planned) → RefusesInput input p
+    → WritesOnly p None
 input_refused_writes (Err e) p h = along p _ None h (inl refl)
 input_refused_writes (Ok input) p h = absurd h
 
-sizes_refused_writes : (refusal : Option LoadError) (given : List ℕ) (program : Source) (p : Planned) → RefusesSizes refusal given program p → WritesOnly p None
+sizes_refused_writes : (refusal : Option LoadError) (given : List ℕ) (program : Source) (p : Planned)
+    → RefusesSizes refusal given program p → WritesOnly p None
 sizes_refused_writes (Some e) given program p h = along p _ None h (inl refl)
 sizes_refused_writes None given program p h = input_refused_writes (given_input program given) p h
 
-refused_writes : (text given : List ℕ) (heap deep : ℕ) (p : Planned) → RefusesRun text given heap deep p → WritesOnly p None
+refused_writes : (text given : List ℕ) (heap deep : ℕ) (p : Planned) → RefusesRun text given heap deep p
+    → WritesOnly p None
 refused_writes text given heap deep p g =
     judged_writes g.judgement _ None p (λ program q h. sizes_refused_writes _ given program q h) g.plan
 
-image_writes : (turns : Bool) (program : Source) (limits : Limits) (input : List FieldWord) (steps : ℕ) (p : Planned) → RunsImage turns program limits input steps p → WritesOnly p None
-image_writes turns program limits input steps p runs = stop_writes turns _ program limits input _ _ _ steps p runs.reports
+image_writes : (turns : Bool) (program : Source) (limits : Limits) (input : List FieldWord) (steps : ℕ) (p : Planned)
+    → RunsImage turns program limits input steps p → WritesOnly p None
+image_writes turns program limits input steps p runs =
+    stop_writes turns _ program limits input _ _ steps p runs.reports
 
-go_writes : (text given : List ℕ) (heap deep steps : ℕ) (p : Planned) → IsGoPlan text given heap deep steps p → WritesOnly p None
+go_writes : (text given : List ℕ) (heap deep steps : ℕ) (p : Planned) → IsGoPlan text given heap deep steps p
+    → WritesOnly p None
 go_writes text given heap deep steps p (inl refused) = refused_writes text given heap deep p refused
 go_writes text given heap deep steps p (inr to) = image_writes false to.program to.limits to.input steps p to.run
 
-turn_writes : (before after : List Watch) (text given : List ℕ) (heap deep steps : ℕ) (p : Planned) → IsTurnPlan before after text given heap deep steps p → WritesOnly p None
+turn_writes : (before after : List Watch) (text given : List ℕ) (heap deep steps : ℕ) (p : Planned)
+    → IsTurnPlan before after text given heap deep steps p → WritesOnly p None
 turn_writes before after text given heap deep steps p (inl refused) = refused_writes text given heap deep p refused.0
-turn_writes before after text given heap deep steps p (inr to) = image_writes true to.program to.limits to.input steps p to.run.runs
+turn_writes before after text given heap deep steps p (inr to) =
+    image_writes true to.program to.limits to.input steps p to.run.runs
 
 -- a longer text writes no more
-longer_writes : (said p : Planned) (text : List ℕ) → p ≡ record said { text = text } → WritesOnly said None → WritesOnly p None
+longer_writes : (said p : Planned) (text : List ℕ) → p ≡ record said { text = text } → WritesOnly said None
+    → WritesOnly p None
 longer_writes said p text is h = along p (record said { text = text }) None is h
 
-profile_writes : (before after : List Watch) (text given : List ℕ) (heap deep steps : ℕ) (p : Planned) → IsProfilePlan before after text given heap deep steps p → WritesOnly p None
+profile_writes : (before after : List Watch) (text given : List ℕ) (heap deep steps : ℕ) (p : Planned)
+    → IsProfilePlan before after text given heap deep steps p → WritesOnly p None
 profile_writes before after text given heap deep steps p (inl refused) = refused_writes text given heap deep p refused.0
 profile_writes before after text given heap deep steps p (inr to) =
-    longer_writes to.run.said p _ to.run.reported (image_writes false to.program to.limits to.input steps to.run.said to.run.runs)
+    longer_writes to.run.said p _ to.run.reported (image_writes false to.program to.limits to.input steps to.run.said
+    to.run.runs)
 
 check_writes : (text : List ℕ) (p : Planned) → IsCheckPlan text p → WritesOnly p None
 check_writes text p g = judged_writes g.judgement _ None p (λ program q h. along q _ None h (inl refl)) g.plan
 
 compile_writes : (text name : List ℕ) (p : Planned) → IsCompilePlan text name p → WritesOnly p (Some name)
 compile_writes text name p g =
-    judged_writes g.judgement (λ program. WritesImage program name) (Some name) p (λ program q h. along q _ (Some name) h.written (inr refl)) g.plan
+    judged_writes g.judgement (λ program. WritesImage program name) (Some name) p
+    (λ program q h. along q _ (Some name) h.written (inr refl)) g.plan
 
-of_input : (texts : Texts) (input : Option (List ℕ)) (P : List ℕ → Type 0) (Q : Type 0) → WithInput texts input P → ((given : List ℕ) → P given → Q) → Q
-of_input texts None P Q h f = f [] h
-of_input texts (Some name) P Q h f = of_text (texts name) _ P Q h f
+pub checks_file_writes : (file : List ℕ) (told : Option Texts) (p : Planned) → ChecksFile file told p
+    → WritesOnly p None
+checks_file_writes file told p h = check_writes h.text p h.holds
 
-pub checks_file_writes : (file : List ℕ) (texts : Texts) (p : Planned) → ChecksFile file texts p → WritesOnly p None
-checks_file_writes file texts p h = of_text (texts file) _ _ (WritesOnly p None) h (λ text g. check_writes text p g)
+pub compiles_file_writes : (file image : List ℕ) (told : Option Texts) (p : Planned) → CompilesFile file image told p
+    → WritesOnly p (Some image)
+compiles_file_writes file image told p h = compile_writes h.text image p h.holds
 
-pub compiles_file_writes : (file image : List ℕ) (texts : Texts) (p : Planned) → CompilesFile file image texts p → WritesOnly p (Some image)
-compiles_file_writes file image texts p h = of_text (texts file) _ _ (WritesOnly p (Some image)) h (λ text g. compile_writes text image p g)
+pub goes_on_writes : (file : List ℕ) (input : Option (List ℕ)) (heap deep steps : ℕ) (told : Option Texts) (p : Planned)
+    → GoesOn file input heap deep steps told p → WritesOnly p None
+goes_on_writes file input heap deep steps told p h = go_writes h.text h.holds.text heap deep steps p h.holds.holds
 
-pub goes_on_writes : (file : List ℕ) (input : Option (List ℕ)) (heap deep steps : ℕ) (texts : Texts) (p : Planned) → GoesOn file input heap deep steps texts p → WritesOnly p None
-goes_on_writes file input heap deep steps texts p h =
-    of_text (texts file) _ _ (WritesOnly p None) h (λ text g. of_input texts input _ (WritesOnly p None) g (λ given k. go_writes text given heap deep steps p k))
+pub turns_file_writes : (before after : List Watch) (file : List ℕ) (input : Option (List ℕ)) (heap deep steps : ℕ)
+    (told : Option Texts) (p : Planned) → TurnsFile before after file input heap deep steps told p → WritesOnly p None
+turns_file_writes before after file input heap deep steps told p h =
+    turn_writes before after h.text h.holds.text heap deep steps p h.holds.holds
 
-pub turns_file_writes : (before after : List Watch) (file : List ℕ) (input : Option (List ℕ)) (heap deep steps : ℕ) (texts : Texts) (p : Planned) → TurnsFile before after file input heap deep steps texts p → WritesOnly p None
-turns_file_writes before after file input heap deep steps texts p h =
-    of_text (texts file) _ _ (WritesOnly p None) h (λ text g. of_input texts input _ (WritesOnly p None) g (λ given k. turn_writes before after text given heap deep steps p k))
-
-pub profiles_file_writes : (before after : List Watch) (file : List ℕ) (heap deep steps : ℕ) (texts : Texts) (p : Planned) → ProfilesFile before after file heap deep steps texts p → WritesOnly p None
-profiles_file_writes before after file heap deep steps texts p h =
-    of_text (texts file) _ _ (WritesOnly p None) h (λ text g. profile_writes before after text [] heap deep steps p g)
+pub profiles_file_writes : (before after : List Watch) (file : List ℕ) (heap deep steps : ℕ) (told : Option Texts)
+    (p : Planned) → ProfilesFile before after file heap deep steps told p → WritesOnly p None
+profiles_file_writes before after file heap deep steps told p h =
+    profile_writes before after h.text [] heap deep steps p h.holds
 
 explained_writes : (program : Source) (run : Run State) (p : Planned) → p ≡ explained program run → WritesOnly p None
 explained_writes program (OverWith end cost) p h = along p _ None h (inl refl)
 explained_writes program (Fault code cost) p h = along p _ None h (inl refl)
 explained_writes program More p h = along p _ None h (inl refl)
 
-explained_input_writes : (input : Result (List FieldWord) LoadError) (program : Source) (limits : Limits) (fuel : ℕ) (p : Planned) → IsExplainedInput input program limits fuel p → WritesOnly p None
+explained_input_writes : (input : Result (List FieldWord) LoadError) (program : Source) (limits : Limits) (fuel : ℕ)
+    (p : Planned) → IsExplainedInput input program limits fuel p → WritesOnly p None
 explained_input_writes (Err e) program limits fuel p h = along p _ None h (inl refl)
-explained_input_writes (Ok input) program limits fuel p h = explained_writes program (source program limits input fuel) p h
+explained_input_writes (Ok input) program limits fuel p h =
+    explained_writes program (source program limits input fuel) p h
 
-explained_within_writes : (refusal : Option LoadError) (given : List ℕ) (program : Source) (limits : Limits) (fuel : ℕ) (p : Planned) → IsExplainedWithin refusal given program limits fuel p → WritesOnly p None
+explained_within_writes : (refusal : Option LoadError) (given : List ℕ) (program : Source) (limits : Limits) (fuel : ℕ)
+    (p : Planned) → IsExplainedWithin refusal given program limits fuel p → WritesOnly p None
 explained_within_writes (Some e) given program limits fuel p h = along p _ None h (inl refl)
-explained_within_writes None given program limits fuel p h = explained_input_writes (given_input program given) program limits fuel p h
+explained_within_writes None given program limits fuel p h =
+    explained_input_writes (given_input program given) program limits fuel p h
 
-explain_writes : (text given : List ℕ) (heap deep fuel : ℕ) (p : Planned) → IsExplainPlan text given heap deep fuel p → WritesOnly p None
+explain_writes : (text given : List ℕ) (heap deep fuel : ℕ) (p : Planned) → IsExplainPlan text given heap deep fuel p
+    → WritesOnly p None
 explain_writes text given heap deep fuel p g =
-    judged_writes g.judgement _ None p (λ program q h. explained_within_writes (limits_refusal heap deep MOST_OPEN) given program (record { heap = heap; deep = deep }) fuel q h) g.plan
+    judged_writes g.judgement _ None p (λ program q h. explained_within_writes (limits_refusal heap deep MOST_OPEN)
+    given program (record { heap = heap; deep = deep }) fuel q h) g.plan
 
-pub explains_writes : (file : List ℕ) (input : Option (List ℕ)) (heap deep fuel : ℕ) (texts : Texts) (p : Planned) → Explains file input heap deep fuel texts p → WritesOnly p None
-explains_writes file input heap deep fuel texts p h =
-    of_text (texts file) _ _ (WritesOnly p None) h (λ text g. of_input texts input _ (WritesOnly p None) g (λ given k. explain_writes text given heap deep fuel p k))
+pub explains_writes : (file : List ℕ) (input : Option (List ℕ)) (heap deep fuel : ℕ) (told : Option Texts) (p : Planned)
+    → Explains file input heap deep fuel told p → WritesOnly p None
+explains_writes file input heap deep fuel told p h =
+    explain_writes h.text h.holds.text heap deep fuel p h.holds.holds

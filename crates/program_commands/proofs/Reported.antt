@@ -1,5 +1,6 @@
 -- The report of the memory of a finished run is that of the source's store.
-use Rattle.std.proofs.Common.{◌≡◌, ◌∙◌, sym, ap, subst, ℕ, zero, suc, ◌+◌, ◌-◌, ◌<◌, ◌≤◌, List, ◌++◌, Option, Some, None, arith, ⊎_elim}
+use Rattle.std.proofs.Common.{◌≡◌, ◌∙◌, sym, ap, subst, ℕ, zero, suc, ◌+◌, ◌-◌, ◌<◌, ◌≤◌, List, ◌++◌, Option, Some}
+use Rattle.std.proofs.Common.{None, arith, ⊎_elim}
 use Rattle.std.specs.Prelude.{ℤ}
 use Rattle.std.proofs.lemmas.Bool.{cases_lt}
 use Rattle.rpp_words.specs.declared.input.FieldWord.{FieldWord}
@@ -17,19 +18,20 @@ use Rattle.pisa_machine.specs.Position.{Position}
 use Rattle.roopl_semantics.specs.Source.{GivesFault}
 use Rattle.roopl_semantics.specs.StandsFor.{Follows, IsFinalState, IsEnough, EndsAt, run_of, enough_steps}
 use Rattle.roopl_semantics.specs.Store.{State}
-use Rattle.roopl_semantics.specs.Walk.{run_report}
+use Rattle.roopl_semantics.specs.Report.{report}
 use Rattle.store_report.specs.Memory.{IsMemoryOf}
 use Rattle.program_commands.specs.GoRun.{HasRun}
-use Rattle.rpp_plan.specs.Plans.{Planned, prints}
+use Rattle.command_plan.specs.Plans.{Planned, prints}
 use Rattle.program_commands.specs.ProgramPlans.{ReportsStore}
-use Rattle.rpp_plan.specs.Texts.{steps_line}
-use Rattle.rpp_plan.specs.declared.plan.Verdict.TheVariants.{Done}
+use Rattle.command_plan.specs.Texts.{steps_line}
+use Rattle.command_plan.specs.declared.plan.Verdict.TheVariants.{Done}
 
 module _ (program : Source) (limits : Limits) (input : List FieldWord) (bound : ℕ) (end : Position) (spent : ℕ) where
   follows : (why : Stop) → HasRun program limits input bound end why spent → Follows program end.image limits input
   follows why has = has.stands.follows limits input has.allowed has.valid
 
-  why_is : (why : Stop) (has : HasRun program limits input bound end why spent) → (run_of end.image limits input bound).why ≡ why
+  why_is : (why : Stop) (has : HasRun program limits input bound end why spent)
+      → (run_of end.image limits input bound).why ≡ why
   why_is why has = ap (λ e. e.why) has.runs
 
   pub no_return : HasRun program limits input bound end Returned spent → ⊥
@@ -41,14 +43,18 @@ module _ (program : Source) (limits : Limits) (input : List FieldWord) (bound : 
   pub no_off_code : (at : ℤ) → HasRun program limits input bound end (OffCode at) spent → ⊥
   no_off_code at has = (follows (OffCode at) has).in_code bound at (why_is (OffCode at) has)
 
-  pub gives_fault : (code : ℕ) → HasRun program limits input bound end (Trap code) spent → GivesFault program limits input code
+  pub gives_fault : (code : ℕ) → HasRun program limits input bound end (Trap code) spent
+      → GivesFault program limits input code
   gives_fault code has = (follows (Trap code) has).trapped bound code (why_is (Trap code) has)
 
   -- the memory of a finished run is that of the source's final state
-  pub final : HasRun program limits input bound end Finished spent → IsFinalState program end.image limits input end.state
-  final has = subst (λ (e : End). IsFinalState program end.image limits input e.last) has.runs ((follows Finished has).finished bound (why_is Finished has))
+  pub final : HasRun program limits input bound end Finished spent
+      → IsFinalState program end.image limits input end.state
+  final has = subst (λ (e : End). IsFinalState program end.image limits input e.last) has.runs
+      ((follows Finished has).finished bound (why_is Finished has))
 
-  pub final_memory : (has : HasRun program limits input bound end Finished spent) → IsMemoryOf program end.state.cells (final has).end
+  pub final_memory : (has : HasRun program limits input bound end Finished spent)
+      → IsMemoryOf program end.state.cells (final has).end
   final_memory has = record {
     image = end.image;
     limits = limits;
@@ -62,9 +68,10 @@ module _ (program : Source) (limits : Limits) (input : List FieldWord) (bound : 
 
   -- a plan that prints the report of that memory, and the number of steps, reports the source's store
   pub reports_store : HasRun program limits input bound end Finished spent → (lines : List ℕ) (p : Planned)
-      → ((last : State) → IsMemoryOf program end.state.cells last → lines ≡ run_report program last.store end.state.cells)
+      → ((last : State) → IsMemoryOf program end.state.cells last
+      → lines ≡ report program last.store)
       → p ≡ prints Done (lines ++ steps_line spent)
-      → ReportsStore program limits input end.state.cells spent p
+      → ReportsStore program limits input spent p
   reports_store has lines p shown is =
       record {
         end = (final has).end;
@@ -73,15 +80,18 @@ module _ (program : Source) (limits : Limits) (input : List FieldWord) (bound : 
       }
 
   -- where the bound ended a run, it was not enough for any cost at which the source ends
-  pub too_early : HasRun program limits input bound end Bound spent → (cost : ℕ) → EndsAt program limits input cost → bound < enough_steps cost
+  pub too_early : HasRun program limits input bound end Bound spent → (cost : ℕ) → EndsAt program limits input cost
+      → bound < enough_steps cost
   too_early has cost ends =
       ⊎_elim (λ (less : bound < enough_steps cost). less)
-      (λ (enough : enough_steps cost ≤ bound). absurd (((follows Bound has).in_time cost ends).ends bound enough (why_is Bound has)))
+      (λ (enough : enough_steps cost ≤ bound). absurd (((follows Bound has).in_time cost ends).ends bound enough
+      (why_is Bound has)))
       (cases_lt bound (enough_steps cost))
 
 -- a run counts no more steps than it may make
 
-spent_by_step : (o : Option Stop) (m : MachineState) (rest : End) (n : ℕ) → rest.spent ≤ n → (after_step o m rest).spent ≤ suc n
+spent_by_step : (o : Option Stop) (m : MachineState) (rest : End) (n : ℕ) → rest.spent ≤ n
+    → (after_step o m rest).spent ≤ suc n
 spent_by_step None m rest n h = omega arith
 spent_by_step (Some why) m rest n h = counted_few why n
   where
@@ -95,16 +105,19 @@ spent_by_step (Some why) m rest n h = counted_few why n
 
 spent_within : (code : List Cell) (n : ℕ) (m : MachineState) → (run code n m).spent ≤ n
 spent_within code zero m = omega arith
-spent_within code (suc n) m = spent_by_step (stop code m) m (run code n (next code m)) n (spent_within code n (next code m))
+spent_within code (suc n) m = spent_by_step (stop code m) m (run code n (next code m)) n
+    (spent_within code n (next code m))
 
 -- and no more than the source's cost allows
-pub soon_over : (program : Source) (image : Segments) (limits : Limits) (input : List FieldWord) (bound cost : ℕ) → IsEnough image limits input (enough_steps cost) → (run_of image limits input bound).spent ≤ enough_steps cost
+pub soon_over : (program : Source) (image : Segments) (limits : Limits) (input : List FieldWord) (bound cost : ℕ)
+    → IsEnough image limits input (enough_steps cost) → (run_of image limits input bound).spent ≤ enough_steps cost
 soon_over program image limits input bound cost enough =
     let start = loaded_state image limits input in
     let most = enough_steps cost in
     ⊎_elim (λ (less : bound < most). let h = spent_within image.code bound start in omega arith)
     (λ (more : most ≤ bound).
     let e : bound ≡ most + (bound - most) = omega arith in
-    let same = ap (λ k. run image.code k start) e ∙ run-longer image.code most (bound - most) start (enough.ends most (omega arith)) in
+    let same = ap (λ k. run image.code k start) e ∙ run-longer image.code most (bound - most) start
+    (enough.ends most (omega arith)) in
     subst (λ (end : End). end.spent ≤ most) (sym same) (spent_within image.code most start))
     (cases_lt bound most)

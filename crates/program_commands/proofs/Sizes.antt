@@ -4,5 +4,6 @@ use Rattle.rpp_tree.specs.Parts.{source_tokens}
 use Rattle.rpp_tree.specs.Tree.{Source}
 use Rattle.class_table.specs.Program.{IsAccepted}
 
-pub few_cells : (program : Source) (cells : ℕ) → IsAccepted program → cells ≤ 200 * source_tokens program + 8192 → cells ≤ 4008192
+pub few_cells : (program : Source) (cells : ℕ) → IsAccepted program → cells ≤ 200 * source_tokens program + 8192
+    → cells ≤ 4008192
 few_cells program cells accepted size = let few = accepted.limits.tokens_few in omega (arith, size, few)

@@ -20,12 +20,12 @@ use Rattle.store_report.specs.Memory.{IsMemoryOf, IsFirstMemoryOf}
 use Rattle.program_commands.specs.GoRun.{IsLoaded, HasRun}
 use Rattle.roopl_semantics.specs.Source.{starting}
 use Rattle.roopl_semantics.specs.Store.{State}
-use Rattle.roopl_semantics.specs.Walk.{run_report}
+use Rattle.roopl_semantics.specs.Report.{report}
 use Rattle.program_commands.proofs.Reported.{final, final_memory, soon_over}
-use Rattle.rpp_plan.specs.declared.plan.Verdict.TheVariants.{Done}
-use Rattle.rpp_plan.specs.Plans.{Planned, prints}
+use Rattle.command_plan.specs.declared.plan.Verdict.TheVariants.{Done}
+use Rattle.command_plan.specs.Plans.{Planned, prints}
 use Rattle.program_commands.specs.ProgramPlans.{ReportsTurn, ReportsStop, ReportsEnd, RunsImage, back_lines}
-use Rattle.rpp_plan.specs.Texts.{steps_line}
+use Rattle.command_plan.specs.Texts.{steps_line}
 
 module _ (program : Source) (limits : Limits) (input : List FieldWord) (bound : ℕ) (end : Position) (spent : ℕ) where
   abbrev first_cells : List ℕ
@@ -33,70 +33,90 @@ module _ (program : Source) (limits : Limits) (input : List FieldWord) (bound : 
 
   -- whatever the stop, after a finish the flipped image restores
   pub restores : (why : Stop) → HasRun program limits input bound end why spent
-      → (run_of end.image limits input bound).why ≡ Finished → Restores end.image.code (run_of end.image limits input bound) bound zero_registers first_cells
+      → (run_of end.image limits input bound).why ≡ Finished
+      → Restores end.image.code (run_of end.image limits input bound) bound zero_registers first_cells
   restores why has finished =
-      flipped_run_restores end.image.code bound zero_registers first_cells bound has.is_image.is_code has.is_image.one_start has.is_image.one_finish has.begun
+      flipped_run_restores end.image.code bound zero_registers first_cells bound has.is_image.is_code
+      has.is_image.one_start has.is_image.one_finish has.begun
       ((has.stands.follows limits input has.allowed has.valid).clean bound finished)
       (subst (λ n. n ≤ bound) (sym (ap (λ (e : End). e.spent) has.runs)) has.within)
 
   restored : HasRun program limits input bound end Finished spent
-      → Restores end.image.code (record { why = Finished; spent = spent; last = end.state }) bound zero_registers first_cells
+      → Restores end.image.code (record { why = Finished; spent = spent; last = end.state }) bound zero_registers
+      first_cells
   restored has =
-      subst (λ (e : End). Restores end.image.code e bound zero_registers first_cells) has.runs (restores Finished has (ap (λ (e : End). e.why) has.runs))
+      subst (λ (e : End). Restores end.image.code e bound zero_registers first_cells) has.runs
+      (restores Finished has (ap (λ (e : End). e.why) has.runs))
 
   -- what the run of the flipped image from there leaves
   pub back_cells : HasRun program limits input bound end Finished spent
-      → (after : End) → run (flipped end.image.code) bound (started (flipped end.image.code) end.state.regs end.state.cells) ≡ after → after.last.cells ≡ first_cells
+      → (after : End) → run (flipped end.image.code) bound
+      (started (flipped end.image.code) end.state.regs end.state.cells) ≡ after → after.last.cells ≡ first_cells
   back_cells has after is = sym (ap (λ (e : End). e.last.cells) is) ∙ (restored has).memory
 
   pub back_spent : HasRun program limits input bound end Finished spent
-      → (after : End) → run (flipped end.image.code) bound (started (flipped end.image.code) end.state.regs end.state.cells) ≡ after → after.spent ≡ spent
+      → (after : End) → run (flipped end.image.code) bound
+      (started (flipped end.image.code) end.state.regs end.state.cells) ≡ after → after.spent ≡ spent
   back_spent has after is = sym (ap (λ (e : End). e.spent) is) ∙ (restored has).in_as_many
 
-  same_lines : (back spent count n : ℕ) (here report : List ℕ) → back ≡ spent → here ≡ report → count ≡ n → back_lines back here count ≡ back_lines spent report n
-  same_lines back spent count n here report e f h = rw (e, f, h)
+  same_lines : (back spent count n : ℕ) (here shown : List ℕ) → back ≡ spent → here ≡ shown → count ≡ n
+      → back_lines back here count ≡ back_lines spent shown n
+  same_lines back spent count n here shown e f h = rw (e, f, h)
 
   -- the memory of the way back is that in which a run of the program begins
-  pub first_memory : (why : Stop) → HasRun program limits input bound end why spent → (cells : List ℕ) → cells ≡ first_cells → IsFirstMemoryOf program cells input
-  first_memory why has cells is = record { image = end.image; limits = limits; statics = has.stands.statics; in_range = has.allowed; valid = has.valid; loads = is }
+  pub first_memory : (why : Stop) → HasRun program limits input bound end why spent → (cells : List ℕ)
+      → cells ≡ first_cells → IsFirstMemoryOf program cells input
+  first_memory why has cells is = record {
+    image = end.image;
+    limits = limits;
+    statics = has.stands.statics;
+    in_range = has.allowed;
+    valid = has.valid;
+    loads = is;
+  }
 
   -- a plan that prints both reports, of the memory where the run finished and of the one where the
   -- way back did
-  pub reports_turn : (has : HasRun program limits input bound end Finished spent) → (there here cells : List ℕ) (back count : ℕ) (p : Planned)
-      → ((last : State) → IsMemoryOf program end.state.cells last → there ≡ run_report program last.store end.state.cells)
-      → ((given : List FieldWord) → IsFirstMemoryOf program cells given → here ≡ run_report program (starting program given).store cells)
+  pub reports_turn : (has : HasRun program limits input bound end Finished spent)
+      → (there here cells : List ℕ) (back count : ℕ) (p : Planned)
+      → ((last : State) → IsMemoryOf program end.state.cells last → there ≡ report program last.store)
+      → ((given : List FieldWord) → IsFirstMemoryOf program cells given
+      → here ≡ report program (starting program given).store)
       → cells ≡ first_cells → back ≡ spent → count ≡ length cells
       → p ≡ prints Done ((there ++ steps_line spent) ++ back_lines back here count)
-      → ReportsTurn program limits input end.state.cells first_cells spent p
+      → ReportsTurn program limits input first_cells spent p
   reports_turn has there here cells back count p shown shown_back same_cells same_spent same_count is =
       let fin = final program limits input bound end spent has in
-      let here_is : here ≡ run_report program (starting program input).store first_cells =
-      shown_back input (first_memory Finished has cells same_cells)
-      ∙ ap (λ (memory : List ℕ). run_report program (starting program input).store memory) same_cells in
       record {
         end = fin.end;
         gives = fin.gives;
         reported =
             is
-            ∙ ap (λ (text : List ℕ). prints Done ((text ++ steps_line spent) ++ back_lines back here count)) (shown fin.end (final_memory program limits input bound end spent has))
-            ∙ ap (λ (text : List ℕ). prints Done ((run_report program fin.end.store end.state.cells ++ steps_line spent) ++ text))
-            (same_lines back spent count (length first_cells) here (run_report program (starting program input).store first_cells) same_spent here_is (same_count ∙ ap length same_cells));
+            ∙ ap (λ (text : List ℕ). prints Done ((text ++ steps_line spent) ++ back_lines back here count))
+            (shown fin.end (final_memory program limits input bound end spent has))
+            ∙ ap (λ (text : List ℕ). prints Done ((report program fin.end.store ++ steps_line spent) ++ text))
+            (same_lines back spent count (length first_cells) here (report program (starting program input).store)
+            same_spent (shown_back input (first_memory Finished has cells same_cells))
+            (same_count ∙ ap length same_cells));
       }
 
   -- the plan of a run, from what its reports say
   abbrev pub runs_image : (turns : Bool) (why : Stop) → HasRun program limits input bound end why spent
-      → (p : Planned) → ReportsStop turns why program limits input end.state.cells first_cells spent bound p → RunsImage turns program limits input bound p
+      → (p : Planned) → ReportsStop turns why program limits input first_cells spent bound p
+      → RunsImage turns program limits input bound p
   runs_image turns why has p reports = record {
     image = end.image;
     is_image = has.is_image;
     stands = has.stands;
-    in_time = λ cost ends. soon_over program end.image limits input bound cost ((has.stands.follows limits input has.allowed has.valid).in_time cost ends);
+    in_time = λ cost ends. soon_over program end.image limits input bound cost
+        ((has.stands.follows limits input has.allowed has.valid).in_time cost ends);
     restores = restores why has;
     reports = subst (λ (e : End). ReportsEnd turns e program limits input first_cells bound p) (sym has.runs) reports;
   }
 
   -- a run from where the image is loaded
-  pub has_run : (start : Position) (why : Stop) → IsLoaded program limits input start → IsMachine start → end.image ≡ start.image → spent ≤ bound
+  pub has_run : (start : Position) (why : Stop) → IsLoaded program limits input start → IsMachine start
+      → end.image ≡ start.image → spent ≤ bound
       → run start.image.code bound start.state ≡ record { why = why; spent = spent; last = end.state }
       → HasRun program limits input bound end why spent
   has_run start why loads machine same within ran = record {
@@ -108,7 +128,8 @@ module _ (program : Source) (limits : Limits) (input : List FieldWord) (bound : 
         (subst IsState (ap (λ (p : Position). p.state) loads.first)
         (reached_is_state start.image.code start.made start.state machine.is_image.is_code machine.reached));
     within = within;
-    runs = ap (λ (i : Segments). run_of i limits input bound) same ∙ sym (ap (λ (p : Position). run start.image.code bound p.state) loads.first) ∙ ran;
+    runs = ap (λ (i : Segments). run_of i limits input bound) same
+        ∙ sym (ap (λ (p : Position). run start.image.code bound p.state) loads.first) ∙ ran;
   }
 
 -- what holds of an answer holds in a weaker form
@@ -117,6 +138,7 @@ weaken (Ok x) P Q f h = f x h
 weaken (Err e) P Q f h = tt
 
 -- the same, with what holds after every answer that is no error
-pub weaken_with : {A E : Type 0} (r : Result A E) (C : Type 0) (P Q : A → Type 0) → (C → (x : A) → P x → Q x) → OnOk r C → IfOk r P → IfOk r Q
+pub weaken_with : {A E : Type 0} (r : Result A E) (C : Type 0) (P Q : A → Type 0) → (C → (x : A) → P x → Q x) → OnOk r C
+    → IfOk r P → IfOk r Q
 weaken_with (Ok x) C P Q f c h = f c x h
 weaken_with (Err e) C P Q f c h = tt

@@ -1,6 +1,12 @@
 -- What the probes of `turn` and `profile` were told.
-use Rattle.std.proofs.Common.{◌≡◌, ◌∙◌, sym, ap, subst, ℕ, true, false, List, [], ◌++◌, map, Ok, Err}
-use Rattle.std.specs.Prelude.{Result, OnOk}
+use Rattle.std.proofs.Common.{◌≡◌, ◌∙◌, sym, ap, subst, subst₂, ℕ, true, false, List, [], ◌∷◌, ◌++◌, map, Ok, Err, inl}
+use Rattle.std.proofs.Common.{inr, ⊎_elim}
+use Rattle.std.specs.Prelude.{Result, OnOk, IfErr, ◌⊎◌}
+use Rattle.std.proofs.lemmas.List.{map-append}
+use Rattle.pisa_isa.specs.declared.cell.Cell.{Cell}
+use Rattle.pisa_isa.specs.declared.machine.Stop.TheVariants.{Finished}
+use Rattle.pisa_isa.specs.Flipped.{flipped}
+use Rattle.pisa_isa.specs.Machine.{State}
 use Rattle.rpp_words.specs.declared.input.FieldWord.{FieldWord}
 use Rattle.rpp_words.specs.declared.input.Limits.{Limits}
 use Rattle.rpp_tree.specs.Tree.{Source}
@@ -8,30 +14,94 @@ use Rattle.rpp_probes.specs.declared.probe.StepAt.{StepAt}
 use Rattle.rpp_probes.proofs.Folds.{left_none}
 use Rattle.rpp_probes.specs.Tally.{Watch, left_after, lines_after, lines_shown, line_of}
 use Rattle.pisa_isa.specs.declared.machine.Stop.{Stop}
-use Rattle.pisa_isa.specs.Image.{Segments}
+use Rattle.pisa_isa.specs.Image.{Segments, IsImage}
 use Rattle.pisa_isa.specs.Loaded.{loaded}
-use Rattle.pisa_isa.specs.Runs.{End}
+use Rattle.pisa_isa.specs.Runs.{End, visited, started}
 use Rattle.pisa_machine.specs.Position.{Position}
-use Rattle.pisa_machine.specs.Told.{counted_steps}
-use Rattle.rpp_plan.specs.Plans.{Planned}
+use Rattle.pisa_machine.specs.Told.{counted_steps, step_at, BreaksOff}
+use Rattle.command_plan.specs.Plans.{Planned}
 use Rattle.program_commands.specs.GoRun.{IsLoaded, HasRun}
 use Rattle.program_commands.specs.ProgramPlans.{ReportsStop}
-use Rattle.program_commands.specs.RunPlans.{TurnsImage, ProfilesImage, back_steps, run_steps}
+use Rattle.program_commands.specs.RunPlans.{TurnsImage, ProfilesImage, CanRun, RunsTo, back_steps, run_steps}
+use Rattle.program_commands.specs.ToldShort.{IsToldSoFar, TurnsShort, ProfilesShort}
 use Rattle.program_commands.proofs.Turned.{runs_image}
 
 -- where no step was told, the probes are as they were
-pub none_told : {A E : Type 0} (r : Result A E) (steps : List StepAt) (ws : List Watch) → steps ≡ [] → OnOk r (ws ≡ left_after steps ws)
+pub none_told : {A E : Type 0} (r : Result A E) (steps : List StepAt) (ws : List Watch) → steps ≡ []
+    → OnOk r (ws ≡ left_after steps ws)
 none_told (Ok x) steps ws none = sym (ap (λ l. left_after l ws) none ∙ left_none ws)
 none_told (Err e) steps ws none = tt
+
+-- what holds whatever the answer
+pub err_always : {A E : Type 0} (r : Result A E) (P : Type 0) → P → IfErr r (λ _. P)
+err_always (Ok x) P h = tt
+err_always (Err e) P h = h
+
+pub err_weaken : {A E : Type 0} (r : Result A E) (P Q : Type 0) → (P → Q) → IfErr r (λ _. P) → IfErr r (λ _. Q)
+err_weaken (Ok x) P Q f h = tt
+err_weaken (Err e) P Q f h = f h
+
+-- a run that no memory was found in told the probes so far
+pub told_short : (bound : ℕ) (old new : Position) (count counted : ℕ) (watches left : List Watch)
+    (before after : List (List ℕ)) → BreaksOff bound old new count counted watches left before after
+    → IsToldSoFar old.image.code bound old.state watches left
+told_short bound old new count counted watches left before after b = inr (record {
+  whole = b.whole;
+  within = b.within;
+  step = step_at b.last;
+  counted = ap (map step_at) b.visits
+      ∙ map-append step_at (visited old.image.code b.whole old.state) (b.last ∷ []);
+  lines = b.lines;
+  more = after;
+  cut_short = b.cut_short;
+})
+
+pub so_far_from : (code : List Cell) (m : State) (start : Position) (bound : ℕ) (before after : List Watch)
+    → start.image.code ≡ code → start.state ≡ m → IsToldSoFar start.image.code bound start.state before after
+    → IsToldSoFar code bound m before after
+so_far_from code m start bound before after e f h =
+    subst₂ (λ (c : List Cell) (s : State). IsToldSoFar c bound s before after) e f h
+
+-- what want of memory leaves of the probes of a run from where an image is loaded
+pub loaded_short : (program : Source) (limits : Limits) (input : List FieldWord) (bound : ℕ) (start : Position)
+    → IsLoaded program limits input start → IsImage start.image
+    → (before after : List Watch) → IsToldSoFar start.image.code bound start.state before after
+    → ProfilesShort before after program limits input bound
+loaded_short program limits input bound start loads image before after told = record {
+  image = start.image;
+  is_image = image;
+  stands = loads.stands;
+  told = subst (λ (m : State). IsToldSoFar start.image.code bound m before after)
+      (ap (λ (p : Position). p.state) loads.first) told;
+}
+
+-- what a run of a program that can be run leaves of probes is what its text leaves of them
+pub readied_short : {A E : Type 0} (r : Result A E) (same : Type 0) (text given : List ℕ) (heap deep steps bound : ℕ)
+    (T : Source → Limits → List FieldWord → ℕ → Type 0) (program : Source) (limits : Limits) (input : List FieldWord)
+    → CanRun text given heap deep program limits input × (bound ≡ steps)
+    → IfErr r (λ _. same ⊎ T program limits input bound)
+    → IfErr r (λ _. same ⊎ RunsTo text given heap deep (λ p l i. T p l i steps))
+readied_short r same text given heap deep steps bound T program limits input can =
+    err_weaken r (same ⊎ T program limits input bound) (same ⊎ RunsTo text given heap deep (λ p l i. T p l i steps))
+    (⊎_elim (λ e. inl e)
+    (λ t. inr (record {
+      program = program;
+      limits = limits;
+      input = input;
+      can_run = can.0;
+      run = subst (T program limits input) can.1 t;
+    })))
 
 module _ (program : Source) (limits : Limits) (input : List FieldWord) (bound : ℕ) (end : Position) (spent : ℕ) where
   pub turns_image : (why : Stop) → HasRun program limits input bound end why spent
       → (before after : List Watch) → after ≡ left_after (back_steps why end.image.code end.state bound) before
-      → (p : Planned) → ReportsStop true why program limits input end.state.cells (loaded end.image.statics limits input) spent bound p
+      → (p : Planned) → ReportsStop true why program limits input
+      (loaded end.image.statics limits input) spent bound p
       → TurnsImage before after program limits input bound p
   turns_image why has before after told p reports = record {
     runs = runs_image program limits input bound end spent true why has p reports;
-    told = subst (λ (e : End). after ≡ left_after (back_steps e.why end.image.code e.last bound) before) (sym has.runs) told;
+    told = subst (λ (e : End). after ≡ left_after (back_steps e.why end.image.code e.last bound) before) (sym has.runs)
+        told;
   }
 
   -- the steps of the run of the loaded image are those of the image where it ended
@@ -46,7 +116,8 @@ module _ (program : Source) (limits : Limits) (input : List FieldWord) (bound : 
       → (before after : List Watch) (ended : List (List ℕ))
       → after ≡ left_after (counted_steps start.image.code bound start.state) before
       → ended ≡ lines_after (counted_steps start.image.code bound start.state) before
-      → (said p : Planned) → ReportsStop false why program limits input end.state.cells (loaded end.image.statics limits input) spent bound said
+      → (said p : Planned) → ReportsStop false why program limits input
+      (loaded end.image.statics limits input) spent bound said
       → p ≡ record said { text = (said.text ++ lines_shown ended) ++ lines_shown (map line_of after) }
       → ProfilesImage before after program limits input bound p
   profiles_image why has start loads same before after ended told lines said p reports is = record {
@@ -55,4 +126,19 @@ module _ (program : Source) (limits : Limits) (input : List FieldWord) (bound : 
     told = told ∙ ap (λ steps. left_after steps before) (same_steps start loads same);
     reported = is ∙ ap (λ l. record said { text = (said.text ++ lines_shown l) ++ lines_shown (map line_of after) })
         (lines ∙ ap (λ steps. lines_after steps before) (same_steps start loads same));
+  }
+
+  -- want of memory on the way back
+  pub turns_short : (why : Stop) → HasRun program limits input bound end why spent
+      → (before after : List Watch)
+      → (why ≡ Finished) × IsToldSoFar (flipped end.image.code) bound
+      (started (flipped end.image.code) end.state.regs end.state.cells) before after
+      → TurnsShort before after program limits input bound
+  turns_short why has before after told = record {
+    image = end.image;
+    is_image = has.is_image;
+    stands = has.stands;
+    finished = ap (λ (e : End). e.why) has.runs ∙ told.0;
+    told = subst (λ (e : End). IsToldSoFar (flipped end.image.code) bound
+        (started (flipped end.image.code) e.last.regs e.last.cells) before after) (sym has.runs) told.1;
   }

@@ -17,10 +17,10 @@ use Rattle.roopl_semantics.specs.Report.{report}
 use Rattle.source_meaning.specs.declared.outcome.Outcome.{Outcome}
 use Rattle.source_meaning.specs.declared.outcome.Outcome.TheVariants as outcome
 use Rattle.source_meaning.specs.declared.whole.TheConstants.{MOST_OPEN}
-use Rattle.rpp_plan.specs.declared.plan.Verdict.TheVariants.{Done, Trapped, Bound, InputRefused}
-use Rattle.rpp_plan.specs.Plans.{Planned, prints, WithText, WithInput}
-use Rattle.rpp_plan.specs.Texts.{load_line}
-use Rattle.machine_texts.specs.Stops.{fault_line}
+use Rattle.command_plan.specs.declared.plan.Verdict.TheVariants.{Done, Trapped, Bound, InputRefused}
+use Rattle.command_plan.specs.Plans.{Planned, prints, WithText, WithInput}
+use Rattle.command_plan.specs.Texts.{load_line}
+use Rattle.pisa_scripts.specs.Stops.{fault_line}
 use Rattle.program_commands.specs.Inputs.{given_input}
 use Rattle.program_commands.specs.ProgramPlans.{IsJudgedPlan}
 
@@ -42,7 +42,8 @@ Tells program (outcome.Fault code cost) p = p ≡ prints Trapped (fault_line cod
 Tells program outcome.More p = p ≡ prints Bound (codes "bound" ++ line_end)
 
 -- the input is judged, and then the program is interpreted on it
-abbrev pub IsExplainedInput : Result (List FieldWord) LoadError → Source → Limits → ℕ → Planned → Type 0
+abbrev pub IsExplainedInput : Result (List FieldWord) LoadError → Source → Limits → ℕ → Planned
+    → Type 0
 IsExplainedInput (Err e) program limits fuel p = p ≡ prints InputRefused (load_line e)
 IsExplainedInput (Ok input) program limits fuel p =
     p ≡ explained program (source program limits input fuel)
@@ -60,8 +61,9 @@ IsExplainPlan text given heap deep fuel p =
     program (record { heap = heap; deep = deep }) fuel) p
 
 -- the plan of `explain` of this file, on an input where there is one
-abbrev pub Explains : (file : List ℕ) → (input : Option (List ℕ)) → (heap deep fuel : ℕ) → Texts
+abbrev pub Explains : (file : List ℕ) → (input : Option (List ℕ)) → (heap deep fuel : ℕ)
+    → Option Texts
     → Planned → Type 0
-Explains file input heap deep fuel texts p =
-    WithText texts file MOST_BYTES
-    (λ text. WithInput texts input (λ given. IsExplainPlan text given heap deep fuel p))
+Explains file input heap deep fuel told p =
+    WithText told file MOST_BYTES
+    (λ text. WithInput told input (λ given. IsExplainPlan text given heap deep fuel p))

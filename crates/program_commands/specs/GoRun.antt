@@ -19,7 +19,8 @@ pub record IsLoaded (program : Source) (limits : Limits) (input : List FieldWord
   pub allowed : IsLimits limits
   pub valid : IsValid program input
   pub stands : StandsFor program start.image
-  pub first : start ≡ first_position start.image zero_registers (loaded start.image.statics limits input)
+  pub first : start ≡ first_position start.image zero_registers
+      (loaded start.image.statics limits input)
 
 -- a machine stands where a run of at most so many steps of an image that stands for the program
 -- ended, on this input
@@ -31,4 +32,5 @@ pub record HasRun (program : Source) (limits : Limits) (input : List FieldWord) 
   pub is_image : IsImage end.image
   pub begun : IsState (loaded_state end.image limits input)
   pub within : spent ≤ bound
-  pub runs : run_of end.image limits input bound ≡ record { why = why; spent = spent; last = end.state }
+  pub runs : run_of end.image limits input bound
+      ≡ record { why = why; spent = spent; last = end.state }

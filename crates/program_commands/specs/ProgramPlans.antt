@@ -1,5 +1,7 @@
 -- The plans of `check` and `compile`, and what a run of a program reports.
-use Rattle.std.specs.Prelude.{◌≡◌, ℕ, ◌≤◌, ◌<◌, Bool, true, false, List, ◌++◌, length, Result, Ok, Err, codes}
+use Rattle.std.specs.Prelude.{◌≡◌, ℕ, ◌≤◌, ◌<◌, Bool, true, false, List, ◌++◌, length, Result, Ok}
+use Rattle.std.specs.Prelude.{Err, codes}
+use Rattle.std.specs.declared.option.Option.{Option}
 use Rattle.std.specs.Fmt.{decimal}
 use Rattle.rpp_words.specs.declared.input.FieldWord.{FieldWord}
 use Rattle.rpp_words.specs.declared.input.Limits.{Limits}
@@ -14,27 +16,28 @@ use Rattle.pisa_isa.specs.Image.{Segments, IsImage}
 use Rattle.pisa_isa.specs.Notes.{NoteLists}
 use Rattle.pisa_isa.specs.Flipped.{Restores}
 use Rattle.pisa_image.specs.ImageBytes.{image_bytes}
-use Rattle.pisa_image.specs.Reading.{noted}
+use Rattle.pisa_image.specs.Reading.{noted, image_at}
 use Rattle.pisa_isa.specs.Loaded.{loaded}
 use Rattle.pisa_isa.specs.Runs.{End, zero_registers}
 use Rattle.roopl_semantics.specs.Store.{State}
 use Rattle.roopl_semantics.specs.Source.{GivesDone, GivesFault, starting}
-use Rattle.roopl_semantics.specs.Walk.{run_report}
+use Rattle.roopl_semantics.specs.Report.{report}
 use Rattle.roopl_semantics.specs.StandsFor.{StandsFor, EndsAt, run_of, enough_steps}
 use Rattle.roopl_judge.specs.Judged.{IsJudged}
-use Rattle.rpp_plan.specs.Refusals.{refused_line}
+use Rattle.command_plan.specs.Refusals.{refused_line}
 use Rattle.rpp_words.specs.Texts.{line_end}
-use Rattle.rpp_plan.specs.declared.plan.Verdict.TheVariants.{Done, SourceRefused, Trapped, Bound}
-use Rattle.rpp_plan.specs.Plans.{Planned, prints, writes, WithText}
-use Rattle.rpp_plan.specs.Texts.{steps_line, cells_line}
-use Rattle.machine_texts.specs.Stops.{fault_line}
+use Rattle.command_plan.specs.declared.plan.Verdict.TheVariants.{Done, SourceRefused, Trapped}
+use Rattle.command_plan.specs.declared.plan.Verdict.TheVariants.{Bound}
+use Rattle.command_plan.specs.Plans.{Planned, prints, writes, WithText}
+use Rattle.command_plan.specs.Texts.{steps_line, cells_line}
+use Rattle.pisa_scripts.specs.Stops.{fault_line}
 
--- the source gives a store, and the plan reports it, as it stands in these cells
-pub record ReportsStore (program : Source) (limits : Limits) (input : List FieldWord)
-    (cells : List ℕ) (spent : ℕ) (p : Planned) : Type 0 where
+-- the source gives a store, and the plan reports it
+pub record ReportsStore (program : Source) (limits : Limits) (input : List FieldWord) (spent : ℕ)
+    (p : Planned) : Type 0 where
   pub end : State
   pub gives : GivesDone program limits input end
-  pub reported : p ≡ prints Done (run_report program end.store cells ++ steps_line spent)
+  pub reported : p ≡ prints Done (report program end.store ++ steps_line spent)
 
 -- the source gives this fault, and the plan reports it
 pub record ReportsFault (program : Source) (limits : Limits) (input : List FieldWord)
@@ -57,38 +60,38 @@ back_lines spent report count =
     ++ (decimal count ++ (codes " cells" ++ line_end))))))
 
 -- the source gives a store, and the plan reports it, and behind it the store where the source
--- began, as it stands in the first cells
+-- began, and how many the first cells are
 pub record ReportsTurn (program : Source) (limits : Limits) (input : List FieldWord)
-    (cells first : List ℕ) (spent : ℕ) (p : Planned) : Type 0 where
+    (first : List ℕ) (spent : ℕ) (p : Planned) : Type 0 where
   pub end : State
   pub gives : GivesDone program limits input end
-  pub reported : p ≡ prints Done ((run_report program end.store cells ++ steps_line spent)
-      ++ back_lines spent (run_report program (starting program input).store first) (length first))
+  pub reported : p ≡ prints Done ((report program end.store ++ steps_line spent)
+      ++ back_lines spent (report program (starting program input).store) (length first))
 
 -- what the plan of a finished run says, by whether it turns back
 abbrev pub ReportsFinish : (turns : Bool) → Source → Limits → List FieldWord
-    → (cells first : List ℕ) (spent : ℕ) → Planned → Type 0
-ReportsFinish false program limits input cells first spent p =
-    ReportsStore program limits input cells spent p
-ReportsFinish true program limits input cells first spent p =
-    ReportsTurn program limits input cells first spent p
+    → (first : List ℕ) (spent : ℕ) → Planned → Type 0
+ReportsFinish false program limits input first spent p =
+    ReportsStore program limits input spent p
+ReportsFinish true program limits input first spent p =
+    ReportsTurn program limits input first spent p
 
 -- what the plan of a run says, by why the run ended; it never ends otherwise
 abbrev pub ReportsStop : (turns : Bool) → Stop → Source → Limits → List FieldWord
-    → (cells first : List ℕ) (spent steps : ℕ) → Planned → Type 0
-ReportsStop turns Finished program limits input cells first spent steps p =
-    ReportsFinish turns program limits input cells first spent p
-ReportsStop turns (Trap code) program limits input cells first spent steps p =
+    → (first : List ℕ) (spent steps : ℕ) → Planned → Type 0
+ReportsStop turns Finished program limits input first spent steps p =
+    ReportsFinish turns program limits input first spent p
+ReportsStop turns (Trap code) program limits input first spent steps p =
     ReportsFault program limits input code spent p
-ReportsStop turns AtBound program limits input cells first spent steps p =
+ReportsStop turns AtBound program limits input first spent steps p =
     ReportsBound program limits input steps p
-ReportsStop turns _ program limits input cells first spent steps p = ⊥
+ReportsStop turns _ program limits input first spent steps p = ⊥
 
 -- what the plan of a run of at most so many steps from these first cells says, by its end
 abbrev pub ReportsEnd : (turns : Bool) → End → Source → Limits → List FieldWord
     → (first : List ℕ) (steps : ℕ) → Planned → Type 0
 ReportsEnd turns end program limits input first steps p =
-    ReportsStop turns end.why program limits input end.last.cells first end.spent steps p
+    ReportsStop turns end.why program limits input first end.spent steps p
 
 -- There is an image that stands for the program, and the plan reports its run, whose steps the
 -- source's cost bounds. After a finish the flipped image restores every register and every cell, in
@@ -118,15 +121,18 @@ pub record IsJudgedPlan (text : List ℕ) (P : Source → Planned → Type 0) (p
   pub plan : OfProgram P judgement p
 
 abbrev pub IsCheckPlan : (text : List ℕ) → Planned → Type 0
-IsCheckPlan text p = IsJudgedPlan text (λ program p. p ≡ prints Done (codes "accepted" ++ line_end)) p
+IsCheckPlan text p = IsJudgedPlan text (λ program p. p ≡ prints Done (codes "accepted" ++ line_end))
+    p
 
--- an image that stands for the program is written, with notes on the program
+-- an image that stands for the program is written, with notes on the program; its bytes are read
+-- as the image with the notes
 pub record WritesImage (program : Source) (name : List ℕ) (p : Planned) : Type 0 where
   pub image : Segments
   pub is_image : IsImage image
   pub stands : StandsFor program image
   pub notes : NoteLists
   pub are_notes : AreNotes program image notes
+  pub reads_back : image_at (image_bytes (noted notes image)) ≡ Ok (noted notes image)
   pub written : p ≡ writes name (image_bytes (noted notes image))
       (cells_line (codes "compiled") image.code)
 
@@ -134,9 +140,10 @@ abbrev pub IsCompilePlan : (text name : List ℕ) → Planned → Type 0
 IsCompilePlan text name p = IsJudgedPlan text (λ program. WritesImage program name) p
 
 -- the plan of `check` of this file
-abbrev pub ChecksFile : (file : List ℕ) → Texts → Planned → Type 0
-ChecksFile file texts p = WithText texts file MOST_BYTES (λ text. IsCheckPlan text p)
+abbrev pub ChecksFile : (file : List ℕ) → Option Texts → Planned → Type 0
+ChecksFile file told p = WithText told file MOST_BYTES (λ text. IsCheckPlan text p)
 
 -- the plan of `compile` of this file to that of an image
-abbrev pub CompilesFile : (file image : List ℕ) → Texts → Planned → Type 0
-CompilesFile file image texts p = WithText texts file MOST_BYTES (λ text. IsCompilePlan text image p)
+abbrev pub CompilesFile : (file image : List ℕ) → Option Texts → Planned → Type 0
+CompilesFile file image told p = WithText told file MOST_BYTES
+    (λ text. IsCompilePlan text image p)

@@ -4,7 +4,7 @@ use Rattle.rpp_words.specs.declared.input.FieldWord.{FieldWord}
 use Rattle.rpp_words.specs.declared.input.Limits.{Limits}
 use Rattle.rpp_tree.specs.Tree.{Source}
 use Rattle.rpp_tree.specs.Views.{source_of}
-use Rattle.rpp_plan.specs.Plans.{Planned, planned}
+use Rattle.command_plan.specs.Plans.{Planned, planned}
 use Rattle.program_commands.specs.declared.setting.Ready.{Ready}
 use Rattle.program_commands.specs.declared.setting.Ready.TheVariants.{Refused, Runs}
 

@@ -1,6 +1,7 @@
 -- The plans of the commands that run a program: `go`, `turn` and `profile`. Of probes that watch,
 -- `before` is the list as it is handed in, and `after` as it is left.
-use Rattle.std.specs.Prelude.{◌≡◌, ◌⊎◌, ℕ, Bool, true, false, List, [], ◌++◌, None, Some, Result, Ok, Err, map}
+use Rattle.std.specs.Prelude.{◌≡◌, ◌⊎◌, ℕ, Bool, true, false, List, [], ◌++◌, None, Some, Result}
+use Rattle.std.specs.Prelude.{Ok, Err, map}
 use Rattle.std.specs.declared.option.Option.{Option}
 use Rattle.rpp_words.specs.declared.input.FieldWord.{FieldWord}
 use Rattle.rpp_words.specs.declared.input.Limits.{Limits}
@@ -23,9 +24,9 @@ use Rattle.pisa_loader.specs.Limiting.{limits_refusal}
 use Rattle.pisa_loader.specs.declared.error.LoadError.{LoadError}
 use Rattle.roopl_semantics.specs.StandsFor.{run_of}
 use Rattle.roopl_judge.specs.Judged.{IsJudged}
-use Rattle.rpp_plan.specs.declared.plan.Verdict.TheVariants.{InputRefused}
-use Rattle.rpp_plan.specs.Plans.{Planned, prints, WithText, WithInput}
-use Rattle.rpp_plan.specs.Texts.{load_line}
+use Rattle.command_plan.specs.declared.plan.Verdict.TheVariants.{InputRefused}
+use Rattle.command_plan.specs.Plans.{Planned, prints, WithText, WithInput}
+use Rattle.command_plan.specs.Texts.{load_line}
 use Rattle.program_commands.specs.Inputs.{given_input}
 use Rattle.program_commands.specs.ProgramPlans.{IsJudgedPlan, RunsImage}
 
@@ -39,7 +40,8 @@ abbrev pub RefusesSizes : Option LoadError → (given : List ℕ) → Source →
 RefusesSizes (Some e) given program p = p ≡ prints InputRefused (load_line e)
 RefusesSizes None given program p = RefusesInput (given_input program given) p
 
--- the plan tells the first refusal of a text that is to be run: of the text, of the sizes, of the input
+-- the plan tells the first refusal of a text that is to be run: of the text, of the sizes, of the
+-- input
 abbrev pub RefusesRun : (text given : List ℕ) → (heap deep : ℕ) → Planned → Type 0
 RefusesRun text given heap deep p =
     IsJudgedPlan text (RefusesSizes (limits_refusal heap deep MOST_DEEP) given) p
@@ -93,7 +95,8 @@ IsTurnPlan before after text given heap deep steps p =
 
 -- the counted steps of the run of an image
 abbrev pub run_steps : Segments → Limits → List FieldWord → ℕ → List StepAt
-run_steps image limits input steps = counted_steps image.code steps (loaded_state image limits input)
+run_steps image limits input steps = counted_steps image.code steps
+    (loaded_state image limits input)
 
 -- The plan says what that of `go` says, and behind it stand the lines of the probes: of those that
 -- ended, in the order of their ends, and then of the others. They were told the steps of the run of
@@ -117,21 +120,22 @@ IsProfilePlan before after text given heap deep steps p =
     input steps p)
 
 -- the plan of `go` of this file, on an input where there is one
-abbrev pub GoesOn : (file : List ℕ) → (input : Option (List ℕ)) → (heap deep steps : ℕ) → Texts
+abbrev pub GoesOn : (file : List ℕ) → (input : Option (List ℕ)) → (heap deep steps : ℕ)
+    → Option Texts
     → Planned → Type 0
-GoesOn file input heap deep steps texts p =
-    WithText texts file MOST_BYTES
-    (λ text. WithInput texts input (λ given. IsGoPlan text given heap deep steps p))
+GoesOn file input heap deep steps told p =
+    WithText told file MOST_BYTES
+    (λ text. WithInput told input (λ given. IsGoPlan text given heap deep steps p))
 
 -- that of `turn`
 abbrev pub TurnsFile : (before after : List Watch) → (file : List ℕ) → (input : Option (List ℕ))
-    → (heap deep steps : ℕ) → Texts → Planned → Type 0
-TurnsFile before after file input heap deep steps texts p =
-    WithText texts file MOST_BYTES
-    (λ text. WithInput texts input (λ given. IsTurnPlan before after text given heap deep steps p))
+    → (heap deep steps : ℕ) → Option Texts → Planned → Type 0
+TurnsFile before after file input heap deep steps told p =
+    WithText told file MOST_BYTES
+    (λ text. WithInput told input (λ given. IsTurnPlan before after text given heap deep steps p))
 
 -- that of `profile`, which takes no input
 abbrev pub ProfilesFile : (before after : List Watch) → (file : List ℕ) → (heap deep steps : ℕ)
-    → Texts → Planned → Type 0
-ProfilesFile before after file heap deep steps texts p =
-    WithText texts file MOST_BYTES (λ text. IsProfilePlan before after text [] heap deep steps p)
+    → Option Texts → Planned → Type 0
+ProfilesFile before after file heap deep steps told p =
+    WithText told file MOST_BYTES (λ text. IsProfilePlan before after text [] heap deep steps p)

@@ -1,12 +1,12 @@
 // `check F`: accepts or refuses a source.
 ghost use Rattle.std.specs.Prelude.{◌≤◌, [], ◌∷◌, length, IfOk, IfSome};
 ghost use Rattle.rpp_tree.specs.declared.limits.TheConstants.{MOST_BYTES};
-ghost use Rattle.rpp_plan.specs.Plans.{planned, GivesPlan};
+ghost use Rattle.command_plan.specs.Plans.{planned, GivesPlan};
 ghost use Rattle.program_commands.specs.ProgramPlans.{IsCheckPlan, ChecksFile};
-ghost use Rattle.rpp_plan.specs.Files.{OnlyReads, source};
+ghost use Rattle.command_plan.specs.Files.{OnlyReads, source};
 
+use command_plan::{NoPlan, Plan, Verdict, read_file, refuse_source};
 use roopl_judge::{SourceError, judge};
-use rpp_plan::{NoPlan, Plan, Verdict, read_file, refuse_source};
 use rpp_ports::Shelf;
 use rpp_tree::MOST_BYTES;
 use rpp_words::NoMemory;

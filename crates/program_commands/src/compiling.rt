@@ -2,14 +2,14 @@
 ghost use Rattle.std.specs.Prelude.{◌≤◌, [], ◌∷◌, length, IfOk, IfSome};
 ghost use Rattle.rpp_tree.specs.Views.{source_of};
 ghost use Rattle.rpp_tree.specs.declared.limits.TheConstants.{MOST_BYTES};
-ghost use Rattle.rpp_plan.specs.Plans.{planned, GivesPlan};
+ghost use Rattle.command_plan.specs.Plans.{planned, GivesPlan};
 ghost use Rattle.program_commands.specs.ProgramPlans.{IsCompilePlan, WritesImage, CompilesFile};
-ghost use Rattle.rpp_plan.specs.Files.{OnlyReads, source};
+ghost use Rattle.command_plan.specs.Files.{OnlyReads, source};
 
 use class_table::Checked;
+use command_plan::{NoPlan, Plan, read_file, refuse_source, write_as};
 use program_codegen::compile;
 use roopl_judge::{SourceError, judge};
-use rpp_plan::{NoPlan, Plan, read_file, refuse_source, write_as};
 use rpp_ports::Shelf;
 use rpp_tree::MOST_BYTES;
 use rpp_words::NoMemory;

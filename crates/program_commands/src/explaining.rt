@@ -8,17 +8,19 @@ ghost use Rattle.roopl_semantics.specs.Report.{report as report_in};
 ghost use Rattle.source_meaning.specs.declared.whole.TheConstants.{MOST_OPEN};
 ghost use Rattle.pisa_loader.specs.Limiting.{limits_refusal};
 ghost use Rattle.pisa_loader.specs.declared.input.TheConstants.{MOST_INPUT};
-ghost use Rattle.rpp_plan.specs.Plans.{planned, prints, GivesPlan};
-ghost use Rattle.rpp_plan.specs.Files.{OnlyReads, source, input_files};
-ghost use Rattle.machine_texts.specs.Stops.{fault_line as line_of_fault};
+ghost use Rattle.command_plan.specs.Plans.{planned, prints, GivesPlan};
+ghost use Rattle.command_plan.specs.Files.{OnlyReads, source, input_files};
+ghost use Rattle.pisa_scripts.specs.Stops.{fault_line as line_of_fault};
 ghost use Rattle.program_commands.specs.Inputs.{given_input};
 ghost use Rattle.program_commands.specs.Explained.{cost_line, explained, Tells, IsExplainedInput, IsExplainedWithin, IsExplainPlan, Explains};
 
 use crate::settable::input_fields;
 use class_table::Checked;
+use command_plan::{
+    NoPlan, Plan, Sizes, Verdict, fault_line, load_line, read_given, refuse_source,
+};
 use pisa_loader::{LoadError, check_limits, read_input};
 use roopl_judge::{SourceError, judge};
-use rpp_plan::{NoPlan, Plan, Sizes, Verdict, fault_line, load_line, read_given, refuse_source};
 use rpp_ports::Shelf;
 use rpp_words::{Input, Limits, NoMemory};
 use source_meaning::{MOST_OPEN, Outcome, Store, interpret};

@@ -6,23 +6,23 @@ ghost use Rattle.pisa_isa.specs.Image.{IsImage};
 ghost use Rattle.pisa_isa.specs.Loaded.{loaded};
 ghost use Rattle.roopl_semantics.specs.StandsFor.{StandsFor};
 ghost use Rattle.pisa_loader.specs.declared.input.TheConstants.{MOST_INPUT};
-ghost use Rattle.rpp_plan.specs.Plans.{planned, prints, GivesPlan};
+ghost use Rattle.command_plan.specs.Plans.{planned, prints, GivesPlan};
 ghost use Rattle.program_commands.specs.ProgramPlans.{RunsImage, ReportsStop, ReportsStore};
 ghost use Rattle.program_commands.specs.RunPlans.{IsGoPlan, GoesOn};
-ghost use Rattle.rpp_plan.specs.Texts.{steps_line};
-ghost use Rattle.machine_texts.specs.Stops.{fault_line as line_of_fault};
+ghost use Rattle.command_plan.specs.Texts.{steps_line};
+ghost use Rattle.pisa_scripts.specs.Stops.{fault_line as line_of_fault};
 ghost use Rattle.rpp_words.specs.Texts.{line_end};
 ghost use Rattle.program_commands.specs.GoRun.{IsLoaded, HasRun};
-ghost use Rattle.rpp_plan.specs.Files.{OnlyReads, source, input_files};
+ghost use Rattle.command_plan.specs.Files.{OnlyReads, source, input_files};
 
 use crate::readying::ready;
 use crate::setting::{Ready, Setting};
 use class_table::Checked;
+use command_plan::{NoPlan, Plan, Sizes, Verdict, fault_line, read_given, with_steps};
 use pisa_isa::{Image, Stop};
 use pisa_loader::load;
 use pisa_machine::{Machine, RunEnd, Steps};
 use program_codegen::compile;
-use rpp_plan::{NoPlan, Plan, Sizes, Verdict, fault_line, read_given, with_steps};
 use rpp_ports::Shelf;
 use rpp_words::NoMemory;
 use std::alloc::{AllocError, Global};
@@ -115,7 +115,7 @@ pub fn report_run(
     requires { HasRun (source_of setting.now.checked) setting.now.limits
         setting.now.input.words.items setting.now.bound machine.now end.stop end.spent }
     ensures { IfOk result (λ plan. ReportsStop false end.stop (source_of setting.now.checked)
-        setting.now.limits setting.now.input.words.items machine.now.state.cells
+        setting.now.limits setting.now.input.words.items
         (loaded machine.now.image.statics setting.now.limits setting.now.input.words.items)
         end.spent setting.now.bound (planned plan)) }
 {
@@ -139,7 +139,7 @@ fn report_store(
     requires { HasRun (source_of setting.now.checked) setting.now.limits
         setting.now.input.words.items setting.now.bound machine.now Stop.Finished spent }
     ensures { IfOk result (λ plan. ReportsStore (source_of setting.now.checked)
-        setting.now.limits setting.now.input.words.items machine.now.state.cells spent (planned plan)) }
+        setting.now.limits setting.now.input.words.items spent (planned plan)) }
 {
     let lines = report(alloc, machine, &setting.checked)?;
     let text = with_steps(lines, spent)?;

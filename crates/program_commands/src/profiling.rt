@@ -1,17 +1,18 @@
 // `profile F H D STEPS`: what `go` does, as probes watch, and then their lines.
-ghost use Rattle.std.specs.Prelude.{◌≡◌, ◌≤◌, ◌<◌, ◌^◌, ◌++◌, [], ◌∷◌, length, map, IfOk, IfErr, OnOk, string_bytes};
+ghost use Rattle.std.specs.Prelude.{◌≡◌, ◌⊎◌, ◌≤◌, ◌<◌, ◌^◌, ◌++◌, [], ◌∷◌, length, map, IfOk, IfErr, OnOk, string_bytes};
 ghost use Rattle.rpp_tree.specs.Views.{source_of};
 ghost use Rattle.rpp_tree.specs.declared.limits.TheConstants.{MOST_BYTES};
 ghost use Rattle.rpp_probes.specs.Tally.{lines_shown, line_of};
-ghost use Rattle.rpp_plan.specs.Plans.{planned, GivesPlan};
-ghost use Rattle.rpp_plan.specs.Files.{OnlyReads, UnreadCause, source};
+ghost use Rattle.command_plan.specs.Plans.{planned, GivesPlan};
+ghost use Rattle.command_plan.specs.Files.{OnlyReads, UnreadCause, source};
 ghost use Rattle.program_commands.specs.RunPlans.{IsProfilePlan, ProfilesFile, ProfilesImage};
+ghost use Rattle.program_commands.specs.ToldShort.{ProfilesShort, IsProfileShort, ProfilesFileShort};
 
 use crate::going::{loaded_program, report_run};
 use crate::readying::ready;
 use crate::setting::{Ready, Setting};
+use command_plan::{NoPlan, Plan, Sizes, read_file};
 use pisa_machine::Steps;
-use rpp_plan::{NoPlan, Plan, Sizes, read_file};
 use rpp_ports::Shelf;
 use rpp_probes::Probes;
 use rpp_tree::MOST_BYTES;
@@ -36,6 +37,8 @@ pub fn profile<S: Shelf, P: Probes, L: Ledger>(
     ensures reads { OnlyReads (S.texts shelf.old) (S.texts shelf.new) (S.faults shelf.old)
         (S.faults shelf.new) (source file.now ∷ []) result }
     ensures untold { IfErr result (UnreadCause (P.watches probes.new ≡ P.watches probes.old)) }
+    ensures short { IfErr result (λ _. ProfilesFileShort (P.watches probes.old)
+        (P.watches probes.new) file.now sizes.heap sizes.deep sizes.bound (S.texts shelf.old)) }
 {
     let text = read_file(alloc, shelf, file, MOST_BYTES as u64)?;
     Ok(profile_text(alloc, &text, sizes, probes, steps)?)
@@ -50,8 +53,10 @@ fn profile_text<P: Probes, L: Ledger>(
 ) -> Result<Plan, NoMemory>
     requires text { length text.now ≤ MOST_BYTES }
     requires bound { sizes.bound < 2 ^ 63 }
-    ensures { IfOk result (λ plan. IsProfilePlan (P.watches probes.old) (P.watches probes.new)
+    ensures plan { IfOk result (λ plan. IsProfilePlan (P.watches probes.old) (P.watches probes.new)
         text.now [] sizes.heap sizes.deep sizes.bound (planned plan)) }
+    ensures short { IfErr result (λ _. IsProfileShort (P.watches probes.old) (P.watches probes.new)
+        text.now [] sizes.heap sizes.deep sizes.bound) }
 {
     match ready(alloc, text, &[], sizes)? {
         Ready::Refused(plan) => Ok(plan),
@@ -66,9 +71,12 @@ fn profile_program<P: Probes, L: Ledger>(
     probes: &mut P,
     steps: &mut Steps<L>,
 ) -> Result<Plan, NoMemory>
-    ensures { IfOk result (λ plan.
+    ensures plan { IfOk result (λ plan.
         ProfilesImage (P.watches probes.old) (P.watches probes.new) (source_of setting.now.checked)
         setting.now.limits setting.now.input.words.items setting.now.bound (planned plan)) }
+    ensures short { IfErr result (λ _. (P.watches probes.new ≡ P.watches probes.old)
+        ⊎ ProfilesShort (P.watches probes.old) (P.watches probes.new) (source_of setting.now.checked)
+        setting.now.limits setting.now.input.words.items setting.now.bound) }
 {
     let mut machine = loaded_program(alloc, setting)?;
     let mut lines = Vec::new(alloc);

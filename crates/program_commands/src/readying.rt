@@ -12,9 +12,9 @@ ghost use Rattle.program_commands.specs.RunPlans.{RefusesInput, RefusesSizes, Re
 use crate::settable::input_fields;
 use crate::setting::{Ready, Setting};
 use class_table::Checked;
+use command_plan::{Plan, Sizes, Verdict, load_line, refuse_source};
 use pisa_loader::{LoadError, check_limits, read_input};
 use roopl_judge::{SourceError, judge};
-use rpp_plan::{Plan, Sizes, Verdict, load_line, refuse_source};
 use rpp_words::{Limits, MOST_DEEP, NoMemory};
 use std::alloc::Global;
 

@@ -5,7 +5,7 @@ ghost use Rattle.rpp_words.specs.Limits.{IsLimits};
 ghost use Rattle.roopl_semantics.specs.Source.{IsValid};
 
 use class_table::Checked;
-use rpp_plan::Plan;
+use command_plan::Plan;
 use rpp_words::{Input, Limits};
 
 /// What a run is made with: the program, the sizes of heap and stack, the input, and the number of steps.

@@ -1,25 +1,28 @@
 // `turn F H D STEPS [INPUT]`: what `go` does, and then the flipped image runs from where the run
 // finished, as probes watch.
-ghost use Rattle.std.specs.Prelude.{◌≡◌, true, ◌≤◌, ◌<◌, ◌^◌, ◌++◌, ◌∷◌, length, option_map, IfOk, IfErr, OnOk, string_bytes};
+ghost use Rattle.std.specs.Prelude.{◌≡◌, ◌⊎◌, true, ◌≤◌, ◌<◌, ◌^◌, ◌++◌, ◌∷◌, length, option_map, IfOk, IfErr, OnOk, string_bytes};
 ghost use Rattle.rpp_tree.specs.Views.{source_of};
 ghost use Rattle.rpp_tree.specs.declared.limits.TheConstants.{MOST_BYTES};
 ghost use Rattle.rpp_probes.specs.Tally.{left_after};
 ghost use Rattle.pisa_isa.specs.declared.machine.Stop.TheVariants.{Finished};
 ghost use Rattle.pisa_isa.specs.Loaded.{loaded};
 ghost use Rattle.pisa_loader.specs.declared.input.TheConstants.{MOST_INPUT};
-ghost use Rattle.rpp_plan.specs.Plans.{planned, GivesPlan};
-ghost use Rattle.rpp_plan.specs.Files.{OnlyReads, UnreadCause, source, input_files};
+ghost use Rattle.command_plan.specs.Plans.{planned, GivesPlan};
+ghost use Rattle.command_plan.specs.Files.{OnlyReads, UnreadCause, source, input_files};
 ghost use Rattle.program_commands.specs.ProgramPlans.{ReportsStop, ReportsTurn, back_lines};
 ghost use Rattle.program_commands.specs.RunPlans.{IsTurnPlan, TurnsFile, TurnsImage, back_steps};
+ghost use Rattle.program_commands.specs.ToldShort.{IsToldSoFar, TurnsShort, IsTurnShort, TurnsFileShort};
 ghost use Rattle.program_commands.specs.GoRun.{HasRun};
+ghost use Rattle.pisa_isa.specs.Flipped.{flipped};
+ghost use Rattle.pisa_isa.specs.Runs.{started};
 
 use crate::going::{loaded_program, report_run};
 use crate::readying::ready;
 use crate::setting::{Ready, Setting};
+use command_plan::{NoPlan, Plan, Sizes, Verdict, read_given, with_steps};
 use image_inverter::flip;
 use pisa_isa::Stop;
 use pisa_machine::{Machine, RunEnd, Steps};
-use rpp_plan::{NoPlan, Plan, Sizes, Verdict, read_given, with_steps};
 use rpp_ports::Shelf;
 use rpp_probes::Probes;
 use rpp_words::NoMemory;
@@ -46,6 +49,9 @@ pub fn turn<S: Shelf, P: Probes, L: Ledger>(
         (S.faults shelf.new)
         (source file.now ∷ input_files (option_map string_bytes input.now)) result }
     ensures untold { IfErr result (UnreadCause (P.watches probes.new ≡ P.watches probes.old)) }
+    ensures short { IfErr result (λ _. TurnsFileShort (P.watches probes.old) (P.watches probes.new)
+        file.now (option_map string_bytes input.now) sizes.heap sizes.deep sizes.bound
+        (S.texts shelf.old)) }
 {
     let given = read_given(alloc, shelf, file, input)?;
     Ok(turn_over(alloc, &given.text, &given.input, sizes, probes, steps)?)
@@ -62,8 +68,10 @@ fn turn_over<P: Probes, L: Ledger>(
     requires text { length text.now ≤ MOST_BYTES }
     requires given { length given.now ≤ MOST_INPUT }
     requires bound { sizes.bound < 2 ^ 63 }
-    ensures { IfOk result (λ plan. IsTurnPlan (P.watches probes.old) (P.watches probes.new)
+    ensures plan { IfOk result (λ plan. IsTurnPlan (P.watches probes.old) (P.watches probes.new)
         text.now given.now sizes.heap sizes.deep sizes.bound (planned plan)) }
+    ensures short { IfErr result (λ _. IsTurnShort (P.watches probes.old) (P.watches probes.new)
+        text.now given.now sizes.heap sizes.deep sizes.bound) }
 {
     match ready(alloc, text, given, sizes)? {
         Ready::Refused(plan) => Ok(plan),
@@ -78,9 +86,12 @@ fn turn_program<P: Probes, L: Ledger>(
     probes: &mut P,
     steps: &mut Steps<L>,
 ) -> Result<Plan, NoMemory>
-    ensures { IfOk result (λ plan.
+    ensures plan { IfOk result (λ plan.
         TurnsImage (P.watches probes.old) (P.watches probes.new) (source_of setting.now.checked)
         setting.now.limits setting.now.input.words.items setting.now.bound (planned plan)) }
+    ensures short { IfErr result (λ _. (P.watches probes.new ≡ P.watches probes.old)
+        ⊎ TurnsShort (P.watches probes.old) (P.watches probes.new) (source_of setting.now.checked)
+        setting.now.limits setting.now.input.words.items setting.now.bound) }
 {
     let mut machine = loaded_program(alloc, setting)?;
     let end = machine.run(setting.bound, steps);
@@ -99,12 +110,16 @@ fn report_turn<P: Probes, L: Ledger>(
     requires { HasRun (source_of setting.now.checked) setting.now.limits
         setting.now.input.words.items setting.now.bound machine end.stop end.spent }
     ensures stop { IfOk result (λ plan. ReportsStop true end.stop (source_of setting.now.checked)
-        setting.now.limits setting.now.input.words.items machine.state.cells
+        setting.now.limits setting.now.input.words.items
         (loaded machine.image.statics setting.now.limits setting.now.input.words.items) end.spent
         setting.now.bound (planned plan)) }
     ensures told { OnOk result (P.watches probes.new ≡
         left_after (back_steps end.stop machine.image.code machine.state setting.now.bound)
         (P.watches probes.old)) }
+    ensures short { IfErr result (λ _. (P.watches probes.new ≡ P.watches probes.old)
+        ⊎ ((end.stop ≡ Finished) × IsToldSoFar (flipped machine.image.code) setting.now.bound
+        (started (flipped machine.image.code) machine.state.regs machine.state.cells)
+        (P.watches probes.old) (P.watches probes.new))) }
 {
     match end.stop {
         Stop::Finished => report_both(alloc, setting, machine, end.spent, probes, steps),
@@ -128,12 +143,16 @@ fn report_both<P: Probes, L: Ledger>(
     requires { HasRun (source_of setting.now.checked) setting.now.limits
         setting.now.input.words.items setting.now.bound machine Finished spent }
     ensures turn { IfOk result (λ plan. ReportsTurn (source_of setting.now.checked)
-        setting.now.limits setting.now.input.words.items machine.state.cells
+        setting.now.limits setting.now.input.words.items
         (loaded machine.image.statics setting.now.limits setting.now.input.words.items) spent
         (planned plan)) }
     ensures told { OnOk result (P.watches probes.new ≡
         left_after (back_steps Finished machine.image.code machine.state setting.now.bound)
         (P.watches probes.old)) }
+    ensures short { IfErr result (λ _. (P.watches probes.new ≡ P.watches probes.old)
+        ⊎ IsToldSoFar (flipped machine.image.code) setting.now.bound
+        (started (flipped machine.image.code) machine.state.regs machine.state.cells)
+        (P.watches probes.old) (P.watches probes.new)) }
 {
     let there = report(alloc, &machine, &setting.checked)?;
     let text = with_steps(there, spent)?;
@@ -167,6 +186,10 @@ fn run_back<P: Probes, L: Ledger>(
     ensures told { OnOk result (P.watches probes.new ≡
         left_after (back_steps Finished machine.image.code machine.state setting.now.bound)
         (P.watches probes.old)) }
+    ensures short { IfErr result (λ _. (P.watches probes.new ≡ P.watches probes.old)
+        ⊎ IsToldSoFar (flipped machine.image.code) setting.now.bound
+        (started (flipped machine.image.code) machine.state.regs machine.state.cells)
+        (P.watches probes.old) (P.watches probes.new)) }
 {
     let flipped = flip(alloc, machine.image())?;
     let mut machine = machine.with_image(flipped);

@@ -14,7 +14,7 @@ use Rattle.class_table.specs.Rules.{IsFirst}
 use Rattle.class_table.specs.Program.{check_program}
 use Rattle.class_table.specs.Refusal.{Refusal}
 use Rattle.class_table.specs.Table.{HasClassTable, first_class_refusal}
-use Rattle.rpp_plan.specs.Refusals.{refused}
+use Rattle.command_plan.specs.Refusals.{refused}
 use Rattle.roopl_judge.specs.Errors.{lex_refusal, parse_refusal, class_refusal, error_of, IfRefused}
 use Rattle.roopl_judge.specs.Judged.{IsTree, IsJudged, no_tokens, no_tree, no_table, no_types}
 use Rattle.roopl_lexer.specs.declared.error.LexError.TheVariants as lex
@@ -24,30 +24,48 @@ use Rattle.class_table.specs.declared.error.ClassError.TheVariants as class
 abbrev pub IsRefusal : List ℕ → Refusal → Type 0
 IsRefusal text refusal = IsJudged text (Err refusal)
 
-pub by_lexer : (text : List ℕ) (error : LexError) → (error ≢ lex.NoMemory → IsFirstRefusal text error) → IfRefused (IsRefusal text) (error_of (lex_refusal error))
-by_lexer text (lex.BadByte at) first = let cut = first (λ e. cc) in no_tokens cut.0 (lex.BadByte at) (refused 1 at) cut.1 refl
-by_lexer text (lex.NumberTooLarge at) first = let cut = first (λ e. cc) in no_tokens cut.0 (lex.NumberTooLarge at) (refused 2 at) cut.1 refl
+pub by_lexer : (text : List ℕ) (error : LexError) → (error ≢ lex.NoMemory → IsFirstRefusal text error)
+    → IfRefused (IsRefusal text) (error_of (lex_refusal error))
+by_lexer text (lex.BadByte at) first = let cut = first (λ e. cc) in
+    no_tokens cut.0 (lex.BadByte at) (refused 1 at) cut.1 refl
+by_lexer text (lex.NumberTooLarge at) first = let cut = first (λ e. cc) in
+    no_tokens cut.0 (lex.NumberTooLarge at) (refused 2 at) cut.1 refl
 by_lexer text lex.NoMemory first = tt
 
 pub by_parser : (text : List ℕ) (tokens : List Token) (error : ParseError) → IsCutting text tokens
     → ((at : ℕ) → error ≡ parse.Syntax at → IsWrongAt (length text) tokens at × (first_limit tokens ≡ Option.None))
-    → ((which : LimitKind) (at : ℕ) → error ≡ parse.Limit which at → (first_limit tokens ≡ Some (parse.Limit which at)) × (which ≢ Tokens → IsReached tokens at))
+    → ((which : LimitKind) (at : ℕ) → error ≡ parse.Limit which at
+    → (first_limit tokens ≡ Some (parse.Limit which at)) × (which ≢ Tokens → IsReached tokens at))
     → IfRefused (IsRefusal text) (error_of (parse_refusal error))
-by_parser text tokens (parse.Syntax at) cutting syntax limit = no_tree tokens (parse.Syntax at) (refused 3 at) cutting (syntax at refl) refl
-by_parser text tokens (parse.Limit which at) cutting syntax limit = no_tree tokens (parse.Limit which at) (refused 4 at) cutting (limit which at refl) refl
+by_parser text tokens (parse.Syntax at) cutting syntax limit =
+    no_tree tokens (parse.Syntax at) (refused 3 at) cutting (syntax at refl) refl
+by_parser text tokens (parse.Limit which at) cutting syntax limit =
+    no_tree tokens (parse.Limit which at) (refused 4 at) cutting (limit which at refl) refl
 by_parser text tokens parse.NoMemory cutting syntax limit = tt
 
-pub by_class_table : (text : List ℕ) (program : Source) (error : ClassError) → IsTree text program → IsFirst (first_class_refusal program (length text)) error → IfRefused (IsRefusal text) (error_of (class_refusal error))
-by_class_table text program (class.Limit which at) is first = no_table is.tokens program (class.Limit which at) (refused 4 at) is.tree first refl
-by_class_table text program (class.DuplicateClass at) is first = no_table is.tokens program (class.DuplicateClass at) (refused 5 at) is.tree first refl
-by_class_table text program (class.UnknownClass at) is first = no_table is.tokens program (class.UnknownClass at) (refused 6 at) is.tree first refl
-by_class_table text program (class.InheritanceCycle at) is first = no_table is.tokens program (class.InheritanceCycle at) (refused 7 at) is.tree first refl
-by_class_table text program (class.DuplicateField at) is first = no_table is.tokens program (class.DuplicateField at) (refused 8 at) is.tree first refl
-by_class_table text program (class.DuplicateMethod at) is first = no_table is.tokens program (class.DuplicateMethod at) (refused 9 at) is.tree first refl
-by_class_table text program (class.OverrideDiffers at) is first = no_table is.tokens program (class.OverrideDiffers at) (refused 10 at) is.tree first refl
-by_class_table text program (class.NoMain at) is first = no_table is.tokens program (class.NoMain at) (refused 11 at) is.tree first refl
-by_class_table text program (class.TwoMains at) is first = no_table is.tokens program (class.TwoMains at) (refused 12 at) is.tree first refl
+pub by_class_table : (text : List ℕ) (program : Source) (error : ClassError) → IsTree text program
+    → IsFirst (first_class_refusal program (length text)) error
+    → IfRefused (IsRefusal text) (error_of (class_refusal error))
+by_class_table text program (class.Limit which at) is first =
+    no_table is.tokens program (class.Limit which at) (refused 4 at) is.tree first refl
+by_class_table text program (class.DuplicateClass at) is first =
+    no_table is.tokens program (class.DuplicateClass at) (refused 5 at) is.tree first refl
+by_class_table text program (class.UnknownClass at) is first =
+    no_table is.tokens program (class.UnknownClass at) (refused 6 at) is.tree first refl
+by_class_table text program (class.InheritanceCycle at) is first =
+    no_table is.tokens program (class.InheritanceCycle at) (refused 7 at) is.tree first refl
+by_class_table text program (class.DuplicateField at) is first =
+    no_table is.tokens program (class.DuplicateField at) (refused 8 at) is.tree first refl
+by_class_table text program (class.DuplicateMethod at) is first =
+    no_table is.tokens program (class.DuplicateMethod at) (refused 9 at) is.tree first refl
+by_class_table text program (class.OverrideDiffers at) is first =
+    no_table is.tokens program (class.OverrideDiffers at) (refused 10 at) is.tree first refl
+by_class_table text program (class.NoMain at) is first =
+    no_table is.tokens program (class.NoMain at) (refused 11 at) is.tree first refl
+by_class_table text program (class.TwoMains at) is first =
+    no_table is.tokens program (class.TwoMains at) (refused 12 at) is.tree first refl
 by_class_table text program class.NoMemory is first = tt
 
-pub by_types : (text : List ℕ) (program : Source) (refusal : Refusal) → IsTree text program → HasClassTable program → check_program program ≡ Err refusal → IsRefusal text refusal
+pub by_types : (text : List ℕ) (program : Source) (refusal : Refusal) → IsTree text program → HasClassTable program
+    → check_program program ≡ Err refusal → IsRefusal text refusal
 by_types text program refusal is classes types = no_types is.tokens program refusal is.tree classes types

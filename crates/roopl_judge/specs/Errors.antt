@@ -3,7 +3,7 @@ use Rattle.std.specs.Prelude.{⊤, Option, Some, None}
 use Rattle.class_table.specs.Refusal.{Refusal}
 use Rattle.roopl_judge.specs.declared.error.SourceError.{SourceError}
 use Rattle.roopl_judge.specs.declared.error.SourceError.TheVariants.{Refused, NoMemory}
-use Rattle.rpp_plan.specs.Refusals.{refused}
+use Rattle.command_plan.specs.Refusals.{refused}
 use Rattle.roopl_lexer.specs.declared.error.LexError.{LexError}
 use Rattle.roopl_parser.specs.declared.error.ParseError.{ParseError}
 use Rattle.class_table.specs.declared.error.ClassError.{ClassError}

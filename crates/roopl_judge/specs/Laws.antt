@@ -5,4 +5,5 @@ use Rattle.class_table.specs.Refusal.{Refusal}
 use Rattle.roopl_judge.specs.Judged.{IsJudged}
 
 abbrev pub OneJudgement : Type 0
-OneJudgement = (text : List ℕ) (a b : Result Source Refusal) → IsJudged text a → IsJudged text b → a ≡ b
+OneJudgement = (text : List ℕ) (a b : Result Source Refusal) → IsJudged text a → IsJudged text b
+    → a ≡ b

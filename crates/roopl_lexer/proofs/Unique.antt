@@ -1,5 +1,6 @@
 -- A text has one cutting: at each place one constructor fits, and one token is the longest.
-use Rattle.std.proofs.Common.{◌≡◌, ℕ, ◌+◌, ◌<◌, ◌≤◌, Bool, true, false, not, List, [], ◌∷◌, length, get_or, drop, take, refl, sym, ◌∙◌, ap, subst, ⊎_elim, arith, length-take-le}
+use Rattle.std.proofs.Common.{◌≡◌, ℕ, ◌+◌, ◌<◌, ◌≤◌, Bool, true, false, not, List, [], ◌∷◌, length, get_or, drop, take}
+use Rattle.std.proofs.Common.{refl, sym, ◌∙◌, ap, subst, ⊎_elim, arith, length-take-le}
 use Rattle.std.specs.Prelude.{Option}
 use Rattle.std.specs.List.{prefix_len}
 use Rattle.std.specs.Str.{bytes_eq}
@@ -10,14 +11,19 @@ use Rattle.rpp_tree.specs.Names.{IsName}
 use Rattle.roopl_lexer.specs.declared.token.Keyword.{Keyword}
 use Rattle.roopl_lexer.specs.declared.token.Keyword.TheVariants.{Class}
 use Rattle.roopl_lexer.specs.declared.token.Symbol.{Symbol}
-use Rattle.roopl_lexer.specs.declared.token.Symbol.TheVariants.{AddTo, SubFrom, XorInto, Swap, Plus, Minus, Caret, Amp, Bar, AmpAmp, BarBar, Less, Greater, AtMost, AtLeast, Equal, NotEqual, Star, Slash, Percent, LeftParen, RightParen, LeftBracket, RightBracket, Comma, DoubleColon}
+use Rattle.roopl_lexer.specs.declared.token.Symbol.TheVariants.{AddTo, SubFrom, XorInto, Swap, Plus, Minus, Caret, Amp}
+use Rattle.roopl_lexer.specs.declared.token.Symbol.TheVariants.{Bar, AmpAmp, BarBar, Less, Greater, AtMost, AtLeast}
+use Rattle.roopl_lexer.specs.declared.token.Symbol.TheVariants.{Equal, NotEqual, Star, Slash, Percent, LeftParen}
+use Rattle.roopl_lexer.specs.declared.token.Symbol.TheVariants.{RightParen, LeftBracket, RightBracket, Comma}
+use Rattle.roopl_lexer.specs.declared.token.Symbol.TheVariants.{DoubleColon}
 use Rattle.roopl_lexer.specs.declared.token.Token.{Token}
 use Rattle.roopl_lexer.specs.declared.token.TokenKind.{TokenKind}
 use Rattle.roopl_lexer.specs.declared.token.TokenKind.TheVariants.{Word, Name, Number, Sign}
 use Rattle.roopl_lexer.specs.declared.word.TheConstants.{KEYWORDS}
 use Rattle.roopl_lexer.specs.declared.error.LexError.{LexError}
 use Rattle.roopl_lexer.specs.Signs.{keyword_bytes, sign_bytes}
-use Rattle.roopl_lexer.specs.Tokens.{is_white, begins_comment, comment_length, Spells, IsLongest, is_too_large, Cut, finish, white, comment, token, bad_byte, too_large}
+use Rattle.roopl_lexer.specs.Tokens.{is_white, begins_comment, comment_length, Spells, IsLongest, is_too_large, Cut}
+use Rattle.roopl_lexer.specs.Tokens.{finish, white, comment, token, bad_byte, too_large}
 use Rattle.roopl_lexer.proofs.Words.{is_keyword-keyword_bytes, keyword_letter}
 use Rattle.roopl_lexer.proofs.Signs.{sign_no_letter, sign_no_digit, sign_no_white, sign_some}
 use Rattle.roopl_lexer.proofs.Fronts.{letter_no_digit, first_of_front}
@@ -36,7 +42,8 @@ same_keyword : (a b : Keyword) → keyword_bytes a ≡ keyword_bytes b → a ≡
 same_keyword a b same = sym (keyword_of-keyword_bytes a) ∙ ap keyword_of same ∙ keyword_of-keyword_bytes b
 
 signs : List Symbol
-signs = AddTo ∷ SubFrom ∷ XorInto ∷ Swap ∷ Plus ∷ Minus ∷ Caret ∷ Amp ∷ Bar ∷ AmpAmp ∷ BarBar ∷ Less ∷ Greater ∷ AtMost ∷ AtLeast ∷ Equal ∷ NotEqual
+signs = AddTo ∷ SubFrom ∷ XorInto ∷ Swap ∷ Plus ∷ Minus ∷ Caret ∷ Amp ∷ Bar ∷ AmpAmp ∷ BarBar ∷ Less ∷ Greater ∷ AtMost
+    ∷ AtLeast ∷ Equal ∷ NotEqual
     ∷ Star ∷ Slash ∷ Percent ∷ LeftParen ∷ RightParen ∷ LeftBracket ∷ RightBracket ∷ Comma ∷ DoubleColon ∷ []
 
 sign_of : List ℕ → Symbol
@@ -60,14 +67,18 @@ Begins (Number n) b = is_ascii_digit b ≡ true
 Begins (Sign sign) b = (is_ascii_alphabetic b ≡ false) × (is_ascii_digit b ≡ false) × (is_white b ≡ false)
 
 begins : (kind : TokenKind) (bytes : List ℕ) → Spells kind bytes → Begins kind (get_or bytes 0 0)
-begins (Word keyword) bytes spelled = subst (λ list. is_ascii_alphabetic (get_or list 0 0) ≡ true) (sym spelled) (keyword_letter keyword)
-begins (Name text) bytes spelled = subst (λ list. is_ascii_alphabetic (get_or list 0 0) ≡ true) (sym spelled.0) spelled.1.letter
+begins (Word keyword) bytes spelled = subst (λ list. is_ascii_alphabetic (get_or list 0 0) ≡ true) (sym spelled)
+    (keyword_letter keyword)
+begins (Name text) bytes spelled = subst (λ list. is_ascii_alphabetic (get_or list 0 0) ≡ true) (sym spelled.0)
+    spelled.1.letter
 begins (Number n) bytes spelled = spelled.0.digits 0 0 spelled.0.some
 begins (Sign sign) bytes spelled =
-    subst (λ list. (is_ascii_alphabetic (get_or list 0 0) ≡ false) × (is_ascii_digit (get_or list 0 0) ≡ false) × (is_white (get_or list 0 0) ≡ false)) (sym spelled)
+    subst (λ list. (is_ascii_alphabetic (get_or list 0 0) ≡ false) × (is_ascii_digit (get_or list 0 0) ≡ false)
+    × (is_white (get_or list 0 0) ≡ false)) (sym spelled)
     (sign_no_letter sign, sign_no_digit sign, sign_no_white sign)
 
-word_or_name : (keyword : Keyword) (text bytes : List ℕ) → bytes ≡ keyword_bytes keyword → bytes ≡ text → IsName text → ⊥
+word_or_name : (keyword : Keyword) (text bytes : List ℕ) → bytes ≡ keyword_bytes keyword → bytes ≡ text → IsName text
+    → ⊥
 word_or_name keyword text bytes is_word is_text name =
     let keyword_holds = is_keyword-keyword_bytes keyword in
     let keyword_fails = name.no_keyword in
@@ -80,19 +91,31 @@ contrary test holds fails = cc
 one_kind : (a b : TokenKind) (bytes : List ℕ) → Spells a bytes → Spells b bytes → a ≡ b
 one_kind (Word k) (Word j) bytes first second = ap (λ keyword. Word keyword) (same_keyword k j (sym first ∙ second))
 one_kind (Word k) (Name text) bytes first second = absurd (word_or_name k text bytes first second.0 second.1)
-one_kind (Word k) (Number n) bytes first second = absurd (letter_no_digit (get_or bytes 0 0) (begins (Word k) bytes first) (begins (Number n) bytes second))
-one_kind (Word k) (Sign s) bytes first second = absurd (contrary (is_ascii_alphabetic (get_or bytes 0 0)) (begins (Word k) bytes first) (begins (Sign s) bytes second).0)
+one_kind (Word k) (Number n) bytes first second = absurd
+    (letter_no_digit (get_or bytes 0 0) (begins (Word k) bytes first) (begins (Number n) bytes second))
+one_kind (Word k) (Sign s) bytes first second = absurd
+    (contrary (is_ascii_alphabetic (get_or bytes 0 0)) (begins (Word k) bytes first) (begins (Sign s) bytes second).0)
 one_kind (Name text) (Word k) bytes first second = absurd (word_or_name k text bytes second first.0 first.1)
 one_kind (Name text) (Name other) bytes first second = ap (λ name. Name name) (sym first.0 ∙ second.0)
-one_kind (Name text) (Number n) bytes first second = absurd (letter_no_digit (get_or bytes 0 0) (begins (Name text) bytes first) (begins (Number n) bytes second))
-one_kind (Name text) (Sign s) bytes first second = absurd (contrary (is_ascii_alphabetic (get_or bytes 0 0)) (begins (Name text) bytes first) (begins (Sign s) bytes second).0)
-one_kind (Number n) (Word k) bytes first second = absurd (letter_no_digit (get_or bytes 0 0) (begins (Word k) bytes second) (begins (Number n) bytes first))
-one_kind (Number n) (Name text) bytes first second = absurd (letter_no_digit (get_or bytes 0 0) (begins (Name text) bytes second) (begins (Number n) bytes first))
+one_kind (Name text) (Number n) bytes first second = absurd
+    (letter_no_digit (get_or bytes 0 0) (begins (Name text) bytes first) (begins (Number n) bytes second))
+one_kind (Name text) (Sign s) bytes first second = absurd
+    (contrary (is_ascii_alphabetic (get_or bytes 0 0)) (begins (Name text) bytes first)
+    (begins (Sign s) bytes second).0)
+one_kind (Number n) (Word k) bytes first second = absurd
+    (letter_no_digit (get_or bytes 0 0) (begins (Word k) bytes second) (begins (Number n) bytes first))
+one_kind (Number n) (Name text) bytes first second = absurd
+    (letter_no_digit (get_or bytes 0 0) (begins (Name text) bytes second) (begins (Number n) bytes first))
 one_kind (Number n) (Number m) bytes first second = ap (λ number. Number number) (first.1 ∙ sym second.1)
-one_kind (Number n) (Sign s) bytes first second = absurd (contrary (is_ascii_digit (get_or bytes 0 0)) (begins (Number n) bytes first) (begins (Sign s) bytes second).1)
-one_kind (Sign s) (Word k) bytes first second = absurd (contrary (is_ascii_alphabetic (get_or bytes 0 0)) (begins (Word k) bytes second) (begins (Sign s) bytes first).0)
-one_kind (Sign s) (Name text) bytes first second = absurd (contrary (is_ascii_alphabetic (get_or bytes 0 0)) (begins (Name text) bytes second) (begins (Sign s) bytes first).0)
-one_kind (Sign s) (Number n) bytes first second = absurd (contrary (is_ascii_digit (get_or bytes 0 0)) (begins (Number n) bytes second) (begins (Sign s) bytes first).1)
+one_kind (Number n) (Sign s) bytes first second = absurd
+    (contrary (is_ascii_digit (get_or bytes 0 0)) (begins (Number n) bytes first) (begins (Sign s) bytes second).1)
+one_kind (Sign s) (Word k) bytes first second = absurd
+    (contrary (is_ascii_alphabetic (get_or bytes 0 0)) (begins (Word k) bytes second) (begins (Sign s) bytes first).0)
+one_kind (Sign s) (Name text) bytes first second = absurd
+    (contrary (is_ascii_alphabetic (get_or bytes 0 0)) (begins (Name text) bytes second)
+    (begins (Sign s) bytes first).0)
+one_kind (Sign s) (Number n) bytes first second = absurd
+    (contrary (is_ascii_digit (get_or bytes 0 0)) (begins (Number n) bytes second) (begins (Sign s) bytes first).1)
 one_kind (Sign s) (Sign t) bytes first second = ap (λ sign. Sign sign) (same_sign s t (sym first ∙ second))
 
 -- ---- one token is the longest
@@ -142,7 +165,8 @@ not_white (Name text) b begun blank = letter_no_white b begun blank
 not_white (Number n) b begun blank = digit_no_white b begun blank
 not_white (Sign sign) b begun blank = contrary (is_white b) blank begun.2
 
-token_no_white : (kind : TokenKind) (len : ℕ) (rest : List ℕ) → IsLongest kind len rest → is_white (get_or rest 0 0) ≡ true → ⊥
+token_no_white : (kind : TokenKind) (len : ℕ) (rest : List ℕ) → IsLongest kind len rest
+    → is_white (get_or rest 0 0) ≡ true → ⊥
 token_no_white kind len rest long blank =
     let first = first_of_front len rest (longest_some kind len rest long) in
     not_white kind (get_or (take len rest) 0 0) (begins kind (take len rest) long.spelled) (ap is_white first ∙ blank)
@@ -160,45 +184,75 @@ comment_no_white (a ∷ b ∷ rest) starts blank = grind (arith, nat_tests)
 abbrev Same : List Token → List Token → Option LexError → Option LexError → Type 0
 Same a b x y = (a ≡ b) × (x ≡ y)
 
-pub one_cut : (at : ℕ) (rest : List ℕ) (a : List Token) (x : Option LexError) (b : List Token) (y : Option LexError) → Cut at rest a x → Cut at rest b y → (a ≡ b) × (x ≡ y)
+pub one_cut : (at : ℕ) (rest : List ℕ) (a : List Token) (x : Option LexError) (b : List Token) (y : Option LexError)
+    → Cut at rest a x → Cut at rest b y → (a ≡ b) × (x ≡ y)
 one_cut _ _ _ _ _ _ (finish at) (finish _) = (refl, refl)
 one_cut _ _ _ _ _ _ (finish at) (white _ _ tokens refusal blank cut) = cc
 one_cut _ _ _ _ _ _ (finish at) (comment _ _ tokens refusal starts cut) = cc
-one_cut _ _ _ _ _ _ (finish at) (token _ _ kind len tokens refusal none long small cut) = absurd (token_no_end kind len long)
+one_cut _ _ _ _ _ _ (finish at) (token _ _ kind len tokens refusal none long small cut) =
+    absurd (token_no_end kind len long)
 one_cut _ _ _ _ _ _ (finish at) (bad_byte _ _ nothing) = absurd (omega (arith, nothing.more))
 one_cut _ _ _ _ _ _ (finish at) (too_large _ _ kind len none long large) = absurd (token_no_end kind len long)
 one_cut _ _ _ _ _ _ (white at rest tokens refusal blank cut) (finish _) = cc
-one_cut _ _ _ _ _ _ (white at rest tokens refusal blank cut) (white _ _ others other blank' cut') = one_cut (at + 1) (drop 1 rest) tokens refusal others other cut cut'
-one_cut _ _ _ _ _ _ (white at rest tokens refusal blank cut) (comment _ _ others other starts cut') = absurd (comment_no_white rest starts blank)
-one_cut _ _ _ _ _ _ (white at rest tokens refusal blank cut) (token _ _ kind len others other none long small cut') = absurd (token_no_white kind len rest long blank)
-one_cut _ _ _ _ _ _ (white at rest tokens refusal blank cut) (bad_byte _ _ nothing) = absurd (contrary (is_white (get_or rest 0 0)) blank nothing.no_white)
-one_cut _ _ _ _ _ _ (white at rest tokens refusal blank cut) (too_large _ _ kind len none long large) = absurd (token_no_white kind len rest long blank)
+one_cut _ _ _ _ _ _ (white at rest tokens refusal blank cut) (white _ _ others other blank' cut') =
+    one_cut (at + 1) (drop 1 rest) tokens refusal others other cut cut'
+one_cut _ _ _ _ _ _ (white at rest tokens refusal blank cut) (comment _ _ others other starts cut') =
+    absurd (comment_no_white rest starts blank)
+one_cut _ _ _ _ _ _ (white at rest tokens refusal blank cut) (token _ _ kind len others other none long small cut') =
+    absurd (token_no_white kind len rest long blank)
+one_cut _ _ _ _ _ _ (white at rest tokens refusal blank cut) (bad_byte _ _ nothing) =
+    absurd (contrary (is_white (get_or rest 0 0)) blank nothing.no_white)
+one_cut _ _ _ _ _ _ (white at rest tokens refusal blank cut) (too_large _ _ kind len none long large) =
+    absurd (token_no_white kind len rest long blank)
 one_cut _ _ _ _ _ _ (comment at rest tokens refusal starts cut) (finish _) = cc
-one_cut _ _ _ _ _ _ (comment at rest tokens refusal starts cut) (white _ _ others other blank cut') = absurd (comment_no_white rest starts blank)
-one_cut _ _ _ _ _ _ (comment at rest tokens refusal starts cut) (comment _ _ others other starts' cut') = one_cut (at + comment_length rest) (drop (comment_length rest) rest) tokens refusal others other cut cut'
-one_cut _ _ _ _ _ _ (comment at rest tokens refusal starts cut) (token _ _ kind len others other none long small cut') = absurd (contrary (begins_comment rest) starts none)
-one_cut _ _ _ _ _ _ (comment at rest tokens refusal starts cut) (bad_byte _ _ nothing) = absurd (contrary (begins_comment rest) starts nothing.no_comment)
-one_cut _ _ _ _ _ _ (comment at rest tokens refusal starts cut) (too_large _ _ kind len none long large) = absurd (contrary (begins_comment rest) starts none)
-one_cut _ _ _ _ _ _ (token at _ kind len tokens refusal none long small cut) (finish _) = absurd (token_no_end kind len long)
-one_cut _ _ _ _ _ _ (token at rest kind len tokens refusal none long small cut) (white _ _ others other blank cut') = absurd (token_no_white kind len rest long blank)
-one_cut _ _ _ _ _ _ (token at rest kind len tokens refusal none long small cut) (comment _ _ others other starts cut') = absurd (contrary (begins_comment rest) starts none)
-one_cut _ _ _ _ _ _ (token at rest kind len tokens refusal none long small cut) (token _ _ kind' len' others other none' long' small' cut') =
+one_cut _ _ _ _ _ _ (comment at rest tokens refusal starts cut) (white _ _ others other blank cut') =
+    absurd (comment_no_white rest starts blank)
+one_cut _ _ _ _ _ _ (comment at rest tokens refusal starts cut) (comment _ _ others other starts' cut') =
+    one_cut (at + comment_length rest) (drop (comment_length rest) rest) tokens refusal others other cut cut'
+one_cut _ _ _ _ _ _ (comment at rest tokens refusal starts cut) (token _ _ kind len others other none long small cut') =
+    absurd (contrary (begins_comment rest) starts none)
+one_cut _ _ _ _ _ _ (comment at rest tokens refusal starts cut) (bad_byte _ _ nothing) =
+    absurd (contrary (begins_comment rest) starts nothing.no_comment)
+one_cut _ _ _ _ _ _ (comment at rest tokens refusal starts cut) (too_large _ _ kind len none long large) =
+    absurd (contrary (begins_comment rest) starts none)
+one_cut _ _ _ _ _ _ (token at _ kind len tokens refusal none long small cut) (finish _) =
+    absurd (token_no_end kind len long)
+one_cut _ _ _ _ _ _ (token at rest kind len tokens refusal none long small cut) (white _ _ others other blank cut') =
+    absurd (token_no_white kind len rest long blank)
+one_cut _ _ _ _ _ _ (token at rest kind len tokens refusal none long small cut) (comment _ _ others other starts cut') =
+    absurd (contrary (begins_comment rest) starts none)
+one_cut _ _ _ _ _ _ (token at rest kind len tokens refusal none long small cut)
+    (token _ _ kind' len' others other none' long' small' cut') =
     let same = one_longest kind kind' len len' rest long long' in
-    let after = one_cut (at + len) (drop len rest) tokens refusal others other cut (subst (λ n. Cut (at + n) (drop n rest) others other) (sym same.1) cut') in
+    let after = one_cut (at + len) (drop len rest) tokens refusal others other cut
+    (subst (λ n. Cut (at + n) (drop n rest) others other) (sym same.1) cut') in
     ((λ i. record { kind = same.0 i; at = at; len = same.1 i } ∷ after.0 i), after.1)
-one_cut _ _ _ _ _ _ (token at rest kind len tokens refusal none long small cut) (bad_byte _ _ nothing) = absurd (nothing.no_token kind len long.within long.spelled)
-one_cut _ _ _ _ _ _ (token at rest kind len tokens refusal none long small cut) (too_large _ _ kind' len' none' long' large) =
-    absurd (contrary (is_too_large kind) (ap is_too_large (one_longest kind kind' len len' rest long long').0 ∙ large) small)
+one_cut _ _ _ _ _ _ (token at rest kind len tokens refusal none long small cut) (bad_byte _ _ nothing) =
+    absurd (nothing.no_token kind len long.within long.spelled)
+one_cut _ _ _ _ _ _ (token at rest kind len tokens refusal none long small cut)
+    (too_large _ _ kind' len' none' long' large) =
+    absurd (contrary (is_too_large kind) (ap is_too_large (one_longest kind kind' len len' rest long long').0 ∙ large)
+    small)
 one_cut _ _ _ _ _ _ (bad_byte at _ nothing) (finish _) = absurd (omega (arith, nothing.more))
-one_cut _ _ _ _ _ _ (bad_byte at rest nothing) (white _ _ others other blank cut) = absurd (contrary (is_white (get_or rest 0 0)) blank nothing.no_white)
-one_cut _ _ _ _ _ _ (bad_byte at rest nothing) (comment _ _ others other starts cut) = absurd (contrary (begins_comment rest) starts nothing.no_comment)
-one_cut _ _ _ _ _ _ (bad_byte at rest nothing) (token _ _ kind len others other none long small cut) = absurd (nothing.no_token kind len long.within long.spelled)
+one_cut _ _ _ _ _ _ (bad_byte at rest nothing) (white _ _ others other blank cut) =
+    absurd (contrary (is_white (get_or rest 0 0)) blank nothing.no_white)
+one_cut _ _ _ _ _ _ (bad_byte at rest nothing) (comment _ _ others other starts cut) =
+    absurd (contrary (begins_comment rest) starts nothing.no_comment)
+one_cut _ _ _ _ _ _ (bad_byte at rest nothing) (token _ _ kind len others other none long small cut) =
+    absurd (nothing.no_token kind len long.within long.spelled)
 one_cut _ _ _ _ _ _ (bad_byte at rest nothing) (bad_byte _ _ nothing') = (refl, refl)
-one_cut _ _ _ _ _ _ (bad_byte at rest nothing) (too_large _ _ kind len none long large) = absurd (nothing.no_token kind len long.within long.spelled)
+one_cut _ _ _ _ _ _ (bad_byte at rest nothing) (too_large _ _ kind len none long large) =
+    absurd (nothing.no_token kind len long.within long.spelled)
 one_cut _ _ _ _ _ _ (too_large at _ kind len none long large) (finish _) = absurd (token_no_end kind len long)
-one_cut _ _ _ _ _ _ (too_large at rest kind len none long large) (white _ _ others other blank cut) = absurd (token_no_white kind len rest long blank)
-one_cut _ _ _ _ _ _ (too_large at rest kind len none long large) (comment _ _ others other starts cut) = absurd (contrary (begins_comment rest) starts none)
-one_cut _ _ _ _ _ _ (too_large at rest kind len none long large) (token _ _ kind' len' others other none' long' small cut) =
-    absurd (contrary (is_too_large kind') (ap is_too_large (one_longest kind' kind len' len rest long' long).0 ∙ large) small)
-one_cut _ _ _ _ _ _ (too_large at rest kind len none long large) (bad_byte _ _ nothing) = absurd (nothing.no_token kind len long.within long.spelled)
-one_cut _ _ _ _ _ _ (too_large at rest kind len none long large) (too_large _ _ kind' len' none' long' large') = (refl, refl)
+one_cut _ _ _ _ _ _ (too_large at rest kind len none long large) (white _ _ others other blank cut) =
+    absurd (token_no_white kind len rest long blank)
+one_cut _ _ _ _ _ _ (too_large at rest kind len none long large) (comment _ _ others other starts cut) =
+    absurd (contrary (begins_comment rest) starts none)
+one_cut _ _ _ _ _ _ (too_large at rest kind len none long large)
+    (token _ _ kind' len' others other none' long' small cut) =
+    absurd (contrary (is_too_large kind') (ap is_too_large (one_longest kind' kind len' len rest long' long).0 ∙ large)
+    small)
+one_cut _ _ _ _ _ _ (too_large at rest kind len none long large) (bad_byte _ _ nothing) =
+    absurd (nothing.no_token kind len long.within long.spelled)
+one_cut _ _ _ _ _ _ (too_large at rest kind len none long large) (too_large _ _ kind' len' none' long' large') =
+    (refl, refl)

@@ -7,7 +7,10 @@ use Rattle.std.proofs.lemmas.Slice.Eq.{bytes_eq-Decides}
 use Rattle.std.proofs.lemmas.List.Sums.{AllPass-from_list_all}
 use Rattle.rpp_tree.specs.Names.{is_name_byte, is_keyword, keywords}
 use Rattle.roopl_lexer.specs.declared.token.Keyword.{Keyword}
-use Rattle.roopl_lexer.specs.declared.token.Keyword.TheVariants.{Class, Inherits, Method, Int, Nil, Skip, If, Then, Else, Fi, From, Do, Loop, Until, Local, Delocal, Construct, Destruct, New, Delete, Copy, Uncopy, Call, Uncall}
+use Rattle.roopl_lexer.specs.declared.token.Keyword.TheVariants.{Class, Inherits, Method, Int, Nil, Skip, If, Then}
+use Rattle.roopl_lexer.specs.declared.token.Keyword.TheVariants.{Else, Fi, From, Do, Loop, Until, Local, Delocal}
+use Rattle.roopl_lexer.specs.declared.token.Keyword.TheVariants.{Construct, Destruct, New, Delete, Copy, Uncopy, Call}
+use Rattle.roopl_lexer.specs.declared.token.Keyword.TheVariants.{Uncall}
 use Rattle.roopl_lexer.specs.declared.word.TheConstants.{KEYWORDS}
 use Rattle.roopl_lexer.specs.Signs.{keyword_bytes}
 
@@ -34,14 +37,16 @@ differs bytes word apart = by (bytes_eq bytes word) (bytes_eq-Decides bytes word
     by true same = absurd (apart (same refl))
     by false same = refl
 
-none_of : (test : List ℕ → Bool) (words : List (List ℕ)) → AllByRecursion (λ word. test word ≡ false) words → list_any test words ≡ false
+none_of : (test : List ℕ → Bool) (words : List (List ℕ)) → AllByRecursion (λ word. test word ≡ false) words
+    → list_any test words ≡ false
 none_of test [] each = refl
 none_of test (word ∷ words) each = rw each.0 (none_of test words each.1)
 
 pub no_keyword : (bytes : List ℕ) → ((keyword : Keyword) → bytes ≡ keyword_bytes keyword → ⊥) → is_keyword bytes ≡ false
 unfolding is_keyword keywords
 no_keyword bytes none =
-    let no : (keyword : Keyword) → bytes_eq bytes (keyword_bytes keyword) ≡ false = λ keyword. differs bytes (keyword_bytes keyword) (none keyword) in
+    let no : (keyword : Keyword) → bytes_eq bytes (keyword_bytes keyword) ≡ false =
+    λ keyword. differs bytes (keyword_bytes keyword) (none keyword) in
     none_of (bytes_eq bytes) keywords (
       no Class,
       (
@@ -66,7 +71,28 @@ no_keyword bytes none =
                           no From,
                           (
                             no Do,
-                            (no Loop, (no Until, (no Local, (no Delocal, (no Construct, (no Destruct, (no New, (no Delete, (no Copy, (no Uncopy, (no Call, (no Uncall, tt)))))))))))),
+                            (
+                              no Loop,
+                              (
+                                no Until,
+                                (
+                                  no Local,
+                                  (
+                                    no Delocal,
+                                    (
+                                      no Construct,
+                                      (
+                                        no Destruct,
+                                        (
+                                          no New,
+                                          (no Delete, (no Copy, (no Uncopy, (no Call, (no Uncall, tt))))),
+                                        ),
+                                      ),
+                                    ),
+                                  ),
+                                ),
+                              ),
+                            ),
                           ),
                         ),
                       ),

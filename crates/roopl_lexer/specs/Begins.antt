@@ -1,12 +1,14 @@
 -- What begins at a place of a text.
-use Rattle.std.specs.Prelude.{◌≡◌, ◌⊎◌, slice_index, ℕ, ◌<◌, ◌≤◌, true, false, List, length, take, Option, None, Some}
+use Rattle.std.specs.Prelude.{◌≡◌, ◌⊎◌, slice_index, ℕ, ◌<◌, ◌≤◌, true, false, List, length, take}
+use Rattle.std.specs.Prelude.{Option, None, Some}
 use Rattle.roopl_lexer.specs.declared.token.Token.{Token}
 use Rattle.roopl_lexer.specs.declared.token.TokenKind.{TokenKind}
 use Rattle.roopl_lexer.specs.declared.token.Symbol.{Symbol}
 use Rattle.roopl_lexer.specs.declared.error.LexError.{LexError}
 use Rattle.roopl_lexer.specs.declared.error.LexError.TheVariants.{BadByte, NumberTooLarge, NoMemory}
 use Rattle.roopl_lexer.specs.Signs.{sign_bytes}
-use Rattle.roopl_lexer.specs.Tokens.{is_white, begins_comment, comment_length, Spells, IsLongest, is_too_large}
+use Rattle.roopl_lexer.specs.Tokens.{is_white, begins_comment, comment_length, Spells, IsLongest}
+use Rattle.roopl_lexer.specs.Tokens.{is_too_large}
 
 -- a byte of white space, or a comment, or nothing of them, stands at the front
 abbrev pub IsBlank : List ℕ → ℕ → Type 0

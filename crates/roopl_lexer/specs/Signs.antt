@@ -1,9 +1,19 @@
 -- The fixed tokens and their bytes.
 use Rattle.std.specs.Prelude.{ℕ, List, codes}
 use Rattle.roopl_lexer.specs.declared.token.Keyword.{Keyword}
-use Rattle.roopl_lexer.specs.declared.token.Keyword.TheVariants.{Class, Inherits, Method, Int, Nil, Skip, If, Then, Else, Fi, From, Do, Loop, Until, Local, Delocal, Construct, Destruct, New, Delete, Copy, Uncopy, Call, Uncall}
+use Rattle.roopl_lexer.specs.declared.token.Keyword.TheVariants.{Class, Inherits, Method, Int, Nil}
+use Rattle.roopl_lexer.specs.declared.token.Keyword.TheVariants.{Skip, If, Then, Else, Fi, From, Do}
+use Rattle.roopl_lexer.specs.declared.token.Keyword.TheVariants.{Loop, Until, Local, Delocal}
+use Rattle.roopl_lexer.specs.declared.token.Keyword.TheVariants.{Construct, Destruct, New, Delete}
+use Rattle.roopl_lexer.specs.declared.token.Keyword.TheVariants.{Copy, Uncopy, Call, Uncall}
 use Rattle.roopl_lexer.specs.declared.token.Symbol.{Symbol}
-use Rattle.roopl_lexer.specs.declared.token.Symbol.TheVariants.{AddTo, SubFrom, XorInto, Swap, Plus, Minus, Caret, Amp, Bar, AmpAmp, BarBar, Less, Greater, AtMost, AtLeast, Equal, NotEqual, Star, Slash, Percent, LeftParen, RightParen, LeftBracket, RightBracket, Comma, DoubleColon}
+use Rattle.roopl_lexer.specs.declared.token.Symbol.TheVariants.{AddTo, SubFrom, XorInto, Swap, Plus}
+use Rattle.roopl_lexer.specs.declared.token.Symbol.TheVariants.{Minus, Caret, Amp, Bar, AmpAmp}
+use Rattle.roopl_lexer.specs.declared.token.Symbol.TheVariants.{BarBar, Less, Greater, AtMost}
+use Rattle.roopl_lexer.specs.declared.token.Symbol.TheVariants.{AtLeast, Equal, NotEqual, Star}
+use Rattle.roopl_lexer.specs.declared.token.Symbol.TheVariants.{Slash, Percent, LeftParen}
+use Rattle.roopl_lexer.specs.declared.token.Symbol.TheVariants.{RightParen, LeftBracket}
+use Rattle.roopl_lexer.specs.declared.token.Symbol.TheVariants.{RightBracket, Comma, DoubleColon}
 
 -- the bytes of a keyword
 abbrev pub keyword_bytes : Keyword → List ℕ

@@ -1,5 +1,7 @@
 -- The tokens of a text: at each place the longest one, with white space and comments between.
-use Rattle.std.specs.Prelude.{◌≡◌, slice_index, ℕ, ◌+◌, ◌-◌, ◌*◌, ◌<◌, ◌≤◌, Bool, true, false, List, [], ◌∷◌, length, take, drop, ◌==◌, ◌||◌, ◌&&◌, nat_lt, Option, Some, None}
+use Rattle.std.specs.Prelude.{◌≡◌, slice_index, ℕ, ◌+◌, ◌-◌, ◌*◌, ◌<◌, ◌≤◌, Bool, true, false, List}
+use Rattle.std.specs.Prelude.{[], ◌∷◌, length, take, drop, ◌==◌, ◌||◌, ◌&&◌, nat_lt, Option, Some}
+use Rattle.std.specs.Prelude.{None}
 use Rattle.std.specs.List.{AllPass, position_or_len}
 use Rattle.std.specs.Char.{is_ascii_digit}
 use Rattle.rpp_words.specs.Texts.{decimal_from}
@@ -60,7 +62,8 @@ pub record NothingBegins (rest : List ℕ) : Type 0 where
 
 -- the rest of a text, from a place on, is cut into these tokens, up to the first refusal where
 -- there is one
-pub data Cut : (at : ℕ) (rest : List ℕ) (tokens : List Token) (refusal : Option LexError) → Type 0 where
+pub data Cut : (at : ℕ) (rest : List ℕ) (tokens : List Token) (refusal : Option LexError)
+    → Type 0 where
   finish : (at : ℕ) → Cut at [] [] None
   white : (at : ℕ) (rest : List ℕ) (tokens : List Token) (refusal : Option LexError)
       → is_white (slice_index rest 0) ≡ true

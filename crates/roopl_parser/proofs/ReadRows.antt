@@ -18,7 +18,9 @@ abbrev at : ℕ → TokenKind → Token
 at place kind = tok (record { at = place; len = 1 }) kind
 
 abbrev head : List Token → List Token
-head rest = at 0 (Word word.Class) ∷ at 1 (Name (codes "P")) ∷ at 2 (Word word.Int) ∷ at 3 (Name (codes "x")) ∷ at 4 (Word word.Method) ∷ at 5 (Name (codes "main")) ∷ at 6 (Sign sign.LeftParen) ∷ at 7 (Sign sign.RightParen) ∷ at 8 (Name (codes "x")) ∷ at 9 (Sign sign.AddTo) ∷ rest
+head rest = at 0 (Word word.Class) ∷ at 1 (Name (codes "P")) ∷ at 2 (Word word.Int) ∷ at 3 (Name (codes "x"))
+    ∷ at 4 (Word word.Method) ∷ at 5 (Name (codes "main")) ∷ at 6 (Sign sign.LeftParen) ∷ at 7 (Sign sign.RightParen)
+    ∷ at 8 (Name (codes "x")) ∷ at 9 (Sign sign.AddTo) ∷ rest
 
 minus_tree : List ClassText
 minus_tree = record {
@@ -28,12 +30,14 @@ minus_tree = record {
   methods = record {
     name = record { at = 5; text = codes "main" };
     params = [];
-    body = Then (Update 8 update.Add (Whole (record { at = 8; text = codes "x" })) (Binary 13 op.Sub (Binary 11 op.Sub (Number 10 1) (Number 12 2)) (Number 14 3))) End;
+    body = Then (Update 8 update.Add (Whole (record { at = 8; text = codes "x" }))
+        (Binary 13 op.Sub (Binary 11 op.Sub (Number 10 1) (Number 12 2)) (Number 14 3))) End;
   } ∷ [];
 } ∷ []
 
 -- three operands group to the left
-minus_groups : reading 99 (head (at 10 (Numeral 1) ∷ at 11 (Sign sign.Minus) ∷ at 12 (Numeral 2) ∷ at 13 (Sign sign.Minus) ∷ at 14 (Numeral 3) ∷ [])) ≡ Ok (Classes minus_tree)
+minus_groups : reading 99 (head (at 10 (Numeral 1) ∷ at 11 (Sign sign.Minus) ∷ at 12 (Numeral 2)
+    ∷ at 13 (Sign sign.Minus) ∷ at 14 (Numeral 3) ∷ [])) ≡ Ok (Classes minus_tree)
 unfolding scan walk ends minus_tree
 minus_groups = refl
 

@@ -1,7 +1,9 @@
--- Statements and blocks that keep the limits where they stand: d statements and l locals are round them.
+-- Statements and blocks that keep the limits where they stand: d statements and l locals are round
+-- them.
 use Rattle.std.specs.Prelude.{ℕ, ◌+◌, ◌≤◌}
 use Rattle.rpp_tree.specs.Tree.{Statement, Statements, depth, statement_depth}
-use Rattle.rpp_tree.specs.Limits.{locals, statement_locals, IsSmallStatement, AreSmall, AreInnerSmall}
+use Rattle.rpp_tree.specs.Limits.{locals, statement_locals, IsSmallStatement, AreSmall}
+use Rattle.rpp_tree.specs.Limits.{AreInnerSmall}
 use Rattle.rpp_tree.specs.declared.limits.TheConstants.{MOST_NESTING, MOST_LOCALS}
 
 pub record Fits (d l : ℕ) (statement : Statement) : Type 0 where

@@ -6,7 +6,10 @@ use Rattle.rpp_tree.specs.declared.tree.VarType.{VarType}
 use Rattle.rpp_tree.specs.declared.tree.VarType.TheVariants as kind
 use Rattle.rpp_tree.specs.declared.tree.BinOp.{BinOp}
 use Rattle.rpp_tree.specs.declared.tree.UpdateOp.{UpdateOp}
-use Rattle.rpp_tree.specs.Tree.{Expression, Number, Null, Variable, Element, Binary, Lvalue, Whole, Item, Creation, Object, Ints, Objects, Statement, Statements, Update, Swap, If, From, Construct, Local, New, Delete, Copy, Uncopy, Call, Skip, Procedure, ClassText, Source}
+use Rattle.rpp_tree.specs.Tree.{Expression, Number, Null, Variable, Element, Binary, Lvalue, Whole}
+use Rattle.rpp_tree.specs.Tree.{Item, Creation, Object, Ints, Objects, Statement, Statements}
+use Rattle.rpp_tree.specs.Tree.{Update, Swap, If, From, Construct, Local, New, Delete, Copy, Uncopy}
+use Rattle.rpp_tree.specs.Tree.{Call, Skip, Procedure, ClassText, Source}
 use Rattle.rpp_tree.specs.Views.{statements_of}
 use Rattle.roopl_lexer.specs.declared.token.Token.{Token}
 use Rattle.roopl_lexer.specs.declared.token.TokenKind.{TokenKind}
@@ -163,7 +166,8 @@ mutual
     uncall : {a b : Span} {name : List ℕ} {ts rest : List Token} {x : Statement}
         → IsTarget a.at true (ident b name) ts rest x
         → IsStatement (tok a (Word word.Uncall) ∷ tok b (Name name) ∷ ts) rest x
-    skip : {a : Span} {rest : List Token} → IsStatement (tok a (Word word.Skip) ∷ rest) rest (Skip a.at)
+    skip : {a : Span} {rest : List Token} → IsStatement (tok a (Word word.Skip) ∷ rest) rest
+        (Skip a.at)
 
   -- two blocks and an expression, each behind its keyword
   pub data IsBranches : Keyword → Keyword → Keyword → List Token → List Token → Statements
@@ -190,7 +194,8 @@ mutual
 
 -- the parameters behind the first, with the parenthesis
 pub data IsMoreParams : List Token → List Token → List Var → Type 0 where
-  last_param : {a : Span} {rest : List Token} → IsMoreParams (tok a (Sign sign.RightParen) ∷ rest) rest []
+  last_param : {a : Span} {rest : List Token} → IsMoreParams (tok a (Sign sign.RightParen) ∷ rest)
+      rest []
   next_param : {a : Span} {ts mid rest : List Token} {v : Var} {xs : List Var} → IsVar ts mid v
       → IsMoreParams mid rest xs → IsMoreParams (tok a (Sign sign.Comma) ∷ ts) rest (v ∷ xs)
 

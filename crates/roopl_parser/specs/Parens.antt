@@ -3,10 +3,19 @@
 use Rattle.std.specs.Prelude.{ℕ, suc, max, List}
 use Rattle.rpp_tree.specs.declared.tree.Ident.{Ident}
 use Rattle.rpp_tree.specs.declared.tree.Var.{Var}
-use Rattle.rpp_tree.specs.Tree.{Expression, Lvalue, Creation, Statement, Statements, Procedure, ClassText}
+use Rattle.rpp_tree.specs.Tree.{Expression, Lvalue, Creation, Statement, Statements, Procedure}
+use Rattle.rpp_tree.specs.Tree.{ClassText}
 use Rattle.roopl_lexer.specs.declared.token.Token.{Token}
 use Rattle.roopl_lexer.specs.declared.token.Keyword.{Keyword}
-use Rattle.roopl_parser.specs.Grammar.{IsExpr, number, null, read, parens, weaker, binary, IsIndexed, whole, item, IsPlace, place, IsSized, one, sized, IsMade, words, named, IsTarget, own, on, IsAssigned, update, swap, IsStatement, assign, conditional, repeat, construct, declare, make, delete, copy, uncopy, call, uncall, skip, IsBranches, branches, IsScope, scope, IsBlock, block, IsStatements, end, then, IsMethod, method, IsMethods, no_method, methods, IsClass, class, IsClasses, no_class, classes}
+use Rattle.roopl_parser.specs.Grammar.{IsExpr, number, null, read, parens, weaker, binary}
+use Rattle.roopl_parser.specs.Grammar.{IsIndexed, whole, item, IsPlace, place, IsSized, one, sized}
+use Rattle.roopl_parser.specs.Grammar.{IsMade, words, named, IsTarget, own, on, IsAssigned, update}
+use Rattle.roopl_parser.specs.Grammar.{swap, IsStatement, assign, conditional, repeat, construct}
+use Rattle.roopl_parser.specs.Grammar.{declare, make, delete, copy, uncopy, call, uncall, skip}
+use Rattle.roopl_parser.specs.Grammar.{IsBranches, branches, IsScope, scope, IsBlock, block}
+use Rattle.roopl_parser.specs.Grammar.{IsStatements, end, then, IsMethod, method, IsMethods}
+use Rattle.roopl_parser.specs.Grammar.{no_method, methods, IsClass, class, IsClasses, no_class}
+use Rattle.roopl_parser.specs.Grammar.{classes}
 
 abbrev mutual
   pub parens_of : {k : ℕ} {ts rest : List Token} {e : Expression} → IsExpr k ts rest e → ℕ
@@ -17,7 +26,8 @@ abbrev mutual
   parens_of (weaker d) = parens_of d
   parens_of (binary d h r) = max (parens_of d) (parens_of r)
 
-  pub index_parens : {name : Ident} {ts rest : List Token} {l : Lvalue} → IsIndexed name ts rest l → ℕ
+  pub index_parens : {name : Ident} {ts rest : List Token} {l : Lvalue} → IsIndexed name ts rest l
+      → ℕ
   index_parens whole = 0
   index_parens (item d) = parens_of d
 

@@ -1,5 +1,6 @@
 -- The reading of tokens, one at a time: what may still follow stands on a stack.
-use Rattle.std.specs.Prelude.{◌≡◌, ◌≢◌, ℕ, suc, pred, Bool, true, false, List, [], ◌∷◌, ◌++◌, Option, Some, None, Result, Ok, Err, nat_lt, cond}
+use Rattle.std.specs.Prelude.{◌≡◌, ◌≢◌, ℕ, suc, pred, Bool, true, false, List, [], ◌∷◌, ◌++◌}
+use Rattle.std.specs.Prelude.{Option, Some, None, Result, Ok, Err, nat_lt, cond}
 use Rattle.std.proofs.Common.{zero}
 use Rattle.rpp_tree.specs.declared.tree.Ident.{Ident}
 use Rattle.rpp_tree.specs.declared.tree.Var.{Var}
@@ -9,8 +10,13 @@ use Rattle.rpp_tree.specs.declared.tree.BinOp.{BinOp}
 use Rattle.rpp_tree.specs.declared.tree.UpdateOp.{UpdateOp}
 use Rattle.rpp_tree.specs.declared.limits.LimitKind.{LimitKind}
 use Rattle.rpp_tree.specs.declared.limits.LimitKind.TheVariants as limit
-use Rattle.rpp_tree.specs.declared.limits.TheConstants.{MOST_NODES, MOST_INDEX_DEPTH, MOST_CLASSES, MOST_PARAMETERS, MOST_LOCALS, MOST_NESTING, MOST_PARENS}
-use Rattle.rpp_tree.specs.Tree.{Expression, Number, Null, Binary, Lvalue, Whole, Item, Creation, Object, Ints, Objects, Statement, Statements, Update, Swap, If, From, Construct, Local, New, Delete, Copy, Uncopy, Call, Skip, End, Procedure, ClassText}
+use Rattle.rpp_tree.specs.declared.limits.TheConstants.{MOST_NODES, MOST_INDEX_DEPTH, MOST_CLASSES}
+use Rattle.rpp_tree.specs.declared.limits.TheConstants.{MOST_PARAMETERS, MOST_LOCALS, MOST_NESTING}
+use Rattle.rpp_tree.specs.declared.limits.TheConstants.{MOST_PARENS}
+use Rattle.rpp_tree.specs.Tree.{Expression, Number, Null, Binary, Lvalue, Whole, Item, Creation}
+use Rattle.rpp_tree.specs.Tree.{Object, Ints, Objects, Statement, Statements, Update, Swap, If}
+use Rattle.rpp_tree.specs.Tree.{From, Construct, Local, New, Delete, Copy, Uncopy, Call, Skip, End}
+use Rattle.rpp_tree.specs.Tree.{Procedure, ClassText}
 use Rattle.rpp_tree.specs.Views.{statements_of}
 use Rattle.roopl_lexer.specs.declared.token.Token.{Token}
 use Rattle.roopl_lexer.specs.declared.token.TokenKind.{TokenKind}
@@ -213,7 +219,8 @@ build AddVar vs = Vars (as_vars (second vs) ++ as_var (top vs) ∷ []) ∷ under
 build NoVars vs = Vars [] ∷ vs
 build MakeObject vs = ACreation (Object (as_name (top vs))) ∷ under vs
 build MakeInts vs = ACreation (Ints (as_expr (top vs))) ∷ under vs
-build MakeObjects vs = ACreation (Objects (as_name (second vs)) (as_expr (top vs))) ∷ under (under vs)
+build MakeObjects vs = ACreation (Objects (as_name (second vs)) (as_expr (top vs)))
+    ∷ under (under vs)
 build (MakeUpdate at op) vs = AStatement (Update at op (as_place (second vs)) (as_expr (top vs)))
     ∷ under (under vs)
 build (MakeSwap at) vs = AStatement (Swap at (as_place (second vs)) (as_place (top vs)))
@@ -345,9 +352,11 @@ brackets s n vs other (token.Sign sign.LeftBracket) =
 brackets s n vs other _ = other
 
 abbrev pub made : List Part → ℕ → List Value → ℕ → TokenKind → Step
-made s n vs at (token.Name x) = Next Within n (Sized ∷ s) (AnIdent (record { at = at; text = x }) ∷ vs)
+made s n vs at (token.Name x) = Next Within n (Sized ∷ s)
+    (AnIdent (record { at = at; text = x }) ∷ vs)
 made s n vs at (token.Word word.Int) =
-    Next Within n (ASign sign.LeftBracket ∷ Level 9 0 0 ∷ ASign sign.RightBracket ∷ Build MakeInts ∷ s) vs
+    Next Within n (ASign sign.LeftBracket ∷ Level 9 0 0 ∷ ASign sign.RightBracket ∷ Build MakeInts
+    ∷ s) vs
 made s n vs at _ = Wrong
 
 abbrev pub sized : List Part → ℕ → List Value → Step → TokenKind → Step
@@ -404,7 +413,8 @@ statement d l s vs at other (token.Word word.Call) =
     Next (nesting_mark d) 0 (AName ∷ Receiver at false l ∷ Count 0 ∷ s) vs
 statement d l s vs at other (token.Word word.Uncall) =
     Next (nesting_mark d) 0 (AName ∷ Receiver at true l ∷ Count 0 ∷ s) vs
-statement d l s vs at other (token.Word word.Skip) = Next (nesting_mark d) 0 s (AStatement (Skip at) ∷ vs)
+statement d l s vs at other (token.Word word.Skip) =
+    Next (nesting_mark d) 0 s (AStatement (Skip at) ∷ vs)
 statement d l s vs at other _ = other
 
 -- what stands behind the first statement of a block
@@ -627,7 +637,8 @@ led strict at bracket next Wrong = Err (Syntax at)
 led strict at bracket next (Next mark n s vs) =
     cond strict (stopped at (passed mark bracket) (next n s vs)) (next n s vs)
 
--- what reading gives: the value, or the first token that is wrong or, where the limits count, passes one
+-- what reading gives: the value, or the first token that is wrong or, where the limits count,
+-- passes one
 unfoldable pub scan : Bool → ℕ → List Token → ℕ → List Part → List Value → Result Value ParseError
 scan strict end [] = λ n s vs. ends end s vs
 scan strict end (t ∷ ts) = λ n s vs. led strict t.at (here (is_sign sign.LeftBracket) ts)

@@ -1,5 +1,6 @@
 -- What a reader of a program promises.
-use Rattle.std.specs.Prelude.{◌≡◌, ℕ, ◌≤◌, Bool, true, List, [], ◌∷◌, ◌++◌, length, drop, nat_lt, cond, All, Option, Some, None, Result, Err}
+use Rattle.std.specs.Prelude.{◌≡◌, ℕ, ◌≤◌, Bool, true, List, [], ◌∷◌, ◌++◌, length, drop, nat_lt}
+use Rattle.std.specs.Prelude.{cond, All, Option, Some, None, Result, Err}
 use Rattle.rpp_tree.specs.Tree.{Source}
 use Rattle.rpp_tree.specs.Limits.{IsSmallMethod}
 use Rattle.rpp_tree.specs.declared.limits.LimitKind.{LimitKind}
@@ -10,7 +11,8 @@ use Rattle.roopl_lexer.specs.declared.token.Symbol.TheVariants as sign
 use Rattle.roopl_parser.specs.declared.error.ParseError.{ParseError}
 use Rattle.roopl_parser.specs.declared.error.ParseError.TheVariants.{Limit}
 use Rattle.roopl_parser.specs.Grammar.{Derives}
-use Rattle.roopl_parser.specs.Reader.{Value, Part, Classes, Program, Step, Wrong, Next, here, is_sign, passed, walk, scan}
+use Rattle.roopl_parser.specs.Reader.{Value, Part, Classes, Program, Step, Wrong, Next, here}
+use Rattle.roopl_parser.specs.Reader.{is_sign, passed, walk, scan}
 
 -- the tokens of a program begin with these
 abbrev pub IsViable : List Token → Type 0
@@ -63,7 +65,8 @@ passing at bracket next (Next mark n s vs) = passing_by at (passed mark bracket)
 
 unfoldable pub passes : List Token → ℕ → List Part → List Value → Option ParseError
 passes [] = λ n s vs. None
-passes (t ∷ ts) = λ n s vs. passing t.at (here (is_sign sign.LeftBracket) ts) (passes ts) (walk s n vs t)
+passes (t ∷ ts) = λ n s vs. passing t.at (here (is_sign sign.LeftBracket) ts) (passes ts)
+    (walk s n vs t)
 
 -- the limit of tokens
 abbrev pub too_many : List Token → Option ParseError
@@ -84,4 +87,5 @@ unless (Some e) next = Err e
 
 -- what reading a program gives
 abbrev pub reading : ℕ → List Token → Result Value ParseError
-reading end tokens = unless (too_many tokens) (scan true end tokens 0 (Program 0 ∷ []) (Classes [] ∷ []))
+reading end tokens = unless (too_many tokens)
+    (scan true end tokens 0 (Program 0 ∷ []) (Classes [] ∷ []))

@@ -1,5 +1,7 @@
 -- A printed text is cut into the tokens that were printed, since a space or a line feed follows each.
-use Rattle.std.proofs.Common.{◌≡◌, ℕ, suc, ◌+◌, ◌-◌, ◌*◌, ◌/◌, ◌%◌, ◌<◌, ◌≤◌, ◌==◌, Bool, true, false, List, [], ◌∷◌, ◌++◌, length, get_or, take, map, refl, sym, ◌∙◌, ap, subst, arith, decimal, append_assoc, length-append, length-take-le, get_or-take}
+use Rattle.std.proofs.Common.{◌≡◌, ℕ, suc, ◌+◌, ◌-◌, ◌*◌, ◌/◌, ◌%◌, ◌<◌, ◌≤◌, ◌==◌, Bool, true, false, List, [], ◌∷◌}
+use Rattle.std.proofs.Common.{◌++◌, length, get_or, take, map, refl, sym, ◌∙◌, ap, subst, arith, decimal, append_assoc}
+use Rattle.std.proofs.Common.{length-append, length-take-le, get_or-take}
 use Rattle.std.specs.Prelude.{None}
 use Rattle.std.specs.List.{AllPass, AllByRecursion}
 use Rattle.std.specs.Char.{is_ascii_alphabetic, is_ascii_digit}
@@ -17,7 +19,8 @@ use Rattle.roopl_lexer.specs.declared.token.TokenKind.{TokenKind}
 use Rattle.roopl_lexer.specs.declared.token.TokenKind.TheVariants.{Word, Name, Number, Sign}
 use Rattle.rpp_tree.specs.declared.limits.TheConstants.{MOST_NUMBER}
 use Rattle.roopl_lexer.specs.Signs.{keyword_bytes, sign_bytes}
-use Rattle.roopl_lexer.specs.Tokens.{is_white, begins_comment, Spells, IsLongest, is_too_large, Cut, finish, white, token, IsCutting}
+use Rattle.roopl_lexer.specs.Tokens.{is_white, begins_comment, Spells, IsLongest, is_too_large, Cut, finish, white}
+use Rattle.roopl_lexer.specs.Tokens.{token, IsCutting}
 use Rattle.rpp_words.specs.Texts.{decimal_from}
 use Rattle.roopl_printer.specs.Printable.{IsPrintable}
 use Rattle.roopl_printer.specs.Printed.{Printed, kind_bytes, gap, with_gaps, text_of}
@@ -38,7 +41,8 @@ letter_no_white b h = grind (arith, nat_tests)
 name_no_white : (b : ℕ) → is_name_byte b ≡ true → is_white b ≡ false
 name_no_white b h = grind (arith, nat_tests)
 
-spelled_no_white : (kind : TokenKind) (bytes : List ℕ) → Spells kind bytes → (i : ℕ) → i < length bytes → is_white (get_or bytes i 0) ≡ false
+spelled_no_white : (kind : TokenKind) (bytes : List ℕ) → Spells kind bytes → (i : ℕ) → i < length bytes
+    → is_white (get_or bytes i 0) ≡ false
 spelled_no_white (Word k) bytes h i inside =
     visible_no_white (get_or bytes i 0) (subst (λ b. AllPass is_visible b) (sym h) (word_bytes_visible k) i 0 inside)
 spelled_no_white (Name text) bytes h i inside =
@@ -49,7 +53,8 @@ spelled_no_white (Sign s) bytes h i inside =
 
 -- ---- numbers
 
-decimal_from-push : (before : ℕ) (digits : List ℕ) (d : ℕ) → decimal_from before (digits ++ d ∷ []) ≡ 10 * decimal_from before digits + (d - 48)
+decimal_from-push : (before : ℕ) (digits : List ℕ) (d : ℕ)
+    → decimal_from before (digits ++ d ∷ []) ≡ 10 * decimal_from before digits + (d - 48)
 decimal_from-push before [] d = refl
 decimal_from-push before (digit ∷ digits) d = decimal_from-push (10 * before + (digit - 48)) digits d
 
@@ -82,7 +87,8 @@ digit_no_slash : (b : ℕ) → is_ascii_digit b ≡ true → b == 47 ≡ false
 digit_no_slash b h = grind (arith, nat_tests)
 
 module _ (w : ℕ) (more : List ℕ) (blank : is_white w ≡ true) where
-  first_no_slash : (bytes : List ℕ) → 0 < length bytes → get_or bytes 0 0 == 47 ≡ false → begins_comment (bytes ++ w ∷ more) ≡ false
+  first_no_slash : (bytes : List ℕ) → 0 < length bytes → get_or bytes 0 0 == 47 ≡ false
+      → begins_comment (bytes ++ w ∷ more) ≡ false
   first_no_slash [] some h = absurd (omega arith)
   first_no_slash (a ∷ []) some h = rw h refl
   first_no_slash (a ∷ b ∷ bytes) some h = rw h refl
@@ -110,7 +116,8 @@ module _ (w : ℕ) (more : List ℕ) (blank : is_white w ≡ true) where
   spells : (kind : TokenKind) → IsPrintable kind → Spells kind (kind_bytes kind)
   spells (Word k) h = refl
   spells (Name text) h = (refl, h)
-  spells (Number n) h = let writes = decimal_writes n h in (record { some = writes.1; digits = decimal_digits n }, writes.0)
+  spells (Number n) h = let writes = decimal_writes n h in
+      (record { some = writes.1; digits = decimal_digits n }, writes.0)
   spells (Sign s) h = refl
 
   in_range : (kind : TokenKind) → IsPrintable kind → is_too_large kind ≡ false
@@ -119,20 +126,24 @@ module _ (w : ℕ) (more : List ℕ) (blank : is_white w ≡ true) where
   in_range (Number n) h = grind (arith, nat_tests)
   in_range (Sign s) h = refl
 
-  none_longer : (kind other : TokenKind) (n : ℕ) → length (kind_bytes kind) < n → n ≤ length (kind_bytes kind ++ w ∷ more) → Spells other (take n (kind_bytes kind ++ w ∷ more)) → ⊥
+  none_longer : (kind other : TokenKind) (n : ℕ) → length (kind_bytes kind) < n
+      → n ≤ length (kind_bytes kind ++ w ∷ more) → Spells other (take n (kind_bytes kind ++ w ∷ more)) → ⊥
   none_longer kind other n longer within spells_it =
       let rest = kind_bytes kind ++ w ∷ more in
       let at : ℕ = length (kind_bytes kind) in
-      let here : get_or (take n rest) at 0 ≡ w = get_or-take n rest at 0 longer ∙ get_or_at (kind_bytes kind) w more 0 (length (kind_bytes kind)) refl in
+      let here : get_or (take n rest) at 0 ≡ w = get_or-take n rest at 0 longer
+      ∙ get_or_at (kind_bytes kind) w more 0 (length (kind_bytes kind)) refl in
       let long = length-take-le n rest within in
       let no = spelled_no_white other (take n rest) spells_it at (omega arith) in
       let same = ap is_white here in
       cc
 
-  longest : (kind : TokenKind) → IsPrintable kind → IsLongest kind (length (kind_bytes kind)) (kind_bytes kind ++ w ∷ more)
+  longest : (kind : TokenKind) → IsPrintable kind → IsLongest kind (length (kind_bytes kind))
+      (kind_bytes kind ++ w ∷ more)
   longest kind h = record {
     within = let long = length-append (kind_bytes kind) (w ∷ more) in omega arith;
-    spelled = subst (Spells kind) (sym (take_at (kind_bytes kind) (w ∷ more) (length (kind_bytes kind)) refl)) (spells kind h);
+    spelled = subst (Spells kind) (sym (take_at (kind_bytes kind) (w ∷ more) (length (kind_bytes kind)) refl))
+        (spells kind h);
     longest = λ other n. none_longer kind other n;
   }
 
@@ -141,7 +152,8 @@ module _ (w : ℕ) (more : List ℕ) (blank : is_white w ≡ true) where
 -- the tokens where they stand: one byte is between two of them
 abbrev pub laid : ℕ → List Printed → List Token
 laid at [] = []
-laid at (t ∷ ts) = record { kind = t.kind; at = at; len = length (kind_bytes t.kind) } ∷ laid (at + length (kind_bytes t.kind) + 1) ts
+laid at (t ∷ ts) = record { kind = t.kind; at = at; len = length (kind_bytes t.kind) }
+    ∷ laid (at + length (kind_bytes t.kind) + 1) ts
 
 pub laid_kinds : (at : ℕ) (ts : List Printed) → map (λ t. t.kind) (laid at ts) ≡ map (λ t. t.kind) ts
 laid_kinds at [] = refl
@@ -166,7 +178,8 @@ behind_white : (ts : List Printed) → BeginsWhite (with_gaps ts ++ 10 ∷ [])
 behind_white [] = (10, [], refl, refl)
 behind_white (t ∷ ts) = (gap t.fresh, kind_bytes t.kind ++ with_gaps ts ++ 10 ∷ [], refl, gap_white t.fresh)
 
-token_cut : (at : ℕ) (kind : TokenKind) (rest : List ℕ) (tokens : List Token) → IsPrintable kind → BeginsWhite rest → Cut (at + length (kind_bytes kind)) rest tokens None
+token_cut : (at : ℕ) (kind : TokenKind) (rest : List ℕ) (tokens : List Token) → IsPrintable kind → BeginsWhite rest
+    → Cut (at + length (kind_bytes kind)) rest tokens None
     → Cut at (kind_bytes kind ++ rest) (record { kind = kind; at = at; len = length (kind_bytes kind) } ∷ tokens) None
 token_cut at kind rest tokens printable begins cut =
     let w = begins.0 in
@@ -177,13 +190,17 @@ token_cut at kind rest tokens printable begins cut =
     (subst (λ l. begins_comment l ≡ false) is (no_comment w more begins.3 kind printable))
     (subst (λ l. IsLongest kind (length (kind_bytes kind)) l) is (longest w more begins.3 kind printable))
     (in_range w more begins.3 kind printable)
-    (subst (λ l. Cut (at + length (kind_bytes kind)) l tokens None) (sym (drop_at (kind_bytes kind) rest (length (kind_bytes kind)) refl)) cut)
+    (subst (λ l. Cut (at + length (kind_bytes kind)) l tokens None)
+    (sym (drop_at (kind_bytes kind) rest (length (kind_bytes kind)) refl)) cut)
 
-text_cut : (t : Printed) (ts : List Printed) (at : ℕ) → IsPrintable t.kind → Cut (at + length (kind_bytes t.kind)) (with_gaps ts ++ 10 ∷ []) (laid (at + length (kind_bytes t.kind) + 1) ts) None
+text_cut : (t : Printed) (ts : List Printed) (at : ℕ) → IsPrintable t.kind
+    → Cut (at + length (kind_bytes t.kind)) (with_gaps ts ++ 10 ∷ []) (laid (at + length (kind_bytes t.kind) + 1) ts)
+    None
     → Cut at (kind_bytes t.kind ++ with_gaps ts ++ 10 ∷ []) (laid at (t ∷ ts)) None
 text_cut t ts at here cut =
     subst (λ l. Cut at l (laid at (t ∷ ts)) None) (sym (append_assoc (kind_bytes t.kind) (with_gaps ts) (10 ∷ [])))
-    (token_cut at t.kind (with_gaps ts ++ 10 ∷ []) (laid (at + length (kind_bytes t.kind) + 1) ts) here (behind_white ts) cut)
+    (token_cut at t.kind (with_gaps ts ++ 10 ∷ []) (laid (at + length (kind_bytes t.kind) + 1) ts) here
+    (behind_white ts) cut)
 
 behind_cut : (ts : List Printed) (at : ℕ) → Printables ts → Cut at (with_gaps ts ++ 10 ∷ []) (laid (at + 1) ts) None
 behind_cut [] at h = white at (10 ∷ []) [] None refl (finish (at + 1))

@@ -24,11 +24,13 @@ adds_one {a} x h = record { by = h ∙ ap (λ l. a ++ l) (sym (append-nil (with_
 
 pub both : {a b c : List ℕ} {xs ys : List Printed} → Adds a xs b → Adds b ys c → Adds a (xs ++ ys) c
 both {a} {xs = xs} {ys = ys} first then = record {
-  by = then.by ∙ ap (λ l. l ++ with_gaps ys) first.by ∙ append_assoc a (with_gaps xs) (with_gaps ys) ∙ ap (λ l. a ++ l) (sym (with_gaps-append xs ys));
+  by = then.by ∙ ap (λ l. l ++ with_gaps ys) first.by ∙ append_assoc a (with_gaps xs) (with_gaps ys)
+      ∙ ap (λ l. a ++ l) (sym (with_gaps-append xs ys));
 }
 
 -- a statement's tokens are added where those of its plain statement are
-pub adds_statement : {a b : List ℕ} {plain : Statement} (s : Stmt) → statement_of s ≡ plain → Adds a (spelled_statement plain) b → b ≡ a ++ with_gaps (spelled_statement (statement_of s))
+pub adds_statement : {a b : List ℕ} {plain : Statement} (s : Stmt) → statement_of s ≡ plain
+    → Adds a (spelled_statement plain) b → b ≡ a ++ with_gaps (spelled_statement (statement_of s))
 adds_statement {a} s same added = added.by ∙ ap (λ p. a ++ with_gaps (spelled_statement p)) (sym same)
 
 line_by_line : (k g f s : List ℕ) → 10 ∷ f ≡ s ++ 10 ∷ [] → k ++ g ++ 10 ∷ [] ++ f ≡ k ++ (g ++ s) ++ 10 ∷ []
@@ -36,17 +38,24 @@ line_by_line k g f s h = simp append_assoc (ap (λ l. k ++ (g ++ l)) h)
 
 -- the tokens of a class behind its first word
 abbrev class_rest : ClassText → List Printed
-class_rest class = a_name class.name ∷ spelled_parent class.parent ++ flat_map spelled_var class.fields ++ flat_map spelled_method class.methods
+class_rest class = a_name class.name ∷ spelled_parent class.parent ++ flat_map spelled_var class.fields
+    ++ flat_map spelled_method class.methods
 
 -- a line feed, and the texts of classes, are their tokens with what stands before each, and a line feed
-fresh_classes : (classes : List ClassText) → 10 ∷ flat_map (λ class. text_of (spelled_class class)) classes ≡ with_gaps (flat_map spelled_class classes) ++ 10 ∷ []
+fresh_classes : (classes : List ClassText) → 10 ∷ flat_map (λ class. text_of (spelled_class class)) classes
+    ≡ with_gaps (flat_map spelled_class classes) ++ 10 ∷ []
 fresh_classes [] = refl
 fresh_classes (class ∷ classes) = ap (λ l. 10 ∷ l)
-    (line_by_line (codes "class") (with_gaps (class_rest class)) (flat_map (λ c. text_of (spelled_class c)) classes) (with_gaps (flat_map spelled_class classes)) (fresh_classes classes)
-    ∙ ap (λ l. codes "class" ++ l ++ 10 ∷ []) (sym (with_gaps-append (class_rest class) (flat_map spelled_class classes))))
+    (line_by_line (codes "class") (with_gaps (class_rest class)) (flat_map (λ c. text_of (spelled_class c)) classes)
+    (with_gaps (flat_map spelled_class classes)) (fresh_classes classes)
+    ∙ ap (λ l. codes "class" ++ l ++ 10 ∷ []) (sym (with_gaps-append (class_rest class)
+    (flat_map spelled_class classes))))
 
-pub class_by_class : (classes : List ClassText) → flat_map (λ class. text_of (spelled_class class)) classes ≡ text_of (flat_map spelled_class classes)
+pub class_by_class : (classes : List ClassText) → flat_map (λ class. text_of (spelled_class class)) classes
+    ≡ text_of (flat_map spelled_class classes)
 class_by_class [] = refl
 class_by_class (class ∷ classes) =
-    line_by_line (codes "class") (with_gaps (class_rest class)) (flat_map (λ c. text_of (spelled_class c)) classes) (with_gaps (flat_map spelled_class classes)) (fresh_classes classes)
-    ∙ ap (λ l. codes "class" ++ l ++ 10 ∷ []) (sym (with_gaps-append (class_rest class) (flat_map spelled_class classes)))
+    line_by_line (codes "class") (with_gaps (class_rest class)) (flat_map (λ c. text_of (spelled_class c)) classes)
+    (with_gaps (flat_map spelled_class classes)) (fresh_classes classes)
+    ∙ ap (λ l. codes "class" ++ l ++ 10 ∷ []) (sym (with_gaps-append (class_rest class)
+    (flat_map spelled_class classes)))

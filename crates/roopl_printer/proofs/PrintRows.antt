@@ -6,7 +6,8 @@ use Rattle.rpp_tree.specs.declared.tree.VarType.{VarType}
 use Rattle.rpp_tree.specs.declared.tree.VarType.TheVariants as type
 use Rattle.rpp_tree.specs.declared.tree.BinOp.TheVariants as op
 use Rattle.rpp_tree.specs.declared.tree.UpdateOp.TheVariants as update
-use Rattle.rpp_tree.specs.Tree.{Expression, Number, Null, Variable, Element, Binary, Whole, Item, Ints, Object, Statements, Update, If, From, Local, New, Call, Skip, End, Then, Source}
+use Rattle.rpp_tree.specs.Tree.{Expression, Number, Null, Variable, Element, Binary, Whole, Item, Ints, Object}
+use Rattle.rpp_tree.specs.Tree.{Statements, Update, If, From, Local, New, Call, Skip, End, Then, Source}
 use Rattle.std.specs.Fmt.{digits}
 use Rattle.roopl_printer.specs.Spelled.{printed}
 
@@ -34,18 +35,27 @@ main_of body = record {
 nothing : printed (record { classes = [] }) ≡ []
 nothing = refl
 
-branches : printed (main_of (Then (If 0 (Binary 0 op.Equal x (Number 0 1)) (Then (Update 0 update.Sub (Whole (called (codes "x"))) (Number 0 1)) End) (Then (Skip 0) End) (Binary 0 op.Equal x (Number 0 0))) End))
+branches : printed (main_of (Then (If 0 (Binary 0 op.Equal x (Number 0 1))
+    (Then (Update 0 update.Sub (Whole (called (codes "x"))) (Number 0 1)) End) (Then (Skip 0) End)
+    (Binary 0 op.Equal x (Number 0 0))) End))
     ≡ codes "class P int x int [ ] a\nmethod main ( )\nif x = 1 then\nx -= 1 else\nskip fi x = 0\n"
 unfolding digits
 branches = refl
 
-parentheses : printed (main_of (Then (Update 0 update.Add (Item (called (codes "a")) (Binary 0 op.Sub x (Number 0 1))) (Binary 0 op.Mul (Binary 0 op.Add (Number 0 10) x) (Element (called (codes "a")) (Number 0 207)))) End))
+parentheses : printed (main_of (Then (Update 0 update.Add (Item (called (codes "a")) (Binary 0 op.Sub x (Number 0 1)))
+    (Binary 0 op.Mul (Binary 0 op.Add (Number 0 10) x) (Element (called (codes "a")) (Number 0 207)))) End))
     ≡ codes "class P int x int [ ] a\nmethod main ( )\na [ x - 1 ] += ( 10 + x ) * a [ 207 ]\n"
 unfolding digits
 parentheses = refl
 
-loop_with_locals : printed (main_of (Then (From 0 (Binary 0 op.Equal x (Number 0 0)) (Then (Local 0 (var (type.Class (called (codes "P"))) (codes "p'")) (Null 0) (Then (New 0 (Object (called (codes "P"))) (Whole (called (codes "p'")))) End) (var (type.Class (called (codes "P"))) (codes "p'")) (Null 0)) End) (Then (New 0 (Ints (Number 0 2)) (Whole (called (codes "a")))) End) (Binary 0 op.AtLeast x (Number 0 2))) End))
-    ≡ codes "class P int x int [ ] a\nmethod main ( )\nfrom x = 0 do\nlocal P p' = nil\nnew P p' delocal P p' = nil loop\nnew int [ 2 ] a until x >= 2\n"
+loop_with_locals : printed (main_of (Then (From 0 (Binary 0 op.Equal x (Number 0 0))
+    (Then (Local 0 (var (type.Class (called (codes "P"))) (codes "p'")) (Null 0)
+    (Then (New 0 (Object (called (codes "P"))) (Whole (called (codes "p'")))) End)
+    (var (type.Class (called (codes "P"))) (codes "p'")) (Null 0)) End)
+    (Then (New 0 (Ints (Number 0 2)) (Whole (called (codes "a")))) End) (Binary 0 op.AtLeast x (Number 0 2)))
+    End))
+    ≡ codes
+    "class P int x int [ ] a\nmethod main ( )\nfrom x = 0 do\nlocal P p' = nil\nnew P p' delocal P p' = nil loop\nnew int [ 2 ] a until x >= 2\n"
 unfolding digits
 loop_with_locals = refl
 
@@ -58,7 +68,8 @@ two_classes : printed (record {
         methods = record {
           name = called (codes "m");
           params = var type.Int (codes "x") ∷ var (type.ClassArray (called (codes "A"))) (codes "y") ∷ [];
-          body = Then (Call 0 false (Some (Item (called (codes "y")) (Number 0 0))) (called (codes "m")) (called (codes "x") ∷ called (codes "y") ∷ [])) End;
+          body = Then (Call 0 false (Some (Item (called (codes "y")) (Number 0 0))) (called (codes "m"))
+              (called (codes "x") ∷ called (codes "y") ∷ [])) End;
         }
             ∷ [];
       }

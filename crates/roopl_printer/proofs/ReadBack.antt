@@ -38,18 +38,25 @@ printable (Name text) name number = name
 printable (Number n) name number = number
 printable (Sign s) name number = tt
 
-printables : (ts : List Printed) → AllByRecursion (λ t. IsRightName t.kind) ts → AllByRecursion (λ t. IsSmallNumber t.kind) ts → AllByRecursion (λ t. IsPrintable t.kind) ts
+printables : (ts : List Printed) → AllByRecursion (λ t. IsRightName t.kind) ts
+    → AllByRecursion (λ t. IsSmallNumber t.kind) ts → AllByRecursion (λ t. IsPrintable t.kind) ts
 printables [] names numbers = tt
 printables (t ∷ ts) names numbers = (printable t.kind names.0 numbers.0, printables ts names.1 numbers.1)
 
 pub read_back : (p : Source) → IsOfGrammar p → IsWithinLimits p → length (spelled p) ≤ MOST_TOKENS → IsReadBack p
 read_back p grammatical within_limits few =
     let tokens = laid 0 (spelled p) in
-    let names = each_token IsRightName (λ k. tt) (λ s. tt) (λ n. tt) p (recursion_from_All (λ name. IsName name.text) (source_names p) within_limits.names) in
+    let names = each_token IsRightName (λ k. tt) (λ s. tt) (λ n. tt) p
+    (recursion_from_All (λ name. IsName name.text) (source_names p) within_limits.names) in
     let numbers = recursion_from_All (λ t. IsSmallNumber t.kind) (spelled p) grammatical.numbers in
-    let like = classes_like p.classes within_limits.methods_small grammatical.blocks tokens [] (laid_looks 0 (spelled p)) in
+    let like = classes_like p.classes within_limits.methods_small grammatical.blocks tokens []
+    (laid_looks 0 (spelled p)) in
     let tree : Source = record { classes = like.trees } in
-    let small : IsSmall tree = record { classes_few = let c = like.count in let f = within_limits.classes_few in omega arith; methods_small = like.small } in
+    let small : IsSmall tree = record {
+      classes_few = let c = like.count in let f = within_limits.classes_few in
+          omega arith;
+      methods_small = like.small;
+    } in
     let long = laid_length 0 (spelled p) in
     let flat = like.flat in
     record {
@@ -62,14 +69,18 @@ read_back p grammatical within_limits few =
     }
 
 -- the tokens of a printed text are those of the tree that is read back, and pass no limit
-pub reads_tree : (p : Source) (back : IsReadBack p) (text : List ℕ) (cut tokens : List Token) → text ≡ printed p → IsCutting text cut → tokens ≡ cut → Derives tokens back.tree × (first_limit tokens ≡ None)
+pub reads_tree : (p : Source) (back : IsReadBack p) (text : List ℕ) (cut tokens : List Token) → text ≡ printed p
+    → IsCutting text cut → tokens ≡ cut → Derives tokens back.tree × (first_limit tokens ≡ None)
 reads_tree p back text cut tokens same cutting are =
-    let one = (one_cut 0 text cut None back.tokens None cutting (subst (λ l. IsCutting l back.tokens) (sym same) back.cutting)).0 in
+    let one = (one_cut 0 text cut None back.tokens None cutting
+    (subst (λ l. IsCutting l back.tokens) (sym same) back.cutting)).0 in
     let all : tokens ≡ back.tokens = are ∙ one in
     (subst (λ l. Derives l back.tree) (sym all) back.derived, ap first_limit all ∙ back.free)
 
 -- a printed text is not refused
-pub not_refused : (p : Source) (back : IsReadBack p) (text : List ℕ) (e : LexError) → text ≡ printed p → IsFirstRefusal text e → ⊥
+pub not_refused : (p : Source) (back : IsReadBack p) (text : List ℕ) (e : LexError) → text ≡ printed p
+    → IsFirstRefusal text e → ⊥
 not_refused p back text e same refusal =
-    let both = (one_cut 0 text refusal.0 (Some e) back.tokens None refusal.1 (subst (λ l. IsCutting l back.tokens) (sym same) back.cutting)).1 in
+    let both = (one_cut 0 text refusal.0 (Some e) back.tokens None refusal.1
+    (subst (λ l. IsCutting l back.tokens) (sym same) back.cutting)).1 in
     cc

@@ -3,9 +3,15 @@ use Rattle.std.proofs.lemmas.List.{length-map}
 use Rattle.std.proofs.Common.{◌≡◌, ◌+◌, ◌≤◌, List, map, length, Option, Some, None, refl, sym, ◌∙◌, ap, subst, arith}
 use Rattle.rpp_tree.specs.declared.tree.Var.{Var}
 use Rattle.rpp_tree.specs.declared.limits.TheConstants.{MOST_NODES, MOST_INDEX_DEPTH}
-use Rattle.rpp_tree.specs.Tree.{Expression, Number, Null, Variable, Element, Binary, Lvalue, Whole, Item, Creation, Object, Ints, Objects, Statement, Statements, Update, Swap, If, From, Construct, Local, New, Delete, Copy, Uncopy, Call, Skip, End, Then, Procedure, nodes, index_nodes, creation_nodes, receiver_nodes, statement_nodes, statement_depth, depth}
-use Rattle.rpp_tree.specs.Bare.{bare_var, bare_expression, bare_lvalue, bare_receiver, bare_creation, bare_statement, bare, bare_procedure}
-use Rattle.rpp_tree.specs.Limits.{index_depth, lvalue_index_depth, creation_index_depth, receiver_index_depth, statement_index_depth, receiver_locals, statement_locals, locals, IsSmallStatement, AreSmall, AreInnerSmall, IsSmallMethod}
+use Rattle.rpp_tree.specs.Tree.{Expression, Number, Null, Variable, Element, Binary, Lvalue, Whole, Item, Creation}
+use Rattle.rpp_tree.specs.Tree.{Object, Ints, Objects, Statement, Statements, Update, Swap, If, From, Construct, Local}
+use Rattle.rpp_tree.specs.Tree.{New, Delete, Copy, Uncopy, Call, Skip, End, Then, Procedure, nodes, index_nodes}
+use Rattle.rpp_tree.specs.Tree.{creation_nodes, receiver_nodes, statement_nodes, statement_depth, depth}
+use Rattle.rpp_tree.specs.Bare.{bare_var, bare_expression, bare_lvalue, bare_receiver, bare_creation, bare_statement}
+use Rattle.rpp_tree.specs.Bare.{bare, bare_procedure}
+use Rattle.rpp_tree.specs.Limits.{index_depth, lvalue_index_depth, creation_index_depth, receiver_index_depth}
+use Rattle.rpp_tree.specs.Limits.{statement_index_depth, receiver_locals, statement_locals, locals, IsSmallStatement}
+use Rattle.rpp_tree.specs.Limits.{AreSmall, AreInnerSmall, IsSmallMethod}
 
 same_nodes : (e : Expression) → nodes (bare_expression e) ≡ nodes e
 same_nodes (Number at n) = refl
@@ -172,7 +178,8 @@ same_count : (xs ys : List Var) → map bare_var xs ≡ map bare_var ys → leng
 same_count xs ys same = sym (length-map xs bare_var) ∙ ap length same ∙ length-map ys bare_var
 
 -- a method that is equal but for places keeps the limits too
-pub small_method : (tree method : Procedure) → bare_procedure tree ≡ bare_procedure method → IsSmallMethod method → IsSmallMethod tree
+pub small_method : (tree method : Procedure) → bare_procedure tree ≡ bare_procedure method → IsSmallMethod method
+    → IsSmallMethod tree
 small_method tree method same small =
     let body : bare tree.body ≡ bare method.body = ap (λ (p : Procedure). p.body) same in
     let count = same_count tree.params method.params (ap (λ (p : Procedure). p.params) same) in

@@ -14,35 +14,58 @@ use Rattle.rpp_tree.specs.Tree.{Update, Swap, If, From, Construct, Local, New, D
 use Rattle.rpp_tree.specs.Views.{expression_of, lvalue_of, creation_of, optional_lvalue_of, statement_of, block_of}
 
 module _ (at : ℕ) where
-  pub shows_update : (op : UpdateOp) (place : Place) (value : Expr) → statement_of (stmt.Update at op place value) ≡ Update at op (lvalue_of place) (expression_of value)
-  shows_update op place value = ap statement_of (sym (stmt.rolls-Update at op place value)) ∙ search (rules, fold-roll-Stmt)
+  pub shows_update : (op : UpdateOp) (place : Place) (value : Expr)
+      → statement_of (stmt.Update at op place value) ≡ Update at op (lvalue_of place) (expression_of value)
+  shows_update op place value = ap statement_of (sym (stmt.rolls-Update at op place value))
+      ∙ search (rules, fold-roll-Stmt)
 
-  pub shows_swap : (left right : Place) → statement_of (stmt.Swap at left right) ≡ Swap at (lvalue_of left) (lvalue_of right)
+  pub shows_swap : (left right : Place) → statement_of (stmt.Swap at left right)
+      ≡ Swap at (lvalue_of left) (lvalue_of right)
   shows_swap left right = ap statement_of (sym (stmt.rolls-Swap at left right)) ∙ search (rules, fold-roll-Stmt)
 
-  pub shows_if : (test : Expr) (taken other : Block) (after : Expr) → statement_of (stmt.If at test taken other after) ≡ If at (expression_of test) (block_of taken) (block_of other) (expression_of after)
-  shows_if test taken other after = ap statement_of (sym (stmt.rolls-If at test taken other after)) ∙ search (rules, fold-roll-Stmt)
+  pub shows_if : (test : Expr) (taken other : Block) (after : Expr)
+      → statement_of (stmt.If at test taken other after) ≡ If at (expression_of test) (block_of taken) (block_of other)
+      (expression_of after)
+  shows_if test taken other after = ap statement_of (sym (stmt.rolls-If at test taken other after))
+      ∙ search (rules, fold-roll-Stmt)
 
-  pub shows_from : (entry : Expr) (first again : Block) (exit : Expr) → statement_of (stmt.From at entry first again exit) ≡ From at (expression_of entry) (block_of first) (block_of again) (expression_of exit)
-  shows_from entry first again exit = ap statement_of (sym (stmt.rolls-From at entry first again exit)) ∙ search (rules, fold-roll-Stmt)
+  pub shows_from : (entry : Expr) (first again : Block) (exit : Expr)
+      → statement_of (stmt.From at entry first again exit)
+      ≡ From at (expression_of entry) (block_of first) (block_of again) (expression_of exit)
+  shows_from entry first again exit = ap statement_of (sym (stmt.rolls-From at entry first again exit))
+      ∙ search (rules, fold-roll-Stmt)
 
-  pub shows_construct : (class name : Ident) (body : Block) (end : Ident) → statement_of (stmt.Construct at class name body end) ≡ Construct at class name (block_of body) end
-  shows_construct class name body end = ap statement_of (sym (stmt.rolls-Construct at class name body end)) ∙ search (rules, fold-roll-Stmt)
+  pub shows_construct : (class name : Ident) (body : Block) (end : Ident)
+      → statement_of (stmt.Construct at class name body end) ≡ Construct at class name (block_of body) end
+  shows_construct class name body end = ap statement_of (sym (stmt.rolls-Construct at class name body end))
+      ∙ search (rules, fold-roll-Stmt)
 
-  pub shows_local : (var : Var) (value : Expr) (body : Block) (end_var : Var) (end_value : Expr) → statement_of (stmt.Local at var value body end_var end_value) ≡ Local at var (expression_of value) (block_of body) end_var (expression_of end_value)
-  shows_local var value body end_var end_value = ap statement_of (sym (stmt.rolls-Local at var value body end_var end_value)) ∙ search (rules, fold-roll-Stmt)
+  pub shows_local : (var : Var) (value : Expr) (body : Block) (end_var : Var) (end_value : Expr)
+      → statement_of (stmt.Local at var value body end_var end_value)
+      ≡ Local at var (expression_of value) (block_of body) end_var (expression_of end_value)
+  shows_local var value body end_var end_value = ap statement_of
+      (sym (stmt.rolls-Local at var value body end_var end_value)) ∙ search (rules, fold-roll-Stmt)
 
-  pub shows_new : (made : Made) (place : Place) → statement_of (stmt.New at made place) ≡ New at (creation_of made) (lvalue_of place)
+  pub shows_new : (made : Made) (place : Place) → statement_of (stmt.New at made place)
+      ≡ New at (creation_of made) (lvalue_of place)
   shows_new made place = ap statement_of (sym (stmt.rolls-New at made place)) ∙ search (rules, fold-roll-Stmt)
 
-  pub shows_delete : (made : Made) (place : Place) → statement_of (stmt.Delete at made place) ≡ Delete at (creation_of made) (lvalue_of place)
+  pub shows_delete : (made : Made) (place : Place) → statement_of (stmt.Delete at made place)
+      ≡ Delete at (creation_of made) (lvalue_of place)
   shows_delete made place = ap statement_of (sym (stmt.rolls-Delete at made place)) ∙ search (rules, fold-roll-Stmt)
 
-  pub shows_copy : (kind : VarType) (source target : Place) → statement_of (stmt.Copy at kind source target) ≡ Copy at kind (lvalue_of source) (lvalue_of target)
-  shows_copy kind source target = ap statement_of (sym (stmt.rolls-Copy at kind source target)) ∙ search (rules, fold-roll-Stmt)
+  pub shows_copy : (kind : VarType) (source target : Place)
+      → statement_of (stmt.Copy at kind source target) ≡ Copy at kind (lvalue_of source) (lvalue_of target)
+  shows_copy kind source target = ap statement_of (sym (stmt.rolls-Copy at kind source target))
+      ∙ search (rules, fold-roll-Stmt)
 
-  pub shows_uncopy : (kind : VarType) (source target : Place) → statement_of (stmt.Uncopy at kind source target) ≡ Uncopy at kind (lvalue_of source) (lvalue_of target)
-  shows_uncopy kind source target = ap statement_of (sym (stmt.rolls-Uncopy at kind source target)) ∙ search (rules, fold-roll-Stmt)
+  pub shows_uncopy : (kind : VarType) (source target : Place)
+      → statement_of (stmt.Uncopy at kind source target) ≡ Uncopy at kind (lvalue_of source) (lvalue_of target)
+  shows_uncopy kind source target = ap statement_of (sym (stmt.rolls-Uncopy at kind source target))
+      ∙ search (rules, fold-roll-Stmt)
 
-  pub shows_call : (back : Bool) (receiver : Option Place) (method : Ident) (args : Vec Ident Global) → statement_of (stmt.Call at back receiver method args) ≡ Call at back (optional_lvalue_of receiver) method args.items
-  shows_call back receiver method args = ap statement_of (sym (stmt.rolls-Call at back receiver method args)) ∙ search (rules, fold-roll-Stmt)
+  pub shows_call : (back : Bool) (receiver : Option Place) (method : Ident) (args : Vec Ident Global)
+      → statement_of (stmt.Call at back receiver method args)
+      ≡ Call at back (optional_lvalue_of receiver) method args.items
+  shows_call back receiver method args = ap statement_of (sym (stmt.rolls-Call at back receiver method args))
+      ∙ search (rules, fold-roll-Stmt)

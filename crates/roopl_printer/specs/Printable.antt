@@ -1,7 +1,8 @@
 -- Tokens that a source may hold, and trees of the grammar.
 use Rattle.std.specs.Prelude.{◌≤◌, All}
 use Rattle.rpp_tree.specs.Names.{IsName}
-use Rattle.rpp_tree.specs.Tree.{Statement, Statements, Update, Swap, If, From, Construct, Local, New, Delete, Copy, Uncopy, Call, Skip, End, Then, Source}
+use Rattle.rpp_tree.specs.Tree.{Statement, Statements, Update, Swap, If, From, Construct, Local}
+use Rattle.rpp_tree.specs.Tree.{New, Delete, Copy, Uncopy, Call, Skip, End, Then, Source}
 use Rattle.roopl_lexer.specs.declared.token.TokenKind.{TokenKind}
 use Rattle.roopl_lexer.specs.declared.token.TokenKind.TheVariants.{Word, Name, Number, Sign}
 use Rattle.rpp_tree.specs.declared.limits.TheConstants.{MOST_NUMBER}

@@ -9,7 +9,10 @@ use Rattle.rpp_tree.specs.declared.tree.BinOp.{BinOp}
 use Rattle.rpp_tree.specs.declared.tree.BinOp.TheVariants as op
 use Rattle.rpp_tree.specs.declared.tree.UpdateOp.{UpdateOp}
 use Rattle.rpp_tree.specs.declared.tree.UpdateOp.TheVariants as update
-use Rattle.rpp_tree.specs.Tree.{Expression, Number, Null, Variable, Element, Binary, Lvalue, Whole, Item, Creation, Object, Ints, Objects, Statement, Statements, Update, Swap, If, From, Construct, Local, New, Delete, Copy, Uncopy, Call, Skip, End, Then, Procedure, ClassText, Source}
+use Rattle.rpp_tree.specs.Tree.{Expression, Number, Null, Variable, Element, Binary, Lvalue, Whole}
+use Rattle.rpp_tree.specs.Tree.{Item, Creation, Object, Ints, Objects, Statement, Statements}
+use Rattle.rpp_tree.specs.Tree.{Update, Swap, If, From, Construct, Local, New, Delete, Copy, Uncopy}
+use Rattle.rpp_tree.specs.Tree.{Call, Skip, End, Then, Procedure, ClassText, Source}
 use Rattle.rpp_tree.specs.Places.{place_name}
 use Rattle.roopl_lexer.specs.declared.token.Keyword.{Keyword}
 use Rattle.roopl_lexer.specs.declared.token.Keyword.TheVariants as word
@@ -145,7 +148,8 @@ abbrev mutual
   pub spelled_statement : Statement → List Printed
   spelled_statement (Update at op target value) =
       first_place target ++ a_sign (update_sign op) ∷ spelled_expression value
-  spelled_statement (Swap at left right) = first_place left ++ a_sign sign.Swap ∷ spelled_place right
+  spelled_statement (Swap at left right) = first_place left ++ a_sign sign.Swap
+      ∷ spelled_place right
   spelled_statement (If at test taken other after) =
       first_word word.If ∷ spelled_expression test ++ a_word word.Then ∷ spelled_block taken
       ++ a_word word.Else ∷ spelled_block other ++ a_word word.Fi ∷ spelled_expression after

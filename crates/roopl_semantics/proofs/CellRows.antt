@@ -4,7 +4,8 @@ use Rattle.std.proofs.Common.{refl}
 use Rattle.rpp_words.specs.declared.input.Limits.{Limits}
 use Rattle.rpp_tree.specs.declared.tree.VarType.TheVariants as kind
 use Rattle.rpp_tree.specs.declared.tree.UpdateOp.TheVariants as update
-use Rattle.rpp_tree.specs.Tree.{Number, Whole, Item, Object as AnObject, Ints, Objects, Update, New, Delete, Copy, Uncopy, Call, Skip, Source}
+use Rattle.rpp_tree.specs.Tree.{Number, Whole, Item, Object as AnObject, Ints, Objects, Update, New, Delete, Copy}
+use Rattle.rpp_tree.specs.Tree.{Uncopy, Call, Skip, Source}
 use Rattle.roopl_semantics.specs.Run.{Run, Done}
 use Rattle.roopl_semantics.specs.Store.{State}
 use Rattle.roopl_semantics.specs.Source.{source}

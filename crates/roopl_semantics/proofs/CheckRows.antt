@@ -7,8 +7,11 @@ use Rattle.rpp_tree.specs.declared.tree.VarType.TheVariants as kind
 use Rattle.rpp_tree.specs.declared.tree.UpdateOp.TheVariants as update
 use Rattle.rpp_tree.specs.declared.tree.BinOp.TheVariants as op
 use Rattle.rpp_tree.specs.declared.tree.Ident.{Ident}
-use Rattle.rpp_tree.specs.Tree.{Statement, Number, Variable, Element, Binary, Whole, Item, Object as AnObject, Ints, Objects, Update, Swap, From, Construct, Local, New, Delete, Copy, Uncopy, Call, Skip, Source}
-use Rattle.roopl_semantics.proofs.Testing.{named, var, procedure, class_text, block, program, word_for, Finished, Faulted, Unfinished, lines, ending}
+use Rattle.rpp_tree.specs.Tree.{Statement, Number, Variable, Element, Binary, Whole, Item, Object as AnObject, Ints}
+use Rattle.rpp_tree.specs.Tree.{Objects, Update, Swap, From, Construct, Local, New, Delete, Copy, Uncopy, Call, Skip}
+use Rattle.rpp_tree.specs.Tree.{Source}
+use Rattle.roopl_semantics.proofs.Testing.{named, var, procedure, class_text, block, program, word_for, Finished}
+use Rattle.roopl_semantics.proofs.Testing.{Faulted, Unfinished, lines, ending}
 
 -- ---- the names
 

@@ -1,5 +1,6 @@
 -- Where `main` stands in an accepted program, and the rules of the class table one by one.
-use Rattle.std.proofs.Common.{◌≡◌, ◌∙◌, sym, ap, subst, refl, ℕ, suc, ◌+◌, ◌<◌, Bool, true, false, List, [], ◌∷◌, ◌++◌, length, Option, Some, None, arith, slice_get}
+use Rattle.std.proofs.Common.{◌≡◌, ◌∙◌, sym, ap, subst, refl, ℕ, suc, ◌+◌, ◌<◌, Bool, true, false, List, [], ◌∷◌, ◌++◌}
+use Rattle.std.proofs.Common.{length, Option, Some, None, arith, slice_get}
 use Rattle.std.specs.Prelude.{if◌then◌else◌}
 use Rattle.std.proofs.lemmas.Option.{slice_get_within}
 use Rattle.rpp_tree.specs.declared.tree.Var.{Var}
@@ -32,7 +33,8 @@ pub record MainIn (methods : List Procedure) (from at : ℕ) : Type 0 where
   pub there : slice_get methods index ≡ Some method
   pub main : is_main method ≡ true
 
-later_method : (x : Procedure) (methods : List Procedure) (from at : ℕ) → MainIn methods (from + 1) at → MainIn (x ∷ methods) from at
+later_method : (x : Procedure) (methods : List Procedure) (from at : ℕ) → MainIn methods (from + 1) at
+    → MainIn (x ∷ methods) from at
 later_method x methods from at found = record {
   index = suc found.index;
   number_is = found.number_is ∙ (let e : from + 1 + found.index ≡ from + suc found.index = omega arith in e);
@@ -46,20 +48,33 @@ MainFound m class from methods = (m.runs.class ≡ class) × MainIn methods from
 
 abbrev mains_by : Bool → (class from : ℕ) → Procedure → List Procedure → List Main
 mains_by b class from x methods =
-    if b then record { runs = record { class = class; method = from }; at = x.name.at } ∷ mains_in class (from + 1) methods else mains_in class (from + 1) methods
+    if b then record { runs = record { class = class; method = from }; at = x.name.at }
+    ∷ mains_in class (from + 1) methods else mains_in class (from + 1) methods
 
-main_by : (b : Bool) (class from : ℕ) (x : Procedure) (methods : List Procedure) (m : Main) (more : List Main) → is_main x ≡ b
+main_by : (b : Bool) (class from : ℕ) (x : Procedure) (methods : List Procedure) (m : Main) (more : List Main)
+    → is_main x ≡ b
     → (mains_in class (from + 1) methods ≡ m ∷ more → MainFound m class (from + 1) methods)
     → mains_by b class from x methods ≡ m ∷ more → MainFound m class from (x ∷ methods)
 main_by true class from x methods m more is rest e =
     let same : record { runs = record { class = class; method = from }; at = x.name.at } ≡ m = cc in
-    let z : from ≡ from + 0 = omega arith in
-    (ap (λ (k : Main). k.runs.class) (sym same), record { index = 0; number_is = ap (λ (k : Main). k.runs.method) (sym same) ∙ z; method = x; there = refl; main = is })
-main_by false class from x methods m more is rest e = let found = rest e in (found.0, later_method x methods from m.runs.method found.1)
+    let z : from ≡ from + 0 = omega arith in (
+      ap (λ (k : Main). k.runs.class) (sym same),
+      record {
+        index = 0;
+        number_is = ap (λ (k : Main). k.runs.method) (sym same) ∙ z;
+        method = x;
+        there = refl;
+        main = is;
+      },
+    )
+main_by false class from x methods m more is rest e = let found = rest e in
+    (found.0, later_method x methods from m.runs.method found.1)
 
-main_in : (class from : ℕ) (methods : List Procedure) (m : Main) (more : List Main) → mains_in class from methods ≡ m ∷ more → MainFound m class from methods
+main_in : (class from : ℕ) (methods : List Procedure) (m : Main) (more : List Main)
+    → mains_in class from methods ≡ m ∷ more → MainFound m class from methods
 main_in class from [] m more h = absurd (cc)
-main_in class from (x ∷ methods) m more h = main_by (is_main x) class from x methods m more refl (main_in class (from + 1) methods m more) h
+main_in class from (x ∷ methods) m more h = main_by (is_main x) class from x methods m more refl
+    (main_in class (from + 1) methods m more) h
 
 pub record MainFrom (classes : List ClassText) (from : ℕ) (id : MethodId) : Type 0 where
   pub index : ℕ
@@ -68,23 +83,35 @@ pub record MainFrom (classes : List ClassText) (from : ℕ) (id : MethodId) : Ty
   pub there : slice_get classes index ≡ Some class
   pub found : MainIn class.methods 0 id.method
 
-from_lists : (xs : List Main) (from : ℕ) (c : ClassText) (classes : List ClassText) (m : Main) (more : List Main) → mains_in from 0 c.methods ≡ xs
+from_lists : (xs : List Main) (from : ℕ) (c : ClassText) (classes : List ClassText) (m : Main) (more : List Main)
+    → mains_in from 0 c.methods ≡ xs
     → (mains_from (from + 1) classes ≡ m ∷ more → MainFrom classes (from + 1) m.runs)
     → xs ++ mains_from (from + 1) classes ≡ m ∷ more → MainFrom (c ∷ classes) from m.runs
 from_lists [] from c classes m more is below e =
     let rest = below e in
-    record { index = suc rest.index; class_is = rest.class_is ∙ (let z : from + 1 + rest.index ≡ from + suc rest.index = omega arith in z); class = rest.class; there = rest.there; found = rest.found }
+    record {
+      index = suc rest.index;
+      class_is = rest.class_is
+          ∙ (let z : from + 1 + rest.index ≡ from + suc rest.index = omega arith in z);
+      class = rest.class;
+      there = rest.there;
+      found = rest.found;
+    }
 from_lists (x ∷ xs) from c classes m more is below e =
     let same : x ≡ m = cc in
     let first = main_in from 0 c.methods x xs is in
     let z : from ≡ from + 0 = omega arith in
-    subst (λ (k : Main). MainFrom (c ∷ classes) from k.runs) same (record { index = 0; class_is = first.0 ∙ z; class = c; there = refl; found = first.1 })
+    subst (λ (k : Main). MainFrom (c ∷ classes) from k.runs) same
+    (record { index = 0; class_is = first.0 ∙ z; class = c; there = refl; found = first.1 })
 
-main_from : (from : ℕ) (classes : List ClassText) (m : Main) (more : List Main) → mains_from from classes ≡ m ∷ more → MainFrom classes from m.runs
+main_from : (from : ℕ) (classes : List ClassText) (m : Main) (more : List Main) → mains_from from classes ≡ m ∷ more
+    → MainFrom classes from m.runs
 main_from from [] m more h = absurd (cc)
-main_from from (c ∷ classes) m more h = from_lists (mains_in from 0 c.methods) from c classes m more refl (main_from (from + 1) classes m more) h
+main_from from (c ∷ classes) m more h = from_lists (mains_in from 0 c.methods) from c classes m more refl
+    (main_from (from + 1) classes m more) h
 
-pub first_of_mains : (end : ℕ) (classes : List ClassText) (xs : List Main) → mains_from 0 classes ≡ xs → main_refusal end xs ≡ None → MainFrom classes 0 (first_main xs)
+pub first_of_mains : (end : ℕ) (classes : List ClassText) (xs : List Main) → mains_from 0 classes ≡ xs
+    → main_refusal end xs ≡ None → MainFrom classes 0 (first_main xs)
 first_of_mains end classes [] is h = absurd (cc)
 first_of_mains end classes (m ∷ more) is h = main_from 0 classes m more is
 
@@ -116,7 +143,8 @@ class_inside program accepted =
     omega (arith, place.class_is)
 
 -- the fields that the readers of the program's table answer
-pub fields_read : (program : Source) (table : Table) (main : MethodId) (fields : List Var) → IsAccepted program → table ≡ table_of program → main ≡ table.main → fields ≡ fields_in table main.class → fields ≡ main_fields program
+pub fields_read : (program : Source) (table : Table) (main : MethodId) (fields : List Var) → IsAccepted program
+    → table ≡ table_of program → main ≡ table.main → fields ≡ fields_in table main.class → fields ≡ main_fields program
 fields_read program table main fields accepted is main_is fields_is =
     fields_is
     ∙ ap (λ (id : MethodId). fields_in table id.class) main_is

@@ -26,11 +26,13 @@ laid program limits statics _ = []
 
 -- the memory after a run
 abbrev memory : Source → ℕ → ℕ → List (List ℕ) → List ℕ
-memory program heap deep places = laid program (limits heap deep) (statics program places) (source program (limits heap deep) [] 1000)
+memory program heap deep places = laid program (limits heap deep) (statics program places)
+    (source program (limits heap deep) [] 1000)
 
 -- the cells of a memory behind the fixed ones, without the stack
 abbrev body : Source → ℕ → ℕ → List (List ℕ) → List ℕ
-body program heap deep places = let cells = memory program heap deep places in drop 40 (take (length cells - 512 * deep) cells)
+body program heap deep places = let cells = memory program heap deep places in
+    drop 40 (take (length cells - 512 * deep) cells)
 
 adds-statics : statics adds-text ((7 ∷ []) ∷ []) ≡ 43 ∷ 1 ∷ 0 ∷ 1 ∷ 7 ∷ []
 adds-statics = refl
@@ -45,7 +47,9 @@ adds-body : body adds-text 1 1 ((7 ∷ []) ∷ []) ≡ 43 ∷ 1 ∷ 5 ∷ 1 ∷ 
 adds-body = refl
 
 -- the starting store is laid out as the loaded memory
-adds-loaded : layout adds-text (limits 1 1) (statics adds-text ((7 ∷ []) ∷ [])) (starting adds-text (word_for 0 9 ∷ [])).store [] ≡ loaded (statics adds-text ((7 ∷ []) ∷ [])) (limits 1 1) (word_for 0 9 ∷ [])
+adds-loaded : layout adds-text (limits 1 1) (statics adds-text ((7 ∷ []) ∷ []))
+    (starting adds-text (word_for 0 9 ∷ [])).store [] ≡ loaded (statics adds-text ((7 ∷ []) ∷ [])) (limits 1 1)
+    (word_for 0 9 ∷ [])
 adds-loaded = refl
 
 ring-length : length (memory ring-text 3 2 ((5 ∷ []) ∷ (7 ∷ 9 ∷ []) ∷ [])) ≡ 1088

@@ -1,9 +1,11 @@
 -- The memory of a program: it is loaded, and laid out, as the words of the main object's fields
 -- between the same two fronts and backs.
-use Rattle.std.proofs.Common.{◌≡◌, ℕ, zero, suc, ◌+◌, ◌-◌, ◌*◌, ◌^◌, ◌<◌, ◌≤◌, List, [], ◌∷◌, ◌++◌, map, length, drop, replicate, refl, sym, ap, ◌∙◌, arith, true, false}
+use Rattle.std.proofs.Common.{◌≡◌, ℕ, zero, suc, ◌+◌, ◌-◌, ◌*◌, ◌^◌, ◌<◌, ◌≤◌, List, [], ◌∷◌, ◌++◌, map, length, drop}
+use Rattle.std.proofs.Common.{replicate, refl, sym, ap, ◌∙◌, arith, true, false}
 use Rattle.std.specs.Prelude.{slice_get, slice_set, IsTrue}
 use Rattle.std.specs.List.{All, slice_index_or}
-use Rattle.std.proofs.lemmas.List.{append_assoc, length-append, length-replicate, length-set, length-map, map-set, set-append_left, drop_at, take_all}
+use Rattle.std.proofs.lemmas.List.{append_assoc, length-append, length-replicate, length-set, length-map, map-set}
+use Rattle.std.proofs.lemmas.List.{set-append_left, drop_at, take_all}
 use Rattle.std.proofs.lemmas.List.Elements.{All-head, All-tail}
 use Rattle.std.proofs.lemmas.Nat.{pow_pos}
 use Rattle.rpp_words.specs.declared.input.FieldWord.{FieldWord}
@@ -20,7 +22,8 @@ use Rattle.class_table.specs.Classes.{main_of}
 use Rattle.rpp_words.specs.Limits.{IsLimits}
 use Rattle.roopl_semantics.specs.Alone.{alone}
 use Rattle.roopl_semantics.specs.Laws.{StartsLoaded}
-use Rattle.roopl_semantics.specs.Layout.{table_at, main_statics, tables, with_book, word_of, overlaid, static_words, layout}
+use Rattle.roopl_semantics.specs.Layout.{table_at, main_statics, tables, with_book, word_of, overlaid, static_words}
+use Rattle.roopl_semantics.specs.Layout.{layout}
 use Rattle.buddy_book.specs.Shown.{first_address}
 
 -- what a program gives its memory: the address of the main object's table, the number of its
@@ -31,7 +34,11 @@ pub record Shape : Type 0 where
   pub tables : List ℕ
 
 abbrev pub shape_of : Source → List (List ℕ) → Shape
-shape_of program places = record { table = table_at program (main_of program).class; fields = length (main_fields program); tables = tables 1 places }
+shape_of program places = record {
+  table = table_at program (main_of program).class;
+  fields = length (main_fields program);
+  tables = tables 1 places;
+}
 
 abbrev pub words_of : List Value → List ℕ
 words_of values = map number_of values
@@ -56,15 +63,21 @@ base limits shape = heap_base limits.heap (size shape)
 -- what stands before the words of the fields
 abbrev pub front : Limits → Shape → List ℕ
 front limits shape =
-    fixed_cells limits.heap limits.deep (base limits shape) (empty_heads limits.heap (base limits shape)) ++ shape.table ∷ 1 ∷ []
+    fixed_cells limits.heap limits.deep (base limits shape) (empty_heads limits.heap (base limits shape)) ++ shape.table
+    ∷ 1 ∷ []
 
 -- and what stands behind them
 abbrev pub back : Limits → Shape → List ℕ
 back limits shape =
-    shape.tables ++ (replicate (base limits shape - statics_at - size shape) 0 ++ replicate (2 ^ limits.heap) 0 ++ replicate (512 * limits.deep) 0)
+    shape.tables ++ (replicate (base limits shape - statics_at - size shape) 0 ++ replicate (2 ^ limits.heap) 0
+    ++ replicate (512 * limits.deep) 0)
 
 pub length-statics : (shape : Shape) → length (statics_of shape) ≡ size shape
-length-statics shape = omega (arith, length-append {A = ℕ} (shape.table ∷ 1 ∷ replicate shape.fields 0) shape.tables, length-replicate {A = ℕ} shape.fields 0)
+length-statics shape = omega (
+  arith,
+  length-append {A = ℕ} (shape.table ∷ 1 ∷ replicate shape.fields 0) shape.tables,
+  length-replicate {A = ℕ} shape.fields 0,
+)
 
 -- a memory by its parts: the length of the static cells, these cells, and the heap
 abbrev with_parts : Limits → ℕ → List ℕ → List ℕ → List ℕ → List ℕ
@@ -75,41 +88,54 @@ with_parts limits size heads statics heap =
     ++ heap
     ++ replicate (512 * limits.deep) 0
 
-regrouped : (before words tabs room heap stack : List ℕ) (a b : ℕ) → before ++ (a ∷ b ∷ (words ++ tabs)) ++ room ++ heap ++ stack ≡ (before ++ a ∷ b ∷ []) ++ (words ++ (tabs ++ (room ++ heap ++ stack)))
+regrouped : (before words tabs room heap stack : List ℕ) (a b : ℕ)
+    → before ++ (a ∷ b ∷ (words ++ tabs)) ++ room ++ heap ++ stack
+    ≡ (before ++ a ∷ b ∷ []) ++ (words ++ (tabs ++ (room ++ heap ++ stack)))
 regrouped before words tabs room heap stack a b = simp append_assoc
 
 of_parts : (limits : Limits) (shape : Shape) (words : List ℕ)
-    → with_parts limits (size shape) (empty_heads limits.heap (base limits shape)) (shape.table ∷ 1 ∷ (words ++ shape.tables)) (replicate (2 ^ limits.heap) 0) ≡ front limits shape ++ (words ++ back limits shape)
+    → with_parts limits (size shape) (empty_heads limits.heap (base limits shape))
+    (shape.table ∷ 1 ∷ (words ++ shape.tables)) (replicate (2 ^ limits.heap) 0)
+    ≡ front limits shape ++ (words ++ back limits shape)
 of_parts limits shape words =
-    regrouped (fixed_cells limits.heap limits.deep (base limits shape) (empty_heads limits.heap (base limits shape))) words shape.tables
-    (replicate (base limits shape - statics_at - size shape) 0) (replicate (2 ^ limits.heap) 0) (replicate (512 * limits.deep) 0) shape.table 1
+    regrouped (fixed_cells limits.heap limits.deep (base limits shape) (empty_heads limits.heap (base limits shape)))
+    words shape.tables
+    (replicate (base limits shape - statics_at - size shape) 0) (replicate (2 ^ limits.heap) 0)
+    (replicate (512 * limits.deep) 0) shape.table 1
 
 -- the input's words in the fields
 
-set-third : (a b : ℕ) (words rest : List ℕ) (i word : ℕ) → i < length words → slice_set (a ∷ b ∷ (words ++ rest)) (2 + i) word ≡ a ∷ b ∷ (slice_set words i word ++ rest)
+set-third : (a b : ℕ) (words rest : List ℕ) (i word : ℕ) → i < length words
+    → slice_set (a ∷ b ∷ (words ++ rest)) (2 + i) word ≡ a ∷ b ∷ (slice_set words i word ++ rest)
 set-third a b words rest i word h =
     let e : 2 + i ≡ suc (suc i) = omega arith in
-    ap (λ k. slice_set (a ∷ b ∷ (words ++ rest)) k word) e ∙ ap (λ (cells : List ℕ). a ∷ b ∷ cells) (set-append_left words rest i word h)
+    ap (λ k. slice_set (a ∷ b ∷ (words ++ rest)) k word) e
+    ∙ ap (λ (cells : List ℕ). a ∷ b ∷ cells) (set-append_left words rest i word h)
 
 abbrev IsFieldBelow : ℕ → FieldWord → Type 0
 IsFieldBelow n entry = entry.field < n
 
-with_words-values : (a b n : ℕ) (input : List FieldWord) (values : List Value) (rest : List ℕ) → length values ≡ n → All (IsFieldBelow n) input
+with_words-values : (a b n : ℕ) (input : List FieldWord) (values : List Value) (rest : List ℕ) → length values ≡ n
+    → All (IsFieldBelow n) input
     → with_words input (a ∷ b ∷ (words_of values ++ rest)) ≡ a ∷ b ∷ (words_of (with_input input values) ++ rest)
 with_words-values a b n [] values rest e below = refl
 with_words-values a b n (entry ∷ input) values rest e below =
     let first : entry.field < n = All-head (IsFieldBelow n) entry input below in
     let within : entry.field < length (words_of values) = omega (arith, length-map values number_of) in
-    ap (with_words input) (set-third a b (words_of values) rest entry.field entry.word within ∙ ap (λ words. a ∷ b ∷ (words ++ rest)) (sym (map-set number_of values entry.field (Word entry.word))))
-    ∙ with_words-values a b n input (slice_set values entry.field (Word entry.word)) rest (length-set values entry.field (Word entry.word) ∙ e) (All-tail (IsFieldBelow n) entry input below)
+    ap (with_words input) (set-third a b (words_of values) rest entry.field entry.word within
+    ∙ ap (λ words. a ∷ b ∷ (words ++ rest)) (sym (map-set number_of values entry.field (Word entry.word))))
+    ∙ with_words-values a b n input (slice_set values entry.field (Word entry.word)) rest
+    (length-set values entry.field (Word entry.word) ∙ e) (All-tail (IsFieldBelow n) entry input below)
 
 is_below : (vars : List Var) (i : ℕ) → IsTrue (is_int_field (slice_get vars i)) → i < length vars
 is_below [] i h = let no : false ≡ true = h in cc
 is_below (var ∷ vars) zero h = omega arith
 is_below (var ∷ vars) (suc i) h = omega (arith, is_below vars i h)
 
-fields_below : (program : Source) (input : List FieldWord) → IsValid program input → All (IsFieldBelow (length (main_fields program))) input
-fields_below program input valid = λ k d h. is_below (main_fields program) (slice_index_or input k d).field (valid.ints k d h)
+fields_below : (program : Source) (input : List FieldWord) → IsValid program input
+    → All (IsFieldBelow (length (main_fields program))) input
+fields_below program input valid = λ k d h. is_below (main_fields program) (slice_index_or input k d).field
+    (valid.ints k d h)
 
 zero_word : (kind : VarType) → number_of (zero_value kind) ≡ 0
 zero_word kind.Int = refl
@@ -119,20 +145,29 @@ zero_word (kind.ClassArray class) = refl
 
 zero_words : (fields : List Var) → words_of (zero_values fields) ≡ replicate (length fields) 0
 zero_words [] = refl
-zero_words (field ∷ fields) = ap (λ word. word ∷ words_of (zero_values fields)) (zero_word field.kind) ∙ ap (λ (words : List ℕ). 0 ∷ words) (zero_words fields)
+zero_words (field ∷ fields) = ap (λ word. word ∷ words_of (zero_values fields)) (zero_word field.kind)
+    ∙ ap (λ (words : List ℕ). 0 ∷ words) (zero_words fields)
 
 pub length-zero_values : (fields : List Var) → length (zero_values fields) ≡ length fields
 length-zero_values fields = length-map fields (λ (var : Var). zero_value var.kind)
 
-pub loaded-program : (program : Source) (places : List (List ℕ)) (limits : Limits) (input : List FieldWord) → IsValid program input
-    → loaded (program_statics program places) limits input ≡ front limits (shape_of program places) ++ (words_of (first_values (main_fields program) input) ++ back limits (shape_of program places))
+pub loaded-program : (program : Source) (places : List (List ℕ)) (limits : Limits) (input : List FieldWord)
+    → IsValid program input
+    → loaded (program_statics program places) limits input
+    ≡ front limits (shape_of program places) ++ (words_of (first_values (main_fields program) input)
+    ++ back limits (shape_of program places))
 loaded-program program places limits input valid =
     let shape = shape_of program places in
     let fields = main_fields program in
-    ap (λ n. with_parts limits n (empty_heads limits.heap (heap_base limits.heap n)) (with_words input (statics_of shape)) (replicate (2 ^ limits.heap) 0)) (length-statics shape)
-    ∙ ap (λ (words : List ℕ). with_parts limits (size shape) (empty_heads limits.heap (base limits shape)) (with_words input (shape.table ∷ 1 ∷ (words ++ shape.tables))) (replicate (2 ^ limits.heap) 0)) (sym (zero_words fields))
-    ∙ ap (λ (cells : List ℕ). with_parts limits (size shape) (empty_heads limits.heap (base limits shape)) cells (replicate (2 ^ limits.heap) 0))
-    (with_words-values shape.table 1 (length fields) input (zero_values fields) shape.tables (length-zero_values fields) (fields_below program input valid))
+    ap (λ n. with_parts limits n (empty_heads limits.heap (heap_base limits.heap n))
+    (with_words input (statics_of shape)) (replicate (2 ^ limits.heap) 0)) (length-statics shape)
+    ∙ ap (λ (words : List ℕ). with_parts limits (size shape) (empty_heads limits.heap (base limits shape))
+    (with_words input (shape.table ∷ 1 ∷ (words ++ shape.tables))) (replicate (2 ^ limits.heap) 0))
+    (sym (zero_words fields))
+    ∙ ap (λ (cells : List ℕ). with_parts limits (size shape) (empty_heads limits.heap (base limits shape)) cells
+    (replicate (2 ^ limits.heap) 0))
+    (with_words-values shape.table 1 (length fields) input (zero_values fields) shape.tables (length-zero_values fields)
+    (fields_below program input valid))
     ∙ of_parts limits shape (words_of (first_values fields input))
 
 -- the layout of the values: there are no references
@@ -150,11 +185,13 @@ heads-start base zero from = absurd (omega arith)
 heads-start base (suc zero) from = let e : base + 0 ≡ base = omega arith in ap (λ (a : ℕ). a ∷ []) e
 heads-start base (suc (suc h)) from =
     let e : suc (suc h) - 1 ≡ suc (suc h - 1) = omega arith in
-    ap (λ (rest : List ℕ). 0 ∷ rest) (heads-start base (suc h) (omega arith)) ∙ ap (λ k. replicate k 0 ++ base ∷ []) (sym e)
+    ap (λ (rest : List ℕ). 0 ∷ rest) (heads-start base (suc h) (omega arith))
+    ∙ ap (λ k. replicate k 0 ++ base ∷ []) (sym e)
 
 overlaid-zeros : (m : ℕ) → 0 < m → overlaid (replicate m 0) 0 (0 ∷ []) ≡ replicate m 0
 overlaid-zeros zero h = absurd (omega arith)
-overlaid-zeros (suc m) h = ap (λ (new : List ℕ). new ++ replicate m 0) (take_all (length (replicate (suc m) 0) - 0) (0 ∷ []) (omega arith))
+overlaid-zeros (suc m) h = ap (λ (new : List ℕ). new ++ replicate m 0)
+    (take_all (length (replicate (suc m) 0) - 0) (0 ∷ []) (omega arith))
 
 with_book-start : (base h m : ℕ) → 0 < m → with_book base (start h) (replicate m 0) ≡ replicate m 0
 with_book-start base zero m some = refl
@@ -167,30 +204,46 @@ plain_word base _ nil = refl
 
 plain_words : (base : ℕ) (values : List Value) → ArePlain values → map (word_of base []) values ≡ words_of values
 plain_words base _ none = refl
-plain_words base _ (more v values is are) = ap (λ w. w ∷ map (word_of base []) values) (plain_word base v is) ∙ ap (λ (rest : List ℕ). number_of v ∷ rest) (plain_words base values are)
+plain_words base _ (more v values is are) = ap (λ w. w ∷ map (word_of base []) values) (plain_word base v is)
+    ∙ ap (λ (rest : List ℕ). number_of v ∷ rest) (plain_words base values are)
 
-statics_with : (shape : Shape) (words : List ℕ) → length words ≡ shape.fields → (shape.table ∷ 1 ∷ words) ++ drop (length (shape.table ∷ 1 ∷ words)) (statics_of shape) ≡ shape.table ∷ 1 ∷ (words ++ shape.tables)
+statics_with : (shape : Shape) (words : List ℕ) → length words ≡ shape.fields
+    → (shape.table ∷ 1 ∷ words) ++ drop (length (shape.table ∷ 1 ∷ words)) (statics_of shape)
+    ≡ shape.table ∷ 1 ∷ (words ++ shape.tables)
 statics_with shape words e =
-    ap (λ (rest : List ℕ). shape.table ∷ 1 ∷ (words ++ rest)) (drop_at (replicate shape.fields 0) shape.tables (length words) (length-replicate shape.fields 0 ∙ sym e))
+    ap (λ (rest : List ℕ). shape.table ∷ 1 ∷ (words ++ rest))
+    (drop_at (replicate shape.fields 0) shape.tables (length words) (length-replicate shape.fields 0 ∙ sym e))
 
-static_words-program : (program : Source) (places : List (List ℕ)) (base : ℕ) (values : List Value) → ArePlain values → length values ≡ length (main_fields program)
-    → static_words program base [] (program_statics program places) (alone (main_of program).class values) ≡ (shape_of program places).table ∷ 1 ∷ (words_of values ++ (shape_of program places).tables)
+static_words-program : (program : Source) (places : List (List ℕ)) (base : ℕ) (values : List Value) → ArePlain values
+    → length values ≡ length (main_fields program)
+    → static_words program base [] (program_statics program places) (alone (main_of program).class values)
+    ≡ (shape_of program places).table ∷ 1 ∷ (words_of values ++ (shape_of program places).tables)
 static_words-program program places base values plain same =
     let shape = shape_of program places in
-    ap (λ (ws : List ℕ). (shape.table ∷ 1 ∷ ws) ++ drop (length (shape.table ∷ 1 ∷ ws)) (statics_of shape)) (plain_words base values plain)
+    ap (λ (ws : List ℕ). (shape.table ∷ 1 ∷ ws) ++ drop (length (shape.table ∷ 1 ∷ ws)) (statics_of shape))
+    (plain_words base values plain)
     ∙ statics_with shape (words_of values) (length-map values number_of ∙ same)
 
-pub layout-program : (program : Source) (places : List (List ℕ)) (limits : Limits) (values : List Value) → IsLimits limits → ArePlain values → length values ≡ length (main_fields program)
-    → layout program limits (program_statics program places) (alone (main_of program).class values) [] ≡ front limits (shape_of program places) ++ (words_of values ++ back limits (shape_of program places))
+pub layout-program : (program : Source) (places : List (List ℕ)) (limits : Limits) (values : List Value)
+    → IsLimits limits → ArePlain values → length values ≡ length (main_fields program)
+    → layout program limits (program_statics program places) (alone (main_of program).class values) []
+    ≡ front limits (shape_of program places) ++ (words_of values ++ back limits (shape_of program places))
 layout-program program places limits values allowed plain same =
     let shape = shape_of program places in
     let store = alone (main_of program).class values in
     let statics = program_statics program places in
     let at = heap_base limits.heap (length statics) in
-    ap (λ (heads : List ℕ). with_parts limits (length statics) heads (static_words program at [] statics store) (with_book at (start limits.heap) (replicate (2 ^ limits.heap) 0))) (heads-start at limits.heap allowed.heap_from)
-    ∙ ap (λ (cells : List ℕ). with_parts limits (length statics) (empty_heads limits.heap at) cells (with_book at (start limits.heap) (replicate (2 ^ limits.heap) 0))) (static_words-program program places at values plain same)
-    ∙ ap (λ (heap : List ℕ). with_parts limits (length statics) (empty_heads limits.heap at) (shape.table ∷ 1 ∷ (words_of values ++ shape.tables)) heap) (with_book-start at limits.heap (2 ^ limits.heap) (pow_pos limits.heap))
-    ∙ ap (λ n. with_parts limits n (empty_heads limits.heap (heap_base limits.heap n)) (shape.table ∷ 1 ∷ (words_of values ++ shape.tables)) (replicate (2 ^ limits.heap) 0)) (length-statics shape)
+    ap (λ (heads : List ℕ). with_parts limits (length statics) heads (static_words program at [] statics store)
+    (with_book at (start limits.heap) (replicate (2 ^ limits.heap) 0)))
+    (heads-start at limits.heap allowed.heap_from)
+    ∙ ap (λ (cells : List ℕ). with_parts limits (length statics) (empty_heads limits.heap at) cells
+    (with_book at (start limits.heap) (replicate (2 ^ limits.heap) 0)))
+    (static_words-program program places at values plain same)
+    ∙ ap (λ (heap : List ℕ). with_parts limits (length statics) (empty_heads limits.heap at)
+    (shape.table ∷ 1 ∷ (words_of values ++ shape.tables)) heap)
+    (with_book-start at limits.heap (2 ^ limits.heap) (pow_pos limits.heap))
+    ∙ ap (λ n. with_parts limits n (empty_heads limits.heap (heap_base limits.heap n))
+    (shape.table ∷ 1 ∷ (words_of values ++ shape.tables)) (replicate (2 ^ limits.heap) 0)) (length-statics shape)
     ∙ of_parts limits shape (words_of values)
 
 -- the values that a run begins with are plain
@@ -203,7 +256,8 @@ plain_zero (kind.ClassArray class) = nil
 
 pub plain_zeros : (fields : List Var) → ArePlain (zero_values fields)
 plain_zeros [] = none
-plain_zeros (field ∷ fields) = more (zero_value field.kind) (zero_values fields) (plain_zero field.kind) (plain_zeros fields)
+plain_zeros (field ∷ fields) = more (zero_value field.kind) (zero_values fields) (plain_zero field.kind)
+    (plain_zeros fields)
 
 pub plain_set : (values : List Value) (at w : ℕ) → ArePlain values → ArePlain (slice_set values at (Word w))
 plain_set _ at w none = none
@@ -212,29 +266,47 @@ plain_set _ (suc at) w (more v values is are) = more v (slice_set values at (Wor
 
 pub plain_input : (input : List FieldWord) (values : List Value) → ArePlain values → ArePlain (with_input input values)
 plain_input [] values are = are
-plain_input (entry ∷ input) values are = plain_input input (slice_set values entry.field (Word entry.word)) (plain_set values entry.field entry.word are)
+plain_input (entry ∷ input) values are = plain_input input (slice_set values entry.field (Word entry.word))
+    (plain_set values entry.field entry.word are)
 
 pub length-input : (input : List FieldWord) (values : List Value) → length (with_input input values) ≡ length values
 length-input [] values = refl
-length-input (entry ∷ input) values = length-input input (slice_set values entry.field (Word entry.word)) ∙ length-set values entry.field (Word entry.word)
+length-input (entry ∷ input) values = length-input input (slice_set values entry.field (Word entry.word))
+    ∙ length-set values entry.field (Word entry.word)
 
 pub starts_loaded : StartsLoaded
 starts_loaded program image limits input statics allowed valid =
     let values = first_values (main_fields program) input in
     let at = statics.words in
     ap (λ (cells : List ℕ). layout program limits cells (alone (main_of program).class values) []) at
-    ∙ layout-program program statics.places limits values allowed (plain_input input (zero_values (main_fields program)) (plain_zeros (main_fields program))) (length-input input (zero_values (main_fields program)) ∙ length-zero_values (main_fields program))
+    ∙ layout-program program statics.places limits values allowed
+    (plain_input input (zero_values (main_fields program)) (plain_zeros (main_fields program)))
+    (length-input input (zero_values (main_fields program)) ∙ length-zero_values (main_fields program))
     ∙ sym (loaded-program program statics.places limits input valid)
     ∙ ap (λ (cells : List ℕ). loaded cells limits input) (sym at)
 
 -- the front has 42 cells
 
-length-heads : (h base : ℕ) → 1 ≤ h → h ≤ 20 → length (empty_heads h base ++ replicate (31 - length (empty_heads h base)) 0) ≡ 31
+length-heads : (h base : ℕ) → 1 ≤ h → h ≤ 20 → length (empty_heads h base
+    ++ replicate (31 - length (empty_heads h base)) 0) ≡ 31
 length-heads h base from to =
-    let e : length (empty_heads h base) ≡ h = omega (arith, length-append {A = ℕ} (replicate (h - 1) 0) (base ∷ []), length-replicate {A = ℕ} (h - 1) 0) in
-    omega (arith, length-append {A = ℕ} (empty_heads h base) (replicate (31 - length (empty_heads h base)) 0), length-replicate {A = ℕ} (31 - length (empty_heads h base)) 0)
+    let e : length (empty_heads h base) ≡ h = omega (
+      arith,
+      length-append {A = ℕ} (replicate (h - 1) 0) (base ∷ []),
+      length-replicate {A = ℕ} (h - 1) 0,
+    ) in
+    omega (
+      arith,
+      length-append {A = ℕ} (empty_heads h base) (replicate (31 - length (empty_heads h base)) 0),
+      length-replicate {A = ℕ} (31 - length (empty_heads h base)) 0,
+    )
 
 pub length-front : (limits : Limits) (shape : Shape) → IsLimits limits → length (front limits shape) ≡ 42
 length-front limits shape allowed =
     let at = base limits shape in
-    omega (arith, length-append {A = ℕ} (fixed_cells limits.heap limits.deep at (empty_heads limits.heap at)) (shape.table ∷ 1 ∷ []), length-heads limits.heap at allowed.heap_from allowed.heap_to)
+    omega (
+      arith,
+      length-append {A = ℕ} (fixed_cells limits.heap limits.deep at (empty_heads limits.heap at))
+          (shape.table ∷ 1 ∷ []),
+      length-heads limits.heap at allowed.heap_from allowed.heap_to,
+    )

@@ -1,7 +1,8 @@
 -- When two stores differ in names alone.
 use Rattle.std.specs.Prelude.{◌≡◌, ℕ, map}
 use Rattle.std.specs.Option.{option_map}
-use Rattle.roopl_semantics.specs.Store.{Value, Word, Nil, Name, Object, Store, main_name, object_named}
+use Rattle.roopl_semantics.specs.Store.{Value, Word, Nil, Name, Object, Store, main_name}
+use Rattle.roopl_semantics.specs.Store.{object_named}
 
 -- a value with other names
 abbrev pub renamed : (ℕ → ℕ) → Value → Value

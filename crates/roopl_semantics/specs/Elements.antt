@@ -1,13 +1,15 @@
 -- The elements that a statement changes and those that it reads, which may not be of one array.
 use Rattle.std.specs.Prelude.{ℕ, Bool, false, ◌||◌, List, [], ◌∷◌, ◌++◌, length}
 use Rattle.rpp_tree.specs.declared.tree.Ident.{Ident}
-use Rattle.rpp_tree.specs.Tree.{Expression, Number, Null, Variable, Element, Binary, Lvalue, Whole, Item, Source}
+use Rattle.rpp_tree.specs.Tree.{Expression, Number, Null, Variable, Element, Binary, Lvalue, Whole}
+use Rattle.rpp_tree.specs.Tree.{Item, Source}
+use Rattle.code_conventions.specs.declared.faults.TheConstants.{SHARED_ARRAY}
 use Rattle.roopl_semantics.specs.Run.{Run, spend, fault_if, ◌>>=◌}
 use Rattle.roopl_semantics.specs.Store.{State, same_value}
 use Rattle.roopl_semantics.specs.Value.{variable_value}
 
 abbrev pub shared_array_fault : ℕ
-shared_array_fault = 16
+shared_array_fault = SHARED_ARRAY
 
 -- the elements of an expression, those in indexes too, by the names of their arrays
 abbrev pub elements : Expression → List Ident
@@ -49,7 +51,8 @@ abbrev pub read_cost : List Ident → List Ident → ℕ
 read_cost [] reads = 0
 read_cost (name ∷ changed) reads = length reads
 
--- the check of the elements that a statement changes against those that it reads, once it has its values
+-- the check of the elements that a statement changes against those that it reads, once it has its
+-- values
 abbrev pub kept_apart : Source → List Ident → List Ident → State → Run (Unit {0})
 kept_apart program changed reads st = do
   _ ← spend (read_cost changed reads)

@@ -1,60 +1,70 @@
 -- What statements do, with their faults and costs.
-use Rattle.std.specs.Prelude.{ℕ, zero, suc, ◌+◌, ◌-◌, Bool, true, false, not, ◌&&◌, ◌||◌, nat_eq, nat_lt, List, [], ◌∷◌, ◌++◌, length, map, replicate, Option, Some, None, is_none, if◌then◌else◌}
+use Rattle.std.specs.Prelude.{ℕ, zero, suc, ◌+◌, ◌-◌, Bool, true, false, not, ◌&&◌, ◌||◌, nat_eq}
+use Rattle.std.specs.Prelude.{nat_lt, List, [], ◌∷◌, ◌++◌, length, map, replicate, Option, Some}
+use Rattle.std.specs.Prelude.{None, is_none, if◌then◌else◌}
 use Rattle.std.specs.Option.{unwrap_or}
 use Rattle.rpp_words.specs.Words.{is_less}
 use Rattle.rpp_words.specs.declared.input.Limits.{Limits}
 use Rattle.rpp_tree.specs.declared.tree.Ident.{Ident}
 use Rattle.rpp_tree.specs.declared.tree.Var.{Var}
-use Rattle.rpp_tree.specs.Tree.{Expression, Null, Lvalue, Whole, Item, Object as AnObject, Ints, Objects, Statement, Statements, Update, Swap, If, From, Construct, Local, New, Delete, Copy, Uncopy, Call, Skip, End, Then, joined, Procedure, Source}
+use Rattle.rpp_tree.specs.Tree.{Expression, Null, Lvalue, Whole, Item, Object as AnObject, Ints}
+use Rattle.rpp_tree.specs.Tree.{Objects, Statement, Statements, Update, Swap, If, From, Construct}
+use Rattle.rpp_tree.specs.Tree.{Local, New, Delete, Copy, Uncopy, Call, Skip, End, Then, joined}
+use Rattle.rpp_tree.specs.Tree.{Procedure, Source}
 use Rattle.class_table.specs.Classes.{class_number, class_fields, method_named}
 use Rattle.stmt_inverter.specs.Inverse.{inverse}
 use Rattle.buddy_book.specs.Book.{order_for}
 use Rattle.buddy_book.specs.Place.{Taken, Given, count_taken, place}
+use Rattle.code_conventions.specs.declared.memory.TheConstants.{HEADER_WORDS}
+use Rattle.code_conventions.specs.declared.faults.TheConstants.{FI, LOOP, DELOCAL, NOT_NIL, COUNT, NOT_EMPTY, HEAP_FULL, NOT_SAME, CLASS_DIFFERS, LENGTH_DIFFERS, LENGTH, TOO_DEEP, TOUCHED}
 use Rattle.roopl_semantics.specs.Operators.{is_true, updated}
 use Rattle.roopl_semantics.specs.Run.{Run, More, ◌>>=◌, give, spend, fault_if}
-use Rattle.roopl_semantics.specs.Store.{Value, Word, Nil, Name, Head, OfClass, OfInts, OfObjects, Object, Binding, State, number_of, is_zero, is_nil, cleared, same_value, zero_values, object_at, changed_at, without}
-use Rattle.roopl_semantics.specs.Value.{Cell, Slot, Part, nil_fault, cell_named, own_class, read, written, evaluated, found}
+use Rattle.roopl_semantics.specs.Store.{Value, Word, Nil, Name, Head, OfClass, OfInts, OfObjects}
+use Rattle.roopl_semantics.specs.Store.{Object, Binding, State, number_of, is_zero, is_nil, cleared}
+use Rattle.roopl_semantics.specs.Store.{same_value, zero_values, object_at, changed_at, without}
+use Rattle.roopl_semantics.specs.Value.{Cell, Slot, Part, nil_fault, cell_named, own_class, read}
+use Rattle.roopl_semantics.specs.Value.{written, evaluated, found}
 use Rattle.roopl_semantics.specs.Elements.{elements, index_elements, own_element, kept_apart}
 
 -- the faults by their names; those of elements stand beside their definitions
 abbrev pub fi_fault : ℕ
-fi_fault = 1
+fi_fault = FI
 
 abbrev pub loop_fault : ℕ
-loop_fault = 2
+loop_fault = LOOP
 
 abbrev pub delocal_fault : ℕ
-delocal_fault = 3
+delocal_fault = DELOCAL
 
 abbrev pub not_nil_fault : ℕ
-not_nil_fault = 4
+not_nil_fault = NOT_NIL
 
 abbrev pub count_fault : ℕ
-count_fault = 6
+count_fault = COUNT
 
 abbrev pub not_empty_fault : ℕ
-not_empty_fault = 7
+not_empty_fault = NOT_EMPTY
 
 abbrev pub heap_full_fault : ℕ
-heap_full_fault = 8
+heap_full_fault = HEAP_FULL
 
 abbrev pub not_same_fault : ℕ
-not_same_fault = 10
+not_same_fault = NOT_SAME
 
 abbrev pub class_differs_fault : ℕ
-class_differs_fault = 11
+class_differs_fault = CLASS_DIFFERS
 
 abbrev pub length_differs_fault : ℕ
-length_differs_fault = 12
+length_differs_fault = LENGTH_DIFFERS
 
 abbrev pub length_fault : ℕ
-length_fault = 13
+length_fault = LENGTH
 
 abbrev pub too_deep_fault : ℕ
-too_deep_fault = 14
+too_deep_fault = TOO_DEEP
 
 abbrev pub touched_fault : ℕ
-touched_fault = 15
+touched_fault = TOUCHED
 
 -- what a run stands in: the program, and the sizes of heap and stack
 pub record Setting : Type 0 where
@@ -126,7 +136,7 @@ new_object head cells = record { head = head; count = 1; cells = cells }
 
 -- the order of a block for an object or array: its head, its count and so many cells
 abbrev pub order_of_cells : ℕ → ℕ
-order_of_cells cells = order_for (2 + cells)
+order_of_cells cells = order_for (HEADER_WORDS + cells)
 
 -- the count of an object changes
 abbrev pub counted : (ℕ → ℕ) → State → ℕ → State
@@ -153,7 +163,8 @@ constructed at class name body =
 abbrev pub element_call : ℕ → Bool → Ident → Expression → Ident → List Ident → Statements
 element_call at back name index method args =
     let exchange = Swap at (Whole (element_name at)) (Item name index) in
-    Then exchange (Then (Call at back (Some (Whole (element_name at))) method args) (Then exchange End))
+    Then exchange (Then (Call at back (Some (Whole (element_name at))) method args)
+    (Then exchange End))
 
 module _ (setting : Setting) where
   abbrev pub cells_named : State → List Ident → List Cell
@@ -239,7 +250,8 @@ module _ (setting : Setting) where
 
   -- after the first part of a loop's turn: the end where the exit holds, else the second part and
   -- the next turn
-  abbrev pub turn_end : Runner → Expression → Statements → (State → Run State) → Bool → State → Run State
+  abbrev pub turn_end : Runner → Expression → Statements → (State → Run State) → Bool → State
+      → Run State
   turn_end run entry again next true st = give st
   turn_end run entry again next false st = do
     end ← run again st
@@ -248,14 +260,16 @@ module _ (setting : Setting) where
     next end
 
   -- the turns of a loop whose entry has passed, at most so many
-  abbrev pub turns : ℕ → Runner → Expression → Statements → Statements → Expression → State → Run State
+  abbrev pub turns : ℕ → Runner → Expression → Statements → Statements → Expression → State
+      → Run State
   turns zero run entry first again exit st = More
   turns (suc n) run entry first again exit st = do
     end ← run first st
     v ← evaluated setting.program exit end
     turn_end run entry again (turns n run entry first again exit) (holds v) end
 
-  -- a statement, one clause for each form; blocks inside it go by `run`, and a loop makes at most n turns
+  -- a statement, one clause for each form; blocks inside it go by `run`, and a loop makes at most n
+  -- turns
   abbrev pub statement : ℕ → Runner → Statement → State → Run State
   statement n run (Update at op target value) st = do
     cell ← found setting.program target st
@@ -292,7 +306,8 @@ module _ (setting : Setting) where
     allocated (length cells) cell (OfClass number) cells st
   statement n run (New at (Ints size) target) st = new_array target size OfInts (Word 0) st
   statement n run (New at (Objects class size) target) st =
-      new_array target size (OfObjects (unwrap_or (class_number setting.program class.text) 0)) Nil st
+      new_array target size (OfObjects (unwrap_or (class_number setting.program class.text) 0)) Nil
+      st
   statement n run (Delete at (AnObject class) target) st = do
     cell ← found setting.program target st
     let name = number_of (read st cell)

@@ -1,5 +1,6 @@
 -- Laws of the meaning.
-use Rattle.std.specs.Prelude.{◌≡◌, ◌≢◌, ◌≤◌, ℕ, ◌+◌, List, [], ◌∷◌, nat_eq, Option, Some, None, if◌then◌else◌}
+use Rattle.std.specs.Prelude.{◌≡◌, ◌≢◌, ◌≤◌, ℕ, ◌+◌, List, [], ◌∷◌, nat_eq, Option, Some, None}
+use Rattle.std.specs.Prelude.{if◌then◌else◌}
 use Rattle.rpp_words.specs.declared.input.FieldWord.{FieldWord}
 use Rattle.rpp_words.specs.declared.input.Limits.{Limits}
 use Rattle.rpp_tree.specs.Tree.{Statements, Source}
@@ -30,7 +31,8 @@ pub record MoreFuelKeeps : Type 0 where
 -- the cost is fuel enough: a block that ends ends the same with any fuel from its cost on
 pub record CostIsEnough : Type 0 where
   pub done : (setting : Setting) (n m : ℕ) (body : Statements) (start end : State) (cost : ℕ)
-      → cost ≤ m → exec setting n body start ≡ Done end cost → exec setting m body start ≡ Done end cost
+      → cost ≤ m → exec setting n body start ≡ Done end cost
+      → exec setting m body start ≡ Done end cost
   pub fault : (setting : Setting) (n m : ℕ) (body : Statements) (start : State) (code cost : ℕ)
       → cost ≤ m → exec setting n body start ≡ Fault code cost
       → exec setting m body start ≡ Fault code cost
@@ -64,13 +66,15 @@ holders name ((n, object) ∷ store) = holders_among name object.cells + holders
 pub record CountsReferences (store : Store) : Type 0 where
   pub main : (object : Object) → object_named store main_name ≡ Some object → object.count ≡ 1
   pub held : holders main_name store ≡ 0
-  pub others : (name : ℕ) (object : Object) → object_named store name ≡ Some object → name ≢ main_name
+  pub others : (name : ℕ) (object : Object) → object_named store name ≡ Some object
+      → name ≢ main_name
       → object.count ≡ holders name store
 
 -- counts are references, at the end of every accepted program
 abbrev pub CountsAreReferences : Type 0
 CountsAreReferences =
-    (program : Source) (limits : Limits) (input : List FieldWord) (fuel : ℕ) (end : State) (cost : ℕ)
+    (program : Source) (limits : Limits) (input : List FieldWord) (fuel : ℕ) (end : State)
+    (cost : ℕ)
     → IsAccepted program → IsLimits limits → IsValid program input
     → source program limits input fuel ≡ Done end cost → CountsReferences end.store
 

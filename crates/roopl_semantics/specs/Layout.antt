@@ -1,5 +1,6 @@
 -- The memory that stands for a store.
-use Rattle.std.specs.Prelude.{◌≡◌, ◌<◌, ℕ, zero, suc, ◌+◌, ◌-◌, ◌*◌, ◌^◌, Bool, true, not, ◌&&◌, ◌||◌, nat_eq, List, [], ◌∷◌, ◌++◌, length, map, take, drop, replicate}
+use Rattle.std.specs.Prelude.{◌≡◌, ◌<◌, ℕ, zero, suc, ◌+◌, ◌-◌, ◌*◌, ◌^◌, Bool, true, not, ◌&&◌}
+use Rattle.std.specs.Prelude.{◌||◌, nat_eq, List, [], ◌∷◌, ◌++◌, length, map, take, drop, replicate}
 use Rattle.std.specs.List.{All, list_any}
 use Rattle.std.specs.Option.{unwrap_or}
 use Rattle.rpp_words.specs.declared.input.Limits.{Limits}
@@ -10,20 +11,22 @@ use Rattle.class_table.specs.Classes.{class_slots}
 use Rattle.buddy_book.specs.Book.{Book}
 pub use Rattle.buddy_book.specs.Shown.{first_address}
 use Rattle.buddy_book.specs.Place.{Log, Placing, block_of, place}
-use Rattle.roopl_semantics.specs.Store.{Value, Word, Nil, Name, Head, OfClass, OfInts, OfObjects, Object, Store, main_name, object_at}
+use Rattle.roopl_semantics.specs.Store.{Value, Word, Nil, Name, Head, OfClass, OfInts, OfObjects}
+use Rattle.roopl_semantics.specs.Store.{Object, Store, main_name, object_at}
 use Rattle.roopl_semantics.specs.Source.{main_fields}
 use Rattle.class_table.specs.Classes.{main_of}
 use Rattle.roopl_semantics.specs.Report.{numbered}
 use Rattle.pisa_isa.specs.Image.{Segments}
 use Rattle.pisa_isa.specs.Loaded.{statics_at, heap_base, fixed_cells}
+use Rattle.code_conventions.specs.declared.memory.TheConstants.{HEADER_WORDS, TABLE_HEADER}
 
 -- the length of a class's table: its number, and a code place for each method slot
 abbrev pub table_length : Source → ℕ → ℕ
-table_length program class = 1 + length (class_slots program class)
+table_length program class = TABLE_HEADER + length (class_slots program class)
 
 -- the address of a class's table: after the main object and the tables of the classes before it
 abbrev pub table_at : Source → ℕ → ℕ
-table_at program zero = statics_at + 2 + length (main_fields program)
+table_at program zero = statics_at + HEADER_WORDS + length (main_fields program)
 table_at program (suc class) = table_at program class + table_length program class
 
 -- the addresses of the tables, in the order of the classes
@@ -50,7 +53,8 @@ pub record HasStatics (program : Source) (image : Segments) : Type 0 where
 
 -- a list with other elements from a place on, as far as it goes
 abbrev pub overlaid : List ℕ → ℕ → List ℕ → List ℕ
-overlaid words at new = take at words ++ take (length words - at) new ++ drop (at + length new) words
+overlaid words at new = take at words ++ take (length words - at) new
+    ++ drop (at + length new) words
 
 -- what stands in a cell: a reference is the address of its block
 abbrev pub word_of : ℕ → List (ℕ × ℕ) → Value → ℕ
@@ -99,7 +103,8 @@ static_words program base blocks statics store =
     let main = object_words program base blocks (object_at store main_name) in
     main ++ drop (length main) statics
 
--- the memory over these static cells, with the blocks where they are placed and these words of the stack
+-- the memory over these static cells, with the blocks where they are placed and these words of the
+-- stack
 abbrev pub laid : Source → Limits → List ℕ → Store → Placing → List ℕ → List ℕ
 laid program limits statics store placing stack =
     let base = heap_base limits.heap (length statics) in

@@ -1,5 +1,6 @@
 -- What the operators do with words.
-use Rattle.std.specs.Prelude.{ℕ, Bool, true, false, not, ◌&&◌, ◌||◌, nat_eq, bit_and, bit_or, bit_xor}
+use Rattle.std.specs.Prelude.{ℕ, Bool, true, false, not, ◌&&◌, ◌||◌, nat_eq, bit_and, bit_or}
+use Rattle.std.specs.Prelude.{bit_xor}
 use Rattle.rpp_words.specs.Words.{sum_of, difference_of, is_less}
 use Rattle.rpp_tree.specs.declared.tree.BinOp.{BinOp}
 use Rattle.rpp_tree.specs.declared.tree.BinOp.TheVariants as op

@@ -1,5 +1,6 @@
 -- The printed report of a store.
-use Rattle.std.specs.Prelude.{ℕ, zero, suc, ◌+◌, ◌-◌, ◌^◌, nat_eq, nat_lt, List, [], ◌∷◌, ◌++◌, length, codes, position, if◌then◌else◌}
+use Rattle.std.specs.Prelude.{ℕ, zero, suc, ◌+◌, ◌-◌, ◌^◌, nat_eq, nat_lt, List, [], ◌∷◌, ◌++◌}
+use Rattle.std.specs.Prelude.{length, codes, position, if◌then◌else◌}
 use Rattle.std.specs.List.{list_any}
 use Rattle.std.specs.Option.{unwrap_or}
 use Rattle.std.specs.Fmt.{decimal}
@@ -8,7 +9,8 @@ use Rattle.rpp_tree.specs.declared.tree.Var.{Var}
 use Rattle.rpp_tree.specs.Tree.{Source}
 use Rattle.class_table.specs.Members.{class_at}
 use Rattle.class_table.specs.Classes.{class_fields}
-use Rattle.roopl_semantics.specs.Store.{Value, Word, Nil, Name, Head, OfClass, OfInts, OfObjects, Store, main_name, object_at}
+use Rattle.roopl_semantics.specs.Store.{Value, Word, Nil, Name, Head, OfClass, OfInts, OfObjects}
+use Rattle.roopl_semantics.specs.Store.{Store, main_name, object_at}
 use Rattle.roopl_semantics.specs.Source.{main_fields}
 
 abbrev pub Text : Type 0
@@ -16,7 +18,8 @@ Text = List ℕ
 
 -- a word in signed decimal
 abbrev pub signed_decimal : ℕ → Text
-signed_decimal word = if nat_lt word (2 ^ 31) then decimal word else codes "-" ++ decimal (2 ^ 32 - word)
+signed_decimal word = if nat_lt word (2 ^ 31) then decimal word else codes "-"
+    ++ decimal (2 ^ 32 - word)
 
 -- the names that cells hold and that are not yet met, each once, in the order of the cells
 abbrev pub newly_met : List ℕ → List Value → List ℕ

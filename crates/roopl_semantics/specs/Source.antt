@@ -1,5 +1,6 @@
 -- What a program does, from its main object on.
-use Rattle.std.specs.Prelude.{◌≡◌, ℕ, Bool, true, false, not, ◌&&◌, nat_eq, nat_le, List, [], ◌∷◌, Option, Some, None, slice_set, slice_get, if◌then◌else◌, IsTrue}
+use Rattle.std.specs.Prelude.{◌≡◌, ℕ, Bool, true, false, not, ◌&&◌, nat_eq, nat_le, List, [], ◌∷◌}
+use Rattle.std.specs.Prelude.{Option, Some, None, slice_set, slice_get, if◌then◌else◌, IsTrue}
 use Rattle.std.specs.List.{All, list_any}
 use Rattle.rpp_words.specs.Words.{IsWord}
 use Rattle.rpp_words.specs.declared.input.FieldWord.{FieldWord}
@@ -43,7 +44,8 @@ names_none_twice (entry ∷ input) = not (names_field entry.field input) && name
 
 -- an input that the program can be run on: words for int fields of the main class, for none twice
 pub record IsValid (program : Source) (input : List FieldWord) : Type 0 where
-  pub ints : All (λ entry. IsTrue (is_int_field (slice_get (main_fields program) entry.field))) input
+  pub ints : All (λ entry. IsTrue (is_int_field (slice_get (main_fields program) entry.field)))
+      input
   pub once : IsTrue (names_none_twice input)
   pub words : All (λ entry. IsWord entry.word) input
 

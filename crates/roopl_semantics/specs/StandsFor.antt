@@ -3,7 +3,8 @@ use Rattle.std.specs.Prelude.{◌≡◌, ◌≢◌, ◌≤◌, ◌+◌, ◌*◌,
 use Rattle.rpp_words.specs.declared.input.FieldWord.{FieldWord}
 use Rattle.rpp_words.specs.declared.input.Limits.{Limits}
 use Rattle.rpp_tree.specs.Tree.{Source}
-use Rattle.pisa_isa.specs.declared.machine.Stop.TheVariants.{Finished, Returned, Trap, BadAddress, OffCode, Bound}
+use Rattle.pisa_isa.specs.declared.machine.Stop.TheVariants.{Finished, Returned, Trap, BadAddress}
+use Rattle.pisa_isa.specs.declared.machine.Stop.TheVariants.{OffCode, Bound}
 use Rattle.pisa_isa.specs.Image.{Segments}
 use Rattle.pisa_isa.specs.Loaded.{loaded_state}
 use Rattle.pisa_isa.specs.Machine.{State as MachineState}
@@ -35,9 +36,10 @@ cost_of (Fault code cost) = Some cost
 cost_of More = None
 
 -- the source gives a store or a fault, at this cost
-pub record EndsAt (program : Source) (limits : Limits) (input : List FieldWord) (cost : ℕ) : Type 0 where
-  pub fuel : ℕ
-  pub over : cost_of (source program limits input fuel) ≡ Some cost
+pub record EndsAt (program : Source) (limits : Limits) (input : List FieldWord) (cost : ℕ) : Type 0
+  where
+    pub fuel : ℕ
+    pub over : cost_of (source program limits input fuel) ≡ Some cost
 
 -- so many steps, and more, are not too few for the run
 pub record IsEnough (image : Segments) (limits : Limits) (input : List FieldWord)

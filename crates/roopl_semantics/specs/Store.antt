@@ -1,5 +1,6 @@
 -- Values, objects and the state of a run.
-use Rattle.std.specs.Prelude.{ℕ, Bool, true, false, nat_eq, List, [], ◌∷◌, map, Option, Some, None, if◌then◌else◌}
+use Rattle.std.specs.Prelude.{ℕ, Bool, true, false, nat_eq, List, [], ◌∷◌, map, Option, Some, None}
+use Rattle.std.specs.Prelude.{if◌then◌else◌}
 use Rattle.std.specs.Option.{unwrap_or}
 use Rattle.rpp_tree.specs.declared.tree.Var.{Var}
 use Rattle.rpp_tree.specs.declared.tree.VarType.{VarType}
@@ -86,7 +87,8 @@ zero_values vars = map (λ var. zero_value var.kind) vars
 -- the object of a name, if it is live
 abbrev pub object_named : Store → ℕ → Option Object
 object_named [] name = None
-object_named ((n, object) ∷ store) name = if nat_eq n name then Some object else object_named store name
+object_named ((n, object) ∷ store) name = if nat_eq n name then Some object else object_named store
+    name
 
 abbrev pub no_object : Object
 no_object = record { head = OfInts 0; count = 0; cells = [] }
@@ -104,7 +106,8 @@ changed_at ((n, object) ∷ store) name change =
 -- the store with the object of this name dropped
 abbrev pub without : Store → ℕ → Store
 without [] name = []
-without ((n, object) ∷ store) name = if nat_eq n name then store else (n, object) ∷ without store name
+without ((n, object) ∷ store) name = if nat_eq n name then store else (n, object)
+    ∷ without store name
 
 -- the class of an object
 abbrev pub class_of_head : Head → ℕ

@@ -1,15 +1,19 @@
 -- Places and values.
-use Rattle.std.specs.Prelude.{ℕ, zero, suc, nat_lt, List, [], ◌∷◌, map, length, position, Option, Some, None, Result, Ok, Err, slice_get, slice_set, if◌then◌else◌}
+use Rattle.std.specs.Prelude.{ℕ, zero, suc, nat_lt, List, [], ◌∷◌, map, length, position, Option}
+use Rattle.std.specs.Prelude.{Some, None, Result, Ok, Err, slice_get, slice_set, if◌then◌else◌}
 use Rattle.std.specs.Option.{unwrap_or}
 use Rattle.std.specs.Str.{bytes_eq}
 use Rattle.rpp_tree.specs.declared.tree.Var.{Var}
 use Rattle.rpp_tree.specs.declared.tree.BinOp.{BinOp}
-use Rattle.rpp_tree.specs.Tree.{Expression, Number, Null, Variable, Element, Binary, Lvalue, Whole, Item, Source, nodes, index_nodes}
+use Rattle.rpp_tree.specs.Tree.{Expression, Number, Null, Variable, Element, Binary, Lvalue, Whole}
+use Rattle.rpp_tree.specs.Tree.{Item, Source, nodes, index_nodes}
 use Rattle.class_table.specs.Members.{field_of}
 use Rattle.class_table.specs.Classes.{class_fields}
+use Rattle.code_conventions.specs.declared.faults.TheConstants.{NIL, INDEX}
 use Rattle.roopl_semantics.specs.Operators.{operated}
 use Rattle.roopl_semantics.specs.Run.{Run, after_cost, given}
-use Rattle.roopl_semantics.specs.Store.{Value, Word, Nil, Name, Binding, State, number_of, object_at, changed_at, class_of_head}
+use Rattle.roopl_semantics.specs.Store.{Value, Word, Nil, Name, Binding, State, number_of}
+use Rattle.roopl_semantics.specs.Store.{object_at, changed_at, class_of_head}
 
 -- a cell that can be read and changed: a variable of the frame, or a field or element of an object
 -- or array
@@ -67,10 +71,10 @@ variable_value program st name = read st (cell_named program st name)
 
 -- the faults of an element
 abbrev pub nil_fault : ℕ
-nil_fault = 5
+nil_fault = NIL
 
 abbrev pub index_fault : ℕ
-index_fault = 9
+index_fault = INDEX
 
 -- the element of an array at an index, a word without sign
 abbrev pub element_cell : State → Value → ℕ → Result Cell ℕ
@@ -81,7 +85,8 @@ element_cell st _ index = Err nil_fault
 
 -- the element of the array of a name, once the index has its value
 abbrev pub element_of : Source → State → List ℕ → Result Value ℕ → Result Cell ℕ
-element_of program st name (Ok index) = element_cell st (variable_value program st name) (number_of index)
+element_of program st name (Ok index) = element_cell st (variable_value program st name)
+    (number_of index)
 element_of program st name (Err fault) = Err fault
 
 abbrev pub read_cell : State → Result Cell ℕ → Result Value ℕ
@@ -101,7 +106,8 @@ value program st (Null at) = Ok Nil
 value program st (Variable name) = Ok (variable_value program st name.text)
 value program st (Element name index) =
     read_cell st (element_of program st name.text (value program st index))
-value program st (Binary at op left right) = combined op (value program st left) (value program st right)
+value program st (Binary at op left right) = combined op (value program st left)
+    (value program st right)
 
 -- the cell that a place means, or the fault that is met
 abbrev pub cell_of : Source → State → Lvalue → Result Cell ℕ

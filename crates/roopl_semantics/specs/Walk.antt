@@ -1,5 +1,7 @@
 -- The walk of a memory: what a list of cells tells of the blocks of its heap.
-use Rattle.std.specs.Prelude.{ℕ, zero, suc, ◌+◌, ◌^◌, Bool, true, false, not, ◌&&◌, nat_eq, nat_lt, nat_le, List, [], ◌∷◌, ◌++◌, length, map, replicate, position, Option, Some, None, slice_get, if◌then◌else◌}
+use Rattle.std.specs.Prelude.{ℕ, zero, suc, ◌+◌, ◌^◌, Bool, true, false, not, ◌&&◌, nat_eq, nat_lt}
+use Rattle.std.specs.Prelude.{nat_le, List, [], ◌∷◌, ◌++◌, length, map, replicate, position, Option}
+use Rattle.std.specs.Prelude.{Some, None, slice_get, if◌then◌else◌}
 use Rattle.std.specs.List.{list_any}
 use Rattle.std.specs.Option.{unwrap_or}
 use Rattle.rpp_tree.specs.declared.tree.Var.{Var}
@@ -12,6 +14,7 @@ use Rattle.roopl_semantics.specs.Source.{main_fields}
 use Rattle.roopl_semantics.specs.Execution.{order_of_cells}
 use Rattle.roopl_semantics.specs.Report.{Text, objects_shown, live_line, live_count}
 use Rattle.pisa_isa.specs.Loaded.{statics_at}
+use Rattle.code_conventions.specs.declared.memory.TheConstants.{HEADER_WORDS}
 use Rattle.roopl_semantics.specs.Layout.{table_addresses, is_plain}
 
 -- the word in a cell
@@ -82,7 +85,8 @@ abbrev pub is_new : List Reference → VarType → ℕ → Bool
 is_new met type word = is_reference_type type && not (nat_eq word 0)
     && not (list_any (λ reference. nat_eq reference.at word) met)
 
--- the references in cells of these types from an address on to blocks that are not yet met, each once
+-- the references in cells of these types from an address on to blocks that are not yet met, each
+-- once
 abbrev pub newly_reached : List ℕ → List Reference → ℕ → List VarType → List Reference
 newly_reached cells met address [] = []
 newly_reached cells met address (type ∷ types) =
@@ -96,13 +100,13 @@ abbrev pub reached_within : ℕ → Source → List ℕ → List Reference → L
 reached_within zero program cells met pending = met
 reached_within (suc steps) program cells met [] = met
 reached_within (suc steps) program cells met (reference ∷ pending) =
-    let new = newly_reached cells met (reference.at + 2) (types_at program cells reference) in
+    let new = newly_reached cells met (reference.at + HEADER_WORDS) (types_at program cells reference) in
     reached_within steps program cells (met ++ new) (pending ++ new)
 
 -- the references that are reached from the main object, in the order of their numbers
 abbrev pub reached : Source → List ℕ → List Reference
 reached program cells =
-    let first = newly_reached cells [] (statics_at + 2) (types_of (main_fields program)) in
+    let first = newly_reached cells [] (statics_at + HEADER_WORDS) (types_of (main_fields program)) in
     reached_within (length cells) program cells first first
 
 -- the order that the type of a reached block needs
@@ -171,4 +175,5 @@ live_shown program store cells = if is_plain program store then live_count store
 
 -- the report of a run that ended with this store and these cells
 abbrev pub run_report : Source → Store → List ℕ → Text
-run_report program store cells = objects_shown program store ++ live_line (live_shown program store cells)
+run_report program store cells = objects_shown program store
+    ++ live_line (live_shown program store cells)

@@ -4,6 +4,3 @@
 #![tactic(auto)]
 
 pub mod laws;
-mod main_object;
-
-pub use main_object::FIRST_FIELD;

@@ -1,15 +1,16 @@
 -- What a broken plan leaves is what the whole call leaves, which began before the plan was made.
-use Rattle.std.proofs.Common.{◌≡◌, ℕ, ◌≤◌, List, None, Some, inl, inr, IfSome, IsSomeAnd, subst}
+use Rattle.std.proofs.Common.{◌≡◌, refl, ℕ, ◌≤◌, List, None, Some, inl, inr, IsSomeAnd, subst}
+use Rattle.std.specs.Io.KnownBytes.{Keeps}
 use Rattle.std.specs.declared.option.Option.{Option}
 use Rattle.std.proofs.lemmas.Bool.Decides.{nat_tests}
 use Rattle.std.proofs.Common.{arith}
 use Rattle.rpp_ports.specs.Ports.{Texts, Rose}
 use Rattle.rpp_probes.specs.Tally.{Watch}
-use Rattle.rpp_plan.specs.Plans.{Planned, Written}
+use Rattle.command_plan.specs.Plans.{Planned, Written}
 use Rattle.rpp_command.specs.declared.finish.Broken.{Broken}
 use Rattle.rpp_command.specs.declared.finish.Broken.TheVariants.{Outside, NoMemory}
-use Rattle.rpp_command.specs.Lines.{Asked}
-use Rattle.rpp_command.specs.Plans.{IsPlan}
+use Rattle.rpp_command.specs.Lines.{Asked, Turn, Profile}
+use Rattle.rpp_command.specs.Plans.{IsPlan, LeavesProbes}
 use Rattle.rpp_command.specs.Answers.{LeavesUnwritten, BreaksOff, EndsEarly}
 
 rose_before : (before mid now : ℕ) → before ≤ mid → Rose mid now → Rose before now
@@ -17,31 +18,57 @@ rose_before before mid now h rose = grind (arith, nat_tests)
 
 -- another rise of the shelf's count is as good
 
-unwritten_by : (before after : Option Texts) (rose rose' failed lacks : Type 0) (old new : Option (List ℕ)) (w : Written) (broken : Broken) → (rose → rose')
-    → LeavesUnwritten before after rose failed lacks old new w broken → LeavesUnwritten before after rose' failed lacks old new w broken
+unwritten_by : (before after : Option Texts) (rose rose' failed lacks : Type 0) (old new : Option (List ℕ))
+    (w : Written) (broken : Broken) → (rose → rose')
+    → LeavesUnwritten before after rose failed lacks old new w broken
+    → LeavesUnwritten before after rose' failed lacks old new w broken
 unwritten_by before after rose rose' failed lacks old new w NoMemory f h = h
 unwritten_by before after rose rose' failed lacks old new w Outside f h = (f h.0, h.1)
 
-file_by : (before after : Option Texts) (rose rose' failed lacks : Type 0) (old new : Option (List ℕ)) (writing : Option Written) (broken : Broken) → (rose → rose')
-    → IsSomeAnd writing (λ w. LeavesUnwritten before after rose failed lacks old new w broken) → IsSomeAnd writing (λ w. LeavesUnwritten before after rose' failed lacks old new w broken)
+file_by : (before after : Option Texts) (rose rose' failed lacks : Type 0) (old new : Option (List ℕ))
+    (writing : Option Written) (broken : Broken) → (rose → rose')
+    → IsSomeAnd writing (λ w. LeavesUnwritten before after rose failed lacks old new w broken)
+    → IsSomeAnd writing (λ w. LeavesUnwritten before after rose' failed lacks old new w broken)
 file_by before after rose rose' failed lacks old new None broken f h = absurd h
-file_by before after rose rose' failed lacks old new (Some w) broken f h = unwritten_by before after rose rose' failed lacks old new w broken f h
+file_by before after rose rose' failed lacks old new (Some w) broken f h =
+    unwritten_by before after rose rose' failed lacks old new w broken f h
 
-breaks_by : (before after : Option Texts) (rose rose' failed lacks : Type 0) (old new : Option (List ℕ)) (p : Planned) (broken : Broken) → (rose → rose')
-    → BreaksOff before after rose failed lacks old new p broken → BreaksOff before after rose' failed lacks old new p broken
-breaks_by before after rose rose' failed lacks old new p broken f (inl at_file) = inl (file_by before after rose rose' failed lacks old new p.writing broken f at_file)
+breaks_by : (before after : Option Texts) (rose rose' failed lacks : Type 0) (old new : Option (List ℕ)) (p : Planned)
+    (broken : Broken) → (rose → rose')
+    → BreaksOff before after rose failed lacks old new p broken
+    → BreaksOff before after rose' failed lacks old new p broken
+breaks_by before after rose rose' failed lacks old new p broken f (inl at_file) =
+    inl (file_by before after rose rose' failed lacks old new p.writing broken f at_file)
 breaks_by before after rose rose' failed lacks old new p broken f (inr at_text) = inr at_text
 
 -- a plan of the line was broken off
-pub ends_early : (line : Asked) (probes kept : List Watch) (told mid after : Option Texts) (before at now : ℕ) (failed lacks : Type 0) (old new : Option (List ℕ)) (p : Planned) (broken : Broken)
-    → IfSome told (λ texts. IsPlan line probes kept texts p) → mid ≡ told → before ≤ at
+pub ends_early : (line : Asked) (probes kept : List Watch) (told mid after : Option Texts) (before at now : ℕ)
+    (failed lacks : Type 0) (old new : Option (List ℕ)) (p : Planned) (broken : Broken)
+    → IsPlan line probes kept told p → mid ≡ told → before ≤ at
     → BreaksOff mid after (Rose at now) failed lacks old new p broken
-    → IfSome told (λ texts. EndsEarly (Some line) probes kept texts (Rose before now) failed lacks after old new broken)
-ends_early line probes kept None mid after before at now failed lacks old new p broken is same later h = tt
-ends_early line probes kept (Some texts) mid after before at now failed lacks old new p broken is same later h =
+    → EndsEarly (Some line) probes kept told (Rose before now) failed lacks after old new broken
+ends_early line probes kept told mid after before at now failed lacks old new p broken is same later h =
     inr (record {
       plan = p;
       is_plan = is;
-      broken_off = breaks_by (Some texts) after (Rose at now) (Rose before now) failed lacks old new p broken (rose_before before at now later)
-          (subst (λ (told : Option Texts). BreaksOff told after (Rose at now) failed lacks old new p broken) same h);
+      broken_off = breaks_by told after (Rose at now) (Rose before now) failed lacks old new p broken
+          (rose_before before at now later)
+          (subst (λ (texts : Option Texts). BreaksOff texts after (Rose at now) failed lacks old new p broken) same h);
     })
+
+keeps_same : (written : Option (List ℕ)) → Keeps written written
+keeps_same None = tt
+keeps_same (Some xs) = refl
+
+leaves_same : (line : Asked) (probes : List Watch) (told : Option Texts) → LeavesProbes line probes probes told
+unfolding LeavesProbes
+leaves_same (Turn file heap deep steps input) probes told = inl refl
+leaves_same (Profile file heap deep steps) probes told = inl refl
+leaves_same _ probes told = refl
+
+-- no memory was found to read the words, and all is as before
+pub untouched : (line : Option Asked) (probes : List Watch) (told : Option Texts) (rose failed lacks : Type 0)
+    (written : Option (List ℕ)) → EndsEarly line probes probes told rose failed lacks told written written NoMemory
+untouched None probes told rose failed lacks written = (refl, keeps_same written)
+untouched (Some line) probes told rose failed lacks written =
+    inl (refl, (keeps_same written, leaves_same line probes told))

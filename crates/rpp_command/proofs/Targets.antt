@@ -1,37 +1,47 @@
 -- A plan of a line writes the line's target, or nothing.
-use Rattle.std.proofs.Common.{ℕ, List, None, Some, inl, inr, option_map, IfSome, subst}
+use Rattle.std.proofs.Common.{ℕ, List, None, Some, inl, inr, option_map, subst}
 use Rattle.std.specs.declared.option.Option.{Option}
 use Rattle.rpp_ports.specs.Ports.{Texts}
 use Rattle.rpp_probes.specs.Tally.{Watch}
-use Rattle.rpp_command.specs.Lines.{Asked, Check, Compile, Asm, ListImage, Flip, ShowInverse, Generate, Cluster, RunImage, Debug, Trace, Go, Turn, Profile, Wrap, Explain}
-use Rattle.rpp_plan.specs.Plans.{Planned, Written, WritesOnly}
+use Rattle.rpp_command.specs.Lines.{Asked, Check, Compile, Asm, ListImage, Flip, ShowInverse, Generate, Cluster}
+use Rattle.rpp_command.specs.Lines.{RunImage, Debug, Trace, Go, Turn, Profile, Wrap, Explain}
+use Rattle.command_plan.specs.Plans.{Planned, Written, WritesOnly}
 use Rattle.rpp_command.specs.Plans.{IsPlan}
 use Rattle.rpp_command.specs.Causes.{target_of, KeepsButTarget}
-use Rattle.program_commands.proofs.ProgramTargets.{checks_file_writes, compiles_file_writes, goes_on_writes, turns_file_writes, profiles_file_writes, explains_writes}
+use Rattle.program_commands.proofs.ProgramTargets.{checks_file_writes, compiles_file_writes, goes_on_writes}
+use Rattle.program_commands.proofs.ProgramTargets.{turns_file_writes, profiles_file_writes, explains_writes}
 use Rattle.cluster_commands.proofs.ClusterTargets.{clusters_files_writes}
 use Rattle.wrap_commands.proofs.WrapTargets.{wraps_file_writes}
 use Rattle.trace_commands.proofs.TraceTargets.{traces_writes}
 use Rattle.text_commands.proofs.TextTargets.{shows_inverse_writes, generates_writes}
-use Rattle.image_commands.proofs.ImageTargets.{assembles_file_writes, lists_file_writes, flips_file_writes, runs_file_writes, debugs_file_writes}
+use Rattle.image_commands.proofs.ImageTargets.{assembles_file_writes, lists_file_writes, flips_file_writes}
+use Rattle.image_commands.proofs.ImageTargets.{runs_file_writes, debugs_file_writes}
 
-plan_writes : (line : Asked) (before after : List Watch) (texts : Texts) (p : Planned) → IsPlan line before after texts p → WritesOnly p (target_of line)
+plan_writes : (line : Asked) (before after : List Watch) (told : Option Texts) (p : Planned)
+    → IsPlan line before after told p → WritesOnly p (target_of line)
 unfolding IsPlan target_of
-plan_writes (Check file) before after texts p h = checks_file_writes file texts p h
-plan_writes (Compile file image) before after texts p h = compiles_file_writes file image texts p h
-plan_writes (Asm text image) before after texts p h = assembles_file_writes text image texts p h
-plan_writes (ListImage image text) before after texts p h = lists_file_writes image text texts p h
-plan_writes (Flip image flipped) before after texts p h = flips_file_writes image flipped texts p h
-plan_writes (ShowInverse file out) before after texts p h = shows_inverse_writes file out texts p h
-plan_writes (Generate seed size out) before after texts p h = generates_writes seed size out texts p h
-plan_writes (Cluster script cells images) before after texts p h = clusters_files_writes script cells images texts p h
-plan_writes (RunImage image heap deep steps state save) before after texts p h = runs_file_writes image heap deep steps state save texts p h
-plan_writes (Debug image heap deep script) before after texts p h = debugs_file_writes image heap deep script texts p h
-plan_writes (Trace file heap deep script input) before after texts p h = traces_writes file script input heap deep texts p h
-plan_writes (Go file heap deep steps input) before after texts p h = goes_on_writes file input heap deep steps texts p h
-plan_writes (Turn file heap deep steps input) before after texts p h = turns_file_writes before after file input heap deep steps texts p h
-plan_writes (Profile file heap deep steps) before after texts p h = profiles_file_writes before after file heap deep steps texts p h
-plan_writes (Wrap file heap deep steps names input) before after texts p h = wraps_file_writes file names input heap deep steps texts p h
-plan_writes (Explain file heap deep fuel input) before after texts p h = explains_writes file input heap deep fuel texts p h
+plan_writes (Check file) before after told p h = checks_file_writes file told p h
+plan_writes (Compile file image) before after told p h = compiles_file_writes file image told p h
+plan_writes (Asm text image) before after told p h = assembles_file_writes text image told p h
+plan_writes (ListImage image text) before after told p h = lists_file_writes image text told p h
+plan_writes (Flip image flipped) before after told p h = flips_file_writes image flipped told p h
+plan_writes (ShowInverse file out) before after told p h = shows_inverse_writes file out told p h
+plan_writes (Generate seed size out) before after told p h = generates_writes seed size out told p h
+plan_writes (Cluster script cells images) before after told p h = clusters_files_writes script cells images told p h
+plan_writes (RunImage image heap deep steps state save) before after told p h =
+    runs_file_writes image heap deep steps state save told p h
+plan_writes (Debug image heap deep script) before after told p h = debugs_file_writes image heap deep script told p h
+plan_writes (Trace file heap deep script input) before after told p h =
+    traces_writes file script input heap deep told p h
+plan_writes (Go file heap deep steps input) before after told p h = goes_on_writes file input heap deep steps told p h
+plan_writes (Turn file heap deep steps input) before after told p h =
+    turns_file_writes before after file input heap deep steps told p h
+plan_writes (Profile file heap deep steps) before after told p h =
+    profiles_file_writes before after file heap deep steps told p h
+plan_writes (Wrap file heap deep steps names input) before after told p h =
+    wraps_file_writes file names input heap deep steps told p h
+plan_writes (Explain file heap deep fuel input) before after told p h =
+    explains_writes file input heap deep fuel told p h
 
 -- where nothing is written, each name keeps its text
 kept_all : (old new : Option Texts) (name : Option (List ℕ)) → KeepsButTarget old new None → KeepsButTarget old new name
@@ -42,11 +52,13 @@ kept_all (Some old) (Some new) (Some name) kept = λ other differs. kept other
 
 kept_where : (old new : Option Texts) (p : Planned) (name : Option (List ℕ)) → WritesOnly p name
     → KeepsButTarget old new (option_map (λ w. w.name) p.writing) → KeepsButTarget old new name
-kept_where old new p name (inl none) kept = kept_all old new name (subst (λ (w : Option Written). KeepsButTarget old new (option_map (λ w. w.name) w)) none kept)
+kept_where old new p name (inl none) kept = kept_all old new name
+    (subst (λ (w : Option Written). KeepsButTarget old new (option_map (λ w. w.name) w)) none kept)
 kept_where old new p name (inr same) kept = subst (KeepsButTarget old new) same kept
 
 -- so what it leaves is as the line says
-pub kept_by_plan : (line : Asked) (before after : List Watch) (old new : Option Texts) (p : Planned) → IfSome old (λ texts. IsPlan line before after texts p)
+pub kept_by_plan : (line : Asked) (before after : List Watch) (old new : Option Texts) (p : Planned)
+    → IsPlan line before after old p
     → KeepsButTarget old new (option_map (λ w. w.name) p.writing) → KeepsButTarget old new (target_of line)
-kept_by_plan line before after None new p is kept = tt
-kept_by_plan line before after (Some texts) new p is kept = kept_where (Some texts) new p (target_of line) (plan_writes line before after texts p is) kept
+kept_by_plan line before after old new p is kept =
+    kept_where old new p (target_of line) (plan_writes line before after old p is) kept

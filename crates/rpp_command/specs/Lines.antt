@@ -1,10 +1,12 @@
 -- What the words ask for, with lists of bytes for texts.
-use Rattle.std.specs.Prelude.{ℕ, Bool, true, false, ◌+◌, ◌-◌, ◌*◌, ◌^◌, ◌<◌, List, [], ◌∷◌, length, None, Some, option_map, if◌then◌else◌, nat_le, nat_lt, ◌&&◌, string_bytes, codes, ◌≤◌, map}
+use Rattle.std.specs.Prelude.{ℕ, Bool, true, false, ◌+◌, ◌-◌, ◌*◌, ◌^◌, ◌<◌, List, [], ◌∷◌, length}
+use Rattle.std.specs.Prelude.{None, Some, option_map, if◌then◌else◌, nat_le, nat_lt, ◌&&◌}
+use Rattle.std.specs.Prelude.{string_bytes, codes, ◌≤◌, map}
 use Rattle.std.specs.Char.{is_ascii_digit}
 use Rattle.std.specs.declared.option.Option.{Option}
 use Rattle.std.specs.Str.{bytes_eq}
 use Rattle.rpp_command.specs.declared.line.Line.{Line}
-use Rattle.rpp_plan.specs.Files.{state_named, state_of_names, save_of_names}
+use Rattle.command_plan.specs.Files.{state_named, state_of_names, save_of_names}
 use Rattle.rpp_command.specs.declared.line.Line.TheVariants as line
 
 -- a line as contracts see it
@@ -38,7 +40,8 @@ asked (line.Cluster script cells images) =
     Cluster (string_bytes script) cells (map string_bytes images.items)
 asked (line.Run image heap deep steps names) =
     RunImage (string_bytes image) heap deep steps (state_of_names names) (save_of_names names)
-asked (line.Debug image heap deep script) = Debug (string_bytes image) heap deep (string_bytes script)
+asked (line.Debug image heap deep script) = Debug (string_bytes image) heap deep
+    (string_bytes script)
 asked (line.Trace file heap deep script input) =
     Trace (string_bytes file) heap deep (string_bytes script) (option_map string_bytes input)
 asked (line.Go file heap deep steps input) =
@@ -46,9 +49,8 @@ asked (line.Go file heap deep steps input) =
 asked (line.Turn file heap deep steps input) =
     Turn (string_bytes file) heap deep steps (option_map string_bytes input)
 asked (line.Profile file heap deep steps) = Profile (string_bytes file) heap deep steps
-asked (line.Wrap file heap deep steps wanted) =
-    Wrap (string_bytes file) heap deep steps (string_bytes wanted.names)
-    (option_map string_bytes wanted.input)
+asked (line.Wrap file heap deep steps names input) =
+    Wrap (string_bytes file) heap deep steps (string_bytes names) (option_map string_bytes input)
 asked (line.Explain file heap deep fuel input) =
     Explain (string_bytes file) heap deep fuel (option_map string_bytes input)
 
@@ -59,7 +61,8 @@ digits_after n (c ∷ cs) = if is_ascii_digit c then digits_after (10 * n + (c -
 
 -- the number that 1 to 18 decimal digits are
 abbrev pub number_of : List ℕ → Option ℕ
-number_of word = if nat_lt 0 (length word) && nat_le (length word) 18 then digits_after 0 word else None
+number_of word = if nat_lt 0 (length word) && nat_le (length word) 18 then digits_after 0 word else
+    None
 
 -- a run of a program, and whether it turns back after a finish
 abbrev pub go_or_turn : (turns : Bool)
@@ -67,7 +70,8 @@ abbrev pub go_or_turn : (turns : Bool)
 go_or_turn false = Go
 go_or_turn true = Turn
 
--- a file, an order of the heap, a depth, a number of steps, and the file of an input, if there is one
+-- a file, an order of the heap, a depth, a number of steps, and the file of an input, if there is
+-- one
 abbrev pub go_with : (turns : Bool) → List ℕ → Option ℕ → Option ℕ → Option ℕ → Option (List ℕ)
     → Option Asked
 go_with turns file (Some heap) (Some deep) (Some steps) input =
@@ -109,7 +113,8 @@ wrap_line_of _ = None
 -- a file, an order of the heap, a depth, the most that a run may cost, and the file of an input, if
 -- there is one
 abbrev pub explain_with : List ℕ → Option ℕ → Option ℕ → Option ℕ → Option (List ℕ) → Option Asked
-explain_with file (Some heap) (Some deep) (Some fuel) input = Some (Explain file heap deep fuel input)
+explain_with file (Some heap) (Some deep) (Some fuel) input =
+    Some (Explain file heap deep fuel input)
 explain_with file _ _ _ input = None
 
 abbrev pub explain_line_of : List (List ℕ) → Option Asked
@@ -131,7 +136,8 @@ abbrev pub run_line_of : List (List ℕ) → Option Asked
 run_line_of (image ∷ heap ∷ deep ∷ steps ∷ []) =
     run_with image (number_of heap) (number_of deep) (number_of steps) None None
 run_line_of (image ∷ heap ∷ deep ∷ steps ∷ state ∷ save ∷ []) =
-    run_with image (number_of heap) (number_of deep) (number_of steps) (state_named state) (Some save)
+    run_with image (number_of heap) (number_of deep) (number_of steps) (state_named state)
+    (Some save)
 run_line_of _ = None
 
 -- a number of items
@@ -145,7 +151,8 @@ generate_with (Some seed) (Some size) out = Some (Generate seed size out)
 generate_with _ _ out = None
 
 abbrev pub generate_line_of : List (List ℕ) → Option Asked
-generate_line_of (seed ∷ size ∷ out ∷ []) = generate_with (number_of seed) (items_of (number_of size)) out
+generate_line_of (seed ∷ size ∷ out ∷ []) = generate_with (number_of seed)
+    (items_of (number_of size)) out
 generate_line_of _ = None
 
 -- a number of cells that several processors have in common
@@ -173,8 +180,10 @@ debug_line_of (image ∷ heap ∷ deep ∷ script ∷ []) =
     debug_with image (number_of heap) (number_of deep) script
 debug_line_of _ = None
 
--- a program, an order of the heap, a depth, the file of a script, and that of an input, if there is one
-abbrev pub trace_with : List ℕ → Option ℕ → Option ℕ → (script : List ℕ) → Option (List ℕ) → Option Asked
+-- a program, an order of the heap, a depth, the file of a script, and that of an input, if there is
+-- one
+abbrev pub trace_with : List ℕ → Option ℕ → Option ℕ → (script : List ℕ) → Option (List ℕ)
+    → Option Asked
 trace_with file (Some heap) (Some deep) script input = Some (Trace file heap deep script input)
 trace_with file _ _ script input = None
 
@@ -237,10 +246,12 @@ HasShortNumbers (RunImage image heap deep steps state save) = (heap < 10 ^ 18) �
     × (steps < 10 ^ 18)
 HasShortNumbers (Debug image heap deep script) = (heap < 10 ^ 18) × (deep < 10 ^ 18)
 HasShortNumbers (Trace file heap deep script input) = (heap < 10 ^ 18) × (deep < 10 ^ 18)
-HasShortNumbers (Go file heap deep steps input) = (heap < 10 ^ 18) × (deep < 10 ^ 18) × (steps < 10 ^ 18)
+HasShortNumbers (Go file heap deep steps input) =
+    (heap < 10 ^ 18) × (deep < 10 ^ 18) × (steps < 10 ^ 18)
 HasShortNumbers (Turn file heap deep steps input) = (heap < 10 ^ 18) × (deep < 10 ^ 18)
     × (steps < 10 ^ 18)
-HasShortNumbers (Profile file heap deep steps) = (heap < 10 ^ 18) × (deep < 10 ^ 18) × (steps < 10 ^ 18)
+HasShortNumbers (Profile file heap deep steps) =
+    (heap < 10 ^ 18) × (deep < 10 ^ 18) × (steps < 10 ^ 18)
 HasShortNumbers (Wrap file heap deep steps names input) = (heap < 10 ^ 18) × (deep < 10 ^ 18)
     × (steps < 10 ^ 18)
 HasShortNumbers (Explain file heap deep fuel input) = (heap < 10 ^ 18) × (deep < 10 ^ 18)

@@ -1,22 +1,26 @@
 -- The plans of each line.
-use Rattle.std.specs.Prelude.{List}
+use Rattle.std.specs.Prelude.{◌≡◌, List}
+use Rattle.std.specs.declared.option.Option.{Option}
 use Rattle.rpp_ports.specs.Ports.{Texts}
 use Rattle.rpp_probes.specs.Tally.{Watch}
-use Rattle.rpp_plan.specs.Plans.{Planned}
+use Rattle.command_plan.specs.Plans.{Planned}
 use Rattle.image_commands.specs.ImagePlans.{AssemblesFile, ListsFile, FlipsFile, RunsFile}
 use Rattle.image_commands.specs.DebugPlans.{DebugsFile}
 use Rattle.program_commands.specs.ProgramPlans.{ChecksFile, CompilesFile}
 use Rattle.program_commands.specs.RunPlans.{GoesOn, TurnsFile, ProfilesFile}
+use Rattle.program_commands.specs.ToldShort.{TurnsFileShort, ProfilesFileShort}
 use Rattle.program_commands.specs.Explained.{Explains}
 use Rattle.cluster_commands.specs.ClusterPlans.{ClustersFiles}
 use Rattle.wrap_commands.specs.WrapPlans.{WrapsFile}
 use Rattle.trace_commands.specs.TracePlans.{Traces}
 use Rattle.text_commands.specs.TextPlans.{ShowsInverse, Generates}
-use Rattle.rpp_command.specs.Lines.{Asked, Check, Compile, Asm, ListImage, Flip, ShowInverse, Generate, Cluster, RunImage, Debug, Trace, Go, Turn, Profile, Wrap, Explain}
+use Rattle.rpp_command.specs.Lines.{Asked, Check, Compile, Asm, ListImage, Flip, ShowInverse}
+use Rattle.rpp_command.specs.Lines.{Generate, Cluster, RunImage, Debug, Trace, Go, Turn, Profile}
+use Rattle.rpp_command.specs.Lines.{Wrap, Explain}
 
--- a plan of the line, where the shelf has these texts, and the list of probes is `before` as it is
--- handed in and `after` as it is left
-unfoldable pub IsPlan : Asked → (before after : List Watch) → Texts → Planned → Type 0
+-- a plan of the line, where the shelf tells these texts, if it does, and the list of probes is
+-- `before` as it is handed in and `after` as it is left
+unfoldable pub IsPlan : Asked → (before after : List Watch) → Option Texts → Planned → Type 0
 IsPlan (Check file) before after = ChecksFile file
 IsPlan (Compile file image) before after = CompilesFile file image
 IsPlan (Asm text image) before after = AssemblesFile text image
@@ -30,7 +34,18 @@ IsPlan (RunImage image heap deep steps state save) before after =
 IsPlan (Debug image heap deep script) before after = DebugsFile image heap deep script
 IsPlan (Trace file heap deep script input) before after = Traces file script input heap deep
 IsPlan (Go file heap deep steps input) before after = GoesOn file input heap deep steps
-IsPlan (Turn file heap deep steps input) before after = TurnsFile before after file input heap deep steps
+IsPlan (Turn file heap deep steps input) before after =
+    TurnsFile before after file input heap deep steps
 IsPlan (Profile file heap deep steps) before after = ProfilesFile before after file heap deep steps
-IsPlan (Wrap file heap deep steps names input) before after = WrapsFile file names input heap deep steps
+IsPlan (Wrap file heap deep steps names input) before after =
+    WrapsFile file names input heap deep steps
 IsPlan (Explain file heap deep fuel input) before after = Explains file input heap deep fuel
+
+-- what is left of the probes where want of memory, or a file that could not be read, keeps the line
+-- from a plan
+unfoldable pub LeavesProbes : Asked → (before after : List Watch) → Option Texts → Type 0
+LeavesProbes (Turn file heap deep steps input) before after told =
+    TurnsFileShort before after file input heap deep steps told
+LeavesProbes (Profile file heap deep steps) before after told =
+    ProfilesFileShort before after file heap deep steps told
+LeavesProbes _ before after told = after ≡ before

@@ -1,12 +1,11 @@
 // What the words ask for.
 ghost use Rattle.std.specs.Prelude.{◌≡◌, ◌<◌, ◌≤◌, ◌^◌, map, option_map, IfOk, IfSome, string_bytes};
 ghost use Rattle.rpp_command.specs.Lines.{asked, line_of, source_line_of, check_line_of, files_line_of, Compile, Asm, ListImage, Flip, ShowInverse, generate_line_of, generate_with as generate_asked, items_of, cluster_line_of, cluster_with as cluster_asked, common_of, run_line_of, run_with as run_asked, debug_line_of, debug_with as debug_asked, trace_line_of, trace_with as trace_asked, go_line_of, go_with as go_asked, profile_line_of, profile_with as profile_asked, wrap_line_of, wrap_with as wrap_asked, explain_line_of, explain_with as explain_asked, number_of, HasShortNumbers};
-ghost use Rattle.rpp_plan.specs.Files.{state_of_names, save_of_names};
+ghost use Rattle.command_plan.specs.Files.{state_of_names, save_of_names};
 
-use rpp_plan::StateNames;
+use command_plan::StateNames;
 use rpp_words::NoMemory;
 use std::alloc::Global;
-use wrap_commands::Wanted;
 
 /// A command with its words read.
 #[derive(Debug, Drop)]
@@ -111,7 +110,8 @@ pub enum Line {
         heap: u64,
         deep: u64,
         steps: u64,
-        wanted: Wanted,
+        names: String,
+        input: Option<String>,
     },
     /// Interprets a program: its file, the order of the heap, the depth, the most that it may cost,
     /// and the file of its input, if there is one.
@@ -510,25 +510,14 @@ fn wrap_line(args: &[String]) -> Result<Option<Line>, NoMemory>
     ensures numbers { IfOk result (λ line. IfSome line (λ line. HasShortNumbers (asked line))) }
 {
     match args {
-        [file, heap, deep, steps, names] => wrap_with(
-            file,
-            heap,
-            deep,
-            steps,
-            Wanted {
-                names: names.clone()?,
-                input: None,
-            },
-        ),
+        [file, heap, deep, steps, names] => wrap_with(file, heap, deep, steps, names, None),
         [file, heap, deep, steps, names, input] => wrap_with(
             file,
             heap,
             deep,
             steps,
-            Wanted {
-                names: names.clone()?,
-                input: Some(input.clone()?),
-            },
+            names,
+            Some(input.clone()?),
         ),
         _ => Ok(None),
     }
@@ -539,12 +528,13 @@ fn wrap_with(
     heap: &String,
     deep: &String,
     steps: &String,
-    wanted: Wanted,
+    names: &String,
+    input: Option<String>,
 ) -> Result<Option<Line>, NoMemory>
     ensures line { IfOk result (λ line. option_map asked line
         ≡ wrap_asked (string_bytes file.now) (number_of (string_bytes heap.now))
         (number_of (string_bytes deep.now)) (number_of (string_bytes steps.now))
-        (string_bytes wanted.names) (option_map string_bytes wanted.input)) }
+        (string_bytes names.now) (option_map string_bytes input)) }
     ensures numbers { IfOk result (λ line. IfSome line (λ line. HasShortNumbers (asked line))) }
 {
     let Some(heap) = read_number(heap.as_str()) else {
@@ -561,7 +551,8 @@ fn wrap_with(
         heap,
         deep,
         steps,
-        wanted,
+        names: names.clone()?,
+        input,
     }))
 }
 

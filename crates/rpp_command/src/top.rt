@@ -2,19 +2,19 @@
 ghost use Rattle.std.specs.Prelude.{◌≡◌, ◌≢◌, false, ◌⊎◌, ◌≤◌, ◌<◌, OnOk, map, string_bytes, IfOk, IfErr, IfSome, IsErrOf, IsTrue};
 ghost use Rattle.rpp_ports.specs.Ports.{Rose};
 ghost use Rattle.rpp_command.specs.Lines.{asked, line_of, HasShortNumbers};
-ghost use Rattle.rpp_plan.specs.Plans.{GivesPlan, code_of};
-ghost use Rattle.rpp_command.specs.Plans.{IsPlan};
-ghost use Rattle.rpp_plan.specs.Files.{OnlyReads, Unreadable, UnreadCause, LacksOne};
+ghost use Rattle.command_plan.specs.Plans.{GivesPlan, code_of};
+ghost use Rattle.rpp_command.specs.Plans.{IsPlan, LeavesProbes};
+ghost use Rattle.command_plan.specs.Files.{OnlyReads, Unreadable, UnreadCause, LacksOne};
 ghost use Rattle.rpp_command.specs.Causes.{KeepsButTarget, files_of, needed, target, target_of, tell, tells};
 ghost use Rattle.rpp_command.specs.Answers.{CarriesOut, Answers, EndsEarly};
 
 use crate::finish::{Broken, finish, say};
 use crate::line::{Line, read_words};
 use cluster_commands::cluster;
+use command_plan::{NoPlan, Plan, Sizes, Verdict};
 use image_commands::{Room, asm, debug, flip, list, run};
 use pisa_machine::Steps;
 use program_commands::{check, compile_file, explain, go, profile, turn};
-use rpp_plan::{NoPlan, Plan, Sizes, Verdict};
 use rpp_ports::{Shelf, Sink};
 use rpp_probes::Probes;
 use std::alloc::Global;
@@ -32,10 +32,10 @@ pub fn rooplpp<S: Shelf, K: Sink, P: Probes>(
     out: &mut K,
     probes: &mut P,
 ) -> u8
-    // The whole answer, where the shelf tells its texts.
-    ensures answer { result ≢ 2 → result ≢ 7 → IfSome (S.texts shelf.old) (λ texts.
+    // The whole answer.
+    ensures answer { result ≢ 2 → result ≢ 7 →
         Answers (line_of (map string_bytes words.now)) (P.watches probes.old) (P.watches probes.new)
-        texts (S.texts shelf.new) result (K.written out.old) (K.written out.new)) }
+        (S.texts shelf.old) (S.texts shelf.new) result (K.written out.old) (K.written out.new) }
 
     // 1 comes exactly where the words are no line.
     ensures words { result ≡ 1 → line_of (map string_bytes words.now) ≡ None }
@@ -52,18 +52,18 @@ pub fn rooplpp<S: Shelf, K: Sink, P: Probes>(
         → result ≡ 2) }
 
     // What 2 and 7 leave.
-    ensures fault { result ≡ 2 → IfSome (S.texts shelf.old) (λ texts.
+    ensures fault { result ≡ 2 →
         EndsEarly (line_of (map string_bytes words.now)) (P.watches probes.old)
-        (P.watches probes.new) texts
+        (P.watches probes.new) (S.texts shelf.old)
         (Rose (S.faults shelf.old) (S.faults shelf.new))
         (Rose (K.faults out.old) (K.faults out.new)) (IsTrue (K.needs_memory out.old))
-        (S.texts shelf.new) (K.written out.old) (K.written out.new) Broken.Outside) }
-    ensures memory { result ≡ 7 → IfSome (S.texts shelf.old) (λ texts.
+        (S.texts shelf.new) (K.written out.old) (K.written out.new) Broken.Outside }
+    ensures memory { result ≡ 7 →
         EndsEarly (line_of (map string_bytes words.now)) (P.watches probes.old)
-        (P.watches probes.new) texts
+        (P.watches probes.new) (S.texts shelf.old)
         (Rose (S.faults shelf.old) (S.faults shelf.new))
         (Rose (K.faults out.old) (K.faults out.new)) (IsTrue (K.needs_memory out.old))
-        (S.texts shelf.new) (K.written out.old) (K.written out.new) Broken.NoMemory) }
+        (S.texts shelf.new) (K.written out.old) (K.written out.new) Broken.NoMemory }
 
     // Whatever the status, each name keeps its text but the one that the line writes.
     ensures kept { KeepsButTarget (S.texts shelf.old) (S.texts shelf.new)
@@ -109,17 +109,18 @@ fn serve<S: Shelf, K: Sink, P: Probes, L: Ledger>(
     requires name { blank.name ≡ L.name }
     requires parts { blank.parts ≡ L.parts }
     requires has_a_part { 0 < L.parts }
-    ensures carried { IfOk result (λ verdict. IfSome (S.texts shelf.old) (λ texts.
-        CarriesOut (asked line.now) (P.watches probes.old) (P.watches probes.new) texts
-        (S.texts shelf.new) (code_of verdict) (K.written out.old) (K.written out.new))) }
+    ensures carried { IfOk result (λ verdict.
+        CarriesOut (asked line.now) (P.watches probes.old) (P.watches probes.new)
+        (S.texts shelf.old) (S.texts shelf.new) (code_of verdict) (K.written out.old)
+        (K.written out.new)) }
     ensures outside { IsErrOf result Broken.Outside
         → Unreadable (S.texts shelf.old) (files_of (asked line.now))
         (Rose (S.faults shelf.old) (S.faults shelf.new) ⊎ Rose (K.faults out.old) (K.faults out.new)) }
-    ensures early { IfErr result (λ broken. IfSome (S.texts shelf.old) (λ texts.
-        EndsEarly (Some (asked line.now)) (P.watches probes.old) (P.watches probes.new) texts
-        (Rose (S.faults shelf.old) (S.faults shelf.new))
+    ensures early { IfErr result (λ broken.
+        EndsEarly (Some (asked line.now)) (P.watches probes.old) (P.watches probes.new)
+        (S.texts shelf.old) (Rose (S.faults shelf.old) (S.faults shelf.new))
         (Rose (K.faults out.old) (K.faults out.new)) (IsTrue (K.needs_memory out.old))
-        (S.texts shelf.new) (K.written out.old) (K.written out.new) broken)) }
+        (S.texts shelf.new) (K.written out.old) (K.written out.new) broken) }
     ensures whole { OnOk result (IfSome (S.texts shelf.old)
         (λ texts. ¬ LacksOne texts (files_of (asked line.now)))) }
     ensures kept { KeepsButTarget (S.texts shelf.old) (S.texts shelf.new) (target_of (asked line.now)) }
@@ -143,7 +144,7 @@ fn serve<S: Shelf, K: Sink, P: Probes, L: Ledger>(
 }
 
 // The plan of a line.
-#[tactic(auto, unfolding(crate::specs::Plans::IsPlan, crate::specs::Causes::files_of, crate::specs::Causes::tells))]
+#[tactic(auto, unfolding(crate::specs::Plans::IsPlan, crate::specs::Plans::LeavesProbes, crate::specs::Causes::files_of, crate::specs::Causes::tells))]
 fn plan_line<S: Shelf, P: Probes, L: Ledger>(
     alloc: Global,
     line: &Line,
@@ -157,6 +158,8 @@ fn plan_line<S: Shelf, P: Probes, L: Ledger>(
     ensures reads { OnlyReads (S.texts shelf.old) (S.texts shelf.new) (S.faults shelf.old)
         (S.faults shelf.new) (files_of (asked line.now)) result }
     ensures untold { IfErr result (UnreadCause (P.watches probes.new ≡ P.watches probes.old)) }
+    ensures short { IfErr result (λ _. LeavesProbes (asked line.now) (P.watches probes.old)
+        (P.watches probes.new) (S.texts shelf.old)) }
     ensures probes { tells (asked line.now) ≡ false → probes.new ≡ probes.old }
 {
     match line {
@@ -284,12 +287,14 @@ fn plan_line<S: Shelf, P: Probes, L: Ledger>(
             heap,
             deep,
             steps,
-            wanted,
+            names,
+            input,
         } => wrap(
             alloc,
             shelf,
             file.as_str(),
-            wanted,
+            names.as_str(),
+            input,
             Sizes {
                 heap: *heap,
                 deep: *deep,

@@ -9,9 +9,6 @@ ghost use Rattle.rpp_generator.specs.Generated.{generated, opening, closing, ite
 use rpp_words::NoMemory;
 use std::alloc::{AllocError, Global};
 
-#[cfg(test)]
-mod tests;
-
 // The lines before the items.
 const OPENING: &str = "class Main
 Node head int[] hist int total int count int sum int kept

@@ -16,7 +16,8 @@ pub unmarked_are : (n : ℕ) → AreMarks (replicate n 0)
 unmarked_are zero = λ k d h. absurd (omega (h, arith))
 unmarked_are (suc n) = λ k d h. first n k d h
   where
-    first : (n k d : ℕ) → k < length {A = ℕ} (replicate (suc n) 0) → slice_index_or {A = ℕ} (replicate (suc n) 0) k d ≤ 1
+    first : (n k d : ℕ) → k < length {A = ℕ} (replicate (suc n) 0)
+        → slice_index_or {A = ℕ} (replicate (suc n) 0) k d ≤ 1
     first n zero d h = omega arith
     first zero (suc k) d h = absurd (omega (h, arith))
     first (suc n) (suc k) d h = first n k d (omega (h, arith))
@@ -28,7 +29,8 @@ sum_few (m ∷ ms) are =
     let rest : sum ms ≤ length ms = sum_few ms (λ k d h. are (suc k) d (omega (h, arith))) in
     omega (arith, sum-cons m ms)
 
-pub sum_marked : (marks : List ℕ) (i d : ℕ) → i < length marks → AreMarks marks → sum (slice_set marks i 1) + slice_index_or marks i d ≡ sum marks + 1
+pub sum_marked : (marks : List ℕ) (i d : ℕ) → i < length marks → AreMarks marks
+    → sum (slice_set marks i 1) + slice_index_or marks i d ≡ sum marks + 1
 sum_marked [] i d h are = absurd (omega (h, arith))
 sum_marked (m ∷ ms) zero d h are = omega (arith, sum-cons m ms, sum-cons 1 ms)
 sum_marked (m ∷ ms) (suc i) d h are =

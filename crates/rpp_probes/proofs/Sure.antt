@@ -1,5 +1,6 @@
 -- Steps that surely end no probe.
-use Rattle.std.proofs.Common.{◌≡◌, ◌∙◌, sym, ap, subst, refl, ℕ, suc, inl, inr, append_assoc, length-append, take, drop, ◌+◌, ◌-◌, ◌<◌, ◌≤◌, ◌^◌, Bool, true, false, List, [], ◌∷◌, ◌++◌, length, map, arith}
+use Rattle.std.proofs.Common.{◌≡◌, ◌∙◌, sym, ap, subst, refl, ℕ, suc, inl, inr, append_assoc, length-append, take, drop}
+use Rattle.std.proofs.Common.{◌+◌, ◌-◌, ◌<◌, ◌≤◌, ◌^◌, Bool, true, false, List, [], ◌∷◌, ◌++◌, length, map, arith}
 use Rattle.std.specs.Prelude.{◌||◌, ◌==◌, min}
 use Rattle.std.specs.List.{slice_set, slice_index_or}
 use Rattle.std.proofs.lemmas.List.{map-append, append-nil, length-map}
@@ -8,17 +9,20 @@ use Rattle.std.proofs.lemmas.Bool.{cases_lt}
 use Rattle.std.proofs.lemmas.Bool.Decides.{nat_tests}
 use Rattle.rpp_probes.specs.declared.probe.StepAt.{StepAt}
 use Rattle.std.proofs.lemmas.List.Elements.{All-head, All-tail, All-cons, All-nil, All-weaker}
-use Rattle.rpp_probes.specs.Tally.{Watch, told, told_all, has_ended, ends_in, going, lines_at, left_after, lines_after, IsSureFor, AreSureFor, EndNone}
+use Rattle.rpp_probes.specs.Tally.{Watch, told, told_all, has_ended, ends_in, going, lines_at, left_after, lines_after}
+use Rattle.rpp_probes.specs.Tally.{IsSureFor, AreSureFor, EndNone}
 use Rattle.rpp_probes.proofs.Told.{same_parts, tail_same, parted, set_parted, count_front, none_left}
 use Rattle.rpp_probes.specs.Rules.{coverage, risen, marked, marked_all}
 
 -- a probe that never ends
-pub never_ends : (steps : List StepAt) (w : Watch) → ((tally : List ℕ) → w.is_end tally ≡ false) → ends_in steps w ≡ false
+pub never_ends : (steps : List StepAt) (w : Watch) → ((tally : List ℕ) → w.is_end tally ≡ false)
+    → ends_in steps w ≡ false
 never_ends [] w h = refl
 never_ends (step ∷ steps) w h = rw (h (w.rule w.tally step)) (never_ends steps (told step w) h)
 
 -- a count that stands below the limit, and one that is past it
-pub not_yet : (steps : List StepAt) (limit count : ℕ) (marks : List ℕ) → count + length steps < limit → limit < 2 ^ 64 → ends_in steps (coverage limit count marks) ≡ false
+pub not_yet : (steps : List StepAt) (limit count : ℕ) (marks : List ℕ) → count + length steps < limit → limit < 2 ^ 64
+    → ends_in steps (coverage limit count marks) ≡ false
 not_yet [] limit count marks h k = refl
 not_yet (step ∷ steps) limit count marks h k =
     let few : count + 1 ≤ 2 ^ 64 - 1 = omega (h, k, arith) in
@@ -27,7 +31,8 @@ not_yet (step ∷ steps) limit count marks h k =
     let rest : risen count + length steps < limit = omega (arith, up, h) in
     rw apart (not_yet steps limit (risen count) _ rest k)
 
-pub no_more : (steps : List StepAt) (limit count : ℕ) (marks : List ℕ) → limit ≤ count → limit + 1 < 2 ^ 64 → count < 2 ^ 64 → ends_in steps (coverage limit count marks) ≡ false
+pub no_more : (steps : List StepAt) (limit count : ℕ) (marks : List ℕ) → limit ≤ count → limit + 1 < 2 ^ 64
+    → count < 2 ^ 64 → ends_in steps (coverage limit count marks) ≡ false
 no_more [] limit count marks h k l = refl
 no_more (step ∷ steps) limit count marks h k l =
     let up : risen count ≡ min (count + 1) (2 ^ 64 - 1) = refl in
@@ -48,30 +53,40 @@ nor_other true b h = absurd_of h
 nor_other false b h = h
 
 -- so many steps, of which the probes are sure
-pub none_of_sure : (n : ℕ) (steps : List StepAt) (ws : List Watch) → AreSureFor n ws → length steps ≤ n → EndNone steps ws
-none_of_sure n steps ws are few = All-weaker (IsSureFor n) (λ w. ends_in steps w ≡ false) (λ w sure. sure steps few) ws are
+pub none_of_sure : (n : ℕ) (steps : List StepAt) (ws : List Watch) → AreSureFor n ws → length steps ≤ n
+    → EndNone steps ws
+none_of_sure n steps ws are few = All-weaker (IsSureFor n) (λ w. ends_in steps w ≡ false) (λ w sure. sure steps few) ws
+    are
 
 -- what a step leaves of probes that neither it nor those behind it end
-pub none_next : (step : StepAt) (steps : List StepAt) (ws : List Watch) → EndNone (step ∷ steps) ws → EndNone steps (map (told step) ws)
+pub none_next : (step : StepAt) (steps : List StepAt) (ws : List Watch) → EndNone (step ∷ steps) ws
+    → EndNone steps (map (told step) ws)
 none_next step steps [] none = All-nil (λ w. ends_in steps w ≡ false)
 none_next step steps (w ∷ ws) none =
     All-cons (λ w. ends_in steps w ≡ false) (told step w) (map (told step) ws)
-    (nor_other (has_ended (told step w)) (ends_in steps (told step w)) (All-head (λ w. ends_in (step ∷ steps) w ≡ false) w ws none))
+    (nor_other (has_ended (told step w)) (ends_in steps (told step w))
+    (All-head (λ w. ends_in (step ∷ steps) w ≡ false) w ws none))
     (none_next step steps ws (All-tail (λ w. ends_in (step ∷ steps) w ≡ false) w ws none))
 
 -- probes that no step ends all stay, and none gives a line
-pub all_stay : (steps : List StepAt) (ws : List Watch) → EndNone steps ws → left_after steps ws ≡ map (told_all steps) ws
+pub all_stay : (steps : List StepAt) (ws : List Watch) → EndNone steps ws
+    → left_after steps ws ≡ map (told_all steps) ws
 all_stay steps [] none = refl
 all_stay steps (w ∷ ws) none =
-    rw (All-head (λ w. ends_in steps w ≡ false) w ws none) (ap (λ l. told_all steps w ∷ l) (all_stay steps ws (All-tail (λ w. ends_in steps w ≡ false) w ws none)))
+    rw (All-head (λ w. ends_in steps w ≡ false) w ws none)
+    (ap (λ l. told_all steps w ∷ l) (all_stay steps ws (All-tail (λ w. ends_in steps w ≡ false) w ws none)))
 
-stays : (step : StepAt) (steps : List StepAt) (w : Watch) (ws : List Watch) → EndNone (step ∷ steps) (w ∷ ws) → has_ended (told step w) ≡ false
-stays step steps w ws none = not_either (has_ended (told step w)) (ends_in steps (told step w)) (All-head (λ w. ends_in (step ∷ steps) w ≡ false) w ws none)
+stays : (step : StepAt) (steps : List StepAt) (w : Watch) (ws : List Watch) → EndNone (step ∷ steps) (w ∷ ws)
+    → has_ended (told step w) ≡ false
+stays step steps w ws none = not_either (has_ended (told step w)) (ends_in steps (told step w))
+    (All-head (λ w. ends_in (step ∷ steps) w ≡ false) w ws none)
 
-going_all : (step : StepAt) (steps : List StepAt) (ws : List Watch) → EndNone (step ∷ steps) ws → going step ws ≡ map (told step) ws
+going_all : (step : StepAt) (steps : List StepAt) (ws : List Watch) → EndNone (step ∷ steps) ws
+    → going step ws ≡ map (told step) ws
 going_all step steps [] none = refl
 going_all step steps (w ∷ ws) none =
-    rw (stays step steps w ws none) (ap (λ l. told step w ∷ l) (going_all step steps ws (All-tail (λ w. ends_in (step ∷ steps) w ≡ false) w ws none)))
+    rw (stays step steps w ws none) (ap (λ l. told step w ∷ l)
+    (going_all step steps ws (All-tail (λ w. ends_in (step ∷ steps) w ≡ false) w ws none)))
 
 no_line : (step : StepAt) (steps : List StepAt) (ws : List Watch) → EndNone (step ∷ steps) ws → lines_at step ws ≡ []
 no_line step steps [] none = refl
@@ -82,7 +97,8 @@ pub no_lines : (steps : List StepAt) (ws : List Watch) → EndNone steps ws → 
 no_lines [] ws none = refl
 no_lines (step ∷ steps) ws none =
     ap (λ l. l ++ lines_after steps (going step ws)) (no_line step steps ws none)
-    ∙ ap (lines_after steps) (going_all step steps ws none) ∙ no_lines steps (map (told step) ws) (none_next step steps ws none)
+    ∙ ap (lines_after steps) (going_all step steps ws none)
+    ∙ no_lines steps (map (told step) ws) (none_next step steps ws none)
 
 -- ---- each probe of a list is told
 
@@ -105,12 +121,16 @@ pub record HasNext (steps : List StepAt) (at : ℕ) (ws now : List Watch) (one :
   pub stands : now ≡ map (told_all steps) front ++ one ∷ behind
   pub count : length front ≡ at
 
-pub next_one : {A : Type 0} (f : A → Watch) (steps : List StepAt) (xs : List A) (at : ℕ) (d : A) (ws : List Watch) → AreTold steps at ws (map f xs) → at < length xs
+pub next_one : {A : Type 0} (f : A → Watch) (steps : List StepAt) (xs : List A) (at : ℕ) (d : A) (ws : List Watch)
+    → AreTold steps at ws (map f xs) → at < length xs
     → HasNext steps at ws (map f xs) (f (slice_index_or xs at d))
 next_one f steps xs at d ws h less =
-    let split = ap (map f) (parted xs at d less) ∙ map-append f (take at xs) (slice_index_or xs at d ∷ drop (suc at) xs) in
-    let counts : length (map f (take at xs)) ≡ length (map (told_all steps) h.front) = count_front f xs at less ∙ sym (length-map h.front (told_all steps) ∙ h.count) in
-    let same = same_parts (map f (take at xs)) (map (told_all steps) h.front) (f (slice_index_or xs at d) ∷ map f (drop (suc at) xs)) h.behind counts (sym split ∙ h.stands) in
+    let split = ap (map f) (parted xs at d less) ∙ map-append f (take at xs) (slice_index_or xs at d ∷ drop (suc at) xs)
+    in
+    let counts : length (map f (take at xs)) ≡ length (map (told_all steps) h.front) = count_front f xs at less
+    ∙ sym (length-map h.front (told_all steps) ∙ h.count) in
+    let same = same_parts (map f (take at xs)) (map (told_all steps) h.front)
+    (f (slice_index_or xs at d) ∷ map f (drop (suc at) xs)) h.behind counts (sym split ∙ h.stands) in
     record {
       front = h.front;
       behind = map f (drop (suc at) xs);
@@ -119,7 +139,8 @@ next_one f steps xs at d ws h less =
       count = h.count;
     }
 
-pub ends_not_next : (steps : List StepAt) (front behind ws : List Watch) (one : Watch) → EndNone steps ws → ws ≡ front ++ one ∷ behind → ends_in steps one ≡ false
+pub ends_not_next : (steps : List StepAt) (front behind ws : List Watch) (one : Watch) → EndNone steps ws
+    → ws ≡ front ++ one ∷ behind → ends_in steps one ≡ false
 ends_not_next steps front behind ws one none parts = first front (subst (EndNone steps) parts none)
   where
     first : (front : List Watch) → EndNone steps (front ++ one ∷ behind) → ends_in steps one ≡ false
@@ -127,14 +148,18 @@ ends_not_next steps front behind ws one none parts = first front (subst (EndNone
     first (w ∷ ws) are = first ws (All-tail (λ w. ends_in steps w ≡ false) w (ws ++ one ∷ behind) are)
 
 -- one more is told
-pub one_told : {A : Type 0} (f : A → Watch) (steps : List StepAt) (xs : List A) (at : ℕ) (d y : A) (ws : List Watch) → AreTold steps at ws (map f xs) → at < length xs
+pub one_told : {A : Type 0} (f : A → Watch) (steps : List StepAt) (xs : List A) (at : ℕ) (d y : A) (ws : List Watch)
+    → AreTold steps at ws (map f xs) → at < length xs
     → f y ≡ told_all steps (f (slice_index_or xs at d)) → AreTold steps (at + 1) ws (map f (slice_set xs at y))
 one_told f steps xs at d y ws h less is =
     let next = next_one f steps xs at d ws h less in
     let one = f (slice_index_or xs at d) in
-    let split = ap (map f) (parted xs at d less) ∙ map-append f (take at xs) (slice_index_or xs at d ∷ drop (suc at) xs) in
-    let counts : length (map f (take at xs)) ≡ length (map (told_all steps) next.front) = count_front f xs at less ∙ sym (length-map next.front (told_all steps) ∙ next.count) in
-    let same = same_parts (map f (take at xs)) (map (told_all steps) next.front) (one ∷ map f (drop (suc at) xs)) (one ∷ next.behind) counts (sym split ∙ next.stands) in
+    let split = ap (map f) (parted xs at d less) ∙ map-append f (take at xs) (slice_index_or xs at d ∷ drop (suc at) xs)
+    in
+    let counts : length (map f (take at xs)) ≡ length (map (told_all steps) next.front) = count_front f xs at less
+    ∙ sym (length-map next.front (told_all steps) ∙ next.count) in
+    let same = same_parts (map f (take at xs)) (map (told_all steps) next.front) (one ∷ map f (drop (suc at) xs))
+    (one ∷ next.behind) counts (sym split ∙ next.stands) in
     let behind = tail_same one one (map f (drop (suc at) xs)) next.behind same.behinds in
     record {
       front = next.front ++ one ∷ [];
@@ -150,18 +175,27 @@ one_told f steps xs at d y ws h less is =
     }
 
 -- all are told
-pub all_told : {A : Type 0} (f : A → Watch) (steps : List StepAt) (xs : List A) (at : ℕ) (ws : List Watch) → AreTold steps at ws (map f xs) → length xs ≤ at → EndNone steps ws
+pub all_told : {A : Type 0} (f : A → Watch) (steps : List StepAt) (xs : List A) (at : ℕ) (ws : List Watch)
+    → AreTold steps at ws (map f xs) → length xs ≤ at → EndNone steps ws
     → map f xs ≡ left_after steps ws
 all_told f steps xs at ws h few none =
     let fronts : length (map (told_all steps) h.front) ≡ at = length-map h.front (told_all steps) ∙ h.count in
-    let none_behind : h.behind ≡ [] = none_left h.behind (omega (few, fronts, arith, length-map xs f, ap (λ (l : List Watch). length l) h.stands, length-append (map (told_all steps) h.front) h.behind)) in
+    let none_behind : h.behind ≡ [] = none_left h.behind (omega (
+      few,
+      fronts,
+      arith,
+      length-map xs f,
+      ap (λ (l : List Watch). length l) h.stands,
+      length-append (map (told_all steps) h.front) h.behind,
+    )) in
     let whole : ws ≡ h.front = h.parts ∙ ap (λ l. h.front ++ l) none_behind ∙ append-nil h.front in
     h.stands ∙ ap (λ l. map (told_all steps) h.front ++ l) none_behind ∙ append-nil (map (told_all steps) h.front)
     ∙ ap (map (told_all steps)) (sym whole) ∙ sym (all_stay steps ws none)
 
 -- ---- a table that is told many steps
 
-risen_more : (count rest : ℕ) → count < 2 ^ 64 → min (risen count + rest) (2 ^ 64 - 1) ≡ min (count + suc rest) (2 ^ 64 - 1)
+risen_more : (count rest : ℕ) → count < 2 ^ 64 → min (risen count + rest) (2 ^ 64 - 1)
+    ≡ min (count + suc rest) (2 ^ 64 - 1)
 risen_more count rest h = elim (cases_lt (count + 1) (2 ^ 64)) [
   | inl low ↦
       let up : risen count ≡ count + 1 = min-eq_left (omega (low, arith)) in
@@ -174,8 +208,10 @@ risen_more count rest h = elim (cases_lt (count + 1) (2 ^ 64)) [
       left ∙ sym right
 ]
 
-pub marks_told : (steps : List StepAt) (limit count : ℕ) (marks : List ℕ) → count < 2 ^ 64 → ends_in steps (coverage limit count marks) ≡ false
-    → told_all steps (coverage limit count marks) ≡ coverage limit (min (count + length steps) (2 ^ 64 - 1)) (marked_all steps marks)
+pub marks_told : (steps : List StepAt) (limit count : ℕ) (marks : List ℕ) → count < 2 ^ 64
+    → ends_in steps (coverage limit count marks) ≡ false
+    → told_all steps (coverage limit count marks) ≡ coverage limit (min (count + length steps) (2 ^ 64 - 1))
+    (marked_all steps marks)
 marks_told [] limit count marks h none =
     let z : count + 0 ≡ count = omega arith in
     let few : count + 0 ≤ 2 ^ 64 - 1 = omega (h, arith) in

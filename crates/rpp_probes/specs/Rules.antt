@@ -1,5 +1,6 @@
 -- The tallies of the three probes.
-use Rattle.std.specs.Prelude.{◌≡◌, ℕ, ◌+◌, ◌-◌, ◌^◌, ◌==◌, nat_lt, min, max, Bool, false, List, [], ◌∷◌, ◌++◌, length, sum, slice_set, codes, if◌then◌else◌}
+use Rattle.std.specs.Prelude.{◌≡◌, ℕ, ◌+◌, ◌-◌, ◌^◌, ◌==◌, nat_lt, min, max, Bool, false, List, []}
+use Rattle.std.specs.Prelude.{◌∷◌, ◌++◌, length, sum, slice_set, codes, if◌then◌else◌}
 use Rattle.std.specs.Fmt.{decimal}
 use Rattle.rpp_probes.specs.declared.probe.StepAt.{StepAt}
 use Rattle.rpp_probes.specs.declared.coverage.TheConstants.{MOST_PLACES}

@@ -1,5 +1,6 @@
 -- What a probe is, and what becomes of probes that are told the counted steps of a run.
-use Rattle.std.specs.Prelude.{◌≡◌, ◌≤◌, ℕ, Bool, false, not, ◌||◌, List, [], ◌∷◌, ◌++◌, length, map, filter, IsTrue, if◌then◌else◌}
+use Rattle.std.specs.Prelude.{◌≡◌, ◌≤◌, ℕ, Bool, false, not, ◌||◌, List, [], ◌∷◌, ◌++◌, length, map}
+use Rattle.std.specs.Prelude.{filter, IsTrue, if◌then◌else◌}
 use Rattle.std.specs.List.{flat_map, All}
 use Rattle.rpp_probes.specs.declared.probe.StepAt.{StepAt}
 
@@ -27,7 +28,8 @@ told step w = record w { tally = w.rule w.tally step }
 -- after which the end test holds
 abbrev pub told_all : List StepAt → Watch → Watch
 told_all [] w = w
-told_all (step ∷ steps) w = if has_ended (told step w) then told step w else told_all steps (told step w)
+told_all (step ∷ steps) w = if has_ended (told step w) then told step w else told_all steps
+    (told step w)
 
 -- whether there is such a step
 abbrev pub ends_in : List StepAt → Watch → Bool
@@ -65,14 +67,15 @@ lines_after (step ∷ steps) ws = lines_at step ws ++ lines_after steps (going s
 
 -- No memory was found for the line of a probe that ended with a step: those in front of it were
 -- told the step, and the lines of those that ended are kept; those behind it were not told.
-pub record IsCutShort (step : StepAt) (old new : List Watch) (before after : List (List ℕ)) : Type 0 where
-  pub front : List Watch
-  pub ended : Watch
-  pub behind : List Watch
-  pub parts : old ≡ front ++ ended ∷ behind
-  pub ends : IsTrue (has_ended (told step ended))
-  pub left : new ≡ going step front ++ told step ended ∷ behind
-  pub lines : after ≡ before ++ lines_at step front
+pub record IsCutShort (step : StepAt) (old new : List Watch) (before after : List (List ℕ)) : Type 0
+  where
+    pub front : List Watch
+    pub ended : Watch
+    pub behind : List Watch
+    pub parts : old ≡ front ++ ended ∷ behind
+    pub ends : IsTrue (has_ended (told step ended))
+    pub left : new ≡ going step front ++ told step ended ∷ behind
+    pub lines : after ≡ before ++ lines_at step front
 
 -- one probe of a list is told a step, and goes on or not
 pub record TellsAt (step : StepAt) (at : ℕ) (old new : List Watch) (goes : Bool) : Type 0 where

@@ -26,4 +26,5 @@ same_length [] [] same = refl
 same_length [] (y ∷ ys) same = cc
 same_length (x ∷ xs) [] same = cc
 same_length (x ∷ xs) (y ∷ ys) same =
-    ap suc (same_length xs ys (then_apart (bare_statement (statement_of x)) (bare_statement (statement_of y)) (bare_block xs) (bare_block ys) same))
+    ap suc (same_length xs ys (then_apart (bare_statement (statement_of x)) (bare_statement (statement_of y))
+    (bare_block xs) (bare_block ys) same))

@@ -4,7 +4,10 @@ use Rattle.rpp_tree.specs.declared.tree.Ident.{Ident}
 use Rattle.rpp_tree.specs.declared.tree.Var.{Var}
 use Rattle.rpp_tree.specs.declared.tree.VarType.{VarType}
 use Rattle.rpp_tree.specs.declared.tree.VarType.TheVariants as kind
-use Rattle.rpp_tree.specs.Tree.{Expression, Number, Null, Variable, Element, Binary, Lvalue, Whole, Item, Creation, Object, Ints, Objects, Statement, Statements, Update, Swap, If, From, Construct, Local, New, Delete, Copy, Uncopy, Call, Skip, End, Then, Procedure, ClassText, Source}
+use Rattle.rpp_tree.specs.Tree.{Expression, Number, Null, Variable, Element, Binary, Lvalue, Whole}
+use Rattle.rpp_tree.specs.Tree.{Item, Creation, Object, Ints, Objects, Statement, Statements}
+use Rattle.rpp_tree.specs.Tree.{Update, Swap, If, From, Construct, Local, New, Delete, Copy, Uncopy}
+use Rattle.rpp_tree.specs.Tree.{Call, Skip, End, Then, Procedure, ClassText, Source}
 
 abbrev pub bare_name : Ident → Ident
 bare_name name = record name { at = 0 }
@@ -23,7 +26,8 @@ bare_expression (Number at word) = Number 0 word
 bare_expression (Null at) = Null 0
 bare_expression (Variable name) = Variable (bare_name name)
 bare_expression (Element name index) = Element (bare_name name) (bare_expression index)
-bare_expression (Binary at op left right) = Binary 0 op (bare_expression left) (bare_expression right)
+bare_expression (Binary at op left right) = Binary 0 op (bare_expression left)
+    (bare_expression right)
 
 abbrev pub bare_lvalue : Lvalue → Lvalue
 bare_lvalue (Whole name) = Whole (bare_name name)
@@ -40,7 +44,8 @@ bare_creation (Objects class length) = Objects (bare_name class) (bare_expressio
 
 abbrev mutual
   pub bare_statement : Statement → Statement
-  bare_statement (Update at op target value) = Update 0 op (bare_lvalue target) (bare_expression value)
+  bare_statement (Update at op target value) = Update 0 op (bare_lvalue target)
+      (bare_expression value)
   bare_statement (Swap at left right) = Swap 0 (bare_lvalue left) (bare_lvalue right)
   bare_statement (If at test taken other after) =
       If 0 (bare_expression test) (bare taken) (bare other) (bare_expression after)

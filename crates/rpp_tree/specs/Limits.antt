@@ -1,7 +1,12 @@
 -- The limits that a program's tree shows.
 use Rattle.std.specs.Prelude.{ℕ, ◌+◌, ◌<◌, ◌≤◌, max, length, All, sum_by, Option, Some, None}
-use Rattle.rpp_tree.specs.declared.limits.TheConstants.{MOST_BYTES, MOST_TOKENS, MOST_NODES, MOST_NUMBER, MOST_INDEX_DEPTH, MOST_CLASSES, MOST_PARAMETERS, MOST_LOCALS, MOST_NESTING}
-use Rattle.rpp_tree.specs.Tree.{Expression, Number, Null, Variable, Element, Binary, Lvalue, Whole, Item, Creation, Object, Ints, Objects, Statement, Statements, Update, Swap, If, From, Construct, Local, New, Delete, Copy, Uncopy, Call, Skip, End, Then, Procedure, Source, statement_nodes, depth}
+use Rattle.rpp_tree.specs.declared.limits.TheConstants.{MOST_BYTES, MOST_TOKENS, MOST_NODES}
+use Rattle.rpp_tree.specs.declared.limits.TheConstants.{MOST_NUMBER, MOST_INDEX_DEPTH, MOST_CLASSES}
+use Rattle.rpp_tree.specs.declared.limits.TheConstants.{MOST_PARAMETERS, MOST_LOCALS, MOST_NESTING}
+use Rattle.rpp_tree.specs.Tree.{Expression, Number, Null, Variable, Element, Binary, Lvalue, Whole}
+use Rattle.rpp_tree.specs.Tree.{Item, Creation, Object, Ints, Objects, Statement, Statements}
+use Rattle.rpp_tree.specs.Tree.{Update, Swap, If, From, Construct, Local, New, Delete, Copy, Uncopy}
+use Rattle.rpp_tree.specs.Tree.{Call, Skip, End, Then, Procedure, Source, statement_nodes, depth}
 use Rattle.rpp_tree.specs.Names.{IsName}
 use Rattle.rpp_tree.specs.Numbers.{source_numbers}
 use Rattle.rpp_tree.specs.Parts.{source_names, source_places, source_tokens}
@@ -30,14 +35,17 @@ receiver_index_depth (Some receiver) = lvalue_index_depth receiver
 
 -- the same of a statement itself, without the statements inside it
 abbrev pub statement_index_depth : Statement → ℕ
-statement_index_depth (Update at op target value) = max (lvalue_index_depth target) (index_depth value)
-statement_index_depth (Swap at left right) = max (lvalue_index_depth left) (lvalue_index_depth right)
+statement_index_depth (Update at op target value) =
+    max (lvalue_index_depth target) (index_depth value)
+statement_index_depth (Swap at left right) = max (lvalue_index_depth left)
+    (lvalue_index_depth right)
 statement_index_depth (If at test taken other after) = max (index_depth test) (index_depth after)
 statement_index_depth (From at entry first again exit) = max (index_depth entry) (index_depth exit)
 statement_index_depth (Construct at class name body end) = 0
 statement_index_depth (Local at var value body end_var end_value) =
     max (index_depth value) (index_depth end_value)
-statement_index_depth (New at made target) = max (creation_index_depth made) (lvalue_index_depth target)
+statement_index_depth (New at made target) = max (creation_index_depth made)
+    (lvalue_index_depth target)
 statement_index_depth (Delete at made target) =
     max (creation_index_depth made) (lvalue_index_depth target)
 statement_index_depth (Copy at kind source target) =

@@ -1,5 +1,6 @@
 -- The names of the language.
-use Rattle.std.specs.Prelude.{◌≡◌, ℕ, Bool, true, false, List, [], ◌∷◌, ◌==◌, ◌||◌, slice_index, codes}
+use Rattle.std.specs.Prelude.{◌≡◌, ℕ, Bool, true, false, List, [], ◌∷◌, ◌==◌, ◌||◌, slice_index}
+use Rattle.std.specs.Prelude.{codes}
 use Rattle.std.specs.List.{list_any, AllPass}
 use Rattle.std.specs.Char.{is_ascii_alphabetic, is_ascii_digit}
 use Rattle.std.specs.Str.{bytes_eq}
@@ -10,7 +11,8 @@ is_name_byte b = is_ascii_alphabetic b || is_ascii_digit b || b == 95 || b == 39
 
 -- the words that are no names
 unfoldable pub keywords : List (List ℕ)
-keywords = codes "class" ∷ codes "inherits" ∷ codes "method" ∷ codes "int" ∷ codes "nil" ∷ codes "skip"
+keywords = codes "class" ∷ codes "inherits" ∷ codes "method" ∷ codes "int" ∷ codes "nil"
+    ∷ codes "skip"
     ∷ codes "if" ∷ codes "then" ∷ codes "else" ∷ codes "fi" ∷ codes "from" ∷ codes "do"
     ∷ codes "loop" ∷ codes "until"
     ∷ codes "local" ∷ codes "delocal" ∷ codes "construct" ∷ codes "destruct" ∷ codes "new"

@@ -5,7 +5,10 @@ use Rattle.rpp_tree.specs.declared.tree.Ident.{Ident}
 use Rattle.rpp_tree.specs.declared.tree.Var.{Var}
 use Rattle.rpp_tree.specs.declared.tree.VarType.{VarType}
 use Rattle.rpp_tree.specs.declared.tree.VarType.TheVariants as kind
-use Rattle.rpp_tree.specs.Tree.{Expression, Number, Null, Variable, Element, Binary, Lvalue, Whole, Item, Creation, Object, Ints, Objects, Statement, Statements, Update, Swap, If, From, Construct, Local, New, Delete, Copy, Uncopy, Call, Skip, End, Then, Procedure, ClassText, Source}
+use Rattle.rpp_tree.specs.Tree.{Expression, Number, Null, Variable, Element, Binary, Lvalue, Whole}
+use Rattle.rpp_tree.specs.Tree.{Item, Creation, Object, Ints, Objects, Statement, Statements}
+use Rattle.rpp_tree.specs.Tree.{Update, Swap, If, From, Construct, Local, New, Delete, Copy, Uncopy}
+use Rattle.rpp_tree.specs.Tree.{Call, Skip, End, Then, Procedure, ClassText, Source}
 
 -- ---- names
 
@@ -107,7 +110,8 @@ var_places var = name_places (var_names var)
 
 abbrev mutual
   pub statement_places : Statement → List ℕ
-  statement_places (Update at op target value) = at ∷ lvalue_places target ++ expression_places value
+  statement_places (Update at op target value) =
+      at ∷ lvalue_places target ++ expression_places value
   statement_places (Swap at left right) = at ∷ lvalue_places left ++ lvalue_places right
   statement_places (If at test taken other after) =
       at ∷ expression_places test ++ block_places taken ++ block_places other
@@ -135,7 +139,8 @@ abbrev mutual
   block_places (Then first rest) = statement_places first ++ block_places rest
 
 abbrev pub procedure_places : Procedure → List ℕ
-procedure_places method = method.name.at ∷ flat_map var_places method.params ++ block_places method.body
+procedure_places method = method.name.at ∷ flat_map var_places method.params
+    ++ block_places method.body
 
 abbrev pub class_places : ClassText → List ℕ
 class_places class = class.name.at ∷ name_places (parent_names class.parent)

@@ -1,7 +1,8 @@
 -- Places: what a statement changes or an expression reads, and where a statement stands.
 use Rattle.std.specs.Prelude.{ℕ}
 use Rattle.rpp_tree.specs.declared.tree.Ident.{Ident}
-use Rattle.rpp_tree.specs.Tree.{Lvalue, Whole, Item, Statement, Update, Swap, If, From, Construct, Local, New, Delete, Copy, Uncopy, Call, Skip}
+use Rattle.rpp_tree.specs.Tree.{Lvalue, Whole, Item, Statement, Update, Swap, If, From, Construct}
+use Rattle.rpp_tree.specs.Tree.{Local, New, Delete, Copy, Uncopy, Call, Skip}
 
 -- the variable of a place
 abbrev pub place_name : Lvalue → Ident

@@ -1,12 +1,13 @@
 -- What a watch sees of the points of a run.
-use Rattle.std.specs.Prelude.{◌≡◌, ℕ, ◌-◌, ℤ, pos, Bool, false, ◌&&◌, ◌||◌, nat_eq, if◌then◌else◌, List, [], ◌∷◌, map, Option, Some, None, Result, Ok, Err}
+use Rattle.std.specs.Prelude.{◌≡◌, ℕ, ◌-◌, ℤ, pos, Bool, false, ◌&&◌, ◌||◌, nat_eq, if◌then◌else◌}
+use Rattle.std.specs.Prelude.{List, [], ◌∷◌, map, Option, Some, None, Result, Ok, Err}
 use Rattle.std.specs.Ordering.{int_eq}
 use Rattle.rpp_tree.specs.Tree.{Statement}
 use Rattle.roopl_semantics.specs.Store.{Binding, State}
 use Rattle.roopl_semantics.specs.Execution.{exec}
-use Rattle.store_table.specs.ValueView.{value_of}
-use Rattle.store_table.specs.HeapView.{Kept}
-use Rattle.source_points.specs.Points.{Point, inner_points, points}
+use Rattle.source_store.specs.ValueView.{value_of}
+use Rattle.source_store.specs.HeapView.{Kept}
+use Rattle.meaning_points.specs.Points.{Point, inner_points, points}
 use Rattle.source_steps.specs.declared.stop.Stop.{Stop}
 use Rattle.source_steps.specs.declared.stop.Stop.TheVariants as stop
 use Rattle.source_steps.specs.declared.scope.Scope.{Scope as Chain}
@@ -27,7 +28,8 @@ is_given (Some given) place = int_eq (pos place) given
 -- whether a point at this place is the wanted one
 abbrev pub wants : Watching → ℕ → Bool
 wants watch.Nothing place = false
-wants (watch.First wanted skip left) place = nat_eq left 0 || (nat_eq skip 0 && is_given wanted place)
+wants (watch.First wanted skip left) place = nat_eq left 0 ||
+    (nat_eq skip 0 && is_given wanted place)
 wants (watch.Latest wanted skip left latest) place = nat_eq left 0
 
 -- a watch behind a point at this place

@@ -1,7 +1,8 @@
 -- What `construct` and calls on elements do inside their variables, by the places of these.
 use Rattle.std.specs.Prelude.{ℕ, Bool, List, Some}
 use Rattle.rpp_tree.specs.declared.tree.Ident.{Ident}
-use Rattle.rpp_tree.specs.Tree.{Lvalue, Whole, Object as AnObject, Statements, New, Delete, Swap, Call, Then, End, joined}
+use Rattle.rpp_tree.specs.Tree.{Lvalue, Whole, Object as AnObject, Statements, New, Delete, Swap}
+use Rattle.rpp_tree.specs.Tree.{Call, Then, End, joined}
 
 -- what `construct` does inside its variable
 abbrev pub constructed_in : ℕ → Ident → Lvalue → Statements → Statements

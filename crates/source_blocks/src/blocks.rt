@@ -5,8 +5,8 @@ ghost use Rattle.rpp_tree.specs.Views.{expression_of, lvalue_of, optional_lvalue
 ghost use Rattle.class_table.specs.Classes.{method_named};
 ghost use Rattle.roopl_semantics.specs.Execution.{in_direction, exec, turns, bound as bound_to, cells_named, invoked, with_local as with_local_in};
 ghost use Rattle.roopl_semantics.specs.Store.{class_of_head, object_at};
-ghost use Rattle.source_points.specs.Points.{called_points, local_points, turn_points, call_points, inner_points, points};
-ghost use Rattle.store_table.specs.ValueView.{values_of};
+ghost use Rattle.meaning_points.specs.Points.{called_points, local_points, turn_points, call_points, inner_points, points};
+ghost use Rattle.source_store.specs.ValueView.{values_of};
 ghost use Rattle.source_steps.specs.CellView.{cell_of};
 ghost use Rattle.source_steps.specs.Metered.{Gives, metered};
 ghost use Rattle.source_steps.specs.Ends.{Ends, does, runs, turned};
@@ -28,7 +28,7 @@ use source_steps::{
     read_cells, refuse, return_values, spend, swap, turned_call, uncopy, undone, update,
     whole_place,
 };
-use store_table::{Heap, Value};
+use source_store::{Heap, Value};
 
 /// A block, as it stands or undone.
 #[cycle(run)]

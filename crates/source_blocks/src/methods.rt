@@ -5,7 +5,7 @@ ghost use Rattle.rpp_tree.specs.Views.{source_of, procedure_of};
 ghost use Rattle.class_table.specs.Members.{class_at, no_procedure};
 ghost use Rattle.class_table.specs.Classes.{method_named};
 ghost use Rattle.roopl_semantics.specs.Value.{cell_named, read};
-ghost use Rattle.store_table.specs.ValueView.{value_of};
+ghost use Rattle.source_store.specs.ValueView.{value_of};
 ghost use Rattle.source_steps.specs.CellView.{cell_of};
 ghost use Rattle.source_steps.specs.Metered.{metered};
 ghost use Rattle.source_steps.specs.Ends.{Ends, slot_or_first, invoked_nothing};
@@ -18,8 +18,8 @@ use rpp_tree::tree::{Ident, Method, Program, Var};
 use source_steps::{
     Cell, Scope, Setting, Stop, cell_of_name, move_back, move_out, read_cell, read_cells,
 };
+use source_store::{Heap, Value};
 use std::slice::from_ref;
-use store_table::{Heap, Value};
 
 /// The text of a method.
 pub fn method_at(program: &Program, id: MethodId) -> Option<&Method>

@@ -1,9 +1,9 @@
 // What watches the points of a run.
 ghost use Rattle.std.specs.Prelude.{◌≡◌, ◌+◌, ◌-◌, ◌<◌, ◌≤◌, ◌++◌, ◌&&◌, nat_eq, pos, if◌then◌else◌, map, IfOk, IfErr, OnOk, OnErr, Some, None};
 ghost use Rattle.std.specs.Ordering.{int_eq};
-ghost use Rattle.store_table.specs.ValueView.{values_of};
+ghost use Rattle.source_store.specs.ValueView.{values_of};
 ghost use Rattle.rpp_tree.specs.Views.{statement_of};
-ghost use Rattle.source_points.specs.Points.{begins, point_at};
+ghost use Rattle.meaning_points.specs.Points.{begins, point_at};
 ghost use Rattle.source_steps.specs.Parameters.{params_of};
 ghost use Rattle.source_steps.specs.StateView.{bindings, frame_of, state_of};
 ghost use Rattle.source_blocks.specs.Watched.{wants as wants_point, passed as passed_point, is_given, watched, binding_of, Tells, IsFree};
@@ -12,8 +12,8 @@ use rpp_tree::text::Text;
 use rpp_tree::tree::{Stmt, Var};
 use rpp_words::NoMemory;
 use source_steps::{Scope, Setting, Stop, params_in};
+use source_store::{Heap, Value};
 use std::alloc::Global;
-use store_table::{Heap, Value};
 
 /// The point of a run that is wanted. Numbers count the points that are passed before.
 #[derive(Clone, Copy, Debug, PartialEq, Eq)]
@@ -266,7 +266,8 @@ pub fn meet(
     Ok(())
 }
 
-/// A statement begins, unless it means others.
+/// A statement begins, with the local variable that it means where it is a `construct` or a call on
+/// an element.
 pub fn begin_statement(
     setting: &Setting,
     scope: &Scope,
@@ -282,14 +283,6 @@ pub fn begin_statement(
     ensures free { IsFree result }
 {
     match s {
-        Stmt::Construct { .. } => Ok(()),
-        Stmt::Call { at, receiver, .. } => match receiver {
-            None => meet(setting, scope, heap, values, watch, *at),
-            Some(place) => match &place.index {
-                None => meet(setting, scope, heap, values, watch, *at),
-                Some(_index) => Ok(()),
-            },
-        },
         Stmt::Update { at, .. }
         | Stmt::Swap { at, .. }
         | Stmt::If { at, .. }
@@ -299,6 +292,8 @@ pub fn begin_statement(
         | Stmt::Delete { at, .. }
         | Stmt::Copy { at, .. }
         | Stmt::Uncopy { at, .. }
-        | Stmt::Skip { at } => meet(setting, scope, heap, values, watch, *at),
+        | Stmt::Call { at, .. }
+        | Stmt::Skip { at }
+        | Stmt::Construct { at, .. } => meet(setting, scope, heap, values, watch, *at),
     }
 }

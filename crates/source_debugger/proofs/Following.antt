@@ -1,5 +1,6 @@
 -- Commands that are carried out one after the other.
-use Rattle.std.proofs.Common.{◌≡◌, ℕ, zero, suc, ◌+◌, ◌-◌, ◌<◌, ◌≤◌, refl, sym, ap, subst, ◌∙◌, arith, append-nil, append_assoc, List, [], ◌∷◌, ◌++◌, length, drop, get_or, Option, Some, None}
+use Rattle.std.proofs.Common.{◌≡◌, ℕ, zero, suc, ◌+◌, ◌-◌, ◌<◌, ◌≤◌, refl, sym, ap, subst, ◌∙◌, arith, append-nil}
+use Rattle.std.proofs.Common.{append_assoc, List, [], ◌∷◌, ◌++◌, length, drop, get_or, Option, Some, None}
 use Rattle.std.specs.Prelude.{Result, Ok, Err, IfOk}
 use Rattle.rpp_words.specs.declared.input.FieldWord.{FieldWord}
 use Rattle.rpp_words.specs.declared.input.Limits.{Limits}
@@ -8,7 +9,7 @@ use Rattle.rpp_tree.specs.Tree.{Source}
 use Rattle.rpp_tree.specs.Views.{source_of}
 use Rattle.roopl_semantics.specs.Store.{Store, object_named}
 use Rattle.roopl_semantics.specs.Report.{Text}
-use Rattle.source_points.specs.Trail.{Trail, trail}
+use Rattle.meaning_points.specs.Trail.{Trail, trail}
 use Rattle.two_way_debugger.specs.declared.command.Command.{Command}
 use Rattle.source_debugger.specs.declared.running.TheConstants.{MOST_COST}
 use Rattle.source_debugger.specs.Named.{object_lines, objects_from}
@@ -20,19 +21,29 @@ told_at position text = Some (record { position = position; text = text })
 
 -- ---- one command
 
-pub leads_one : (before after : Standing) (command : Command) (text : Text) → told_by (source_of before.program) (run_of before) command before.position ≡ told_at after.position text → after ≡ record before { position = after.position }
+pub leads_one : (before after : Standing) (command : Command) (text : Text)
+    → told_by (source_of before.program) (run_of before) command before.position ≡ told_at after.position text
+    → after ≡ record before { position = after.position }
     → Leads before (command ∷ []) after text
 leads_one before after command text e same = record {
-  told = ap (λ o. and_told o (told (source_of before.program) (run_of before) [])) e ∙ ap (told_at after.position) (append-nil text);
+  told = ap (λ o. and_told o (told (source_of before.program) (run_of before) [])) e
+      ∙ ap (told_at after.position) (append-nil text);
   same = same;
 }
 
 abbrev standing_at : Program → Limits → List FieldWord → ℕ → Standing
-standing_at program limits input position = record { program = program; limits = limits; input = input; position = position }
+standing_at program limits input position = record {
+  program = program;
+  limits = limits;
+  input = input;
+  position = position;
+}
 
 -- the same by the parts of a standing
-pub leads_by : (program : Program) (limits : Limits) (input : List FieldWord) (from to : ℕ) (before : Standing) (command : Command) (text : Text)
-    → standing_at program limits input from ≡ before → told_by (source_of program) (trail (source_of program) limits input MOST_COST) command from ≡ told_at to text
+pub leads_by : (program : Program) (limits : Limits) (input : List FieldWord) (from to : ℕ) (before : Standing)
+    (command : Command) (text : Text)
+    → standing_at program limits input from ≡ before → told_by (source_of program)
+    (trail (source_of program) limits input MOST_COST) command from ≡ told_at to text
     → Leads before (command ∷ []) (standing_at program limits input to) text
 leads_by program limits input from to before command text seen e =
     subst (λ (d : Standing). Leads d (command ∷ []) (standing_at program limits input to) text) seen
@@ -46,21 +57,25 @@ abbrev text_of : Option Told → Text
 text_of None = []
 text_of (Some t) = t.text
 
-one_by : (o : Option Told) (program : Source) (trail : Trail) (position : ℕ) (text : Text) → and_told o (told program trail []) ≡ told_at position text → o ≡ told_at position text
+one_by : (o : Option Told) (program : Source) (trail : Trail) (position : ℕ) (text : Text)
+    → and_told o (told program trail []) ≡ told_at position text → o ≡ told_at position text
 one_by None program trail position text e = cc
 one_by (Some t) program trail position text e =
     let there : t.position ≡ position = ap position_of e in
     let same : t.text ++ [] ≡ text = ap text_of e in
     ap (λ p. told_at p t.text) there ∙ ap (told_at position) (sym (append-nil t.text) ∙ same)
 
-pub one_told : (before after : Standing) (command : Command) (text : Text) → Leads before (command ∷ []) after text → told_by (source_of before.program) (run_of before) command before.position ≡ told_at after.position text
-one_told before after command text leads = one_by (told_by (source_of before.program) (run_of before) command before.position) (source_of before.program) (run_of before) after.position text leads.told
+pub one_told : (before after : Standing) (command : Command) (text : Text) → Leads before (command ∷ []) after text
+    → told_by (source_of before.program) (run_of before) command before.position ≡ told_at after.position text
+one_told before after command text leads = one_by (told_by (source_of before.program) (run_of before) command
+    before.position) (source_of before.program) (run_of before) after.position text leads.told
 
 -- ---- a script
 
 -- a script has gone as far as this
 pub record IsFollowing (first : Standing) (script left : List Command) (now : Standing) (text : Text) : Type 0 where
-  pub rest : told (source_of first.program) (run_of first) script first.position ≡ behind_text text (told (source_of first.program) (run_of first) left now.position)
+  pub rest : told (source_of first.program) (run_of first) script first.position
+      ≡ behind_text text (told (source_of first.program) (run_of first) left now.position)
   pub same : now ≡ record first { position = now.position }
 
 behind_both : (a b : Text) (o : Option Told) → behind_text a (behind_text b o) ≡ behind_text (a ++ b) o
@@ -72,13 +87,20 @@ behind_nothing None = refl
 behind_nothing (Some t) = refl
 
 pub following_first : (first : Standing) (script : List Command) → IsFollowing first script script first []
-following_first first script = record { rest = behind_nothing (told (source_of first.program) (run_of first) script first.position); same = refl }
+following_first first script = record {
+  rest = behind_nothing
+      (told (source_of first.program) (run_of first) script first.position);
+  same = refl;
+}
 
-pub following_next : (first now next : Standing) (script left rest : List Command) (command : Command) (before text after : Text) → IsFollowing first script left now before → left ≡ command ∷ rest → Leads now (command ∷ []) next text → after ≡ before ++ text
+pub following_next : (first now next : Standing) (script left rest : List Command) (command : Command)
+    (before text after : Text) → IsFollowing first script left now before → left ≡ command ∷ rest
+    → Leads now (command ∷ []) next text → after ≡ before ++ text
     → IsFollowing first script rest next after
 following_next first now next script left rest command before text after is e leads more =
     let one : told_by (source_of first.program) (run_of first) command now.position ≡ told_at next.position text
-    = ap (λ (d : Standing). told_by (source_of d.program) (run_of d) command now.position) (sym is.same) ∙ one_told now next command text leads in
+    = ap (λ (d : Standing). told_by (source_of d.program) (run_of d) command now.position) (sym is.same)
+    ∙ one_told now next command text leads in
     record {
       rest = is.rest
           ∙ ap (λ l. behind_text before (told (source_of first.program) (run_of first) l now.position)) e
@@ -88,26 +110,32 @@ following_next first now next script left rest command before text after is e le
       same = leads.same ∙ ap (λ (d : Standing). record d { position = next.position }) is.same;
     }
 
-pub following_over : (first now : Standing) (script left : List Command) (text : Text) → IsFollowing first script left now text → left ≡ [] → Leads first script now text
+pub following_over : (first now : Standing) (script left : List Command) (text : Text)
+    → IsFollowing first script left now text → left ≡ [] → Leads first script now text
 following_over first now script left text is e = record {
-  told = is.rest ∙ ap (λ l. behind_text text (told (source_of first.program) (run_of first) l now.position)) e ∙ ap (told_at now.position) (append-nil text);
+  told = is.rest ∙ ap (λ l. behind_text text (told (source_of first.program) (run_of first) l now.position)) e
+      ∙ ap (told_at now.position) (append-nil text);
   same = is.same;
 }
 
 -- ---- names one after the other
 
-pub objects_next : (program : Source) (store : Store) (from at count : ℕ) (before line : Text) → at < count → line ≡ object_lines program (from + at) (object_named store (from + at))
-    → before ++ line ++ objects_from program store (from + (at + 1)) (count - (at + 1)) ≡ before ++ objects_from program store (from + at) (count - at)
+pub objects_next : (program : Source) (store : Store) (from at count : ℕ) (before line : Text) → at < count
+    → line ≡ object_lines program (from + at) (object_named store (from + at))
+    → before ++ line ++ objects_from program store (from + (at + 1)) (count - (at + 1))
+    ≡ before ++ objects_from program store (from + at) (count - at)
 objects_next program store from at count before line h e =
     let more : count - at ≡ suc (count - (at + 1)) = omega arith in
     let next : from + (at + 1) ≡ suc (from + at) = omega arith in
     append_assoc before line (objects_from program store (from + (at + 1)) (count - (at + 1)))
     ∙ ap (λ l. before ++ (l ++ objects_from program store (from + (at + 1)) (count - (at + 1)))) e
-    ∙ ap (λ k. before ++ (object_lines program (from + at) (object_named store (from + at)) ++ objects_from program store k (count - (at + 1)))) next
+    ∙ ap (λ k. before ++ (object_lines program (from + at) (object_named store (from + at))
+    ++ objects_from program store k (count - (at + 1)))) next
     ∙ ap (λ k. before ++ objects_from program store (from + at) k) (sym more)
 
 -- an answer within a bound
-pub within_as : {A E : Type 0} (r : Result A E) (f : A → ℕ) (k bound : ℕ) → k ≤ bound → IfOk r (λ a. f a ≡ k) → IfOk r (λ a. f a ≤ bound)
+pub within_as : {A E : Type 0} (r : Result A E) (f : A → ℕ) (k bound : ℕ) → k ≤ bound → IfOk r (λ a. f a ≡ k)
+    → IfOk r (λ a. f a ≤ bound)
 within_as (Ok a) f k bound h e = omega arith
 within_as (Err x) f k bound h e = tt
 

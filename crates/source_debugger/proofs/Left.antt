@@ -1,10 +1,11 @@
 -- What is left of a run's points behind so many.
-use Rattle.std.proofs.Common.{◌≡◌, ◌≢◌, ℕ, suc, ◌+◌, ◌-◌, ◌≤◌, refl, ap, ◌∙◌, arith, Bool, true, false, List, [], ◌∷◌, length, Option, Some, None, if◌then◌else◌}
+use Rattle.std.proofs.Common.{◌≡◌, ◌≢◌, ℕ, suc, ◌+◌, ◌-◌, ◌≤◌, refl, ap, ◌∙◌, arith, Bool, true, false, List, [], ◌∷◌}
+use Rattle.std.proofs.Common.{length, Option, Some, None, if◌then◌else◌}
 use Rattle.std.specs.Prelude.{ℤ, slice_get, nat_eq, ◌||◌, ◌&&◌}
 use Rattle.std.proofs.lemmas.Bool.{eqb-true, eqb-false}
 use Rattle.roopl_semantics.specs.Run.{Run, Done, Fault, More}
-use Rattle.source_points.specs.Points.{Point}
-use Rattle.source_points.specs.Trail.{Trail}
+use Rattle.meaning_points.specs.Points.{Point}
+use Rattle.meaning_points.specs.Trail.{Trail}
 use Rattle.source_blocks.specs.declared.watch.Watching.TheVariants as watch
 use Rattle.source_blocks.specs.Watched.{Watched, Passed, Met, is_given, watched}
 use Rattle.source_debugger.specs.Ended.{left_of}
@@ -17,7 +18,8 @@ pub record IsLeft (trail : Trail) (i : ℕ) (ps : List Point) : Type 0 where
 pub all_left : (trail : Trail) → IsLeft trail 0 trail.points
 all_left trail = record { each = λ k. ap (slice_get trail.points) (omega arith); size = omega arith }
 
-pub next_left : (trail : Trail) (i : ℕ) (p : Point) (ps : List Point) → IsLeft trail i (p ∷ ps) → IsLeft trail (i + 1) ps
+pub next_left : (trail : Trail) (i : ℕ) (p : Point) (ps : List Point) → IsLeft trail i (p ∷ ps)
+    → IsLeft trail (i + 1) ps
 next_left trail i p ps h = record {
   each = λ k. let same : i + 1 + k ≡ i + suc k = omega arith in ap (slice_get trail.points) same ∙ h.each (suc k);
   size = let s = h.size in omega arith;
@@ -27,9 +29,11 @@ module _ (trail : Trail) (i : ℕ) where
   pub stands_there : (p : Point) (ps : List Point) → IsLeft trail i (p ∷ ps) → stand_at trail i ≡ AtPoint p
   stands_there p ps h =
       let same : i ≡ i + 0 = omega arith in
-      ap (λ o. point_stand o (if nat_eq i (length trail.points) then end_stand trail.end else Unknown)) (ap (slice_get trail.points) same ∙ h.each 0)
+      ap (λ o. point_stand o (if nat_eq i (length trail.points) then end_stand trail.end else Unknown))
+      (ap (slice_get trail.points) same ∙ h.each 0)
 
-  pub is_there : (place : Option ℤ) (p : Point) (ps : List Point) → IsLeft trail i (p ∷ ps) → is_at trail place i ≡ is_given place p.place
+  pub is_there : (place : Option ℤ) (p : Point) (ps : List Point) → IsLeft trail i (p ∷ ps)
+      → is_at trail place i ≡ is_given place p.place
   is_there None p ps h = refl
   is_there (Some place) p ps h = ap (has_place place) (stands_there p ps h)
 
@@ -43,7 +47,8 @@ no_place place true More = refl
 pub is_nowhere : (trail : Trail) (i d : ℕ) (place : Option ℤ) → IsLeft trail i [] → is_at trail place (i + d) ≡ false
 is_nowhere trail i d None h = refl
 is_nowhere trail i d (Some place) h =
-    ap (λ o. has_place place (point_stand o (if nat_eq (i + d) (length trail.points) then end_stand trail.end else Unknown))) (h.each d)
+    ap (λ o. has_place place (point_stand o (if nat_eq (i + d) (length trail.points) then end_stand trail.end else
+    Unknown))) (h.each d)
     ∙ no_place place (nat_eq (i + d) (length trail.points)) trail.end
 
 -- ---- a watch for one position
@@ -53,19 +58,24 @@ abbrev pub FindsPosition : Trail → ℕ → Watched → Type 0
 FindsPosition trail j (Met last p) = stand_at trail j ≡ AtPoint p
 FindsPosition trail j (Passed last) = left_of last ≡ j - length trail.points × (length trail.points ≤ j)
 
-pub finds : (trail : Trail) (j : ℕ) (ps : List Point) (i : ℕ) → IsLeft trail i ps → i ≤ j → FindsPosition trail j (watched (watch.First None 0 (j - i)) ps)
+pub finds : (trail : Trail) (j : ℕ) (ps : List Point) (i : ℕ) → IsLeft trail i ps → i ≤ j
+    → FindsPosition trail j (watched (watch.First None 0 (j - i)) ps)
 finds trail j [] i h le =
     let s = h.size in
     (omega arith, omega arith)
 finds trail j (p ∷ ps) i h le = by (nat_eq (j - i) 0) refl (λ left some. finds trail j ps (i + 1) left some)
   where
-    rest : (IsLeft trail (i + 1) ps → i + 1 ≤ j → FindsPosition trail j (watched (watch.First None 0 (j - (i + 1))) ps)) → nat_eq (j - i) 0 ≡ false → FindsPosition trail j (watched (watch.First None 0 (j - i - 1)) ps)
+    rest : (IsLeft trail (i + 1) ps → i + 1 ≤ j → FindsPosition trail j (watched (watch.First None 0 (j - (i + 1))) ps))
+        → nat_eq (j - i) 0 ≡ false → FindsPosition trail j (watched (watch.First None 0 (j - i - 1)) ps)
     rest below e =
         let some : j - i ≢ 0 = eqb-false (j - i) 0 e in
         let same : j - i - 1 ≡ j - (i + 1) = omega arith in
         rw same (below (next_left trail i p ps h) (omega arith))
 
-    by : (b : Bool) → nat_eq (j - i) 0 ≡ b → (IsLeft trail (i + 1) ps → i + 1 ≤ j → FindsPosition trail j (watched (watch.First None 0 (j - (i + 1))) ps)) → FindsPosition trail j (if b || (true && false) then Met (watch.First None 0 (j - i)) p else watched (watch.First None 0 (j - i - 1)) ps)
+    by : (b : Bool) → nat_eq (j - i) 0 ≡ b → (IsLeft trail (i + 1) ps → i + 1 ≤ j
+        → FindsPosition trail j (watched (watch.First None 0 (j - (i + 1))) ps))
+        → FindsPosition trail j (if b || (true && false) then Met (watch.First None 0 (j - i)) p else watched
+        (watch.First None 0 (j - i - 1)) ps)
     by true e below =
         let none = eqb-true (j - i) 0 e in
         let same : j ≡ i = omega arith in

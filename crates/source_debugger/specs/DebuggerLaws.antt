@@ -5,7 +5,7 @@ use Rattle.rpp_words.specs.declared.input.Limits.{Limits}
 use Rattle.rpp_tree.specs.Tree.{Source}
 use Rattle.roopl_semantics.specs.Store.{State}
 use Rattle.roopl_semantics.specs.Source.{GivesDone}
-use Rattle.source_points.specs.Trail.{trail}
+use Rattle.meaning_points.specs.Trail.{trail}
 use Rattle.two_way_debugger.specs.declared.command.Command.{Command}
 use Rattle.source_debugger.specs.Walks.{AtEnd, stand_at}
 use Rattle.source_debugger.specs.Shown.{Told, told}

@@ -1,9 +1,10 @@
 -- How a run under a watch ended.
-use Rattle.std.specs.Prelude.{◌≡◌, ℕ, ◌-◌, max, nat_eq, nat_lt, if◌then◌else◌, [], Option, Some, None}
+use Rattle.std.specs.Prelude.{◌≡◌, ℕ, ◌-◌, max, nat_eq, nat_lt, if◌then◌else◌, [], Option, Some}
+use Rattle.std.specs.Prelude.{None}
 use Rattle.roopl_semantics.specs.Run.{Done, Fault}
 use Rattle.roopl_semantics.specs.Store.{State, main_name}
-use Rattle.store_table.specs.HeapView.{Kept}
-use Rattle.source_points.specs.Trail.{Trail}
+use Rattle.source_store.specs.HeapView.{Kept}
+use Rattle.meaning_points.specs.Trail.{Trail}
 use Rattle.source_steps.specs.declared.stop.Stop.{Stop}
 use Rattle.source_steps.specs.declared.stop.Stop.TheVariants as stop
 use Rattle.source_blocks.specs.declared.watch.Arrival.{Arrival}
@@ -17,7 +18,13 @@ use Rattle.source_debugger.specs.declared.running.Ended.TheVariants as ended
 
 -- the state at the end of a run with this heap: no variable is left, and no call is open
 abbrev pub last_state : Kept → State
-last_state heap = record { frame = []; self = main_name; depth = 1; store = heap.store; log = heap.log }
+last_state heap = record {
+  frame = [];
+  self = main_name;
+  depth = 1;
+  store = heap.store;
+  log = heap.log;
+}
 
 -- all points are passed, and the run is done
 pub record IsOver (heap : Kept) (first last : Watching) (trail : Trail) : Type 0 where
@@ -78,7 +85,10 @@ reached_by (ended.Fault code last) from goal =
 
 -- where at most so many moves back lead
 abbrev pub back_by : (most from : ℕ) → Walk
-back_by most from = record { position = from - most; ending = if nat_lt from most then Start else Made }
+back_by most from = record {
+  position = from - most;
+  ending = if nat_lt from most then Start else Made;
+}
 
 -- the same up to a position that is so far back
 abbrev pub back_to : Option ℕ → (most from : ℕ) → Walk

@@ -1,11 +1,13 @@
 -- Objects and variables as the debugger prints them: a reference by its name.
-use Rattle.std.specs.Prelude.{ℕ, zero, suc, ◌+◌, nat_lt, if◌then◌else◌, List, [], ◌∷◌, ◌++◌, length, codes, Option, Some, None}
+use Rattle.std.specs.Prelude.{ℕ, zero, suc, ◌+◌, nat_lt, if◌then◌else◌, List, [], ◌∷◌, ◌++◌, length}
+use Rattle.std.specs.Prelude.{codes, Option, Some, None}
 use Rattle.std.specs.Fmt.{decimal}
 use Rattle.rpp_words.specs.Texts.{line_end}
 use Rattle.rpp_tree.specs.declared.tree.Var.{Var}
 use Rattle.rpp_tree.specs.Tree.{Source}
 use Rattle.class_table.specs.Classes.{class_fields}
-use Rattle.roopl_semantics.specs.Store.{Value, Word, Nil, Name, Head, OfClass, OfInts, OfObjects, Object, Store, Binding, object_named}
+use Rattle.roopl_semantics.specs.Store.{Value, Word, Nil, Name, Head, OfClass, OfInts, OfObjects}
+use Rattle.roopl_semantics.specs.Store.{Object, Store, Binding, object_named}
 use Rattle.roopl_semantics.specs.Report.{Text, signed_decimal, head_shown}
 
 -- V: a word, nil or #K, K being the name
@@ -32,7 +34,8 @@ elements_named index (v ∷ cells) = codes "  [" ++ decimal index ++ codes "] = 
     ++ line_end ++ elements_named (index + 1) cells
 
 abbrev pub cells_named : Source → Head → List Value → Text
-cells_named program (OfClass class) cells = fields_named (codes "  ") (class_fields program class) cells
+cells_named program (OfClass class) cells = fields_named (codes "  ") (class_fields program class)
+    cells
 cells_named program (OfInts length) cells = elements_named 0 cells
 cells_named program (OfObjects class length) cells = elements_named 0 cells
 
@@ -62,7 +65,8 @@ abbrev pub params_named : List Binding → Text
 params_named [] = []
 params_named (binding ∷ frame) = variable_line binding ++ params_named frame
 
--- the variables of a method with so many parameters: these, and then the locals from the outermost in
+-- the variables of a method with so many parameters: these, and then the locals from the outermost
+-- in
 abbrev pub frame_named : ℕ → List Binding → Text
 frame_named params [] = []
 frame_named params (binding ∷ frame) =

@@ -2,15 +2,16 @@
 use Rattle.std.specs.Prelude.{ℕ, List, [], ◌∷◌, ◌++◌, codes, Option, Some, None}
 use Rattle.std.specs.Fmt.{decimal}
 use Rattle.rpp_words.specs.Texts.{line_end}
-use Rattle.machine_texts.specs.Stops.{fault_line}
+use Rattle.pisa_scripts.specs.Stops.{fault_line}
 use Rattle.rpp_tree.specs.Tree.{Source}
 use Rattle.class_table.specs.Classes.{class_fields}
 use Rattle.roopl_semantics.specs.Store.{State, object_at}
 use Rattle.roopl_semantics.specs.Value.{own_class}
 use Rattle.roopl_semantics.specs.Report.{Text}
-use Rattle.source_points.specs.Trail.{Trail}
+use Rattle.meaning_points.specs.Trail.{Trail}
 use Rattle.two_way_debugger.specs.declared.command.Command.{Command}
-use Rattle.two_way_debugger.specs.declared.command.Command.TheVariants.{Step, Back, To, BackTo, Regs, Cells}
+use Rattle.two_way_debugger.specs.declared.command.Command.TheVariants.{Step, Back, To, BackTo}
+use Rattle.two_way_debugger.specs.declared.command.Command.TheVariants.{Regs, Cells}
 use Rattle.source_debugger.specs.declared.moves.Walk.{Walk}
 use Rattle.source_debugger.specs.declared.moves.Ending.{Ending}
 use Rattle.source_debugger.specs.declared.moves.Ending.TheVariants.{Made, Start, Faulted}
@@ -28,7 +29,8 @@ abbrev pub line_at : ℕ → Stand → Ending → Option Text
 line_at j (AtPoint point) ending =
     Some (codes "at " ++ decimal j ++ codes " place " ++ decimal point.place ++ codes " depth "
     ++ decimal point.state.depth ++ ending_shown ending)
-line_at j (AtEnd end) ending = Some (codes "at " ++ decimal j ++ codes " end" ++ ending_shown ending)
+line_at j (AtEnd end) ending = Some (codes "at " ++ decimal j ++ codes " end"
+    ++ ending_shown ending)
 line_at j Unknown ending = None
 
 -- the fields of the object on which the point's method runs, and the method's variables; at the end
@@ -45,7 +47,8 @@ regs_at program Unknown = None
 
 -- the objects and arrays of so many names from one on
 abbrev pub cells_at : Source → (from count : ℕ) → Stand → Option Text
-cells_at program from count (AtPoint point) = Some (objects_from program point.state.store from count)
+cells_at program from count (AtPoint point) =
+    Some (objects_from program point.state.store from count)
 cells_at program from count (AtEnd end) = Some (objects_from program end.store from count)
 cells_at program from count Unknown = None
 
@@ -70,7 +73,8 @@ told_by program trail (Back n) j = walked trail (Some (backward trail None n j))
 told_by program trail (To place n) j = walked trail (forward trail (Some place) n j)
 told_by program trail (BackTo place n) j = walked trail (Some (backward trail (Some place) n j))
 told_by program trail Regs j = tells j (regs_at program (stand_at trail j))
-told_by program trail (Cells from count) j = tells j (cells_at program from count (stand_at trail j))
+told_by program trail (Cells from count) j = tells j
+    (cells_at program from count (stand_at trail j))
 
 -- a text in front of what is told
 abbrev pub behind_text : Text → Option Told → Option Told

@@ -8,7 +8,7 @@ use Rattle.rpp_tree.specs.Views.{source_of}
 use Rattle.rpp_words.specs.Limits.{IsLimits}
 use Rattle.roopl_semantics.specs.Source.{IsValid}
 use Rattle.roopl_semantics.specs.Report.{Text}
-use Rattle.source_points.specs.Trail.{Trail, trail}
+use Rattle.meaning_points.specs.Trail.{Trail, trail}
 use Rattle.two_way_debugger.specs.declared.command.Command.{Command}
 use Rattle.source_debugger.specs.declared.running.TheConstants.{MOST_COST}
 use Rattle.source_debugger.specs.Shown.{told}

@@ -1,10 +1,11 @@
 -- Moves along the positions of a run.
-use Rattle.std.specs.Prelude.{ℕ, zero, suc, ◌+◌, ℤ, pos, Bool, false, nat_eq, nat_lt, if◌then◌else◌, length, Option, Some, None, slice_get}
+use Rattle.std.specs.Prelude.{ℕ, zero, suc, ◌+◌, ℤ, pos, Bool, false, nat_eq, nat_lt, if◌then◌else◌}
+use Rattle.std.specs.Prelude.{length, Option, Some, None, slice_get}
 use Rattle.std.specs.Ordering.{int_eq}
 use Rattle.roopl_semantics.specs.Run.{Run, Done, Fault, More}
 use Rattle.roopl_semantics.specs.Store.{State}
-use Rattle.source_points.specs.Points.{Point}
-use Rattle.source_points.specs.Trail.{Trail}
+use Rattle.meaning_points.specs.Points.{Point}
+use Rattle.meaning_points.specs.Trail.{Trail}
 use Rattle.source_debugger.specs.declared.moves.TheConstants.{LAST_POSITION}
 use Rattle.source_debugger.specs.declared.moves.Walk.{Walk}
 use Rattle.source_debugger.specs.declared.moves.Ending.{Ending}
@@ -35,7 +36,8 @@ pub data Onward : Type 0 where
   Stays : (ending : Ending) → Onward
   Hidden : Onward
 
--- the same at the last point, or behind it: a run that is done has its end there, and a fault has nothing
+-- the same at the last point, or behind it: a run that is done has its end there, and a fault has
+-- nothing
 abbrev pub beyond : (at_point : Bool) → Run State → Onward
 beyond at_point (Done end cost) = if at_point then Moves else Stays Made
 beyond at_point (Fault code cost) = Stays (Faulted code)
@@ -65,7 +67,8 @@ move_on Moves j next = next
 move_on (Stays ending) j next = Some (ends j ending)
 move_on Hidden j next = None
 
--- at most n moves forward, up to the first position at the place; none where the run is not known so far
+-- at most n moves forward, up to the first position at the place; none where the run is not known
+-- so far
 abbrev pub forward : Trail → Option ℤ → ℕ → ℕ → Option Walk
 forward trail place zero j = Some (ends j Made)
 forward trail place (suc n) j =

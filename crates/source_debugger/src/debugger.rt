@@ -1,7 +1,7 @@
 // Debuggers of the source.
 ghost use Rattle.std.specs.Prelude.{◌≡◌, ◌≤◌, ◌++◌, ◌∷◌, [], List, ℕ, Some, IfOk, OnOk, OnErr, string_bytes};
 ghost use Rattle.rpp_tree.specs.Views.{source_of};
-ghost use Rattle.source_points.specs.Trail.{trail};
+ghost use Rattle.meaning_points.specs.Trail.{trail};
 ghost use Rattle.source_debugger.specs.declared.running.TheConstants.{MOST_COST};
 ghost use Rattle.source_debugger.specs.declared.moves.TheConstants.{LAST_POSITION};
 ghost use Rattle.source_debugger.specs.Shown.{told_by, walked};

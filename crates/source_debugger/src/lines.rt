@@ -7,7 +7,7 @@ ghost use Rattle.class_table.specs.Members.{class_at};
 ghost use Rattle.class_table.specs.Classes.{class_fields};
 ghost use Rattle.roopl_semantics.specs.Store.{object_named};
 ghost use Rattle.roopl_semantics.specs.Report.{signed_decimal, head_shown};
-ghost use Rattle.store_table.specs.ValueView.{value_of, values_of, head_of, object_of};
+ghost use Rattle.source_store.specs.ValueView.{value_of, values_of, head_of, object_of};
 ghost use Rattle.source_blocks.specs.Watched.{binding_of};
 ghost use Rattle.source_debugger.specs.Named.{value_named, name_line, fields_named, elements_named, cells_named, object_lines, objects_from, variable_line, params_named, frame_named};
 
@@ -15,8 +15,8 @@ use class_table::Checked;
 use rpp_tree::tree::{Program, Var};
 use rpp_words::NoMemory;
 use source_blocks::Variable;
+use source_store::{Head, Heap, Object, Value};
 use std::alloc::AllocError;
-use store_table::{Head, Heap, Object, Value};
 
 // A word in signed decimal.
 fn add_word(out: &mut String, word: u32) -> Result<(), AllocError>

@@ -1,7 +1,7 @@
 // Moves along the positions of a run.
 ghost use Rattle.std.specs.Prelude.{◌≡◌, ◌≤◌, ◌+◌, min, Some, IfOk};
 ghost use Rattle.rpp_tree.specs.Views.{source_of};
-ghost use Rattle.source_points.specs.Trail.{trail};
+ghost use Rattle.meaning_points.specs.Trail.{trail};
 ghost use Rattle.source_debugger.specs.declared.running.TheConstants.{MOST_COST};
 ghost use Rattle.source_debugger.specs.Walks.{forward as forward_in, backward as backward_in};
 ghost use Rattle.source_debugger.specs.Standing.{IsValidRun};

@@ -1,7 +1,7 @@
 // Runs of a program under a watch.
 ghost use Rattle.std.specs.Prelude.{IfOk};
 ghost use Rattle.rpp_tree.specs.Views.{source_of};
-ghost use Rattle.source_points.specs.Trail.{trail};
+ghost use Rattle.meaning_points.specs.Trail.{trail};
 ghost use Rattle.source_debugger.specs.declared.running.TheConstants.{MOST_COST};
 ghost use Rattle.source_debugger.specs.Standing.{IsValidRun};
 ghost use Rattle.source_debugger.specs.Ended.{IsEnded, IsBroken, IsMet};
@@ -11,8 +11,8 @@ use rpp_words::{Input, Limits, NoMemory};
 use source_blocks::{Arrival, Watch, Watching};
 use source_meaning::{run_main, start};
 use source_steps::{Scope, Setting, Stop};
+use source_store::Heap;
 use std::alloc::Global;
-use store_table::Heap;
 
 /// The most that a run costs that is looked at: longer ones would take centuries, and count as want
 /// of memory.

@@ -1,14 +1,14 @@
 // What commands print at a position.
 ghost use Rattle.std.specs.Prelude.{◌≡◌, ◌++◌, [], Some, map, IfOk, OnOk, string_bytes};
 ghost use Rattle.rpp_tree.specs.Views.{source_of};
-ghost use Rattle.source_points.specs.Trail.{trail};
+ghost use Rattle.meaning_points.specs.Trail.{trail};
 ghost use Rattle.source_debugger.specs.declared.running.TheConstants.{MOST_COST};
 ghost use Rattle.source_debugger.specs.Walks.{stand_at};
 ghost use Rattle.source_debugger.specs.Shown.{ending_shown, line_at, regs_at, cells_at};
 ghost use Rattle.source_debugger.specs.Named.{fields_named, frame_named};
 ghost use Rattle.class_table.specs.Classes.{class_fields};
 ghost use Rattle.roopl_semantics.specs.Store.{class_of_head, object_at};
-ghost use Rattle.store_table.specs.ValueView.{values_of};
+ghost use Rattle.source_store.specs.ValueView.{values_of};
 ghost use Rattle.source_blocks.specs.Watched.{binding_of};
 ghost use Rattle.source_debugger.specs.Standing.{IsValidRun};
 ghost use Rattle.source_debugger.specs.Placed.{stand_of};
@@ -17,12 +17,12 @@ use crate::lines::{add_class_fields, add_frame, add_objects};
 use crate::moves::{Ending, Walk, left_in};
 use crate::running::{Ended, Run, run_to};
 use class_table::Checked;
-use machine_texts::add_stop;
 use pisa_isa::Stop;
+use pisa_scripts::add_stop;
 use rpp_words::NoMemory;
 use source_blocks::{Arrival, Variable, Watching};
+use source_store::{Heap, Value};
 use std::alloc::{AllocError, Global};
-use store_table::{Heap, Value};
 
 /// Where a run stands: at a point, or at its end.
 #[derive(Drop)]

@@ -1,11 +1,12 @@
 -- What is kept for readers of a heap, name by name.
-use Rattle.std.proofs.Common.{◌≡◌, ℕ, zero, suc, ◌+◌, ◌<◌, ◌≤◌, refl, sym, ap, ◌∙◌, arith, List, [], ◌∷◌, ◌++◌, length, length-append, Bool, true, false, Option, Some, None}
+use Rattle.std.proofs.Common.{◌≡◌, ℕ, zero, suc, ◌+◌, ◌<◌, ◌≤◌, refl, sym, ap, ◌∙◌, arith, List, [], ◌∷◌, ◌++◌, length}
+use Rattle.std.proofs.Common.{length-append, Bool, true, false, Option, Some, None}
 use Rattle.std.proofs.lemmas.Bool.{eqb-true, eqb-false, ltb-true, ltb-false}
 use Rattle.std.proofs.lemmas.Option.{slice_get_past}
 use Rattle.std.specs.Prelude.{slice_get, nat_eq, nat_lt}
 use Rattle.std.specs.Option.{unwrap_or, option_map}
 use Rattle.roopl_semantics.specs.Store.{object_named}
-use Rattle.store_table.specs.HeapView.{Kept}
+use Rattle.source_store.specs.HeapView.{Kept}
 use Rattle.source_meaning.specs.declared.store.Object.{Object as Seen}
 use Rattle.source_meaning.specs.Numbers.{Numbers, numbers_of, seen_object, AreNumbers}
 
@@ -29,14 +30,17 @@ pushed_last : {A : Type 0} (xs : List A) (x : A) → slice_get (xs ++ x ∷ []) 
 pushed_last [] x = refl
 pushed_last (y ∷ xs) x = pushed_last xs x
 
-pub listed_next : (heap : Kept) (objects new : List (Option Seen)) (below : ℕ) (x : Option Seen) → AreListed heap objects below
-    → option_map seen_object x ≡ option_map numbers_of (object_named heap.store below) → new ≡ objects ++ x ∷ [] → AreListed heap new (below + 1)
+pub listed_next : (heap : Kept) (objects new : List (Option Seen)) (below : ℕ) (x : Option Seen)
+    → AreListed heap objects below
+    → option_map seen_object x ≡ option_map numbers_of (object_named heap.store below) → new ≡ objects ++ x ∷ []
+    → AreListed heap new (below + 1)
 listed_next heap objects new below x l e n = record {
   size = ap length n ∙ length-append objects (x ∷ []) ∙ ap (λ k. k + 1) l.size;
   each = λ name h. by name h (nat_eq name below) refl;
 }
   where
-    by : (name : ℕ) → name < below + 1 → (t : Bool) → nat_eq name below ≡ t → kept_at new name ≡ option_map numbers_of (object_named heap.store name)
+    by : (name : ℕ) → name < below + 1 → (t : Bool) → nat_eq name below ≡ t
+        → kept_at new name ≡ option_map numbers_of (object_named heap.store name)
     by name h true t =
         let same : name ≡ below = eqb-true name below t in
         let there : name ≡ length objects = same ∙ sym l.size in
@@ -52,10 +56,12 @@ listed_next heap objects new below x l e n = record {
         ∙ ap (λ o. option_map seen_object (unwrap_or o None)) (pushed_before objects x name (omega arith))
         ∙ l.each name within
 
-pub all_listed : (heap : Kept) (objects : List (Option Seen)) (below : ℕ) → AreListed heap objects below → ((name : ℕ) → below ≤ name → object_named heap.store name ≡ None) → AreNumbers heap objects
+pub all_listed : (heap : Kept) (objects : List (Option Seen)) (below : ℕ) → AreListed heap objects below
+    → ((name : ℕ) → below ≤ name → object_named heap.store name ≡ None) → AreNumbers heap objects
 all_listed heap objects below l past = record { each = λ name. by name (nat_lt name below) refl }
   where
-    by : (name : ℕ) (t : Bool) → nat_lt name below ≡ t → kept_at objects name ≡ option_map numbers_of (object_named heap.store name)
+    by : (name : ℕ) (t : Bool) → nat_lt name below ≡ t → kept_at objects name
+        ≡ option_map numbers_of (object_named heap.store name)
     by name true t = l.each name (ltb-true name below t)
     by name false t =
         let h : below ≤ name = ltb-false name below t in

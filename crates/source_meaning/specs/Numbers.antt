@@ -2,8 +2,8 @@
 use Rattle.std.specs.Prelude.{◌≡◌, ℕ, List, map, Option, None, slice_get}
 use Rattle.std.specs.Option.{unwrap_or, option_map}
 use Rattle.roopl_semantics.specs.Store.{Head, Object, number_of, object_named}
-use Rattle.store_table.specs.ValueView.{head_of}
-use Rattle.store_table.specs.HeapView.{Kept}
+use Rattle.source_store.specs.ValueView.{head_of}
+use Rattle.source_store.specs.HeapView.{Kept}
 use Rattle.source_meaning.specs.declared.store.Object.{Object as Seen}
 
 -- an object or array with the number in each field or element

@@ -6,10 +6,10 @@ use Rattle.rpp_tree.specs.Tree.{Source}
 use Rattle.roopl_semantics.specs.Run.{Run, Done, Fault, More}
 use Rattle.roopl_semantics.specs.Store.{State, Store, main_name}
 use Rattle.roopl_semantics.specs.Source.{main_object, main_body, starting, source}
-use Rattle.store_table.specs.HeapView.{Kept}
+use Rattle.source_store.specs.HeapView.{Kept}
 use Rattle.source_steps.specs.declared.stop.Stop.{Stop}
 use Rattle.source_steps.specs.declared.stop.Stop.TheVariants as stop
-use Rattle.inverse_law.specs.InverseLaws.{LeadsBack}
+use Rattle.meaning_inverse.specs.InverseLaws.{LeadsBack}
 use Rattle.source_meaning.specs.declared.outcome.Outcome.{Outcome}
 use Rattle.source_meaning.specs.declared.outcome.Outcome.TheVariants as outcome
 
@@ -54,7 +54,8 @@ IsUndone (outcome.Fault code cost) program limits input fuel = Unit {0}
 IsUndone outcome.More program limits input fuel = Unit {0}
 
 -- a heap with the main object alone
-pub record IsStart (program : Source) (input : List FieldWord) (highest : ℕ) (heap : Kept) : Type 0 where
-  pub store : heap.store ≡ (main_name, main_object program input) ∷ []
-  pub log : heap.log ≡ []
-  pub order : heap.order ≡ highest
+pub record IsStart (program : Source) (input : List FieldWord) (highest : ℕ) (heap : Kept) : Type 0
+  where
+    pub store : heap.store ≡ (main_name, main_object program input) ∷ []
+    pub log : heap.log ≡ []
+    pub order : heap.order ≡ highest

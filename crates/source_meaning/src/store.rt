@@ -4,13 +4,13 @@ ghost use Rattle.std.specs.Option.{unwrap_or, option_map};
 ghost use Rattle.roopl_semantics.specs.Store.{Nil, main_name, number_of, object_at, object_named};
 ghost use Rattle.roopl_semantics.specs.Laws.{CountsReferences};
 ghost use Rattle.roopl_semantics.specs.Report.{live_count};
-ghost use Rattle.store_table.specs.ValueView.{object_of, values_of};
+ghost use Rattle.source_store.specs.ValueView.{object_of, values_of};
 ghost use Rattle.source_meaning.specs.Numbers.{numbers_of, seen_object, AreNumbers};
 
 use rpp_words::NoMemory;
+use source_store::{Head, Heap, Value};
 use std::alloc::Global;
 use std::marker::Model;
-use store_table::{Head, Heap, Value};
 
 /// An object or array, its fields or elements as numbers: a word, a name, or 0 for nil.
 #[derive(Debug, Drop)]
@@ -127,7 +127,7 @@ fn numbers(alloc: Global, values: &[Value]) -> Result<Vec<u32>, NoMemory>
 
 // An object or array by its numbers; one with more references than a word can count takes too much
 // memory.
-fn with_numbers(alloc: Global, object: &store_table::Object) -> Result<Object, NoMemory>
+fn with_numbers(alloc: Global, object: &source_store::Object) -> Result<Object, NoMemory>
     ensures { IfOk result (λ shown. seen_object shown ≡ numbers_of (object_of object.now)) }
 {
     match u32::try_from(object.count) {

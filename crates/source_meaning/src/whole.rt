@@ -5,9 +5,9 @@ ghost use Rattle.rpp_tree.specs.Views.{source_of};
 ghost use Rattle.roopl_semantics.specs.Store.{Word};
 ghost use Rattle.roopl_semantics.specs.Source.{source, main_body, with_input, IsValid};
 ghost use Rattle.roopl_semantics.specs.Laws.{CountsReferences};
-ghost use Rattle.store_table.specs.ValueView.{values_of};
+ghost use Rattle.source_store.specs.ValueView.{values_of};
 ghost use Rattle.source_meaning.specs.Outcomes.{IsOutcome, IsStart, IsStop, StaysSo, IsUndone};
-ghost use Rattle.source_points.specs.Points.{points};
+ghost use Rattle.meaning_points.specs.Points.{points};
 ghost use Rattle.source_steps.specs.Ends.{Ends, runs};
 ghost use Rattle.source_steps.specs.StateView.{IsFramed, state_of, setting_of};
 ghost use Rattle.source_steps.specs.Parameters.{params_of};
@@ -19,8 +19,8 @@ use class_table::Checked;
 use rpp_words::{FieldWord, Input, Limits, NoMemory};
 use source_blocks::{Watch, Watching, exec_block, method_at};
 use source_steps::{Scope, Setting, Stop, put_value, zeros};
+use source_store::{Head, Heap, Value};
 use std::alloc::Global;
-use store_table::{Head, Heap, Value};
 
 /// The most calls that `interpret` allows a run to have open.
 pub const MOST_OPEN: u32 = 32;

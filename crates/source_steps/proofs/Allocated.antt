@@ -6,8 +6,8 @@ use Rattle.roopl_semantics.specs.Run.{Run, ◌>>=◌, give, fault_if}
 use Rattle.roopl_semantics.specs.Store.{State, Value, Name, Head}
 use Rattle.roopl_semantics.specs.Value.{Cell, written}
 use Rattle.roopl_semantics.specs.Execution.{Setting, allocated, order_of_cells, new_object, heap_full_fault}
-use Rattle.store_table.specs.declared.value.Value.{Value as Held}
-use Rattle.store_table.specs.HeapView.{Kept, asked_for, TookBlock, TookNone}
+use Rattle.source_store.specs.declared.value.Value.{Value as Held}
+use Rattle.source_store.specs.HeapView.{Kept, asked_for, TookBlock, TookNone}
 use Rattle.source_steps.specs.declared.scope.Scope.{Scope as Chain}
 use Rattle.source_steps.specs.declared.expressions.Setting.{Setting as Here}
 use Rattle.source_steps.specs.Metered.{Went, Stopped, stopped, metered}
@@ -15,7 +15,8 @@ use Rattle.source_steps.specs.StateView.{state_of, setting_of}
 use Rattle.source_steps.proofs.Fuelled.{gives, left_none}
 
 abbrev full : Setting → ℕ → State → Bool
-full setting size st = nat_lt setting.limits.heap (order_of_cells size) || is_none (place setting.limits.heap (Taken (2 + count_taken st.log) (order_of_cells size) ∷ st.log))
+full setting size st = nat_lt setting.limits.heap (order_of_cells size) || is_none
+    (place setting.limits.heap (Taken (2 + count_taken st.log) (order_of_cells size) ∷ st.log))
 
 abbrev with_new : ℕ → Cell → Head → List Value → State → State
 with_new size cell head cells st =
@@ -26,55 +27,78 @@ with_new size cell head cells st =
 abbrev by_full : ℕ → Cell → Head → List Value → State → Bool → Run State
 by_full size cell head cells st t = fault_if heap_full_fault t >>= (λ u. give (with_new size cell head cells st))
 
-full_stops : (size : ℕ) (cell : Cell) (head : Head) (cells : List Value) (st : State) (fuel : ℕ) → metered fuel (by_full size cell head cells st true) ≡ Stopped heap_full_fault fuel
+full_stops : (size : ℕ) (cell : Cell) (head : Head) (cells : List Value) (st : State) (fuel : ℕ)
+    → metered fuel (by_full size cell head cells st true) ≡ Stopped heap_full_fault fuel
 full_stops size cell head cells st fuel = ap (stopped heap_full_fault) (left_none fuel)
 
-room_goes : (size : ℕ) (cell : Cell) (head : Head) (cells : List Value) (st : State) (fuel : ℕ) → metered fuel (by_full size cell head cells st false) ≡ Went (with_new size cell head cells st) fuel
+room_goes : (size : ℕ) (cell : Cell) (head : Head) (cells : List Value) (st : State) (fuel : ℕ)
+    → metered fuel (by_full size cell head cells st false) ≡ Went (with_new size cell head cells st) fuel
 room_goes size cell head cells st fuel = gives fuel (with_new size cell head cells st)
 
 -- the order is above the heap's
-pub too_large : (setting : Setting) (size fuel : ℕ) (cell : Cell) (head : Head) (cells : List Value) (st : State) → nat_lt setting.limits.heap (order_of_cells size) ≡ true → metered fuel (allocated setting size cell head cells st) ≡ Stopped heap_full_fault fuel
+pub too_large : (setting : Setting) (size fuel : ℕ) (cell : Cell) (head : Head) (cells : List Value) (st : State)
+    → nat_lt setting.limits.heap (order_of_cells size) ≡ true
+    → metered fuel (allocated setting size cell head cells st) ≡ Stopped heap_full_fault fuel
 too_large setting size fuel cell head cells st e =
-    ap (λ t. metered fuel (by_full size cell head cells st (t || is_none (place setting.limits.heap (Taken (2 + count_taken st.log) (order_of_cells size) ∷ st.log))))) e
+    ap (λ t. metered fuel (by_full size cell head cells st
+    (t || is_none (place setting.limits.heap (Taken (2 + count_taken st.log) (order_of_cells size) ∷ st.log)))))
+    e
     ∙ full_stops size cell head cells st fuel
 
 or_none : (a b : Bool) → a ≡ false → a || b ≡ b
 or_none a b e = ap (λ t. t || b) e
 
 -- the heap has no block
-pub no_block : (setting : Setting) (size fuel : ℕ) (cell : Cell) (head : Head) (cells : List Value) (st : State) (old new : Kept) → nat_lt setting.limits.heap (order_of_cells size) ≡ false → old.order ≡ setting.limits.heap → old.log ≡ st.log → TookNone old new size
+pub no_block : (setting : Setting) (size fuel : ℕ) (cell : Cell) (head : Head) (cells : List Value) (st : State)
+    (old new : Kept) → nat_lt setting.limits.heap (order_of_cells size) ≡ false → old.order ≡ setting.limits.heap
+    → old.log ≡ st.log → TookNone old new size
     → metered fuel (allocated setting size cell head cells st) ≡ Stopped heap_full_fault fuel
 no_block setting size fuel cell head cells st old new e o l took =
     ap (λ t. metered fuel (by_full size cell head cells st t))
-    (or_none (nat_lt setting.limits.heap (order_of_cells size)) (is_none (place setting.limits.heap (Taken (2 + count_taken st.log) (order_of_cells size) ∷ st.log))) e
+    (or_none (nat_lt setting.limits.heap (order_of_cells size))
+    (is_none (place setting.limits.heap (Taken (2 + count_taken st.log) (order_of_cells size) ∷ st.log))) e
     ∙ ap (λ h. is_none (place h (Taken (2 + count_taken st.log) (order_of_cells size) ∷ st.log))) (sym o)
     ∙ ap (λ log. is_none (place old.order (Taken (2 + count_taken log) (order_of_cells size) ∷ log))) (sym l)
     ∙ took.no_block)
     ∙ full_stops size cell head cells st fuel
 
 -- the heap has a block
-pub a_block : (setting : Setting) (fuel name : ℕ) (cell : Cell) (head : Head) (cells : List Value) (st : State) (old new : Kept) → nat_lt setting.limits.heap (order_of_cells (length cells)) ≡ false → old.order ≡ setting.limits.heap → old.log ≡ st.log → TookBlock name old new head cells
-    → metered fuel (allocated setting (length cells) cell head cells st) ≡ Went (with_new (length cells) cell head cells st) fuel
+pub a_block : (setting : Setting) (fuel name : ℕ) (cell : Cell) (head : Head) (cells : List Value) (st : State)
+    (old new : Kept) → nat_lt setting.limits.heap (order_of_cells (length cells)) ≡ false
+    → old.order ≡ setting.limits.heap → old.log ≡ st.log → TookBlock name old new head cells
+    → metered fuel (allocated setting (length cells) cell head cells st)
+    ≡ Went (with_new (length cells) cell head cells st) fuel
 a_block setting fuel name cell head cells st old new e o l took =
     ap (λ t. metered fuel (by_full (length cells) cell head cells st t))
-    (or_none (nat_lt setting.limits.heap (order_of_cells (length cells))) (is_none (place setting.limits.heap (Taken (2 + count_taken st.log) (order_of_cells (length cells)) ∷ st.log))) e
+    (or_none (nat_lt setting.limits.heap (order_of_cells (length cells)))
+    (is_none (place setting.limits.heap (Taken (2 + count_taken st.log) (order_of_cells (length cells))
+    ∷ st.log))) e
     ∙ ap (λ h. is_none (place h (Taken (2 + count_taken st.log) (order_of_cells (length cells)) ∷ st.log))) (sym o)
     ∙ ap (λ log. is_none (place old.order (Taken (2 + count_taken log) (order_of_cells (length cells)) ∷ log))) (sym l)
     ∙ took.has_block)
     ∙ room_goes (length cells) cell head cells st fuel
 
 -- the state with the new object, once its name is written
-pub new_state : (here : Here) (scope : Chain) (name size : ℕ) (cell : Cell) (head : Head) (cells : List Value) (old new : Kept) (values : List Held) → size ≡ length cells → TookBlock name old new head cells
-    → written (state_of here scope new values) cell (Name name) ≡ with_new size cell head cells (state_of here scope old values)
+pub new_state : (here : Here) (scope : Chain) (name size : ℕ) (cell : Cell) (head : Head) (cells : List Value)
+    (old new : Kept) (values : List Held) → size ≡ length cells → TookBlock name old new head cells
+    → written (state_of here scope new values) cell (Name name)
+    ≡ with_new size cell head cells (state_of here scope old values)
 new_state here scope name size cell head cells old new values s took =
     ap (λ heap. written (state_of here scope heap values) cell (Name name)) took.heap
-    ∙ ap (λ n. written (record (state_of here scope old values) { store = (n, new_object head cells) ∷ old.store; log = asked_for old (length cells) }) cell (Name n)) took.named
+    ∙ ap (λ n. written (record (state_of here scope old values)
+    { store = (n, new_object head cells) ∷ old.store; log = asked_for old (length cells) }) cell (Name n))
+    took.named
     ∙ ap (λ z. with_new z cell head cells (state_of here scope old values)) (sym s)
 
-pub placed_new : (here : Here) (scope : Chain) (fuel name size : ℕ) (cell : Cell) (head : Head) (cells : List Value) (old new : Kept) (values : List Held) (after : State)
-    → size ≡ length cells → nat_lt here.limits.heap (order_of_cells size) ≡ false → old.order ≡ here.limits.heap → TookBlock name old new head cells → after ≡ written (state_of here scope new values) cell (Name name)
+pub placed_new : (here : Here) (scope : Chain) (fuel name size : ℕ) (cell : Cell) (head : Head) (cells : List Value)
+    (old new : Kept) (values : List Held) (after : State)
+    → size ≡ length cells → nat_lt here.limits.heap (order_of_cells size) ≡ false → old.order ≡ here.limits.heap
+    → TookBlock name old new head cells → after ≡ written (state_of here scope new values) cell (Name name)
     → metered fuel (allocated (setting_of here) size cell head cells (state_of here scope old values)) ≡ Went after fuel
 placed_new here scope fuel name size cell head cells old new values after s e o took is =
-    subst (λ z. nat_lt here.limits.heap (order_of_cells z) ≡ false → metered fuel (allocated (setting_of here) z cell head cells (state_of here scope old values)) ≡ Went after fuel) (sym s)
+    subst (λ z. nat_lt here.limits.heap (order_of_cells z) ≡ false
+    → metered fuel (allocated (setting_of here) z cell head cells (state_of here scope old values))
+    ≡ Went after fuel) (sym s)
     (λ e. a_block (setting_of here) fuel name cell head cells (state_of here scope old values) old new e o refl took
-    ∙ ap (λ s. Went s fuel) (sym (new_state here scope name (length cells) cell head cells old new values refl took) ∙ sym is)) e
+    ∙ ap (λ s. Went s fuel) (sym (new_state here scope name (length cells) cell head cells old new values refl took)
+    ∙ sym is)) e

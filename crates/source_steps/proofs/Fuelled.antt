@@ -1,5 +1,6 @@
 -- Runs with so much fuel, one after another.
-use Rattle.std.proofs.Common.{◌≡◌, ℕ, zero, suc, ◌+◌, ◌-◌, ◌<◌, ◌≤◌, refl, sym, ap, subst, ◌∙◌, arith, Bool, true, false, Some, None, if◌then◌else◌}
+use Rattle.std.proofs.Common.{◌≡◌, ℕ, zero, suc, ◌+◌, ◌-◌, ◌<◌, ◌≤◌, refl, sym, ap, subst, ◌∙◌, arith, Bool, true}
+use Rattle.std.proofs.Common.{false, Some, None, if◌then◌else◌}
 use Rattle.std.proofs.lemmas.Bool.{leb-true, leb-false, le-leb}
 use Rattle.std.specs.Prelude.{nat_le, Option, Result, Ok, Err}
 use Rattle.std.specs.Result.{IsErrAnd}
@@ -10,7 +11,8 @@ use Rattle.roopl_semantics.proofs.CostBound.{exec_done_within, exec_fault_within
 use Rattle.roopl_semantics.specs.Run.{Run, Done, Fault, More, after_cost, ◌>>=◌, give, spend}
 use Rattle.source_steps.specs.declared.stop.Stop.{Stop}
 use Rattle.source_steps.specs.declared.stop.Stop.TheVariants as stop
-use Rattle.source_steps.specs.Metered.{Metered, Went, Stopped, Out, left_of, went, stopped, metered, chain, Failed, Gives}
+use Rattle.source_steps.specs.Metered.{Metered, Went, Stopped, Out, left_of, went, stopped, metered, chain, Failed}
+use Rattle.source_steps.specs.Metered.{Gives}
 
 pub left_yes : (fuel cost : ℕ) → cost ≤ fuel → left_of fuel cost ≡ Some (fuel - cost)
 left_yes fuel cost h = ap (λ b. if b then Some (fuel - cost) else None) (le-leb cost fuel h)
@@ -36,7 +38,8 @@ then_left (Some left) more = left_of left more
 left_sum : (fuel cost more : ℕ) → left_of fuel (cost + more) ≡ then_left (left_of fuel cost) more
 left_sum fuel cost more = by (nat_le cost fuel) refl (nat_le more (fuel - cost)) refl
   where
-    by : (t : Bool) → nat_le cost fuel ≡ t → (u : Bool) → nat_le more (fuel - cost) ≡ u → left_of fuel (cost + more) ≡ then_left (left_of fuel cost) more
+    by : (t : Bool) → nat_le cost fuel ≡ t → (u : Bool) → nat_le more (fuel - cost) ≡ u
+        → left_of fuel (cost + more) ≡ then_left (left_of fuel cost) more
     by false e u f =
         let l : fuel < cost = leb-false cost fuel e in
         left_no fuel (cost + more) (omega arith) ∙ ap (λ o. then_left o more) (sym (left_no fuel cost l))
@@ -44,11 +47,13 @@ left_sum fuel cost more = by (nat_le cost fuel) refl (nat_le more (fuel - cost))
         let l : cost ≤ fuel = leb-true cost fuel e in
         let m : more ≤ fuel - cost = leb-true more (fuel - cost) f in
         let d : fuel - (cost + more) ≡ fuel - cost - more = omega arith in
-        left_yes fuel (cost + more) (omega arith) ∙ (ap (λ k. Some k) d ∙ (sym (left_yes (fuel - cost) more m) ∙ ap (λ o. then_left o more) (sym (left_yes fuel cost l))))
+        left_yes fuel (cost + more) (omega arith) ∙ (ap (λ k. Some k) d
+        ∙ (sym (left_yes (fuel - cost) more m) ∙ ap (λ o. then_left o more) (sym (left_yes fuel cost l))))
     by true e false f =
         let l : cost ≤ fuel = leb-true cost fuel e in
         let m : fuel - cost < more = leb-false more (fuel - cost) f in
-        left_no fuel (cost + more) (omega arith) ∙ (sym (left_no (fuel - cost) more m) ∙ ap (λ o. then_left o more) (sym (left_yes fuel cost l)))
+        left_no fuel (cost + more) (omega arith) ∙ (sym (left_no (fuel - cost) more m)
+        ∙ ap (λ o. then_left o more) (sym (left_yes fuel cost l)))
 
 -- a run with the fuel that is left, if any is
 abbrev pub with_left : {A : Type 0} → Option ℕ → Run A → Metered A
@@ -59,7 +64,8 @@ went_left : {A : Type 0} (o : Option ℕ) (x : A) (cost : ℕ) → went x (then_
 went_left None x cost = refl
 went_left (Some left) x cost = refl
 
-stopped_left : {A : Type 0} (o : Option ℕ) (code cost : ℕ) → stopped {A = A} code (then_left o cost) ≡ with_left o (Fault code cost)
+stopped_left : {A : Type 0} (o : Option ℕ) (code cost : ℕ)
+    → stopped {A = A} code (then_left o cost) ≡ with_left o (Fault code cost)
 stopped_left None code cost = refl
 stopped_left (Some left) code cost = refl
 
@@ -67,32 +73,40 @@ out_left : {A : Type 0} (o : Option ℕ) → Out ≡ with_left {A = A} o More
 out_left None = refl
 out_left (Some left) = refl
 
-pub metered_after : {A : Type 0} (fuel cost : ℕ) (run : Run A) → metered fuel (after_cost cost run) ≡ with_left (left_of fuel cost) run
+pub metered_after : {A : Type 0} (fuel cost : ℕ) (run : Run A)
+    → metered fuel (after_cost cost run) ≡ with_left (left_of fuel cost) run
 metered_after fuel cost (Done x more) = ap (went x) (left_sum fuel cost more) ∙ went_left (left_of fuel cost) x more
-metered_after fuel cost (Fault code more) = ap (stopped code) (left_sum fuel cost more) ∙ stopped_left (left_of fuel cost) code more
+metered_after fuel cost (Fault code more) = ap (stopped code) (left_sum fuel cost more)
+    ∙ stopped_left (left_of fuel cost) code more
 metered_after fuel cost More = out_left (left_of fuel cost)
 
-chain_went : {A B : Type 0} (o : Option ℕ) (x : A) (next : A → Run B) → with_left o (next x) ≡ chain (went x o) (λ a left. metered left (next a))
+chain_went : {A B : Type 0} (o : Option ℕ) (x : A) (next : A → Run B)
+    → with_left o (next x) ≡ chain (went x o) (λ a left. metered left (next a))
 chain_went None x next = refl
 chain_went (Some left) x next = refl
 
-chain_stopped : {A B : Type 0} (o : Option ℕ) (code : ℕ) (next : A → ℕ → Metered B) → stopped code o ≡ chain (stopped {A = A} code o) next
+chain_stopped : {A B : Type 0} (o : Option ℕ) (code : ℕ) (next : A → ℕ → Metered B)
+    → stopped code o ≡ chain (stopped {A = A} code o) next
 chain_stopped None code next = refl
 chain_stopped (Some left) code next = refl
 
 -- a run and then another is that other with the fuel that is left
-pub metered_then : {A B : Type 0} (fuel : ℕ) (run : Run A) (next : A → Run B) → metered fuel (run >>= next) ≡ chain (metered fuel run) (λ a left. metered left (next a))
+pub metered_then : {A B : Type 0} (fuel : ℕ) (run : Run A) (next : A → Run B)
+    → metered fuel (run >>= next) ≡ chain (metered fuel run) (λ a left. metered left (next a))
 metered_then fuel (Done x cost) next = metered_after fuel cost (next x) ∙ chain_went (left_of fuel cost) x next
 metered_then fuel (Fault code cost) next = chain_stopped (left_of fuel cost) code (λ a left. metered left (next a))
 metered_then fuel More next = refl
 
 -- goes on behind a run that went well
-pub goes : {A B : Type 0} (fuel left : ℕ) (run : Run A) (a : A) (next : A → Run B) → metered fuel run ≡ Went a left → metered fuel (run >>= next) ≡ metered left (next a)
+pub goes : {A B : Type 0} (fuel left : ℕ) (run : Run A) (a : A) (next : A → Run B) → metered fuel run ≡ Went a left
+    → metered fuel (run >>= next) ≡ metered left (next a)
 goes fuel left run a next e = metered_then fuel run next ∙ ap (λ m. chain m (λ b l. metered l (next b))) e
 
 -- why the first part stopped is why the whole did
-pub fails : {A B : Type 0} (fuel left : ℕ) (run : Run A) (next : A → Run B) (why : Stop) → Failed why left (metered fuel run) → Failed why left (metered fuel (run >>= next))
-fails fuel left run next (stop.Fault code) e = metered_then fuel run next ∙ ap (λ m. chain m (λ b l. metered l (next b))) e
+pub fails : {A B : Type 0} (fuel left : ℕ) (run : Run A) (next : A → Run B) (why : Stop)
+    → Failed why left (metered fuel run) → Failed why left (metered fuel (run >>= next))
+fails fuel left run next (stop.Fault code) e = metered_then fuel run next
+    ∙ ap (λ m. chain m (λ b l. metered l (next b))) e
 fails fuel left run next stop.More e = metered_then fuel run next ∙ ap (λ m. chain m (λ b l. metered l (next b))) e
 fails fuel left run next stop.Arrived e = tt
 fails fuel left run next stop.NoMemory e = tt
@@ -136,50 +150,76 @@ same_metered {A = A} fuel (Fault code cost) s there back = by (nat_le cost fuel)
     by : (t : Bool) → nat_le cost fuel ≡ t → metered fuel (Fault code cost) ≡ metered fuel s
     by true e = ap (metered fuel) (sym (there.fault code cost refl (leb-true cost fuel e)))
     by false e =
-        let out : metered {A = A} fuel (Fault code cost) ≡ Out = ap (stopped code) (left_no fuel cost (leb-false cost fuel e)) in
+        let out : metered {A = A} fuel (Fault code cost) ≡ Out =
+        ap (stopped code) (left_no fuel cost (leb-false cost fuel e)) in
         out ∙ sym (out_too fuel (Fault code cost) s back out)
 same_metered fuel More s there back = sym (out_too fuel More s back refl)
 
 -- so much fuel is bound enough
-pub enough : (setting : Setting) (fuel n : ℕ) (body : Statements) (st : State) → fuel ≤ n → metered fuel (exec setting n body st) ≡ metered fuel (exec setting fuel body st)
+pub enough : (setting : Setting) (fuel n : ℕ) (body : Statements) (st : State) → fuel ≤ n
+    → metered fuel (exec setting n body st) ≡ metered fuel (exec setting fuel body st)
 enough setting fuel n body st h =
     same_metered fuel (exec setting n body st) (exec setting fuel body st)
-    (record { done = λ x cost e l. exec_done_within setting n fuel body st x cost e l; fault = λ code cost e l. exec_fault_within setting n fuel body st code cost e l })
-    (record { done = λ x cost e l. exec_done_within setting fuel n body st x cost e (omega arith); fault = λ code cost e l. exec_fault_within setting fuel n body st code cost e (omega arith) })
+    (record {
+      done = λ x cost e l. exec_done_within setting n fuel body st x cost e l;
+      fault = λ code cost e l. exec_fault_within setting n fuel body st code cost e l;
+    })
+    (record {
+      done = λ x cost e l. exec_done_within setting fuel n body st x cost e (omega arith);
+      fault = λ code cost e l. exec_fault_within setting fuel n body st code cost e (omega arith);
+    })
 
 -- the first statement of a block that has fuel for it
-pub block_next : (setting : Setting) (n fuel one left : ℕ) (s : Statement) (rest : Statements) (st end : State) → 1 ≤ n → metered fuel (spend 1) ≡ Went tt one → metered one (statement setting (n - 1) (exec setting (n - 1)) s st) ≡ Went end left → metered fuel (exec setting n (Then s rest) st) ≡ metered left (exec setting (n - 1) rest end)
+pub block_next : (setting : Setting) (n fuel one left : ℕ) (s : Statement) (rest : Statements) (st end : State) → 1 ≤ n
+    → metered fuel (spend 1) ≡ Went tt one → metered one (statement setting (n - 1) (exec setting (n - 1)) s st)
+    ≡ Went end left → metered fuel (exec setting n (Then s rest) st) ≡ metered left (exec setting (n - 1) rest end)
 block_next setting zero fuel one left s rest st end h e f = absurd (omega arith)
 block_next setting (suc n) fuel one left s rest st end h e f =
     let same : suc n - 1 ≡ n = omega arith in
-    let g : metered one (statement setting n (exec setting n) s st) ≡ Went end left = ap (λ k. metered one (statement setting k (exec setting k) s st)) (sym same) ∙ f in
-    goes fuel one (spend 1) tt (λ u. statement setting n (exec setting n) s st >>= (λ next. exec setting n rest next)) e ∙ (goes one left (statement setting n (exec setting n) s st) end (λ next. exec setting n rest next) g ∙ ap (λ k. metered left (exec setting k rest end)) (sym same))
+    let g : metered one (statement setting n (exec setting n) s st) ≡ Went end left =
+    ap (λ k. metered one (statement setting k (exec setting k) s st)) (sym same) ∙ f in
+    goes fuel one (spend 1) tt (λ u. statement setting n (exec setting n) s st >>= (λ next. exec setting n rest next)) e
+    ∙ (goes one left (statement setting n (exec setting n) s st) end (λ next. exec setting n rest next) g
+    ∙ ap (λ k. metered left (exec setting k rest end)) (sym same))
 
-pub block_out : (setting : Setting) (n fuel : ℕ) (s : Statement) (rest : Statements) (st : State) → metered fuel (spend 1) ≡ Out → metered fuel (exec setting n (Then s rest) st) ≡ Out
+pub block_out : (setting : Setting) (n fuel : ℕ) (s : Statement) (rest : Statements) (st : State)
+    → metered fuel (spend 1) ≡ Out → metered fuel (exec setting n (Then s rest) st) ≡ Out
 block_out setting zero fuel s rest st e = refl
-block_out setting (suc n) fuel s rest st e = metered_then fuel (spend 1) _ ∙ ap (λ m. chain m (λ b l. metered l (statement setting n (exec setting n) s st >>= (λ next. exec setting n rest next)))) e
+block_out setting (suc n) fuel s rest st e = metered_then fuel (spend 1) _
+    ∙ ap (λ m. chain m (λ b l. metered l (statement setting n (exec setting n) s st >>=
+    (λ next. exec setting n rest next)))) e
 
-pub block_fails : (setting : Setting) (n fuel one left : ℕ) (s : Statement) (rest : Statements) (st : State) (why : Stop) → 1 ≤ n → metered fuel (spend 1) ≡ Went tt one → Failed why left (metered one (statement setting (n - 1) (exec setting (n - 1)) s st)) → Failed why left (metered fuel (exec setting n (Then s rest) st))
+pub block_fails : (setting : Setting) (n fuel one left : ℕ) (s : Statement) (rest : Statements) (st : State)
+    (why : Stop) → 1 ≤ n → metered fuel (spend 1) ≡ Went tt one
+    → Failed why left (metered one (statement setting (n - 1) (exec setting (n - 1)) s st))
+    → Failed why left (metered fuel (exec setting n (Then s rest) st))
 block_fails setting zero fuel one left s rest st why h e k = absurd (omega arith)
 block_fails setting (suc n) fuel one left s rest st why h e k =
     let same : suc n - 1 ≡ n = omega arith in
-    let k' : Failed why left (metered one (statement setting n (exec setting n) s st)) = subst (λ m. Failed why left (metered one (statement setting m (exec setting m) s st))) same k in
-    subst (λ m. Failed why left m) (sym (goes fuel one (spend 1) tt (λ u. statement setting n (exec setting n) s st >>= (λ next. exec setting n rest next)) e)) (fails one left (statement setting n (exec setting n) s st) (λ next. exec setting n rest next) why k')
+    let k' : Failed why left (metered one (statement setting n (exec setting n) s st)) =
+    subst (λ m. Failed why left (metered one (statement setting m (exec setting m) s st))) same k in
+    subst (λ m. Failed why left m) (sym (goes fuel one (spend 1) tt
+    (λ u. statement setting n (exec setting n) s st >>= (λ next. exec setting n rest next)) e))
+    (fails one left (statement setting n (exec setting n) s st) (λ next. exec setting n rest next) why k')
 
-pub spend_fails : (setting : Setting) (n fuel left : ℕ) (s : Statement) (rest : Statements) (st : State) (why : Stop) → Failed why left (metered fuel (spend 1)) → Failed why left (metered fuel (exec setting n (Then s rest) st))
+pub spend_fails : (setting : Setting) (n fuel left : ℕ) (s : Statement) (rest : Statements) (st : State) (why : Stop)
+    → Failed why left (metered fuel (spend 1)) → Failed why left (metered fuel (exec setting n (Then s rest) st))
 spend_fails setting zero fuel left s rest st (stop.Fault code) e = absurd (no_fault (left_of fuel 1) code left e)
   where
     no_fault : (o : Option ℕ) (code left : ℕ) → went {A = Unit {0}} tt o ≡ Stopped code left → ⊥
     no_fault None code left e = cc
     no_fault (Some k) code left e = cc
-spend_fails setting (suc n) fuel left s rest st (stop.Fault code) e = fails fuel left (spend 1) (λ u. statement setting n (exec setting n) s st >>= (λ next. exec setting n rest next)) (stop.Fault code) e
+spend_fails setting (suc n) fuel left s rest st (stop.Fault code) e =
+    fails fuel left (spend 1) (λ u. statement setting n (exec setting n) s st >>= (λ next. exec setting n rest next))
+    (stop.Fault code) e
 spend_fails setting n fuel left s rest st stop.More e = block_out setting n fuel s rest st e
 spend_fails setting n fuel left s rest st stop.Arrived e = tt
 spend_fails setting n fuel left s rest st stop.NoMemory e = tt
 
 -- ---- what is left
 
-pub left_is : {A : Type 0} (fuel cost : ℕ) (x y : A) (left : ℕ) → went x (left_of fuel cost) ≡ Went y left → left + cost ≡ fuel
+pub left_is : {A : Type 0} (fuel cost : ℕ) (x y : A) (left : ℕ) → went x (left_of fuel cost) ≡ Went y left
+    → left + cost ≡ fuel
 left_is fuel cost x y left e = by (nat_le cost fuel) refl
   where
     by : (t : Bool) → nat_le cost fuel ≡ t → left + cost ≡ fuel
@@ -192,7 +232,8 @@ left_is fuel cost x y left e = by (nat_le cost fuel) refl
         let w : Out ≡ Went y left = sym (ap (went x) (left_no fuel cost (leb-false cost fuel q))) ∙ e in
         cc
 
-pub left_at_most : {A : Type 0} (fuel : ℕ) (run : Run A) (x : A) (left : ℕ) → metered fuel run ≡ Went x left → left ≤ fuel
+pub left_at_most : {A : Type 0} (fuel : ℕ) (run : Run A) (x : A) (left : ℕ) → metered fuel run ≡ Went x left
+    → left ≤ fuel
 left_at_most fuel (Done y cost) x left e = let k = left_is fuel cost y x left e in omega arith
 left_at_most {A = A} fuel (Fault code cost) x left e = absurd (no_end (left_of fuel cost) e)
   where
@@ -205,6 +246,7 @@ pub spent_one : (fuel n : ℕ) (u : Unit {0}) (one : ℕ) → metered fuel (spen
 spent_one fuel n u one e h = let k = left_is fuel 1 tt u one e in omega arith
 
 -- an error that is handed on
-pub handed : {E : Type 0} (result : Result E Stop) (why : Stop) (g : E → State) (left : ℕ) (run : Metered State) → IsErrAnd result (λ e. e ≡ why) → Failed why left run → Gives g result left run
+pub handed : {E : Type 0} (result : Result E Stop) (why : Stop) (g : E → State) (left : ℕ) (run : Metered State)
+    → IsErrAnd result (λ e. e ≡ why) → Failed why left run → Gives g result left run
 handed (Ok x) why g left run e k = absurd e
 handed (Err e) why g left run same k = subst (λ w. Failed w left run) (sym same) k

@@ -1,16 +1,23 @@
 -- How a statement ends.
-use Rattle.std.specs.Prelude.{ℕ, suc, ◌+◌, List, Bool, true, false, not, ◌||◌, nat_eq, length, map, replicate, Option, Some, None, Result}
+use Rattle.std.specs.Prelude.{ℕ, suc, ◌+◌, List, Bool, true, false, not, ◌||◌, nat_eq, length, map}
+use Rattle.std.specs.Prelude.{replicate, Option, Some, None, Result}
 use Rattle.std.specs.Option.{unwrap_or}
 use Rattle.rpp_words.specs.Words.{is_less}
 use Rattle.rpp_tree.specs.Tree.{Expression, Statement, Statements, Source}
 use Rattle.class_table.specs.Classes.{class_number, class_fields, method_slot}
 use Rattle.stmt_inverter.specs.Inverse.{inverse_statement}
 use Rattle.roopl_semantics.specs.Run.{Run, More, ◌>>=◌, give, spend, fault_if}
-use Rattle.roopl_semantics.specs.Store.{State, Value, Word, Nil, Head, OfClass, OfInts, OfObjects, is_nil, number_of, same_value, object_at, zero_values}
-use Rattle.roopl_semantics.specs.Execution.{Setting, statement, exec, closed, counted, one_less, same_cell, is_of_class, all_zero, allocated, freed, moved_out, moved_back, delocal_fault, not_nil_fault, not_same_fault, class_differs_fault, length_differs_fault, length_fault, count_fault, not_empty_fault}
+use Rattle.roopl_semantics.specs.Store.{State, Value, Word, Nil, Head, OfClass, OfInts, OfObjects}
+use Rattle.roopl_semantics.specs.Store.{is_nil, number_of, same_value, object_at, zero_values}
+use Rattle.roopl_semantics.specs.Execution.{Setting, statement, exec, closed, counted, one_less}
+use Rattle.roopl_semantics.specs.Execution.{same_cell, is_of_class, all_zero, allocated, freed}
+use Rattle.roopl_semantics.specs.Execution.{moved_out, moved_back, delocal_fault, not_nil_fault}
+use Rattle.roopl_semantics.specs.Execution.{not_same_fault, class_differs_fault}
+use Rattle.roopl_semantics.specs.Execution.{length_differs_fault, length_fault, count_fault}
+use Rattle.roopl_semantics.specs.Execution.{not_empty_fault}
 use Rattle.roopl_semantics.specs.Value.{Cell, Slot, read, written, evaluated, nil_fault}
-use Rattle.store_table.specs.declared.value.Value.{Value as Held}
-use Rattle.store_table.specs.HeapView.{Kept as Heap}
+use Rattle.source_store.specs.declared.value.Value.{Value as Held}
+use Rattle.source_store.specs.HeapView.{Kept as Heap}
 use Rattle.source_steps.specs.declared.stop.Stop.{Stop}
 use Rattle.source_steps.specs.declared.scope.Scope.{Scope as Chain}
 use Rattle.source_steps.specs.declared.expressions.Setting.{Setting as Here}
@@ -25,7 +32,8 @@ turned false s = s
 -- a call ends in the state and with the fuel that the run gives
 abbrev pub Ends : {E : Type 0} → Here → Chain → Result E Stop → Heap → List Held → ℕ → Metered State
     → Type 0
-Ends here scope result heap values left run = Gives (λ u. state_of here scope heap values) result left run
+Ends here scope result heap values left run =
+    Gives (λ u. state_of here scope heap values) result left run
 
 -- a statement, with blocks bounded by n
 abbrev pub step : Here → ℕ → Statement → State → Run State
@@ -112,7 +120,8 @@ gone setting class cell st = do
   let name = number_of (read st cell)
   let object = object_at st.store name
   _ ← fault_if nil_fault (is_nil (read st cell))
-  _ ← fault_if class_differs_fault (not (is_of_class object.head (class_number setting.program class)))
+  _ ← fault_if class_differs_fault (not (is_of_class object.head
+      (class_number setting.program class)))
   _ ← fault_if count_fault (not (nat_eq object.count 1))
   _ ← spend (setting.limits.heap + 1)
   _ ← fault_if not_empty_fault (not (all_zero object.cells))

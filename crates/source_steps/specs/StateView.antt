@@ -1,13 +1,14 @@
 -- What contracts see of the state of a run.
-use Rattle.std.specs.Prelude.{◌≡◌, ℕ, ◌+◌, nat_lt, if◌then◌else◌, List, [], ◌∷◌, map, length, Result, Ok, Err}
+use Rattle.std.specs.Prelude.{◌≡◌, ℕ, ◌+◌, nat_lt, if◌then◌else◌, List, [], ◌∷◌, map, length}
+use Rattle.std.specs.Prelude.{Result, Ok, Err}
 use Rattle.rpp_tree.specs.declared.tree.Var.{Var}
 use Rattle.rpp_tree.specs.Views.{source_of}
 use Rattle.roopl_semantics.specs.Store.{Value, Name, object_at, Store, Binding, State}
 use Rattle.roopl_semantics.specs.Execution.{Setting, bound}
 use Rattle.roopl_semantics.specs.Value.{Cell, Part, nil_fault, index_fault}
-use Rattle.store_table.specs.declared.value.Value.{Value as Held}
-use Rattle.store_table.specs.ValueView.{values_of}
-use Rattle.store_table.specs.HeapView.{Kept}
+use Rattle.source_store.specs.declared.value.Value.{Value as Held}
+use Rattle.source_store.specs.ValueView.{values_of}
+use Rattle.source_store.specs.HeapView.{Kept}
 use Rattle.source_steps.specs.declared.scope.Scope.{Scope as Chain}
 use Rattle.source_steps.specs.declared.scope.Scope.TheVariants as chain
 use Rattle.source_steps.specs.declared.expressions.Setting.{Setting as Here}

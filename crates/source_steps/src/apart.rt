@@ -4,7 +4,7 @@ ghost use Rattle.std.specs.Option.{option_map};
 ghost use Rattle.rpp_tree.specs.Views.{expression_of, lvalue_of};
 ghost use Rattle.roopl_semantics.specs.Run.{spend as spending};
 ghost use Rattle.roopl_semantics.specs.Elements.{elements, index_elements, own_element, is_among, kept_apart};
-ghost use Rattle.store_table.specs.ValueView.{value_of};
+ghost use Rattle.source_store.specs.ValueView.{value_of};
 ghost use Rattle.source_steps.specs.Apart.{count_elements, meets as meets_in, reads_of};
 ghost use Rattle.source_steps.specs.Metered.{left_of, Gives, metered};
 ghost use Rattle.source_steps.specs.StateView.{IsFramed, state_of, setting_of};
@@ -15,7 +15,7 @@ use crate::scope::Scope;
 use crate::steps::refuse;
 use crate::stop::Stop;
 use rpp_tree::tree::{Expr, Ident, Place};
-use store_table::{Heap, Value};
+use source_store::{Heap, Value};
 
 /// Fuel after the elements of an expression.
 #[cycle(pay)]

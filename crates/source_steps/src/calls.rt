@@ -2,7 +2,7 @@
 ghost use Rattle.std.specs.Prelude.{◌≡◌, ◌≤◌, ◌++◌, IfOk, OnOk, MatchResult, length, map, not};
 ghost use Rattle.roopl_semantics.specs.Value.{read};
 ghost use Rattle.roopl_semantics.specs.Execution.{cells_named, moved_out, moved_back};
-ghost use Rattle.store_table.specs.ValueView.{value_of, values_of};
+ghost use Rattle.source_store.specs.ValueView.{value_of, values_of};
 ghost use Rattle.source_steps.specs.CellView.{cell_of};
 ghost use Rattle.source_steps.specs.Metered.{metered};
 ghost use Rattle.source_steps.specs.Ends.{Ends};
@@ -15,8 +15,8 @@ use crate::steps::refuse;
 use crate::stop::Stop;
 use rpp_tree::tree::Ident;
 use rpp_words::NoMemory;
+use source_store::{Heap, Value};
 use std::alloc::Global;
-use store_table::{Heap, Value};
 
 /// The cells of these names, behind some others.
 pub fn name_cells(

@@ -5,14 +5,14 @@ ghost use Rattle.class_table.specs.Classes.{class_fields};
 ghost use Rattle.roopl_semantics.specs.Store.{Nil, class_of_head, object_at};
 ghost use Rattle.roopl_semantics.specs.Value.{read, written, cell_named, value_at, variable_value};
 ghost use Rattle.class_table.specs.Members.{field_of};
-ghost use Rattle.store_table.specs.ValueView.{value_of, values_of};
+ghost use Rattle.source_store.specs.ValueView.{value_of, values_of};
 ghost use Rattle.source_steps.specs.CellView.{cell_of};
 ghost use Rattle.source_steps.specs.StateView.{IsFramed, names_of, frame_of, state_of, setting_of};
 
 use crate::expressions::Setting;
 use crate::scope::{Scope, slot};
 use rpp_tree::text::Text;
-use store_table::{Heap, Value};
+use source_store::{Heap, Value};
 
 /// What can be read and changed: a variable of the frame, or a field or element.
 #[derive(Clone, Copy, Debug, PartialEq, Eq)]

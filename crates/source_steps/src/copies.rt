@@ -15,7 +15,7 @@ use crate::scope::Scope;
 use crate::steps::{locate, refuse};
 use crate::stop::Stop;
 use rpp_tree::tree::{Place, VarType};
-use store_table::{Heap, Value};
+use source_store::{Heap, Value};
 
 /// Whether two cells are one.
 fn is_same_cell(a: Cell, b: Cell) -> bool

@@ -5,7 +5,7 @@ ghost use Rattle.rpp_tree.specs.Views.{expression_of, lvalue_of};
 ghost use Rattle.roopl_semantics.specs.Operators.{truth_word, operated};
 ghost use Rattle.roopl_semantics.specs.Store.{Word, number_of};
 ghost use Rattle.roopl_semantics.specs.Value.{element_cell, element_of, value as value_in, cell_of as place_in, combined};
-ghost use Rattle.store_table.specs.ValueView.{value_of};
+ghost use Rattle.source_store.specs.ValueView.{value_of};
 ghost use Rattle.source_steps.specs.CellView.{cell_of};
 ghost use Rattle.source_steps.specs.Metered.{left_of};
 ghost use Rattle.source_steps.specs.StateView.{IsFramed, element_in, state_of, setting_of, seen};
@@ -15,8 +15,8 @@ use crate::scope::Scope;
 use class_table::Checked;
 use rpp_tree::tree::{BinOp, Expr, Place};
 use rpp_words::{Limits, less, wrap_add, wrap_sub};
+use source_store::{Heap, Value};
 use std::alloc::Global;
-use store_table::{Heap, Value};
 
 /// What an open method stands in: the program and the limits, its object, and how many calls are open.
 #[derive(Clone, Copy)]

@@ -14,8 +14,8 @@ use crate::steps::{close_value, evaluate, refuse, spend};
 use crate::stop::Stop;
 use rpp_tree::text::Text;
 use rpp_tree::tree::{Expr, Ident, Place};
+use source_store::{Heap, Value};
 use std::alloc::Global;
-use store_table::{Heap, Value};
 
 /// A local's value is compared with the closing expression's, and the local goes.
 pub fn close_local(

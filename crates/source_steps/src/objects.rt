@@ -6,7 +6,7 @@ ghost use Rattle.rpp_tree.specs.Views.{source_of, creation_of, expression_of, lv
 ghost use Rattle.class_table.specs.Classes.{class_fields, class_number};
 ghost use Rattle.roopl_semantics.specs.Store.{zero_value, zero_values};
 ghost use Rattle.roopl_semantics.specs.Execution.{allocated, freed, new_array as new_array_in, delete_array as delete_array_in};
-ghost use Rattle.store_table.specs.ValueView.{value_of, values_of, head_of};
+ghost use Rattle.source_store.specs.ValueView.{value_of, values_of, head_of};
 ghost use Rattle.source_steps.specs.CellView.{cell_of};
 ghost use Rattle.source_steps.specs.Ends.{Ends, does_simply, array_head, first_element, new_of, made, filled, made_array, emptied, gone, gone_array};
 ghost use Rattle.source_steps.specs.Metered.{metered};
@@ -21,8 +21,8 @@ use crate::stop::Stop;
 use rpp_tree::text::Text;
 use rpp_tree::tree::{Expr, Ident, Made, Place, Var, VarType};
 use rpp_words::{NoMemory, less};
+use source_store::{Head, Heap, Value};
 use std::alloc::Global;
-use store_table::{Head, Heap, Value};
 
 fn zero(kind: &VarType) -> Value
     ensures { value_of result ≡ zero_value kind.now }

@@ -6,7 +6,7 @@ ghost use Rattle.source_steps.specs.Parameters.{params_of};
 
 use rpp_tree::text::Text;
 use rpp_tree::tree::Var;
-use store_table::Value;
+use source_store::Value;
 
 /// The variables of an open method by their names, the innermost first.
 #[derive(Clone, Copy)]

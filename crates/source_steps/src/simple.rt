@@ -15,7 +15,7 @@ use crate::steps::{evaluate, locate};
 use crate::stop::Stop;
 use rpp_tree::tree::{Expr, Place, UpdateOp};
 use rpp_words::{wrap_add, wrap_sub};
-use store_table::{Heap, Value};
+use source_store::{Heap, Value};
 
 fn update_word(op: UpdateOp, a: u32, b: u32) -> u32
     ensures { result ≡ updated op a b }

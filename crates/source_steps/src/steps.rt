@@ -4,7 +4,7 @@ ghost use Rattle.rpp_tree.specs.Views.{expression_of, lvalue_of};
 ghost use Rattle.roopl_semantics.specs.Execution.{holds};
 ghost use Rattle.roopl_semantics.specs.Value.{evaluated as evaluated_in, found as found_in};
 ghost use Rattle.roopl_semantics.specs.Run.{spend as spending, fault_if};
-ghost use Rattle.store_table.specs.ValueView.{value_of};
+ghost use Rattle.source_store.specs.ValueView.{value_of};
 ghost use Rattle.source_steps.specs.CellView.{cell_of};
 ghost use Rattle.source_steps.specs.Metered.{Gives, metered};
 ghost use Rattle.source_steps.specs.StateView.{IsFramed, state_of, setting_of};
@@ -14,7 +14,7 @@ use crate::expressions::{Setting, find, pay, pay_place, value};
 use crate::scope::Scope;
 use crate::stop::Stop;
 use rpp_tree::tree::{Expr, Place};
-use store_table::{Heap, Value};
+use source_store::{Heap, Value};
 
 /// Counts.
 pub fn spend(fuel: &mut u64, cost: u64) -> Result<(), Stop>

@@ -6,42 +6,52 @@ use Rattle.rpp_tree.specs.Tree.{Expression, Number, Null, Variable, Element, Bin
 use Rattle.class_table.specs.declared.kind.Kind.TheVariants as kind
 use Rattle.paired_code.specs.declared.part.Symbol.{Symbol}
 use Rattle.paired_code.specs.Code.{Code}
-use Rattle.method_scope.specs.Visible.{Known, spot_of, free_of}
+use Rattle.code_scope.specs.Visible.{Known, spot_of, free_of}
 use Rattle.expr_uncompute.specs.Code.{words}
 use Rattle.expr_uncompute.specs.Promises as code
-use Rattle.statement_laws.specs.Form.{Scope, TestLaw, ValueLaw}
-use Rattle.statement_laws.specs.Worlds.{Place, world_of}
+use Rattle.refine_form.specs.Form.{Scope, TestLaw, ValueLaw}
+use Rattle.refine_form.specs.Worlds.{Place, world_of}
 use Rattle.branch_codegen.specs.Laws.{IfCode, FromCode}
 use Rattle.method_calls.specs.Names.{IntInit, IsNull, NilInit, IsInit}
 use Rattle.method_calls.specs.Laws.{LocalCode}
-use Rattle.frame_facts.proofs.Stated.{locals_are_open}
-use Rattle.expression_laws.specs.declared.registers.TheConstants.{FLAG, VALUE}
-use Rattle.expression_laws.specs.Typing.{known_of, spot_in, free_in, HasRoom, IsTyped}
-use Rattle.expression_laws.specs.Laws.{IsLaidOut}
-use Rattle.expression_laws.proofs.Stated.{tests_are_told, values_are_told}
+use Rattle.refine_calls.proofs.Stated.{locals_are_open}
+use Rattle.code_conventions.specs.declared.registers.TheConstants.{FLAG, VALUE}
+use Rattle.refine_expressions.specs.Typing.{known_of, spot_in, free_in, HasRoom, IsTyped}
+use Rattle.refine_expressions.specs.Laws.{IsLaidOut}
+use Rattle.refine_expressions.proofs.Stated.{tests_are_told, values_are_told}
 use Rattle.statement_codegen.specs.Laws.{IfLaw, FromLaw, LocalLaw}
 
 -- the code of a test, in a scope of its names
 test_in : (known : Known) (e : Expression) (p : List Symbol) → code.TestLaw (spot_of known) (free_of known) FLAG e p
-    → (place : Place) → IsLaidOut place → (s : Scope) → known_of place.setting.program s ≡ known → IsTyped place.setting.program s e kind.Int → TestLaw (world_of place) s e p
+    → (place : Place) → IsLaidOut place → (s : Scope) → known_of place.setting.program s ≡ known
+    → IsTyped place.setting.program s e kind.Int → TestLaw (world_of place) s e p
 test_in known e p law place laid s names ok =
-    tests_are_told place laid s e ok p (subst (λ (k : Known). code.TestLaw (spot_of k) (free_of k) FLAG e p) (sym names) law)
+    tests_are_told place laid s e ok p (subst (λ (k : Known). code.TestLaw (spot_of k) (free_of k) FLAG e p) (sym names)
+    law)
 
-pub if_clause : (known : Known) (test after : Expression) (t p q a all : List Symbol) → code.TestLaw (spot_of known) (free_of known) FLAG test t → code.TestLaw (spot_of known) (free_of known) FLAG after a → IfCode t p q a all → IfLaw known test after p q all
+pub if_clause : (known : Known) (test after : Expression) (t p q a all : List Symbol)
+    → code.TestLaw (spot_of known) (free_of known) FLAG test t
+    → code.TestLaw (spot_of known) (free_of known) FLAG after a → IfCode t p q a all → IfLaw known test after p q all
 if_clause known test after t p q a all ht ha made = record {
   law = λ place laid s names at taken other it ia hp hq.
-      made.law place s at test after taken other (test_in known test t ht place laid s names it) (test_in known after a ha place laid s names ia) hp hq;
+      made.law place s at test after taken other (test_in known test t ht place laid s names it)
+      (test_in known after a ha place laid s names ia) hp hq;
 }
 
-pub from_clause : (known : Known) (entry exit : Expression) (e p q x all : List Symbol) → code.TestLaw (spot_of known) (free_of known) FLAG entry e → code.TestLaw (spot_of known) (free_of known) FLAG exit x → FromCode e p q x all → FromLaw known entry exit p q all
+pub from_clause : (known : Known) (entry exit : Expression) (e p q x all : List Symbol)
+    → code.TestLaw (spot_of known) (free_of known) FLAG entry e
+    → code.TestLaw (spot_of known) (free_of known) FLAG exit x → FromCode e p q x all → FromLaw known entry exit p q all
 from_clause known entry exit e p q x all he hx made = record {
   law = λ place laid s names at first again ie ix hp hq.
-      made.law place s at entry exit first again (test_in known entry e he place laid s names ie) (test_in known exit x hx place laid s names ix) hp hq;
+      made.law place s at entry exit first again (test_in known entry e he place laid s names ie)
+      (test_in known exit x hx place laid s names ix) hp hq;
 }
 
 -- the code of a value that may be that of a new variable
 value_in : (known : Known) (e : Expression) (p : List Symbol) → code.ValueLaw (spot_of known) (free_of known) VALUE e p
-    → (place : Place) → IsLaidOut place → (s : Scope) → known_of place.setting.program s ≡ known → (var : Var) → IsInit place.setting.program s var e → HasRoom place.setting.program s (words e) → ValueLaw (world_of place) s e p
+    → (place : Place) → IsLaidOut place → (s : Scope) → known_of place.setting.program s ≡ known → (var : Var)
+    → IsInit place.setting.program s var e → HasRoom place.setting.program s (words e)
+    → ValueLaw (world_of place) s e p
 value_in known e p law place laid s names var init room = by init.value
   where
     P : Source
@@ -58,40 +68,62 @@ value_in known e p law place laid s names var init room = by init.value
     nil (Binary at op left right) h room = absurd h
 
     by : IntInit P s var e ⊎ NilInit P var e → ValueLaw (world_of place) s e p
-    by (inl i) = values_are_told place laid s e kind.Int (record { typed = i.typed; has_words = i.has_words; room = room }) p law_in
+    by (inl i) = values_are_told place laid s e kind.Int (record
+        { typed = i.typed; has_words = i.has_words; room = room }) p law_in
     by (inr n) = values_are_told place laid s e kind.Nil (nil e n.null room) p law_in
 
 -- the code of nil
 nil_in : (known : Known) (e : Expression) (p : List Symbol) → code.ValueLaw (spot_of known) (free_of known) VALUE e p
-    → (place : Place) → IsLaidOut place → (s : Scope) → known_of place.setting.program s ≡ known → (at : ℕ) → e ≡ Null at → length s.vars < 48 → ValueLaw (world_of place) s (Null at) p
+    → (place : Place) → IsLaidOut place → (s : Scope) → known_of place.setting.program s ≡ known → (at : ℕ)
+    → e ≡ Null at → length s.vars < 48 → ValueLaw (world_of place) s (Null at) p
 nil_in known e p law place laid s names at is few =
     values_are_told place laid s (Null at) kind.Nil
     (record { typed = refl; has_words = tt; room = (let r : 16 + length s.vars + 0 ≤ 512 = omega (arith, few) in r) }) p
-    (subst (λ (k : Known). code.ValueLaw (spot_of k) (free_of k) VALUE (Null at) p) (sym names) (subst (λ (x : Expression). code.ValueLaw (spot_of known) (free_of known) VALUE x p) is law))
+    (subst (λ (k : Known). code.ValueLaw (spot_of k) (free_of k) VALUE (Null at) p) (sym names)
+    (subst (λ (x : Expression). code.ValueLaw (spot_of known) (free_of known) VALUE x p) is law))
 
-pub local_clause : (known : Known) (var : Var) (value last : Expression) (word : ℕ) (v p x all : List Symbol) → word ≡ free_of known → code.ValueLaw (spot_of known) (free_of known) VALUE value v → code.ValueLaw (spot_of known) (free_of known) VALUE last x → LocalCode word v p x all → LocalLaw known var value last p all
+pub local_clause : (known : Known) (var : Var) (value last : Expression) (word : ℕ) (v p x all : List Symbol)
+    → word ≡ free_of known → code.ValueLaw (spot_of known) (free_of known) VALUE value v
+    → code.ValueLaw (spot_of known) (free_of known) VALUE last x → LocalCode word v p x all
+    → LocalLaw known var value last p all
 local_clause known var value last word v p x all is hv hx made = record {
   law = λ place laid s names at body end_var same iv il rv rl hp.
-      made.law place s at var value body end_var last (locals_are_open place laid.accepted laid.few) (ap free_of names ∙ sym is) same iv il
-      (value_in known value v hv place laid s names var iv rv) (value_in known last x hx place laid s names var il rl) hp;
+      made.law place s at var value body end_var last (locals_are_open place laid.accepted laid.few)
+      (ap free_of names ∙ sym is) same iv il
+      (value_in known value v hv place laid s names var iv rv) (value_in known last x hx place laid s names var il rl)
+      hp;
   construct = λ place laid s names at class body end first_nil last_nil init hp.
-      made.construct place s at class var body end (locals_are_open place laid.accepted laid.few) (ap free_of names ∙ sym is) init
-      (nil_in known value v hv place laid s names at first_nil init.few) (nil_in known last x hx place laid s names at last_nil init.few) hp;
+      made.construct place s at class var body end (locals_are_open place laid.accepted laid.few)
+      (ap free_of names ∙ sym is) init
+      (nil_in known value v hv place laid s names at first_nil init.few)
+      (nil_in known last x hx place laid s names at last_nil init.few) hp;
   element = λ place laid s names at back array index method args named first_nil last_nil init hp.
-      made.element place s at back array index method args var (locals_are_open place laid.accepted laid.few) (ap free_of names ∙ sym is) named init
-      (nil_in known value v hv place laid s names at first_nil init.few) (nil_in known last x hx place laid s names at last_nil init.few) hp;
+      made.element place s at back array index method args var (locals_are_open place laid.accepted laid.few)
+      (ap free_of names ∙ sym is) named init
+      (nil_in known value v hv place laid s names at first_nil init.few)
+      (nil_in known last x hx place laid s names at last_nil init.few) hp;
 }
 
 -- ---- what the calls answer
 
-pub if_returns : {E : Type 0} (known : Known) (test after : Expression) (t p q a : List Symbol) (r : Result Code E) → code.TestLaw (spot_of known) (free_of known) FLAG test t → code.TestLaw (spot_of known) (free_of known) FLAG after a → IfOk r (λ x. IfCode t p q a x.cells) → IfOk r (λ x. IfLaw known test after p q x.cells)
+pub if_returns : {E : Type 0} (known : Known) (test after : Expression) (t p q a : List Symbol) (r : Result Code E)
+    → code.TestLaw (spot_of known) (free_of known) FLAG test t
+    → code.TestLaw (spot_of known) (free_of known) FLAG after a → IfOk r (λ x. IfCode t p q a x.cells)
+    → IfOk r (λ x. IfLaw known test after p q x.cells)
 if_returns known test after t p q a (Ok x) ht ha made = if_clause known test after t p q a x.cells ht ha made
 if_returns known test after t p q a (Err e) ht ha made = tt
 
-pub from_returns : {E : Type 0} (known : Known) (entry exit : Expression) (e p q x : List Symbol) (r : Result Code E) → code.TestLaw (spot_of known) (free_of known) FLAG entry e → code.TestLaw (spot_of known) (free_of known) FLAG exit x → IfOk r (λ y. FromCode e p q x y.cells) → IfOk r (λ y. FromLaw known entry exit p q y.cells)
+pub from_returns : {E : Type 0} (known : Known) (entry exit : Expression) (e p q x : List Symbol) (r : Result Code E)
+    → code.TestLaw (spot_of known) (free_of known) FLAG entry e
+    → code.TestLaw (spot_of known) (free_of known) FLAG exit x → IfOk r (λ y. FromCode e p q x y.cells)
+    → IfOk r (λ y. FromLaw known entry exit p q y.cells)
 from_returns known entry exit e p q x (Ok y) he hx made = from_clause known entry exit e p q x y.cells he hx made
 from_returns known entry exit e p q x (Err none) he hx made = tt
 
-pub local_returns : {E : Type 0} (known : Known) (var : Var) (value last : Expression) (word : ℕ) (v p x : List Symbol) (r : Result Code E) → word ≡ free_of known → code.ValueLaw (spot_of known) (free_of known) VALUE value v → code.ValueLaw (spot_of known) (free_of known) VALUE last x → IfOk r (λ y. LocalCode word v p x y.cells) → IfOk r (λ y. LocalLaw known var value last p y.cells)
-local_returns known var value last word v p x (Ok y) is hv hx made = local_clause known var value last word v p x y.cells is hv hx made
+pub local_returns : {E : Type 0} (known : Known) (var : Var) (value last : Expression) (word : ℕ) (v p x : List Symbol)
+    (r : Result Code E) → word ≡ free_of known → code.ValueLaw (spot_of known) (free_of known) VALUE value v
+    → code.ValueLaw (spot_of known) (free_of known) VALUE last x → IfOk r (λ y. LocalCode word v p x y.cells)
+    → IfOk r (λ y. LocalLaw known var value last p y.cells)
+local_returns known var value last word v p x (Ok y) is hv hx made =
+    local_clause known var value last word v p x y.cells is hv hx made
 local_returns known var value last word v p x (Err none) is hv hx made = tt

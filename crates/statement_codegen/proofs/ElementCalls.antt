@@ -1,6 +1,7 @@
 -- The code of a call on an element that the rules of types pass, wherever an image of the program
 -- is linked.
-use Rattle.std.proofs.Common.{◌≡◌, ℕ, suc, ◌+◌, ◌<◌, ◌≤◌, inr, Bool, List, [], ◌∷◌, ◌++◌, length, Option, Some, None, refl, sym, ap, ◌∙◌, subst, arith, append-nil}
+use Rattle.std.proofs.Common.{◌≡◌, ℕ, suc, ◌+◌, ◌<◌, ◌≤◌, inr, Bool, List, [], ◌∷◌, ◌++◌, length, Option, Some, None}
+use Rattle.std.proofs.Common.{refl, sym, ap, ◌∙◌, subst, arith, append-nil}
 use Rattle.std.specs.Prelude.{Result, Ok, Err, IfOk, Box}
 use Rattle.std.specs.declared.alloc.Global.{Global}
 use Rattle.std.specs.Option.{option_map}
@@ -24,13 +25,13 @@ use Rattle.class_table.proofs.PassedRules.{some_of}
 use Rattle.paired_code.specs.Code.{Code}
 use Rattle.paired_code.specs.declared.part.Symbol.{Symbol}
 use Rattle.roopl_semantics.specs.Execution.{element_name, element_call}
-use Rattle.sound_execution.specs.Plain.{ReceiverIsPlain}
-use Rattle.statement_laws.specs.Form.{BlockLaw}
-use Rattle.statement_laws.specs.Stands.{shape_of}
-use Rattle.statement_laws.specs.Worlds.{world_of}
-use Rattle.statement_laws.proofs.Stated.{nothing_is_a_block, blocks_are_rows}
-use Rattle.method_scope.specs.Visible.{Visible, kind_named, known_in, outer_of}
-use Rattle.expression_laws.specs.Typing.{typing_in}
+use Rattle.meaning_sound.specs.Plain.{ReceiverIsPlain}
+use Rattle.refine_form.specs.Form.{BlockLaw}
+use Rattle.refine_form.specs.Stands.{shape_of}
+use Rattle.refine_form.specs.Worlds.{world_of}
+use Rattle.refine_form.proofs.Stated.{nothing_is_a_block, blocks_are_rows}
+use Rattle.code_scope.specs.Visible.{Visible, kind_named, known_in, outer_of}
+use Rattle.refine_expressions.specs.Typing.{typing_in}
 use Rattle.statement_codegen.specs.Codes.{scope_of, with_variable, IsStatementCode, IsBlockCode, IsAllowed}
 use Rattle.statement_codegen.specs.Laws.{LocalLaw, ExchangedCall, element_type, element_var, ElementLaw}
 use Rattle.statement_codegen.proofs.Names.{kind_is}
@@ -47,14 +48,19 @@ no_array : (o : Option ℕ) (class : ℕ) → class_kind o ≡ kind.ClassArray c
 no_array None class h = absurd (cc)
 no_array (Some c) class h = absurd (cc)
 
-type_is : (table : Table) (o : Option VarType) (class : ℕ) → option_map (kind_of table) o ≡ Some (kind.ClassArray class) → kind_of table (element_type o) ≡ kind.Class class
+type_is : (table : Table) (o : Option VarType) (class : ℕ) → option_map (kind_of table) o ≡ Some (kind.ClassArray class)
+    → kind_of table (element_type o) ≡ kind.Class class
 type_is table None class h = absurd (cc)
 type_is table (Some type.Int) class h = absurd (cc)
-type_is table (Some (type.Class c)) class h = absurd (no_array (class_of table c.text) class (let e : class_kind (class_of table c.text) ≡ kind.ClassArray class = cc in e))
+type_is table (Some (type.Class c)) class h = absurd (no_array (class_of table c.text) class
+    (let e : class_kind (class_of table c.text) ≡ kind.ClassArray class = cc in e))
 type_is table (Some type.IntArray) class h = absurd (cc)
-type_is table (Some (type.ClassArray c)) class h = object_is (class_of table c.text) class (let e : array_kind (class_of table c.text) ≡ kind.ClassArray class = cc in e)
+type_is table (Some (type.ClassArray c)) class h = object_is (class_of table c.text) class
+    (let e : array_kind (class_of table c.text) ≡ kind.ClassArray class = cc in e)
 
-module _ (v : Visible) (at : ℕ) (back : Bool) (array : Ident) (index : Expression) (method : Ident) (args : List Ident) (plain : ReceiverIsPlain (Some (Item array index)) args) (fine : IsAllowed v (Call at back (Some (Item array index)) method args)) where
+module _ (v : Visible) (at : ℕ) (back : Bool) (array : Ident) (index : Expression) (method : Ident) (args : List Ident)
+    (plain : ReceiverIsPlain (Some (Item array index)) args)
+    (fine : IsAllowed v (Call at back (Some (Item array index)) method args)) where
   abbrev program : Source
   program = source_of v.program
 
@@ -76,40 +82,51 @@ module _ (v : Visible) (at : ℕ) (back : Bool) (array : Ident) (index : Express
   kind_there : kind_of_var program var ≡ kind.Class rules.class
   kind_there =
       type_is (table_of program) (kind_named (known_in v) array.text) rules.class
-      (sym (kind_is program (scope_of v) array.text) ∙ some_of (kind_in typing shape array.text) (unknown_name array.at) (kind.ClassArray rules.class) rules.array)
+      (sym (kind_is program (scope_of v) array.text) ∙ some_of (kind_in typing shape array.text) (unknown_name array.at)
+      (kind.ClassArray rules.class) rules.array)
 
   few : length v.variables < 48
   few = let f = fine.few_locals in omega (arith, f)
 
   swap_allowed : IsAllowed inside (Swap at (Whole (element_name at)) (Item array index))
   swap_allowed = record {
-    rules = subst (λ k. check_statement typing (record { name = []; kind = k } ∷ shape) (Swap at (Whole (element_name at)) (Item array index)) ≡ passed) (sym kind_there) rules.swapped;
+    rules = subst (λ k. check_statement typing (record { name = []; kind = k } ∷ shape)
+        (Swap at (Whole (element_name at)) (Item array index)) ≡ passed) (sym kind_there) rules.swapped;
     has_words = (tt, plain.0);
     few_nodes = let n = fine.few_nodes in omega (arith, n);
     few_locals = let f = fine.few_locals in omega (arith, f);
   }
 
-  exchanged : (p : List Symbol) → ExchangedCall inside at back (Item array index) method args p → IsBlockCode inside (element_call at back array index method args) p
+  exchanged : (p : List Symbol) → ExchangedCall inside at back (Item array index) method args p
+      → IsBlockCode inside (element_call at back array index method args) p
   exchanged p h = record {
     law = λ place routine linked same.
         let s = scope_of inside in
         let exchange = Swap at (Whole (element_name at)) (Item array index) in
         let call = Call at back (Some (Whole (element_name at))) method args in
-        let swaps_in = (swap_stands inside at (Whole (element_name at)) (Item array index) h.first h.swaps_in swap_allowed).law place routine linked same in
-        let swaps_out = (swap_stands inside at (Whole (element_name at)) (Item array index) h.last h.swaps_out swap_allowed).law place routine linked same in
+        let swaps_in = (swap_stands inside at (Whole (element_name at)) (Item array index) h.first h.swaps_in
+        swap_allowed).law place routine linked same in
+        let swaps_out = (swap_stands inside at (Whole (element_name at)) (Item array index) h.last h.swaps_out
+        swap_allowed).law place routine linked same in
         let calls =
-        (h.calls.law at (subst (λ k. check_statement typing (record { name = []; kind = k } ∷ shape) call ≡ passed) (sym kind_there) rules.called)).law place routine linked same in
-        subst (λ z. BlockLaw (world_of place) s (element_call at back array index method args) z) (ap (λ z. h.first ++ (h.call ++ z)) (append-nil h.last) ∙ sym h.cells)
+        (h.calls.law at (subst (λ k. check_statement typing (record { name = []; kind = k } ∷ shape) call ≡ passed)
+        (sym kind_there) rules.called)).law place routine linked same in
+        subst (λ z. BlockLaw (world_of place) s (element_call at back array index method args) z)
+        (ap (λ z. h.first ++ (h.call ++ z)) (append-nil h.last) ∙ sym h.cells)
         (blocks_are_rows place s exchange (Then call (Then exchange End)) h.first (h.call ++ (h.last ++ [])) swaps_in
         (blocks_are_rows place s call (Then exchange End) h.call (h.last ++ []) calls
         (blocks_are_rows place s exchange End h.last [] swaps_out (nothing_is_a_block place s))));
   }
 
-  element_stands : (p all : List Symbol) → ExchangedCall inside at back (Item array index) method args p → LocalLaw (known_in v) var (Null at) (Null at) p all → IsStatementCode v (Call at back (Some (Item array index)) method args) all
+  element_stands : (p all : List Symbol) → ExchangedCall inside at back (Item array index) method args p
+      → LocalLaw (known_in v) var (Null at) (Null at) p all
+      → IsStatementCode v (Call at back (Some (Item array index)) method args) all
   element_stands p all h made = record {
     law = λ place routine linked same.
-        let no_int : is_int (kind_of_var place.setting.program var) ≡ Rattle.std.proofs.Common.false = ap (λ z. is_int (kind_of_var z var)) same ∙ ap is_int kind_there in
-        made.element place (laid_out place routine linked) (scope_of v) (names_same v place same) at back array index method args refl refl refl
+        let no_int : is_int (kind_of_var place.setting.program var) ≡ Rattle.std.proofs.Common.false =
+        ap (λ z. is_int (kind_of_var z var)) same ∙ ap is_int kind_there in
+        made.element place (laid_out place routine linked) (scope_of v) (names_same v place same) at back array index
+        method args refl refl refl
         (record { few = few; value = inr (record { no_int = no_int; null = tt }) })
         ((exchanged p h).law place routine linked same);
   }
@@ -127,19 +144,29 @@ place_name_is place = by place.index
 abbrev pub popped : Visible → Visible
 popped v = record v { variables = outer_of v.variables }
 
-pub element_clause : (v : Visible) (at : ℕ) (back : Bool) (element : Lvalue) (method : Ident) (args : List Ident) (p all : List Symbol) → ExchangedCall (with_variable v (element_var v at (place_name element))) at back element method args p → LocalLaw (known_in v) (element_var v at (place_name element)) (Null at) (Null at) p all → ElementLaw v at back element method args all
+pub element_clause : (v : Visible) (at : ℕ) (back : Bool) (element : Lvalue) (method : Ident) (args : List Ident)
+    (p all : List Symbol) → ExchangedCall (with_variable v (element_var v at (place_name element))) at back element
+    method args p → LocalLaw (known_in v) (element_var v at (place_name element)) (Null at) (Null at) p all
+    → ElementLaw v at back element method args all
 element_clause v at back element method args p all h made = record {
   law = λ x index is plain fine.
       subst (λ e. IsStatementCode v (Call at back (Some e) method args) all) (sym is)
-      (element_stands v at back x index method args (subst (λ e. ReceiverIsPlain (Some e) args) is plain) (subst (λ e. IsAllowed v (Call at back (Some e) method args)) is fine) p all
+      (element_stands v at back x index method args (subst (λ e. ReceiverIsPlain (Some e) args) is plain)
+      (subst (λ e. IsAllowed v (Call at back (Some e) method args)) is fine) p all
       (subst (λ e. ExchangedCall (with_variable v (element_var v at (place_name e))) at back e method args p) is h)
       (subst (λ e. LocalLaw (known_in v) (element_var v at (place_name e)) (Null at) (Null at) p all) is made));
 }
 
-pub element_returns : {E : Type 0} (v inside back_out : Visible) (at : ℕ) (back : Bool) (element : Lvalue) (var : Var) (method : Ident) (args : List Ident) (p : List Symbol) (r : Result Code E) → var ≡ element_var v at (place_name element) → inside ≡ with_variable v var → back_out ≡ v
-    → ExchangedCall inside at back element method args p → IfOk r (λ x. LocalLaw (known_in back_out) var (Null at) (Null at) p x.cells) → IfOk r (λ x. ElementLaw v at back element method args x.cells)
+pub element_returns : {E : Type 0} (v inside back_out : Visible) (at : ℕ) (back : Bool) (element : Lvalue) (var : Var)
+    (method : Ident) (args : List Ident) (p : List Symbol) (r : Result Code E)
+    → var ≡ element_var v at (place_name element) → inside ≡ with_variable v var → back_out ≡ v
+    → ExchangedCall inside at back element method args p → IfOk r
+    (λ x. LocalLaw (known_in back_out) var (Null at) (Null at) p x.cells)
+    → IfOk r (λ x. ElementLaw v at back element method args x.cells)
 element_returns v inside back_out at back element var method args p (Ok x) var_is in_is out_is h made =
     element_clause v at back element method args p x.cells
-    (subst (λ w. ExchangedCall (with_variable v w) at back element method args p) var_is (subst (λ z. ExchangedCall z at back element method args p) in_is h))
-    (subst (λ w. LocalLaw (known_in v) w (Null at) (Null at) p x.cells) var_is (subst (λ z. LocalLaw (known_in z) var (Null at) (Null at) p x.cells) out_is made))
+    (subst (λ w. ExchangedCall (with_variable v w) at back element method args p) var_is
+    (subst (λ z. ExchangedCall z at back element method args p) in_is h))
+    (subst (λ w. LocalLaw (known_in v) w (Null at) (Null at) p x.cells) var_is
+    (subst (λ z. LocalLaw (known_in z) var (Null at) (Null at) p x.cells) out_is made))
 element_returns v inside back_out at back element var method args p (Err e) var_is in_is out_is h made = tt

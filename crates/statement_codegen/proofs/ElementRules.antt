@@ -14,14 +14,19 @@ use Rattle.class_table.specs.Overrides.{parameters_of}
 use Rattle.class_table.specs.Table.{slot_in, dispatch_in}
 use Rattle.class_table.specs.Refusal.{unknown_name, type_differs, self_update, same_argument, wrong_arity}
 use Rattle.class_table.specs.Scope.{Setting, Local, Locals, kind_of}
-use Rattle.class_table.specs.Expressions.{and_then, is_int, index_is_int, element_of, variable_type, occurs, type_of, place_type, first_token}
-use Rattle.class_table.specs.Statements.{Verdict, receiver_kind, place_class, passed, required, in_turn, each_passes, each_passes_after, same_kind, in_either_index, swap_rules, argument_known, argument_new, argument_fits, arguments_fit, slot_rules, call_rules, receiver_class}
+use Rattle.class_table.specs.Expressions.{and_then, is_int, index_is_int, element_of, variable_type, occurs, type_of}
+use Rattle.class_table.specs.Expressions.{place_type, first_token}
+use Rattle.class_table.specs.Statements.{Verdict, receiver_kind, place_class, passed, required, in_turn, each_passes}
+use Rattle.class_table.specs.Statements.{each_passes_after, same_kind, in_either_index, swap_rules, argument_known}
+use Rattle.class_table.specs.Statements.{argument_new, argument_fits, arguments_fit, slot_rules, call_rules}
+use Rattle.class_table.specs.Statements.{receiver_class}
 use Rattle.class_table.proofs.FirstPlaces.{bytes_turned}
-use Rattle.class_table.proofs.PassedRules.{both_passed, in_turn_passes, required_passes, handed_on, hands_on, same_as_itself}
+use Rattle.class_table.proofs.PassedRules.{both_passed, in_turn_passes, required_passes, handed_on, hands_on}
+use Rattle.class_table.proofs.PassedRules.{same_as_itself}
 use Rattle.roopl_semantics.specs.Execution.{element_name}
-use Rattle.sound_execution.specs.Plain.{IsNamed, HasNames, AreNamed}
-use Rattle.sound_execution.proofs.Expansions.{innermost}
-use Rattle.sound_execution.proofs.Locals.{kind_in_under, type_of_under}
+use Rattle.meaning_sound.specs.Plain.{IsNamed, HasNames, AreNamed}
+use Rattle.meaning_sound.proofs.Expansions.{innermost}
+use Rattle.meaning_sound.proofs.Locals.{kind_in_under, type_of_under}
 
 -- the empty name does not occur where no name is empty
 not_in : (e : Expression) → HasNames e → occurs [] e ≡ false
@@ -62,34 +67,44 @@ module _ (typing : Setting) (locals : Locals) (at : ℕ) where
   abbrev pub inner : Kind → Locals
   inner k = record { name = []; kind = k } ∷ locals
 
-  known_under : (k : Kind) (args : List Ident) → AreNamed args → each_passes (argument_known typing locals false at) args ≡ passed → each_passes (argument_known typing (inner k) false at) args ≡ passed
+  known_under : (k : Kind) (args : List Ident) → AreNamed args
+      → each_passes (argument_known typing locals false at) args ≡ passed
+      → each_passes (argument_known typing (inner k) false at) args ≡ passed
   known_under k [] n h = refl
   known_under k (a ∷ args) n h =
-      let both = both_passed (argument_known typing locals false at a) (each_passes (argument_known typing locals false at) args) h in
+      let both = both_passed (argument_known typing locals false at a)
+      (each_passes (argument_known typing locals false at) args) h in
       let same = kind_in_under typing (record { name = []; kind = k }) locals a.text (bytes_turned a.text [] ∙ n.0) in
-      in_turn_passes (argument_known typing (inner k) false at a) (each_passes (argument_known typing (inner k) false at) args)
+      in_turn_passes (argument_known typing (inner k) false at a)
+      (each_passes (argument_known typing (inner k) false at) args)
       (ap (λ z. in_turn (required (is_some z) (unknown_name a.at)) passed) same ∙ both.0)
       (known_under k args n.1 both.1)
 
-  fit_under : (k : Kind) (params : List Var) (args : List Ident) → AreNamed args → arguments_fit typing locals params args ≡ passed → arguments_fit typing (inner k) params args ≡ passed
+  fit_under : (k : Kind) (params : List Var) (args : List Ident) → AreNamed args
+      → arguments_fit typing locals params args ≡ passed → arguments_fit typing (inner k) params args ≡ passed
   fit_under k [] args n h = refl
   fit_under k (p ∷ params) [] n h = refl
   fit_under k (p ∷ params) (a ∷ args) n h =
       let both = both_passed (argument_fits typing locals p a) (arguments_fit typing locals params args) h in
       let same = kind_in_under typing (record { name = []; kind = k }) locals a.text (bytes_turned a.text [] ∙ n.0) in
       in_turn_passes (argument_fits typing (inner k) p a) (arguments_fit typing (inner k) params args)
-      (ap (λ z. required (same_kind (kind_of typing.table p.kind) (unwrap_or z kind.Nil)) (type_differs a.at)) same ∙ both.0)
+      (ap (λ z. required (same_kind (kind_of typing.table p.kind) (unwrap_or z kind.Nil)) (type_differs a.at)) same
+      ∙ both.0)
       (fit_under k params args n.1 both.1)
 
-  new_after : (before args : List Ident) → AreNamed args → each_passes_after argument_new before args ≡ passed → each_passes_after argument_new (element_name at ∷ before) args ≡ passed
+  new_after : (before args : List Ident) → AreNamed args → each_passes_after argument_new before args ≡ passed
+      → each_passes_after argument_new (element_name at ∷ before) args ≡ passed
   new_after before [] n h = refl
   new_after before (a ∷ args) n h =
       let both = both_passed (argument_new before a) (each_passes_after argument_new (before ++ a ∷ []) args) h in
-      in_turn_passes (argument_new (element_name at ∷ before) a) (each_passes_after argument_new (element_name at ∷ (before ++ a ∷ [])) args)
-      (ap (λ b. required (not (b || list_any (λ (other : Ident). bytes_eq other.text a.text) before)) (same_argument a.at)) n.0 ∙ both.0)
+      in_turn_passes (argument_new (element_name at ∷ before) a)
+      (each_passes_after argument_new (element_name at ∷ (before ++ a ∷ [])) args)
+      (ap (λ b. required (not (b || list_any (λ (other : Ident). bytes_eq other.text a.text) before))
+      (same_argument a.at)) n.0 ∙ both.0)
       (new_after (before ++ a ∷ []) args n.1 both.1)
 
-  slots_under : (k : Kind) (name : Ident) (index : Expression) (method : Ident) (args : List Ident) (static : ℕ) → AreNamed args → (o : Option ℕ)
+  slots_under : (k : Kind) (name : Ident) (index : Expression) (method : Ident) (args : List Ident) (static : ℕ)
+      → AreNamed args → (o : Option ℕ)
       → slot_rules typing locals at (Some (Item name index)) method args static o ≡ passed
       → slot_rules typing (inner k) at (Some (Whole (element_name at))) method args static o ≡ passed
   slots_under k name index method args static n None h = absurd (cc)
@@ -97,10 +112,12 @@ module _ (typing : Setting) (locals : Locals) (at : ℕ) where
       let params = parameters_of typing.program (dispatch_in typing.table static slot) in
       let a = both_passed (each_passes (argument_known typing locals false at) args) _ h in
       let b = both_passed (each_passes_after argument_new [] args) _ a.1 in
-      let c = both_passed (required (nat_eq (length args) (length params)) (wrong_arity method.at)) (arguments_fit typing locals params args) b.1 in
+      let c = both_passed (required (nat_eq (length args) (length params)) (wrong_arity method.at))
+      (arguments_fit typing locals params args) b.1 in
       in_turn_passes (each_passes (argument_known typing (inner k) false at) args) _ (known_under k args n a.0)
       (in_turn_passes (each_passes_after argument_new (element_name at ∷ []) args) _ (new_after [] args n b.0)
-      (in_turn_passes (required (nat_eq (length args) (length params)) (wrong_arity method.at)) _ c.0 (fit_under k params args n c.1)))
+      (in_turn_passes (required (nat_eq (length args) (length params)) (wrong_arity method.at)) _ c.0
+      (fit_under k params args n c.1)))
 
   pub record ElementRules (name : Ident) (index : Expression) (method : Ident) (args : List Ident) : Type 0 where
     pub class : ℕ
@@ -108,7 +125,8 @@ module _ (typing : Setting) (locals : Locals) (at : ℕ) where
     pub swapped : swap_rules typing (inner (kind.Class class)) at (Whole (element_name at)) (Item name index) ≡ passed
     pub called : call_rules typing (inner (kind.Class class)) at (Some (Whole (element_name at))) method args ≡ passed
 
-  pub element_rules : (name : Ident) (index : Expression) (method : Ident) (args : List Ident) → IsNamed name → HasNames index → AreNamed args
+  pub element_rules : (name : Ident) (index : Expression) (method : Ident) (args : List Ident) → IsNamed name
+      → HasNames index → AreNamed args
       → call_rules typing locals at (Some (Item name index)) method args ≡ passed → ElementRules name index method args
   element_rules name index method args named indexes all h =
       let c = handed_on (receiver_class typing locals (Some (Item name index))) _ tt h in
@@ -116,27 +134,39 @@ module _ (typing : Setting) (locals : Locals) (at : ℕ) where
       let r = handed_on (receiver_kind name.at p.value) (place_class name.at (Item name index)) c.value p.goes in
       let own = own_index name.at r.value c.value (occurs name.text index) r.goes in
       let of_class : p.value ≡ kind.Class c.value = class_is name.at p.value r.value r.is ∙ ap kind.Class own.1 in
-      let typed : place_type typing locals (Item name index) ≡ Ok (kind.Class c.value) = p.is ∙ ap (λ z. Ok z) of_class in
+      let typed : place_type typing locals (Item name index) ≡ Ok (kind.Class c.value) = p.is
+      ∙ ap (λ z. Ok z) of_class in
       let v = handed_on (variable_type typing locals name) _ (kind.Class c.value) typed in
       let e = handed_on (element_of name v.value) _ (kind.Class c.value) v.goes in
-      let i = handed_on (type_of typing locals index) (index_is_int e.value (first_token index)) (kind.Class c.value) e.goes in
-      let is : e.value ≡ kind.Class c.value = index_is e.value (first_token index) i.value (kind.Class c.value) i.goes in
+      let i = handed_on (type_of typing locals index) (index_is_int e.value (first_token index)) (kind.Class c.value)
+      e.goes in
+      let is : e.value ≡ kind.Class c.value = index_is e.value (first_token index) i.value (kind.Class c.value) i.goes
+      in
       let k = kind.Class c.value in
       let l : Local = record { name = []; kind = k } in
       let t = element_name at in
       let receiver : place_type typing (inner k) (Whole t) ≡ Ok k = innermost typing locals t k in
-      let element : place_type typing (inner k) (Item name index) ≡ Ok k = type_of_under typing l locals (Element name index) (not_in (Element name index) (named, indexes)) ∙ typed in
-      let swap_rest : Kind → Kind → Verdict = λ a b. in_turn (required (same_kind a b) (type_differs at)) (required (not (in_either_index [] (Whole t) (Item name index) || in_either_index name.text (Whole t) (Item name index))) (self_update at)) in
+      let element : place_type typing (inner k) (Item name index) ≡ Ok k =
+      type_of_under typing l locals (Element name index) (not_in (Element name index) (named, indexes)) ∙ typed in
+      let swap_rest : Kind → Kind → Verdict = λ a b. in_turn (required (same_kind a b) (type_differs at))
+      (required (not (in_either_index [] (Whole t) (Item name index) || in_either_index name.text (Whole t)
+      (Item name index))) (self_update at)) in
       record {
         class = c.value;
         array = v.is ∙ ap (λ z. Ok z) (array_is name v.value c.value (e.is ∙ ap (λ z. Ok z) is));
         swapped =
-            hands_on (place_type typing (inner k) (Whole t)) (λ a. and_then (place_type typing (inner k) (Item name index)) (λ b. swap_rest a b)) k passed receiver
+            hands_on (place_type typing (inner k) (Whole t)) (λ a. and_then
+            (place_type typing (inner k) (Item name index)) (λ b. swap_rest a b)) k passed receiver
             (hands_on (place_type typing (inner k) (Item name index)) (λ b. swap_rest k b) k passed element
-            (in_turn_passes (required (same_kind k k) (type_differs at)) _ (required_passes _ (type_differs at) (same_as_itself k))
-            (required_passes _ (self_update at) (ap (λ b. not (b || occurs name.text index)) (not_in index indexes) ∙ ap not own.0))));
+            (in_turn_passes (required (same_kind k k) (type_differs at)) _
+            (required_passes _ (type_differs at) (same_as_itself k))
+            (required_passes _ (self_update at) (ap (λ b. not (b || occurs name.text index)) (not_in index indexes)
+            ∙ ap not own.0))));
         called =
-            hands_on (receiver_class typing (inner k) (Some (Whole t))) (λ c. slot_rules typing (inner k) at (Some (Whole t)) method args c (slot_in typing.table c method.text)) c.value passed
-            (hands_on (place_type typing (inner k) (Whole t)) (λ x. and_then (receiver_kind at x) (place_class at (Whole t))) k (Ok c.value) receiver refl)
+            hands_on (receiver_class typing (inner k) (Some (Whole t)))
+            (λ c. slot_rules typing (inner k) at (Some (Whole t)) method args c
+            (slot_in typing.table c method.text)) c.value passed
+            (hands_on (place_type typing (inner k) (Whole t))
+            (λ x. and_then (receiver_kind at x) (place_class at (Whole t))) k (Ok c.value) receiver refl)
             (slots_under k name index method args c.value all (slot_in typing.table c.value method.text) c.goes);
       }

@@ -1,5 +1,6 @@
 -- What a name means in a scope: its type, its class, and where it stands.
-use Rattle.std.proofs.Common.{◌≡◌, ℕ, ◌+◌, ◌<◌, ◌≤◌, Bool, true, false, List, [], ◌∷◌, length, map, Option, Some, None, refl, sym, ap, ◌∙◌, arith}
+use Rattle.std.proofs.Common.{◌≡◌, ℕ, ◌+◌, ◌<◌, ◌≤◌, Bool, true, false, List, [], ◌∷◌, length, map, Option, Some, None}
+use Rattle.std.proofs.Common.{refl, sym, ap, ◌∙◌, arith}
 use Rattle.std.specs.Prelude.{Ok, nat_lt, position, slice_get, if◌then◌else◌}
 use Rattle.std.specs.Option.{unwrap_or, option_map, option_or, ok_or}
 use Rattle.std.specs.Str.{bytes_eq}
@@ -16,23 +17,24 @@ use Rattle.class_table.specs.Members.{field_name, field_of, fields_of}
 use Rattle.class_table.specs.Classes.{class_fields}
 use Rattle.class_table.specs.Table.{Table, table_of, fields_in, field_in}
 use Rattle.class_table.specs.Refusal.{unknown_name}
-use Rattle.class_table.specs.Scope.{Setting, Locals, kind_of, class_kind, array_kind, local_kind, kind_at, field_kind, kind_in, no_var}
+use Rattle.class_table.specs.Scope.{Setting, Locals, kind_of, class_kind, array_kind, local_kind, kind_at, field_kind}
+use Rattle.class_table.specs.Scope.{kind_in, no_var}
 use Rattle.class_table.specs.Inheritance.{kind_of_var}
 use Rattle.class_table.specs.Expressions.{variable_type}
 use Rattle.class_table.proofs.Numbers.{length-each_below}
 use Rattle.class_table.proofs.PassedRules.{some_of}
 use Rattle.class_table.proofs.Tables.{table_reads}
-use Rattle.sound_execution.proofs.Names.{type_at, local_kind_is}
-use Rattle.statement_laws.specs.declared.spot.Spot.{Spot}
-use Rattle.statement_laws.specs.declared.spot.Spot.TheVariants.{Field, Frame}
-use Rattle.statement_laws.specs.Form.{Scope}
-use Rattle.statement_laws.specs.Stands.{local_of, shape_of, spot_at, spot_in}
-use Rattle.method_scope.specs.Visible.{Known, word_named, type_named, field_type, kind_named, spot_of}
+use Rattle.meaning_sound.proofs.Names.{type_at, local_kind_is}
+use Rattle.refine_form.specs.declared.spot.Spot.{Spot}
+use Rattle.refine_form.specs.declared.spot.Spot.TheVariants.{Field, Frame}
+use Rattle.refine_form.specs.Form.{Scope}
+use Rattle.refine_form.specs.Stands.{local_of, shape_of, spot_at, spot_in}
+use Rattle.code_scope.specs.Visible.{Known, word_named, type_named, field_type, kind_named, spot_of}
 use Rattle.method_calls.specs.Facts.{IsNear}
 use Rattle.method_calls.specs.Names.{class_of_kind, class_found, class_named}
-use Rattle.frame_facts.proofs.Bridge.{shape_names}
-use Rattle.expression_laws.specs.Typing.{known_of, typing_in}
-use Rattle.expression_laws.proofs.Names.{var_name, word_at, word_is}
+use Rattle.refine_calls.proofs.Bridge.{shape_names}
+use Rattle.refine_expressions.specs.Typing.{known_of, typing_in}
+use Rattle.refine_expressions.proofs.Names.{var_name, word_at, word_is}
 
 -- ---- classes of types
 
@@ -47,17 +49,24 @@ array_first (Some class) = refl
 -- ---- near spots
 
 -- a word of a frame of few variables
-word_near : (name : List ℕ) (vars : List Var) → length vars ≤ 48 → (field : Option Spot) → IsNear (unwrap_or field (Field 0)) → IsNear (unwrap_or (option_or (option_map Frame (word_named name vars)) field) (Field 0))
+word_near : (name : List ℕ) (vars : List Var) → length vars ≤ 48 → (field : Option Spot)
+    → IsNear (unwrap_or field (Field 0)) → IsNear (unwrap_or (option_or (option_map Frame (word_named name vars)) field)
+    (Field 0))
 word_near name [] few field near = near
-word_near name (var ∷ vars) few field near = by (bytes_eq var.name.text name) (word_near name vars (omega arith) field near)
+word_near name (var ∷ vars) few field near = by (bytes_eq var.name.text name)
+    (word_near name vars (omega arith) field near)
   where
-    by : (b : Bool) → IsNear (unwrap_or (option_or (option_map Frame (word_named name vars)) field) (Field 0)) → IsNear (unwrap_or (option_or (option_map Frame (if b then Some (16 + length vars) else word_named name vars)) field) (Field 0))
+    by : (b : Bool) → IsNear (unwrap_or (option_or (option_map Frame (word_named name vars)) field) (Field 0))
+        → IsNear (unwrap_or (option_or (option_map Frame (if b then Some (16 + length vars) else word_named name vars))
+        field) (Field 0))
     by true rest = let q : 16 + length vars < 65536 = omega (arith, few) in q
     by false rest = rest
 
 -- names stand near, where there are few
-pub spot_near : (known : Known) (name : List ℕ) → length known.variables ≤ 48 → length known.fields ≤ 64 → IsNear (spot_of known name)
-spot_near known name few few_fields = word_near name known.variables few (option_map Field (field_of known.fields name)) (by (field_of known.fields name) refl)
+pub spot_near : (known : Known) (name : List ℕ) → length known.variables ≤ 48 → length known.fields ≤ 64
+    → IsNear (spot_of known name)
+spot_near known name few few_fields = word_near name known.variables few (option_map Field (field_of known.fields name))
+    (by (field_of known.fields name) refl)
   where
     by : (r : Option ℕ) → field_of known.fields name ≡ r → IsNear (unwrap_or (option_map Field r) (Field 0))
     by None e = let q : 0 < 65536 = omega arith in q
@@ -80,19 +89,26 @@ module _ (program : Source) (s : Scope) where
 
   -- ---- types
 
-  local_same : (vars : List Var) (name : List ℕ) → local_kind (map (local_of program) vars) name ≡ option_map (kind_of table) (type_named name vars)
+  local_same : (vars : List Var) (name : List ℕ) → local_kind (map (local_of program) vars) name
+      ≡ option_map (kind_of table) (type_named name vars)
   local_same [] name = refl
   local_same (var ∷ vars) name = by (bytes_eq var.name.text name) (local_same vars name)
     where
-      by : (b : Bool) → local_kind (map (local_of program) vars) name ≡ option_map (kind_of table) (type_named name vars) → (if b then Some (kind_of_var program var) else local_kind (map (local_of program) vars) name) ≡ option_map (kind_of table) (if b then Some var.kind else type_named name vars)
+      by : (b : Bool) → local_kind (map (local_of program) vars) name
+          ≡ option_map (kind_of table) (type_named name vars)
+          → (if b then Some (kind_of_var program var) else local_kind (map (local_of program) vars) name)
+          ≡ option_map (kind_of table) (if b then Some var.kind else type_named name vars)
       by true rest = refl
       by false rest = rest
 
-  of_either : (a b : Option VarType) → option_or (option_map (kind_of table) a) (option_map (kind_of table) b) ≡ option_map (kind_of table) (option_or a b)
+  of_either : (a b : Option VarType) → option_or (option_map (kind_of table) a) (option_map (kind_of table) b)
+      ≡ option_map (kind_of table) (option_or a b)
   of_either None b = refl
   of_either (Some k) b = refl
 
-  of_field : (r : Option ℕ) → option_map (kind_at table s.class) r ≡ option_map (kind_of table) (option_map (λ number. (unwrap_or (slice_get (fields_in table s.class) number) no_var).kind) r)
+  of_field : (r : Option ℕ) → option_map (kind_at table s.class) r
+      ≡ option_map (kind_of table) (option_map (λ number. (unwrap_or (slice_get (fields_in table s.class) number)
+      no_var).kind) r)
   of_field None = refl
   of_field (Some i) = refl
 
@@ -117,7 +133,8 @@ module _ (program : Source) (s : Scope) where
   pub class_none : (x : Ident) → None ≡ kind_named known x.text → 0 ≡ class_named program s x
   class_none x e = sym (class_is x ∙ ap class_by (sym e))
 
-  pub class_some : (x : Ident) (k : VarType) (n : ℕ) → Some k ≡ kind_named known x.text → n ≡ class_of_kind (kind_of table k) → n ≡ class_named program s x
+  pub class_some : (x : Ident) (k : VarType) (n : ℕ) → Some k ≡ kind_named known x.text
+      → n ≡ class_of_kind (kind_of table k) → n ≡ class_named program s x
   class_some x k n e is = is ∙ sym (class_is x ∙ ap class_by (sym e))
 
   -- ---- spots
@@ -131,8 +148,10 @@ module _ (program : Source) (s : Scope) where
       by false e =
           let past = ltb-false s.class (length program.classes) e in
           let many = length-each_below (fields_of program) (length program.classes) in
-          let none : fields_in table s.class ≡ [] = ap (λ z. unwrap_or z []) (slice_get_past table.fields s.class (omega arith)) in
-          let nowhere : field_in table s.class name ≡ position (bytes_eq name) [] = ap (λ (vars : List Var). position (bytes_eq name) (map field_name vars)) none in
+          let none : fields_in table s.class ≡ [] = ap (λ z. unwrap_or z [])
+          (slice_get_past table.fields s.class (omega arith)) in
+          let nowhere : field_in table s.class name ≡ position (bytes_eq name) [] =
+          ap (λ (vars : List Var). position (bytes_eq name) (map field_name vars)) none in
           absurd (cc)
 
   -- the spot of a name, by its word and its field
@@ -140,25 +159,36 @@ module _ (program : Source) (s : Scope) where
   spot_by word field = unwrap_or (option_or (option_map Frame word) (option_map Field field)) (Field 0)
 
   -- a name with a type stands where its spot is
-  pub spot_same : (name : Ident) (k : Kind) → variable_type typing shape name ≡ Ok k → spot_in program s name ≡ spot_of known name.text
+  pub spot_same : (name : Ident) (k : Kind) → variable_type typing shape name ≡ Ok k
+      → spot_in program s name ≡ spot_of known name.text
   spot_same name k t = by (position (bytes_eq name.text) (map var_name s.vars)) refl
     where
-      word_here : (r : Option ℕ) → position (bytes_eq name.text) (map var_name s.vars) ≡ r → word_named name.text s.vars ≡ option_map (word_at (length s.vars)) r
+      word_here : (r : Option ℕ) → position (bytes_eq name.text) (map var_name s.vars) ≡ r
+          → word_named name.text s.vars ≡ option_map (word_at (length s.vars)) r
       word_here r e = word_is name.text s.vars ∙ ap (option_map (word_at (length s.vars))) e
 
-      fields : position (bytes_eq name.text) (map var_name s.vars) ≡ None → (r : Option ℕ) → field_in table s.class name.text ≡ r → Field (unwrap_or (field_of (class_fields program s.class) name.text) 0) ≡ spot_by None r
+      fields : position (bytes_eq name.text) (map var_name s.vars) ≡ None → (r : Option ℕ)
+          → field_in table s.class name.text ≡ r → Field (unwrap_or (field_of (class_fields program s.class) name.text)
+          0) ≡ spot_by None r
       fields e (Some i) is =
-          let same : fields_in table s.class ≡ class_fields program s.class = (table_reads program s.class (field_inside name.text i is)).fields in
-          let at : field_of (class_fields program s.class) name.text ≡ Some i = ap (λ (vars : List Var). position (bytes_eq name.text) (map field_name vars)) (sym same) ∙ is in
+          let same : fields_in table s.class ≡ class_fields program s.class =
+          (table_reads program s.class (field_inside name.text i is)).fields in
+          let at : field_of (class_fields program s.class) name.text ≡ Some i =
+          ap (λ (vars : List Var). position (bytes_eq name.text) (map field_name vars)) (sym same) ∙ is in
           ap (λ r. Field (unwrap_or r 0)) at
-      fields e None is = absurd (let q = some_of (kind_in typing shape name.text) (unknown_name name.at) k t in let z = nothing in cc)
+      fields e None is = absurd (let q = some_of (kind_in typing shape name.text) (unknown_name name.at) k t in
+          let z = nothing in cc)
         where
           no_local : local_kind shape name.text ≡ None
-          no_local = local_kind_is shape name.text ∙ ap (type_at shape) (ap (position (bytes_eq name.text)) (shape_names program s.vars) ∙ e)
+          no_local = local_kind_is shape name.text ∙ ap (type_at shape)
+              (ap (position (bytes_eq name.text)) (shape_names program s.vars) ∙ e)
 
           nothing : kind_in typing shape name.text ≡ None
-          nothing = ap (λ z. option_or z (field_kind table s.class name.text)) no_local ∙ ap (option_map (kind_at table s.class)) is
+          nothing = ap (λ z. option_or z (field_kind table s.class name.text)) no_local
+              ∙ ap (option_map (kind_at table s.class)) is
 
-      by : (r : Option ℕ) → position (bytes_eq name.text) (map var_name s.vars) ≡ r → spot_at program s name r ≡ spot_of known name.text
+      by : (r : Option ℕ) → position (bytes_eq name.text) (map var_name s.vars) ≡ r
+          → spot_at program s name r ≡ spot_of known name.text
       by (Some i) e = sym (ap (λ w. spot_by w (field_in table s.class name.text)) (word_here (Some i) e))
-      by None e = fields e (field_in table s.class name.text) refl ∙ sym (ap (λ w. spot_by w (field_in table s.class name.text)) (word_here None e))
+      by None e = fields e (field_in table s.class name.text) refl
+          ∙ sym (ap (λ w. spot_by w (field_in table s.class name.text)) (word_here None e))

@@ -1,6 +1,7 @@
 -- What the rules of types say of a call that they pass: its class has the method, and its arguments
 -- are variables of the types of the parameters, no two of one name.
-use Rattle.std.proofs.Common.{◌≡◌, ℕ, ◌<◌, Bool, true, List, [], ◌∷◌, length, map, Option, Some, None, refl, sym, ap, ◌∙◌, arith}
+use Rattle.std.proofs.Common.{◌≡◌, ℕ, ◌<◌, Bool, true, List, [], ◌∷◌, length, map, Option, Some, None, refl, sym, ap}
+use Rattle.std.proofs.Common.{◌∙◌, arith}
 use Rattle.std.proofs.lemmas.Bool.{eqb-true}
 use Rattle.std.specs.Prelude.{nat_eq, is_some, Ok}
 use Rattle.std.specs.Option.{unwrap_or, is_none, ok_or}
@@ -15,19 +16,22 @@ use Rattle.class_table.specs.Refusal.{unknown_name, type_differs, wrong_arity}
 use Rattle.class_table.specs.Scope.{Setting, Locals, kind_of, kind_in}
 use Rattle.class_table.specs.Inheritance.{kind_of_var}
 use Rattle.class_table.specs.Expressions.{and_then, variable_type}
-use Rattle.class_table.specs.Statements.{passed, required, each_passes, each_passes_after, argument_known, argument_new, argument_fits, arguments_fit, receiver_kind, place_class, receiver_class, plain_receiver, slot_rules, call_rules}
+use Rattle.class_table.specs.Statements.{passed, required, each_passes, each_passes_after, argument_known, argument_new}
+use Rattle.class_table.specs.Statements.{argument_fits, arguments_fit, receiver_kind, place_class, receiver_class}
+use Rattle.class_table.specs.Statements.{plain_receiver, slot_rules, call_rules}
 use Rattle.class_table.proofs.PassedRules.{both_passed, held, handed_on, kinds_same}
 use Rattle.class_table.proofs.FoundMethods.{slot_inside}
-use Rattle.statement_laws.specs.Form.{Scope}
-use Rattle.statement_laws.specs.Stands.{shape_of}
+use Rattle.refine_form.specs.Form.{Scope}
+use Rattle.refine_form.specs.Stands.{shape_of}
 use Rattle.method_calls.specs.Names.{AllTyped}
-use Rattle.expression_laws.specs.Typing.{typing_in}
+use Rattle.refine_expressions.specs.Typing.{typing_in}
 
 a_kind : (o : Option Kind) → is_some o ≡ true → o ≡ Some (unwrap_or o kind.Nil)
 a_kind None h = absurd (cc)
 a_kind (Some k) h = refl
 
-class_kind_is : (at : ℕ) (x : Ident) (k : Kind) (class : ℕ) → and_then (receiver_kind at k) (place_class at (Whole x)) ≡ Ok class → k ≡ kind.Class class
+class_kind_is : (at : ℕ) (x : Ident) (k : Kind) (class : ℕ)
+    → and_then (receiver_kind at k) (place_class at (Whole x)) ≡ Ok class → k ≡ kind.Class class
 class_kind_is at x kind.Int class h = absurd (cc)
 class_kind_is at x kind.Nil class h = absurd (cc)
 class_kind_is at x (kind.Class c) class h = let e : c ≡ class = cc in ap kind.Class e
@@ -44,16 +48,21 @@ module _ (program : Source) (s : Scope) where
   abbrev shape : Locals
   shape = shape_of program s
 
-  all_typed : (own : Bool) (at : ℕ) (params : List Var) (args : List Ident) → each_passes (argument_known typing shape own at) args ≡ passed → arguments_fit typing shape params args ≡ passed → length args ≡ length params → AllTyped program s args (map (kind_of_var program) params)
+  all_typed : (own : Bool) (at : ℕ) (params : List Var) (args : List Ident)
+      → each_passes (argument_known typing shape own at) args ≡ passed → arguments_fit typing shape params args ≡ passed
+      → length args ≡ length params → AllTyped program s args (map (kind_of_var program) params)
   all_typed own at [] [] h f l = tt
   all_typed own at [] (a ∷ args) h f l = absurd (omega arith)
   all_typed own at (p ∷ params) [] h f l = absurd (omega arith)
   all_typed own at (p ∷ params) (a ∷ args) h f l =
-      let both = both_passed (argument_known typing shape own at a) (each_passes (argument_known typing shape own at) args) h in
+      let both = both_passed (argument_known typing shape own at a)
+      (each_passes (argument_known typing shape own at) args) h in
       let known = both_passed (required (is_some (kind_in typing shape a.text)) (unknown_name a.at)) _ both.0 in
       let fit = both_passed (argument_fits typing shape p a) (arguments_fit typing shape params args) f in
-      let same = kinds_same (kind_of table p.kind) (unwrap_or (kind_in typing shape a.text) kind.Nil) (held _ (type_differs a.at) fit.0) in
-      let is : kind_in typing shape a.text ≡ Some (kind_of_var program p) = a_kind (kind_in typing shape a.text) (held _ (unknown_name a.at) known.0) ∙ ap (λ z. Some z) (sym same) in
+      let same = kinds_same (kind_of table p.kind) (unwrap_or (kind_in typing shape a.text) kind.Nil)
+      (held _ (type_differs a.at) fit.0) in
+      let is : kind_in typing shape a.text ≡ Some (kind_of_var program p) =
+      a_kind (kind_in typing shape a.text) (held _ (unknown_name a.at) known.0) ∙ ap (λ z. Some z) (sym same) in
       (ap (λ o. ok_or o (unknown_name a.at)) is, all_typed own at params args both.1 fit.1 (omega arith))
 
   -- a method of a class, and arguments
@@ -61,24 +70,31 @@ module _ (program : Source) (s : Scope) where
     pub slot : ℕ
     pub is_slot : slot_in table class method.text ≡ Some slot
     pub inside : class < length program.classes
-    pub types : AllTyped program s args (map (kind_of_var program) (parameters_of program (dispatch_in table class slot)))
+    pub types : AllTyped program s args (map (kind_of_var program)
+        (parameters_of program (dispatch_in table class slot)))
     pub new : each_passes_after argument_new before args ≡ passed
 
-  pub passed_call : (at : ℕ) (receiver : Option Lvalue) (method : Ident) (args : List Ident) (class : ℕ) → slot_rules typing shape at receiver method args class (slot_in table class method.text) ≡ passed → PassedCall (plain_receiver receiver) class method args
+  pub passed_call : (at : ℕ) (receiver : Option Lvalue) (method : Ident) (args : List Ident) (class : ℕ)
+      → slot_rules typing shape at receiver method args class (slot_in table class method.text) ≡ passed
+      → PassedCall (plain_receiver receiver) class method args
   passed_call at receiver method args class h = by (slot_in table class method.text) refl h
     where
-      by : (o : Option ℕ) → slot_in table class method.text ≡ o → slot_rules typing shape at receiver method args class o ≡ passed → PassedCall (plain_receiver receiver) class method args
+      by : (o : Option ℕ) → slot_in table class method.text ≡ o
+          → slot_rules typing shape at receiver method args class o ≡ passed
+          → PassedCall (plain_receiver receiver) class method args
       by None e q = absurd (cc)
       by (Some slot) e q =
           let params = parameters_of program (dispatch_in table class slot) in
           let a = both_passed (each_passes (argument_known typing shape (is_none receiver) at) args) _ q in
           let b = both_passed (each_passes_after argument_new (plain_receiver receiver) args) _ a.1 in
-          let c = both_passed (required (nat_eq (length args) (length params)) (wrong_arity method.at)) (arguments_fit typing shape params args) b.1 in
+          let c = both_passed (required (nat_eq (length args) (length params)) (wrong_arity method.at))
+          (arguments_fit typing shape params args) b.1 in
           record {
             slot = slot;
             is_slot = e;
             inside = slot_inside program class slot method.text e;
-            types = all_typed (is_none receiver) at params args a.0 c.1 (eqb-true (length args) (length params) (held _ (wrong_arity method.at) c.0));
+            types = all_typed (is_none receiver) at params args a.0 c.1
+                (eqb-true (length args) (length params) (held _ (wrong_arity method.at) c.0));
             new = b.0;
           }
 
@@ -88,7 +104,8 @@ module _ (program : Source) (s : Scope) where
     pub typed : variable_type typing shape x ≡ Ok (kind.Class class)
     pub call : PassedCall (x ∷ []) class method args
 
-  pub passed_receiver : (at : ℕ) (x method : Ident) (args : List Ident) → call_rules typing shape at (Some (Whole x)) method args ≡ passed → PassedReceiver x method args
+  pub passed_receiver : (at : ℕ) (x method : Ident) (args : List Ident)
+      → call_rules typing shape at (Some (Whole x)) method args ≡ passed → PassedReceiver x method args
   passed_receiver at x method args h =
       let c = handed_on (receiver_class typing shape (Some (Whole x))) _ tt h in
       let k = handed_on (variable_type typing shape x) _ c.value c.is in

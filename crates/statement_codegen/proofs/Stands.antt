@@ -1,6 +1,7 @@
 -- The codes of updates, swaps, conditionals, loops and locals are those of their statements, where
 -- the rules of types pass these and the limits let them through: the laws of the code ask for no more.
-use Rattle.std.proofs.Common.{◌≡◌, ℕ, ◌+◌, ◌<◌, ◌≤◌, inl, inr, Bool, true, false, List, length, refl, sym, ap, ◌∙◌, subst, arith}
+use Rattle.std.proofs.Common.{◌≡◌, ℕ, ◌+◌, ◌<◌, ◌≤◌, inl, inr, Bool, true, false, List, length, refl, sym, ap, ◌∙◌}
+use Rattle.std.proofs.Common.{subst, arith}
 use Rattle.std.specs.Prelude.{Ok, Option, Some, None, not, ◌&&◌, ◌||◌, if◌then◌else◌}
 use Rattle.std.specs.Option.{is_none}
 use Rattle.std.specs.Str.{bytes_eq}
@@ -8,7 +9,8 @@ use Rattle.rpp_tree.specs.declared.tree.Var.{Var}
 use Rattle.rpp_tree.specs.declared.tree.VarType.{VarType}
 use Rattle.rpp_tree.specs.declared.tree.VarType.TheVariants as type
 use Rattle.rpp_tree.specs.declared.tree.UpdateOp.{UpdateOp}
-use Rattle.rpp_tree.specs.Tree.{Expression, Number, Null, Variable, Element, Binary, Lvalue, Statements, Update, Swap, If, From, Local, Source, nodes}
+use Rattle.rpp_tree.specs.Tree.{Expression, Number, Null, Variable, Element, Binary, Lvalue, Statements, Update, Swap}
+use Rattle.rpp_tree.specs.Tree.{If, From, Local, Source, nodes}
 use Rattle.rpp_tree.specs.Views.{source_of}
 use Rattle.class_table.specs.declared.kind.Kind.{Kind}
 use Rattle.class_table.specs.declared.kind.Kind.TheVariants as kind
@@ -17,31 +19,34 @@ use Rattle.class_table.specs.Table.{table_of, class_of}
 use Rattle.class_table.specs.Refusal.{redeclared, type_differs, local_in_own_expression}
 use Rattle.class_table.specs.Scope.{Setting, Locals, local_kind, kind_of, class_kind, array_kind}
 use Rattle.class_table.specs.Expressions.{is_int, type_of, occurs, first_token}
-use Rattle.class_table.specs.Statements.{passed, required, in_turn, test_rules, type_known, is_nil_word, local_rules, with_local, check_statements}
+use Rattle.class_table.specs.Statements.{passed, required, in_turn, test_rules, type_known, is_nil_word, local_rules}
+use Rattle.class_table.specs.Statements.{with_local, check_statements}
 use Rattle.class_table.proofs.FirstPlaces.{same_name}
 use Rattle.class_table.proofs.PassedRules.{both_passed, held, handed_on, both_true, neither_true, int_kind}
 use Rattle.paired_code.specs.declared.part.Symbol.{Symbol}
-use Rattle.sound_execution.specs.Plain.{HasWords}
-use Rattle.sound_execution.proofs.Locals.{no_int_class}
-use Rattle.statement_laws.specs.Form.{Scope}
-use Rattle.statement_laws.specs.Stands.{shape_of}
-use Rattle.statement_laws.specs.Worlds.{Place}
-use Rattle.method_scope.specs.Visible.{Visible, Known, spot_of, free_of, known_in}
+use Rattle.meaning_sound.specs.Plain.{HasWords}
+use Rattle.meaning_sound.proofs.Locals.{no_int_class}
+use Rattle.refine_form.specs.Form.{Scope}
+use Rattle.refine_form.specs.Stands.{shape_of}
+use Rattle.refine_form.specs.Worlds.{Place}
+use Rattle.code_scope.specs.Visible.{Visible, Known, spot_of, free_of, known_in}
 use Rattle.expr_uncompute.specs.Code.{words, place_words}
 use Rattle.expr_uncompute.specs.Promises as code
 use Rattle.expr_uncompute.proofs.Bounds.{words_most, place_words_most}
 use Rattle.method_calls.specs.Names.{IsNull, IsInit}
-use Rattle.frame_facts.specs.Laws.{IsLinked}
-use Rattle.expression_laws.specs.Typing.{known_of, HasRoom, typing_in, IsTyped, IsPassed}
-use Rattle.expression_laws.specs.Laws.{IsLaidOut}
-use Rattle.expression_laws.proofs.Stated.{updates_are_told, swaps_are_told}
+use Rattle.refine_calls.specs.Laws.{IsLinked}
+use Rattle.refine_expressions.specs.Typing.{known_of, HasRoom, typing_in, IsTyped, IsPassed}
+use Rattle.refine_expressions.specs.Laws.{IsLaidOut}
+use Rattle.refine_expressions.proofs.Stated.{updates_are_told, swaps_are_told}
 use Rattle.statement_codegen.specs.Codes.{scope_of, with_variable, IsStatementCode, IsBlockCode, IsAllowed}
 use Rattle.statement_codegen.specs.Laws.{IfLaw, FromLaw, LocalLaw}
 
-pub laid_out : (place : Place) (routine : ℕ → Rattle.rpp_tree.specs.declared.tree.Ident.Ident → ℕ) → IsLinked place routine → IsLaidOut place
+pub laid_out : (place : Place) (routine : ℕ → Rattle.rpp_tree.specs.declared.tree.Ident.Ident → ℕ)
+    → IsLinked place routine → IsLaidOut place
 laid_out place routine linked = record { accepted = linked.accepted; few = linked.few }
 
-pub names_same : (v : Visible) (place : Place) → place.setting.program ≡ source_of v.program → known_of place.setting.program (scope_of v) ≡ known_in v
+pub names_same : (v : Visible) (place : Place) → place.setting.program ≡ source_of v.program
+    → known_of place.setting.program (scope_of v) ≡ known_in v
 names_same v place same = ap (λ program. known_of program (scope_of v)) same
 
 -- ---- room in the frame
@@ -52,26 +57,43 @@ room_for v n few small = let q : 16 + length v.variables + n ≤ 512 = omega (ar
 few_words : (e : Expression) → nodes e ≤ 64 → words e ≤ 64
 few_words e h = let w = words_most e in omega (arith, w, h)
 
-test_in : (v : Visible) (e : Expression) → type_of (typing_in (source_of v.program) (scope_of v)) (shape_of (source_of v.program) (scope_of v)) e ≡ Ok kind.Int → HasWords e → nodes e ≤ 64 → length v.variables ≤ 48 → IsTyped (source_of v.program) (scope_of v) e kind.Int
-test_in v e typed has small few = record { typed = typed; has_words = has; room = room_for v (words e) few (few_words e small) }
+test_in : (v : Visible) (e : Expression) → type_of (typing_in (source_of v.program) (scope_of v))
+    (shape_of (source_of v.program) (scope_of v)) e ≡ Ok kind.Int → HasWords e → nodes e ≤ 64 → length v.variables ≤ 48
+    → IsTyped (source_of v.program) (scope_of v) e kind.Int
+test_in v e typed has small few = record {
+  typed = typed;
+  has_words = has;
+  room = room_for v (words e) few (few_words e small);
+}
 
 -- ---- updates and swaps
 
-pub update_stands : (v : Visible) (at : ℕ) (op : UpdateOp) (target : Lvalue) (value : Expression) (all : List Symbol) → code.UpdateLaw (spot_of (known_in v)) (free_of (known_in v)) op target value all → IsAllowed v (Update at op target value) → IsStatementCode v (Update at op target value) all
+pub update_stands : (v : Visible) (at : ℕ) (op : UpdateOp) (target : Lvalue) (value : Expression) (all : List Symbol)
+    → code.UpdateLaw (spot_of (known_in v)) (free_of (known_in v)) op target value all
+    → IsAllowed v (Update at op target value) → IsStatementCode v (Update at op target value) all
 update_stands v at op target value all made fine = record {
   law = λ place routine linked same.
       let few = fine.few_locals in
       let small = fine.few_nodes in
       let t = place_words_most target in
       let w = words_most value in
-      let ok : IsPassed (source_of v.program) (scope_of v) (Update at op target value) (place_words target + words value) =
-      record { rules = fine.rules; has_words = fine.has_words; room = room_for v (place_words target + words value) (omega (arith, few)) (omega (arith, small, t, w)) } in
+      let ok : IsPassed (source_of v.program) (scope_of v) (Update at op target value)
+      (place_words target + words value) =
+      record {
+        rules = fine.rules;
+        has_words = fine.has_words;
+        room = room_for v (place_words target + words value) (omega (arith, few)) (omega (arith, small, t, w));
+      } in
       updates_are_told place (laid_out place routine linked) (scope_of v) at op target value
-      (subst (λ program. IsPassed program (scope_of v) (Update at op target value) (place_words target + words value)) (sym same) ok) all
-      (subst (λ (k : Known). code.UpdateLaw (spot_of k) (free_of k) op target value all) (sym (names_same v place same)) made);
+      (subst (λ program. IsPassed program (scope_of v) (Update at op target value) (place_words target + words value))
+      (sym same) ok) all
+      (subst (λ (k : Known). code.UpdateLaw (spot_of k) (free_of k) op target value all) (sym (names_same v place same))
+      made);
 }
 
-pub swap_stands : (v : Visible) (at : ℕ) (left right : Lvalue) (all : List Symbol) → code.SwapLaw (spot_of (known_in v)) (free_of (known_in v)) left right all → IsAllowed v (Swap at left right) → IsStatementCode v (Swap at left right) all
+pub swap_stands : (v : Visible) (at : ℕ) (left right : Lvalue) (all : List Symbol)
+    → code.SwapLaw (spot_of (known_in v)) (free_of (known_in v)) left right all → IsAllowed v (Swap at left right)
+    → IsStatementCode v (Swap at left right) all
 swap_stands v at left right all made fine = record {
   law = λ place routine linked same.
       let few = fine.few_locals in
@@ -79,29 +101,40 @@ swap_stands v at left right all made fine = record {
       let l = place_words_most left in
       let r = place_words_most right in
       let ok : IsPassed (source_of v.program) (scope_of v) (Swap at left right) (place_words left + place_words right) =
-      record { rules = fine.rules; has_words = fine.has_words; room = room_for v (place_words left + place_words right) (omega (arith, few)) (omega (arith, small, l, r)) } in
+      record {
+        rules = fine.rules;
+        has_words = fine.has_words;
+        room = room_for v (place_words left + place_words right) (omega (arith, few)) (omega (arith, small, l, r));
+      }
+      in
       swaps_are_told place (laid_out place routine linked) (scope_of v) at left right
-      (subst (λ program. IsPassed program (scope_of v) (Swap at left right) (place_words left + place_words right)) (sym same) ok) all
+      (subst (λ program. IsPassed program (scope_of v) (Swap at left right) (place_words left + place_words right))
+      (sym same) ok) all
       (subst (λ (k : Known). code.SwapLaw (spot_of k) (free_of k) left right all) (sym (names_same v place same)) made);
 }
 
 -- ---- conditionals and loops
 
-both_ints : (typing : Setting) (shape : Locals) (first last : Expression) → test_rules typing shape first last ≡ passed → (type_of typing shape first ≡ Ok kind.Int) × (type_of typing shape last ≡ Ok kind.Int)
+both_ints : (typing : Setting) (shape : Locals) (first last : Expression) → test_rules typing shape first last ≡ passed
+    → (type_of typing shape first ≡ Ok kind.Int) × (type_of typing shape last ≡ Ok kind.Int)
 both_ints typing shape first last h =
     let f = handed_on (type_of typing shape first) _ tt h in
     let l = handed_on (type_of typing shape last) _ tt f.goes in
-    let both = both_passed (required (is_int f.value) (type_differs (first_token first))) (required (is_int l.value) (type_differs (first_token last))) l.goes in (
+    let both = both_passed (required (is_int f.value) (type_differs (first_token first)))
+    (required (is_int l.value) (type_differs (first_token last))) l.goes in (
       f.is ∙ ap (λ k. Ok k) (int_kind f.value (held _ (type_differs (first_token first)) both.0)),
       l.is ∙ ap (λ k. Ok k) (int_kind l.value (held _ (type_differs (first_token last)) both.1)),
     )
 
-pub if_stands : (v : Visible) (at : ℕ) (test after : Expression) (taken other : Statements) (p q all : List Symbol) → IfLaw (known_in v) test after p q all → IsAllowed v (If at test taken other after) → IsBlockCode v taken p → IsBlockCode v other q → IsStatementCode v (If at test taken other after) all
+pub if_stands : (v : Visible) (at : ℕ) (test after : Expression) (taken other : Statements) (p q all : List Symbol)
+    → IfLaw (known_in v) test after p q all → IsAllowed v (If at test taken other after) → IsBlockCode v taken p
+    → IsBlockCode v other q → IsStatementCode v (If at test taken other after) all
 if_stands v at test after taken other p q all made fine hp hq = record {
   law = λ place routine linked same.
       let typing = typing_in (source_of v.program) (scope_of v) in
       let shape = shape_of (source_of v.program) (scope_of v) in
-      let rules = both_passed (test_rules typing shape test after) (in_turn (check_statements typing shape taken) (check_statements typing shape other)) fine.rules in
+      let rules = both_passed (test_rules typing shape test after)
+      (in_turn (check_statements typing shape taken) (check_statements typing shape other)) fine.rules in
       let ints = both_ints typing shape test after rules.0 in
       let few = fine.few_locals in
       let few' : length v.variables ≤ 48 = omega (arith, few) in
@@ -110,17 +143,22 @@ if_stands v at test after taken other p q all made fine hp hq = record {
       let small_after : nodes after ≤ 64 = omega (arith, small) in
       let has = fine.has_words in
       made.law place (laid_out place routine linked) (scope_of v) (names_same v place same) at taken other
-      (subst (λ program. IsTyped program (scope_of v) test kind.Int) (sym same) (test_in v test ints.0 has.0 small_test few'))
-      (subst (λ program. IsTyped program (scope_of v) after kind.Int) (sym same) (test_in v after ints.1 has.3 small_after few'))
+      (subst (λ program. IsTyped program (scope_of v) test kind.Int) (sym same)
+      (test_in v test ints.0 has.0 small_test few'))
+      (subst (λ program. IsTyped program (scope_of v) after kind.Int) (sym same)
+      (test_in v after ints.1 has.3 small_after few'))
       (hp.law place routine linked same) (hq.law place routine linked same);
 }
 
-pub from_stands : (v : Visible) (at : ℕ) (entry exit : Expression) (first again : Statements) (p q all : List Symbol) → FromLaw (known_in v) entry exit p q all → IsAllowed v (From at entry first again exit) → IsBlockCode v first p → IsBlockCode v again q → IsStatementCode v (From at entry first again exit) all
+pub from_stands : (v : Visible) (at : ℕ) (entry exit : Expression) (first again : Statements) (p q all : List Symbol)
+    → FromLaw (known_in v) entry exit p q all → IsAllowed v (From at entry first again exit) → IsBlockCode v first p
+    → IsBlockCode v again q → IsStatementCode v (From at entry first again exit) all
 from_stands v at entry exit first again p q all made fine hp hq = record {
   law = λ place routine linked same.
       let typing = typing_in (source_of v.program) (scope_of v) in
       let shape = shape_of (source_of v.program) (scope_of v) in
-      let rules = both_passed (test_rules typing shape entry exit) (in_turn (check_statements typing shape first) (check_statements typing shape again)) fine.rules in
+      let rules = both_passed (test_rules typing shape entry exit)
+      (in_turn (check_statements typing shape first) (check_statements typing shape again)) fine.rules in
       let ints = both_ints typing shape entry exit rules.0 in
       let few = fine.few_locals in
       let few' : length v.variables ≤ 48 = omega (arith, few) in
@@ -129,8 +167,10 @@ from_stands v at entry exit first again p q all made fine hp hq = record {
       let small_exit : nodes exit ≤ 64 = omega (arith, small) in
       let has = fine.has_words in
       made.law place (laid_out place routine linked) (scope_of v) (names_same v place same) at first again
-      (subst (λ program. IsTyped program (scope_of v) entry kind.Int) (sym same) (test_in v entry ints.0 has.0 small_entry few'))
-      (subst (λ program. IsTyped program (scope_of v) exit kind.Int) (sym same) (test_in v exit ints.1 has.3 small_exit few'))
+      (subst (λ program. IsTyped program (scope_of v) entry kind.Int) (sym same)
+      (test_in v entry ints.0 has.0 small_entry few'))
+      (subst (λ program. IsTyped program (scope_of v) exit kind.Int) (sym same)
+      (test_in v exit ints.1 has.3 small_exit few'))
       (hp.law place routine linked same) (hq.law place routine linked same);
 }
 
@@ -148,29 +188,50 @@ array_no_int None = refl
 array_no_int (Some c) = refl
 
 -- what the rules say of one value of a local
-init_is : (program : Source) (s : Scope) (var : Var) (e : Expression) (k : Kind) → length s.vars < 48 → type_of (typing_in program s) (shape_of program s) e ≡ Ok k → HasWords e → occurs var.name.text e ≡ false → (if is_type_int var.kind then is_int k else is_nil_word e) ≡ true → IsInit program s var e
+init_is : (program : Source) (s : Scope) (var : Var) (e : Expression) (k : Kind) → length s.vars < 48
+    → type_of (typing_in program s) (shape_of program s) e ≡ Ok k → HasWords e → occurs var.name.text e ≡ false
+    → (if is_type_int var.kind then is_int k else is_nil_word e) ≡ true → IsInit program s var e
 init_is program s var e k few typed has apart fits = by var.kind refl fits
   where
-    nil : (t : VarType) → var.kind ≡ t → is_int (kind_of (table_of program) t) ≡ false → is_nil_word e ≡ true → IsInit program s var e
-    nil t same no_int null = record { few = few; value = inr (record { no_int = ap (λ z. is_int (kind_of (table_of program) z)) same ∙ no_int; null = null_is e null }) }
+    nil : (t : VarType) → var.kind ≡ t → is_int (kind_of (table_of program) t) ≡ false → is_nil_word e ≡ true
+        → IsInit program s var e
+    nil t same no_int null = record {
+      few = few;
+      value = inr
+          (record { no_int = ap (λ z. is_int (kind_of (table_of program) z)) same ∙ no_int; null = null_is e null });
+    }
 
-    by : (t : VarType) → var.kind ≡ t → (if is_type_int t then is_int k else is_nil_word e) ≡ true → IsInit program s var e
-    by type.Int same h = record { few = few; value = inl (record { is_int = ap (kind_of (table_of program)) same; typed = typed ∙ ap (λ z. Ok z) (int_kind k h); has_words = has; apart = apart }) }
+    by : (t : VarType) → var.kind ≡ t → (if is_type_int t then is_int k else is_nil_word e) ≡ true
+        → IsInit program s var e
+    by type.Int same h = record {
+      few = few;
+      value = inl (record {
+        is_int = ap (kind_of (table_of program)) same;
+        typed = typed
+            ∙ ap (λ z. Ok z) (int_kind k h);
+        has_words = has;
+        apart = apart;
+      });
+    }
     by (type.Class c) same h = nil (type.Class c) same (no_int_class (class_of (table_of program) c.text)) h
     by type.IntArray same h = nil type.IntArray same refl h
     by (type.ClassArray c) same h = nil (type.ClassArray c) same (array_no_int (class_of (table_of program) c.text)) h
 
-each_fits : (b x y z w : Bool) → (if b then x && y else z && w) ≡ true → ((if b then x else z) ≡ true) × ((if b then y else w) ≡ true)
+each_fits : (b x y z w : Bool) → (if b then x && y else z && w) ≡ true
+    → ((if b then x else z) ≡ true) × ((if b then y else w) ≡ true)
 each_fits true x y z w h = both_true x y h
 each_fits false x y z w h = both_true z w h
 
 -- the two values of a local
-record LocalValues (v : Visible) (var : Var) (value : Expression) (end_var : Var) (end_value : Expression) : Type 0 where
-  same_name : end_var.name.text ≡ var.name.text
-  begins : IsInit (source_of v.program) (scope_of v) var value
-  ends : IsInit (source_of v.program) (scope_of v) var end_value
+record LocalValues (v : Visible) (var : Var) (value : Expression) (end_var : Var) (end_value : Expression) : Type 0
+  where
+    same_name : end_var.name.text ≡ var.name.text
+    begins : IsInit (source_of v.program) (scope_of v) var value
+    ends : IsInit (source_of v.program) (scope_of v) var end_value
 
-local_values : (v : Visible) (at : ℕ) (var : Var) (value : Expression) (body : Statements) (end_var : Var) (end_value : Expression) → IsAllowed v (Local at var value body end_var end_value) → LocalValues v var value end_var end_value
+local_values : (v : Visible) (at : ℕ) (var : Var) (value : Expression) (body : Statements) (end_var : Var)
+    (end_value : Expression) → IsAllowed v (Local at var value body end_var end_value)
+    → LocalValues v var value end_var end_value
 local_values v at var value body end_var end_value fine =
     let program = source_of v.program in
     let typing = typing_in program (scope_of v) in
@@ -178,23 +239,32 @@ local_values v at var value body end_var end_value fine =
     let few = fine.few_locals in
     let few' : length v.variables < 48 = omega (arith, few) in
     let has = fine.has_words in
-    let a = both_passed (local_rules typing shape at var value end_var end_value) (check_statements typing (with_local typing shape var) body) fine.rules in
+    let a = both_passed (local_rules typing shape at var value end_var end_value)
+    (check_statements typing (with_local typing shape var) body) fine.rules in
     let b = both_passed (type_known (table_of program) var.kind) _ a.0 in
     let c = both_passed (required (is_none (local_kind shape var.name.text)) (redeclared var.name.at)) _ b.1 in
-    let d = both_passed (required (same_type var.kind end_var.kind && bytes_eq var.name.text end_var.name.text) (type_differs end_var.name.at)) _ c.1 in
-    let e = both_passed (required (not (occurs var.name.text value || occurs var.name.text end_value)) (local_in_own_expression at)) _ d.1 in
-    let apart = neither_true (occurs var.name.text value) (occurs var.name.text end_value) (held _ (local_in_own_expression at) e.0) in
-    let named = both_true (same_type var.kind end_var.kind) (bytes_eq var.name.text end_var.name.text) (held _ (type_differs end_var.name.at) d.0) in
+    let d = both_passed (required (same_type var.kind end_var.kind && bytes_eq var.name.text end_var.name.text)
+    (type_differs end_var.name.at)) _ c.1 in
+    let e = both_passed (required (not (occurs var.name.text value || occurs var.name.text end_value))
+    (local_in_own_expression at)) _ d.1 in
+    let apart = neither_true (occurs var.name.text value) (occurs var.name.text end_value)
+    (held _ (local_in_own_expression at) e.0) in
+    let named = both_true (same_type var.kind end_var.kind) (bytes_eq var.name.text end_var.name.text)
+    (held _ (type_differs end_var.name.at) d.0) in
     let f = handed_on (type_of typing shape value) _ tt e.1 in
     let g = handed_on (type_of typing shape end_value) _ tt f.goes in
-    let fits = each_fits (is_type_int var.kind) (is_int f.value) (is_int g.value) (is_nil_word value) (is_nil_word end_value) (held _ (type_differs at) g.goes) in
+    let fits = each_fits (is_type_int var.kind) (is_int f.value) (is_int g.value) (is_nil_word value)
+    (is_nil_word end_value) (held _ (type_differs at) g.goes) in
     record {
       same_name = sym (same_name var.name.text end_var.name.text named.1);
       begins = init_is program (scope_of v) var value f.value few' f.is has.0 apart.0 fits.0;
       ends = init_is program (scope_of v) var end_value g.value few' g.is has.2 apart.1 fits.1;
     }
 
-pub local_stands : (v : Visible) (at : ℕ) (var : Var) (value : Expression) (body : Statements) (end_var : Var) (end_value : Expression) (p all : List Symbol) → LocalLaw (known_in v) var value end_value p all → IsAllowed v (Local at var value body end_var end_value) → IsBlockCode (with_variable v var) body p → IsStatementCode v (Local at var value body end_var end_value) all
+pub local_stands : (v : Visible) (at : ℕ) (var : Var) (value : Expression) (body : Statements) (end_var : Var)
+    (end_value : Expression) (p all : List Symbol) → LocalLaw (known_in v) var value end_value p all
+    → IsAllowed v (Local at var value body end_var end_value) → IsBlockCode (with_variable v var) body p
+    → IsStatementCode v (Local at var value body end_var end_value) all
 local_stands v at var value body end_var end_value p all made fine hp = record {
   law = λ place routine linked same.
       let x = local_values v at var value body end_var end_value fine in
@@ -206,7 +276,9 @@ local_stands v at var value body end_var end_value p all made fine hp = record {
       made.law place (laid_out place routine linked) (scope_of v) (names_same v place same) at body end_var x.same_name
       (subst (λ program. IsInit program (scope_of v) var value) (sym same) x.begins)
       (subst (λ program. IsInit program (scope_of v) var end_value) (sym same) x.ends)
-      (subst (λ program. HasRoom program (scope_of v) (words value)) (sym same) (room_for v (words value) few' (few_words value small_value)))
-      (subst (λ program. HasRoom program (scope_of v) (words end_value)) (sym same) (room_for v (words end_value) few' (few_words end_value small_end)))
+      (subst (λ program. HasRoom program (scope_of v) (words value)) (sym same)
+      (room_for v (words value) few' (few_words value small_value)))
+      (subst (λ program. HasRoom program (scope_of v) (words end_value)) (sym same)
+      (room_for v (words end_value) few' (few_words end_value small_end)))
       (hp.law place routine linked same);
 }

@@ -7,15 +7,15 @@ use Rattle.rpp_tree.specs.Limits.{statement_locals}
 use Rattle.rpp_tree.specs.Tree.{Statement, Statements, Procedure, statement_nodes}
 use Rattle.rpp_tree.specs.Views.{source_of}
 use Rattle.class_table.specs.Statements.{passed, check_statement}
-use Rattle.sound_execution.specs.Plain.{StatementHasWords}
+use Rattle.meaning_sound.specs.Plain.{StatementHasWords}
 use Rattle.paired_code.specs.declared.part.Symbol.{Symbol}
-use Rattle.method_scope.specs.declared.known.TheConstants.{MOST_VARIABLES}
-use Rattle.method_scope.specs.Visible.{Visible}
-use Rattle.statement_laws.specs.Form.{Scope, StmtLaw, BlockLaw, MethodLaw}
-use Rattle.statement_laws.specs.Stands.{shape_of}
-use Rattle.statement_laws.specs.Worlds.{Place, world_of}
-use Rattle.frame_facts.specs.Laws.{IsLinked}
-use Rattle.expression_laws.specs.Typing.{typing_in}
+use Rattle.code_conventions.specs.declared.memory.TheConstants.{MOST_VARIABLES}
+use Rattle.code_scope.specs.Visible.{Visible}
+use Rattle.refine_form.specs.Form.{Scope, StmtLaw, BlockLaw, MethodLaw}
+use Rattle.refine_form.specs.Stands.{shape_of}
+use Rattle.refine_form.specs.Worlds.{Place, world_of}
+use Rattle.refine_calls.specs.Laws.{IsLinked}
+use Rattle.refine_expressions.specs.Typing.{typing_in}
 
 -- the scope of the laws, of what is visible
 abbrev pub scope_of : Visible → Scope
@@ -26,10 +26,11 @@ abbrev pub with_variable : Visible → Var → Visible
 with_variable v var = record v { variables = var ∷ v.variables }
 
 -- the code of a statement where this is visible
-pub record IsStatementCode (v : Visible) (statement : Statement) (cells : List Symbol) : Type 0 where
-  pub law : (place : Place) (routine : ℕ → Ident → ℕ) → IsLinked place routine
-      → place.setting.program ≡ source_of v.program
-      → StmtLaw (world_of place) (scope_of v) statement cells
+pub record IsStatementCode (v : Visible) (statement : Statement) (cells : List Symbol) : Type 0
+  where
+    pub law : (place : Place) (routine : ℕ → Ident → ℕ) → IsLinked place routine
+        → place.setting.program ≡ source_of v.program
+        → StmtLaw (world_of place) (scope_of v) statement cells
 
 -- the code of a block
 pub record IsBlockCode (v : Visible) (body : Statements) (cells : List Symbol) : Type 0 where

@@ -1,5 +1,7 @@
--- What the code of conditionals, of loops and of blocks with a local variable does, in every scope of the
--- names that it was made for, wherever the codes of its parts do what theirs are to do; and what that of
+-- What the code of conditionals, of loops and of blocks with a local variable does, in every scope
+-- of the
+-- names that it was made for, wherever the codes of its parts do what theirs are to do; and what
+-- that of
 -- `skip`, of `construct`, of calls and of methods does wherever an image of its program is linked.
 use Rattle.std.specs.Prelude.{◌≡◌, ℕ, ◌<◌, Bool, List, ◌++◌, length, Option, Some}
 use Rattle.std.specs.Option.{option_map}
@@ -7,35 +9,41 @@ use Rattle.rpp_tree.specs.declared.tree.Ident.{Ident}
 use Rattle.rpp_tree.specs.declared.tree.Var.{Var}
 use Rattle.rpp_tree.specs.declared.tree.VarType.{VarType}
 use Rattle.rpp_tree.specs.declared.tree.VarType.TheVariants as type
-use Rattle.rpp_tree.specs.Tree.{Expression, Null, Lvalue, Whole, Item, Object, Statements, If, From, Local, Construct, New, Call, Skip, Procedure}
+use Rattle.rpp_tree.specs.Tree.{Expression, Null, Lvalue, Whole, Item, Object, Statements, If, From}
+use Rattle.rpp_tree.specs.Tree.{Local, Construct, New, Call, Skip, Procedure}
 use Rattle.class_table.specs.declared.kind.Kind.TheVariants as kind
 use Rattle.paired_code.specs.declared.part.Symbol.{Symbol}
 use Rattle.roopl_semantics.specs.Execution.{constructed, element_call, element_name}
-use Rattle.sound_execution.specs.Plain.{ReceiverIsPlain}
-use Rattle.method_scope.specs.declared.known.TheConstants.{MOST_VARIABLES}
-use Rattle.method_scope.specs.Visible.{Known, Visible, spot_of, free_of, kind_named, known_in}
+use Rattle.meaning_sound.specs.Plain.{ReceiverIsPlain}
+use Rattle.code_conventions.specs.declared.memory.TheConstants.{MOST_VARIABLES}
+use Rattle.code_scope.specs.Visible.{Known, Visible, spot_of, free_of, kind_named, known_in}
 use Rattle.expr_uncompute.specs.Code.{words}
 use Rattle.expr_uncompute.specs.Promises.{SwapLaw}
-use Rattle.statement_laws.specs.Form.{Scope, with_var, BlockLaw, StmtLaw}
-use Rattle.statement_laws.specs.Worlds.{Place, world_of}
+use Rattle.refine_form.specs.Form.{Scope, with_var, BlockLaw, StmtLaw}
+use Rattle.refine_form.specs.Worlds.{Place, world_of}
 use Rattle.method_calls.specs.Names.{IsInit}
-use Rattle.expression_laws.specs.Typing.{known_of, HasRoom, IsTyped}
-use Rattle.expression_laws.specs.Laws.{IsLaidOut}
-use Rattle.statement_codegen.specs.Codes.{with_variable, IsStatementCode, IsBlockCode, IsMethodCode, Passes, IsAllowed}
+use Rattle.refine_expressions.specs.Typing.{known_of, HasRoom, IsTyped}
+use Rattle.refine_expressions.specs.Laws.{IsLaidOut}
+use Rattle.statement_codegen.specs.Codes.{with_variable, IsStatementCode, IsBlockCode, IsMethodCode}
+use Rattle.statement_codegen.specs.Codes.{Passes, IsAllowed}
 
 -- a conditional
 pub record IfLaw (known : Known) (test after : Expression) (p q all : List Symbol) : Type 0 where
-  pub law : (place : Place) → IsLaidOut place → (s : Scope) → known_of place.setting.program s ≡ known
+  pub law : (place : Place) → IsLaidOut place → (s : Scope)
+      → known_of place.setting.program s ≡ known
       → (at : ℕ) (taken other : Statements)
-      → IsTyped place.setting.program s test kind.Int → IsTyped place.setting.program s after kind.Int
+      → IsTyped place.setting.program s test kind.Int
+      → IsTyped place.setting.program s after kind.Int
       → BlockLaw (world_of place) s taken p → BlockLaw (world_of place) s other q
       → StmtLaw (world_of place) s (If at test taken other after) all
 
 -- a loop
 pub record FromLaw (known : Known) (entry exit : Expression) (p q all : List Symbol) : Type 0 where
-  pub law : (place : Place) → IsLaidOut place → (s : Scope) → known_of place.setting.program s ≡ known
+  pub law : (place : Place) → IsLaidOut place → (s : Scope)
+      → known_of place.setting.program s ≡ known
       → (at : ℕ) (first again : Statements)
-      → IsTyped place.setting.program s entry kind.Int → IsTyped place.setting.program s exit kind.Int
+      → IsTyped place.setting.program s entry kind.Int
+      → IsTyped place.setting.program s exit kind.Int
       → BlockLaw (world_of place) s first p → BlockLaw (world_of place) s again q
       → StmtLaw (world_of place) s (From at entry first again exit) all
 
@@ -43,7 +51,8 @@ pub record FromLaw (known : Known) (entry exit : Expression) (p q all : List Sym
 -- so are the blocks that `construct` and calls on elements mean.
 pub record LocalLaw (known : Known) (var : Var) (value last : Expression)
     (p all : List Symbol) : Type 0 where
-  pub law : (place : Place) → IsLaidOut place → (s : Scope) → known_of place.setting.program s ≡ known
+  pub law : (place : Place) → IsLaidOut place → (s : Scope)
+      → known_of place.setting.program s ≡ known
       → (at : ℕ) (body : Statements) (end_var : Var) → end_var.name.text ≡ var.name.text
       → IsInit place.setting.program s var value → IsInit place.setting.program s var last
       → HasRoom place.setting.program s (words value) → HasRoom place.setting.program s (words last)
@@ -51,12 +60,15 @@ pub record LocalLaw (known : Known) (var : Var) (value last : Expression)
       → StmtLaw (world_of place) s (Local at var value body end_var last) all
   pub construct : (place : Place) → IsLaidOut place → (s : Scope)
       → known_of place.setting.program s ≡ known
-      → (at : ℕ) (class : Ident) (body : Statements) (end : Ident) → value ≡ Null at → last ≡ Null at
+      → (at : ℕ) (class : Ident) (body : Statements) (end : Ident) → value ≡ Null at
+      → last ≡ Null at
       → IsInit place.setting.program s var (Null at)
       → BlockLaw (world_of place) (with_var s var) (constructed at class var.name body) p
       → StmtLaw (world_of place) s (Construct at class var.name body end) all
-  pub element : (place : Place) → IsLaidOut place → (s : Scope) → known_of place.setting.program s ≡ known
-      → (at : ℕ) (back : Bool) (array : Ident) (index : Expression) (method : Ident) (args : List Ident)
+  pub element : (place : Place) → IsLaidOut place → (s : Scope)
+      → known_of place.setting.program s ≡ known
+      → (at : ℕ) (back : Bool) (array : Ident) (index : Expression) (method : Ident)
+      (args : List Ident)
       → var.name ≡ element_name at → value ≡ Null at → last ≡ Null at
       → IsInit place.setting.program s var (Null at)
       → BlockLaw (world_of place) (with_var s var) (element_call at back array index method args) p
@@ -66,7 +78,8 @@ pub record LocalLaw (known : Known) (var : Var) (value last : Expression)
 pub record SkipLaw (all : List Symbol) : Type 0 where
   pub law : (v : Visible) (at : ℕ) → IsStatementCode v (Skip at) all
 
--- a call or uncall on the present object, or on the object of a variable, that the rules of types pass
+-- a call or uncall on the present object, or on the object of a variable, that the rules of types
+-- pass
 pub record CallLaw (v : Visible) (back : Bool) (receiver : Option Ident) (method : Ident)
     (args : List Ident) (all : List Symbol) : Type 0 where
   pub law : (at : ℕ) → Passes v (Call at back (option_map Whole receiver) method args)
@@ -78,12 +91,13 @@ pub record RoutineLaw (v : Visible) (p all : List Symbol) : Type 0 where
 
 -- `construct`, where the first piece is the code of `new`, and p that of its block: where the block
 -- ends, the first piece stands mirrored, and so it is that of `delete`
-pub record ConstructLaw (v : Visible) (at : ℕ) (var : Var) (making p all : List Symbol) : Type 0 where
-  pub law : (class : Ident) (body : Statements) (end : Ident) → var.kind ≡ type.Class class
-      → length v.variables < MOST_VARIABLES
-      → IsStatementCode (with_variable v var) (New at (Object class) (Whole var.name)) making
-      → IsBlockCode (with_variable v var) body p
-      → IsStatementCode v (Construct at class var.name body end) all
+pub record ConstructLaw (v : Visible) (at : ℕ) (var : Var) (making p all : List Symbol) : Type 0
+  where
+    pub law : (class : Ident) (body : Statements) (end : Ident) → var.kind ≡ type.Class class
+        → length v.variables < MOST_VARIABLES
+        → IsStatementCode (with_variable v var) (New at (Object class) (Whole var.name)) making
+        → IsBlockCode (with_variable v var) body p
+        → IsStatementCode v (Construct at class var.name body end) all
 
 -- ---- calls on elements
 

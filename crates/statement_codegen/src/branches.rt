@@ -1,16 +1,16 @@
 // Conditionals and loops.
 ghost use Rattle.std.specs.Prelude.{◌≤◌, ◌+◌, ◌*◌, length, IfOk};
 ghost use Rattle.rpp_tree.specs.Views.{expression_of};
-ghost use Rattle.method_scope.specs.Visible.{known_in};
+ghost use Rattle.code_scope.specs.Visible.{known_in};
 ghost use Rattle.expr_uncompute.specs.Code.{words as words_of};
 ghost use Rattle.expr_uncompute.specs.Steps.{tokens};
-ghost use Rattle.statement_laws.specs.Held.{HoldsBoth};
+ghost use Rattle.refine_form.specs.Held.{HoldsBoth};
 ghost use Rattle.statement_codegen.specs.Laws.{IfLaw, FromLaw};
 
 use branch_codegen::{conditional, repetition};
+use code_conventions::registers::FLAG;
+use code_scope::Scope;
 use expr_uncompute::test_code;
-use expression_laws::FLAG;
-use method_scope::Scope;
 use paired_code::Piece;
 use rpp_tree::tree::Expr;
 use rpp_words::NoMemory;

@@ -4,8 +4,8 @@ ghost use Rattle.std.specs.Option.{option_map};
 ghost use Rattle.rpp_tree.specs.Places.{place_name};
 ghost use Rattle.rpp_tree.specs.Tree.{Whole};
 ghost use Rattle.rpp_tree.specs.Views.{lvalue_of};
-ghost use Rattle.method_scope.specs.declared.known.TheConstants.{MOST_VARIABLES};
-ghost use Rattle.method_scope.specs.Visible.{spot_of as spot_of_name, free_of, kind_named, known_in};
+ghost use Rattle.code_conventions.specs.declared.memory.TheConstants.{MOST_VARIABLES};
+ghost use Rattle.code_scope.specs.Visible.{spot_of as spot_of_name, free_of, kind_named, known_in};
 ghost use Rattle.expr_uncompute.specs.Code.{place_words as words_of_place};
 ghost use Rattle.expr_uncompute.specs.Promises.{SwapLaw};
 ghost use Rattle.expr_uncompute.specs.Steps.{place_tokens};
@@ -14,8 +14,8 @@ ghost use Rattle.statement_codegen.specs.Laws.{element_type as type_of_element, 
 
 use crate::calls::call_code;
 use crate::locals::local_code;
+use code_scope::Scope;
 use expr_uncompute::swap_code;
-use method_scope::Scope;
 use paired_code::{Piece, seq};
 use rpp_tree::text::Text;
 use rpp_tree::tree::{Expr, Ident, Place, Var, VarType};

@@ -2,16 +2,16 @@
 ghost use Rattle.std.specs.Prelude.{◌≡◌, ◌≤◌, ◌+◌, ◌*◌, [], ◌++◌, length, IfOk};
 ghost use Rattle.paired_code.specs.Layout.{mirror_cells};
 ghost use Rattle.rpp_tree.specs.Views.{expression_of};
-ghost use Rattle.method_scope.specs.Visible.{known_in};
+ghost use Rattle.code_scope.specs.Visible.{known_in};
 ghost use Rattle.expr_uncompute.specs.Code.{words as words_of};
 ghost use Rattle.expr_uncompute.specs.Steps.{tokens};
-ghost use Rattle.statement_laws.specs.Held.{Holds};
+ghost use Rattle.refine_form.specs.Held.{Holds};
 ghost use Rattle.statement_codegen.specs.Laws.{LocalLaw, ConstructLaw};
 
+use code_conventions::registers::VALUE;
+use code_scope::Scope;
 use expr_uncompute::value_code;
-use expression_laws::VALUE;
 use method_calls::local_block;
-use method_scope::Scope;
 use paired_code::{Piece, mirror, seq};
 use rpp_tree::tree::{Expr, Var};
 use rpp_words::NoMemory;
@@ -45,7 +45,7 @@ pub fn local_code(
 }
 
 // A body after a piece, and before the mirror of that piece.
-#[tactic(auto, using(statement_laws::proofs::Holding::around_clause))]
+#[tactic(auto, using(refine_form::proofs::Holding::around_clause))]
 fn between_piece(alloc: Global, making: Piece, body: Piece) -> Result<Piece, NoMemory>
     requires none { making.marks ≡ [] }
     ensures cells { IfOk result (λ p. p.cells

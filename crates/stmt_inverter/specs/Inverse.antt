@@ -2,7 +2,9 @@
 use Rattle.std.specs.Prelude.{Bool, true, false, not, map}
 use Rattle.rpp_tree.specs.declared.tree.UpdateOp.{UpdateOp}
 use Rattle.rpp_tree.specs.declared.tree.UpdateOp.TheVariants as update
-use Rattle.rpp_tree.specs.Tree.{Statement, Statements, Update, Swap, If, From, Construct, Local, New, Delete, Copy, Uncopy, Call, Skip, End, Then, joined, Procedure, ClassText, Source}
+use Rattle.rpp_tree.specs.Tree.{Statement, Statements, Update, Swap, If, From, Construct, Local}
+use Rattle.rpp_tree.specs.Tree.{New, Delete, Copy, Uncopy, Call, Skip, End, Then, joined, Procedure}
+use Rattle.rpp_tree.specs.Tree.{ClassText, Source}
 
 -- the update that undoes one by this operator
 abbrev pub inverse_operator : UpdateOp → UpdateOp
@@ -10,7 +12,8 @@ inverse_operator update.Add = update.Sub
 inverse_operator update.Sub = update.Add
 inverse_operator update.Xor = update.Xor
 
--- what becomes of a call's direction: it turns, or it stays where the methods themselves are inverted
+-- what becomes of a call's direction: it turns, or it stays where the methods themselves are
+-- inverted
 abbrev pub call_direction : Bool → Bool → Bool
 call_direction true back = not back
 call_direction false back = back
@@ -18,7 +21,8 @@ call_direction false back = back
 abbrev mutual
   -- a statement undone, at the same place of the source; calls turn or stay
   pub inverse_statement_as : Bool → Statement → Statement
-  inverse_statement_as turn (Update at op target value) = Update at (inverse_operator op) target value
+  inverse_statement_as turn (Update at op target value) =
+      Update at (inverse_operator op) target value
   inverse_statement_as turn (Swap at left right) = Swap at left right
   inverse_statement_as turn (If at test taken other after) =
       If at after (inverse_as turn taken) (inverse_as turn other) test

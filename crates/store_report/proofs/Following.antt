@@ -1,5 +1,6 @@
 -- The report that the cells tell is the report of the store.
-use Rattle.std.proofs.Common.{◌≡◌, ◌∙◌, sym, ap, subst, refl, ℕ, zero, suc, ◌+◌, ◌<◌, ◌≤◌, true, List, [], ◌∷◌, ◌++◌, map, length, Option, Some, None, arith}
+use Rattle.std.proofs.Common.{◌≡◌, ◌∙◌, sym, ap, subst, refl, ℕ, zero, suc, ◌+◌, ◌<◌, ◌≤◌, true, List, [], ◌∷◌, ◌++◌}
+use Rattle.std.proofs.Common.{map, length, Option, Some, None, arith}
 use Rattle.std.proofs.lemmas.List.{length-append}
 use Rattle.std.specs.Prelude.{nat_eq, codes}
 use Rattle.std.specs.Option.{unwrap_or}
@@ -7,30 +8,38 @@ use Rattle.std.specs.Fmt.{decimal}
 use Rattle.rpp_words.specs.Texts.{line_end}
 use Rattle.rpp_tree.specs.declared.tree.VarType.{VarType}
 use Rattle.rpp_tree.specs.Tree.{Source}
-use Rattle.roopl_semantics.specs.Store.{Value, Word, Nil, Name, Head, Object, Store, main_name, no_object, object_named, object_at}
+use Rattle.roopl_semantics.specs.Store.{Value, Word, Nil, Name, Head, Object, Store, main_name, no_object, object_named}
+use Rattle.roopl_semantics.specs.Store.{object_at}
 use Rattle.roopl_semantics.specs.Source.{main_fields}
 use Rattle.roopl_semantics.specs.Agreement.{renamed}
 use Rattle.roopl_semantics.specs.Laws.{holders_among, holders}
-use Rattle.roopl_semantics.specs.Report.{newly_met, walked, numbered, number_shown, field_lines, head_shown, cell_lines, object_lines, live_line, live_count, report}
+use Rattle.roopl_semantics.specs.Report.{newly_met, walked, numbered, number_shown, field_lines, head_shown, cell_lines}
+use Rattle.roopl_semantics.specs.Report.{object_lines, live_line, live_count, report}
 use Rattle.roopl_semantics.specs.Layout.{head_word}
-use Rattle.roopl_semantics.specs.Walk.{word_at, types_of, Reference, cell_types, types_at, newly_reached, reached_within, reached}
+use Rattle.roopl_semantics.specs.Walk.{word_at, types_of, Reference, cell_types, types_at, newly_reached}
+use Rattle.roopl_semantics.specs.Walk.{reached_within, reached}
 use Rattle.pisa_isa.specs.Loaded.{statics_at}
-use Rattle.sound_execution.specs.Sound.{is_live, Descending, AllFit, cell_kinds}
-use Rattle.sound_execution.proofs.Stores.{live_object, holders_inside}
-use Rattle.reached_objects.proofs.Numbering.{unmet, unmet_all, new_count}
+use Rattle.meaning_sound.specs.Sound.{is_live, Descending, AllFit, cell_kinds}
+use Rattle.meaning_sound.proofs.Stores.{live_object, holders_inside}
+use Rattle.meaning_reached.proofs.Numbering.{unmet, unmet_all, new_count}
 use Rattle.store_report.specs.Told.{values_told, head_told, object_told, address_of, lines_told, report_told}
 use Rattle.store_report.proofs.Texts.{AllGood, ValueGood, ValuesGood, number_there, fields_there, lines_there}
-use Rattle.store_report.proofs.Telling.{IsGood, Facts, there, kind_told, told_apart, head_is_told, Match, Rel, rel_append, Tells, tells_from, HoldGood, values_are_told, newly_told}
+use Rattle.store_report.proofs.Telling.{IsGood, Facts, there, kind_told, told_apart, head_is_told, Match, Rel}
+use Rattle.store_report.proofs.Telling.{rel_append, Tells, tells_from, HoldGood, values_are_told, newly_told}
 
 held_at : (store : Store) (n m : ℕ) → 0 < holders_among m (object_at store n).cells → 0 < holders m store
 held_at store n m h = by (object_named store n) refl h
   where
-    by : (o : Option Object) → object_named store n ≡ o → 0 < holders_among m (unwrap_or o no_object).cells → 0 < holders m store
+    by : (o : Option Object) → object_named store n ≡ o → 0 < holders_among m (unwrap_or o no_object).cells
+        → 0 < holders m store
     by None e q = absurd (let z : 0 < 0 = q in omega arith)
     by (Some o) e q = let a = holders_inside m store n o e in omega arith
 
 -- a walk with steps enough does not depend on how many
-walks_alike : (bound : ℕ) (store : Store) → Descending bound store → ((m : ℕ) → 0 < holders m store → is_live store m ≡ true) → (a b : ℕ) (met pending : List ℕ) → length pending + unmet met store ≤ a → length pending + unmet met store ≤ b → walked a store met pending ≡ walked b store met pending
+walks_alike : (bound : ℕ) (store : Store) → Descending bound store
+    → ((m : ℕ) → 0 < holders m store → is_live store m ≡ true) → (a b : ℕ) (met pending : List ℕ)
+    → length pending + unmet met store ≤ a → length pending + unmet met store ≤ b
+    → walked a store met pending ≡ walked b store met pending
 walks_alike bound store d live zero zero met [] h k = refl
 walks_alike bound store d live zero (suc b) met [] h k = refl
 walks_alike bound store d live (suc a) zero met [] h k = refl
@@ -44,7 +53,8 @@ walks_alike bound store d live (suc a) (suc b) met (name ∷ pending) h k =
     let size : length (pending ++ new) ≡ length pending + length new = length-append pending new in
     walks_alike bound store d live a b (met ++ new) (pending ++ new) (omega arith) (omega arith)
 
-module _ (program : Source) (store : Store) (base : ℕ) (blocks : List (ℕ × ℕ)) (mem : List ℕ) (facts : Facts program store base blocks mem) where
+module _ (program : Source) (store : Store) (base : ℕ) (blocks : List (ℕ × ℕ)) (mem : List ℕ)
+    (facts : Facts program store base blocks mem) where
   abbrev A : ℕ → ℕ
   A n = there program store base blocks mem facts n
 
@@ -58,61 +68,81 @@ module _ (program : Source) (store : Store) (base : ℕ) (blocks : List (ℕ × 
   good_at n m p = facts.held_good m (held_at store n m p)
 
   -- the cells of what a reference leads to
-  match_tells : (r : Reference) (n : ℕ) → Match program store base blocks mem facts r n → Tells program store base blocks mem facts (r.at + 2) (types_at program mem r) (object_at store n).cells
+  match_tells : (r : Reference) (n : ℕ) → Match program store base blocks mem facts r n
+      → Tells program store base blocks mem facts (r.at + 2) (types_at program mem r) (object_at store n).cells
   match_tells r n m =
       let o = object_at store n in
       let word : word_at mem r.at ≡ head_word program o.head = ap (word_at mem) m.at ∙ facts.head n m.good in
       let told = head_is_told program store base blocks mem facts r.type o.head m.fit in
       let fit = facts.typed n o (live_object store n m.good.live) in
-      let types : types_at program mem r ≡ cell_types program r.type (head_word program o.head) = ap (cell_types program r.type) word in
+      let types : types_at program mem r ≡ cell_types program r.type (head_word program o.head) =
+      ap (cell_types program r.type) word in
       subst (λ ts. Tells program store base blocks mem facts (r.at + 2) ts o.cells) (sym types)
-      (tells_from program store base blocks mem facts (r.at + 2) (cell_types program r.type (head_word program o.head)) o.cells
+      (tells_from program store base blocks mem facts (r.at + 2) (cell_types program r.type (head_word program o.head))
+      o.cells
       (subst (λ ks. AllFit program store ks o.cells) (sym told.kinds) fit)
       (λ i l. ap (λ a. word_at mem (a + 2 + i)) m.at ∙ facts.part n i m.good l))
 
-  main_types : (f : Rattle.rpp_tree.specs.declared.tree.VarType.VarType → Rattle.class_table.specs.declared.kind.Kind.Kind) (vars : List Rattle.rpp_tree.specs.declared.tree.Var.Var) → map f (types_of vars) ≡ map (λ var. f var.kind) vars
+  main_types : (f : Rattle.rpp_tree.specs.declared.tree.VarType.VarType
+      → Rattle.class_table.specs.declared.kind.Kind.Kind) (vars : List Rattle.rpp_tree.specs.declared.tree.Var.Var)
+      → map f (types_of vars) ≡ map (λ var. f var.kind) vars
   main_types f [] = refl
   main_types f (var ∷ vars) = ap (λ z. f var.kind ∷ z) (main_types f vars)
 
-  main_tells : Tells program store base blocks mem facts (statics_at + 2) (types_of (main_fields program)) (object_at store main_name).cells
+  main_tells : Tells program store base blocks mem facts (statics_at + 2) (types_of (main_fields program))
+      (object_at store main_name).cells
   main_tells =
       let o = object_at store main_name in
       let fit = facts.typed main_name o (live_object store main_name facts.main_live) in
-      let kinds : map (kind_told program store base blocks mem facts) (types_of (main_fields program)) ≡ cell_kinds program o.head = main_types (kind_told program store base blocks mem facts) (main_fields program) ∙ ap (cell_kinds program) (sym facts.main_head) in
-      tells_from program store base blocks mem facts (statics_at + 2) (types_of (main_fields program)) o.cells (subst (λ ks. AllFit program store ks o.cells) (sym kinds) fit) facts.main_part
+      let kinds : map (kind_told program store base blocks mem facts) (types_of (main_fields program))
+      ≡ cell_kinds program o.head = main_types (kind_told program store base blocks mem facts) (main_fields program)
+      ∙ ap (cell_kinds program) (sym facts.main_head) in
+      tells_from program store base blocks mem facts (statics_at + 2) (types_of (main_fields program)) o.cells
+      (subst (λ ks. AllFit program store ks o.cells) (sym kinds) fit) facts.main_part
 
-  walks_told : (steps : ℕ) (met pending : List Reference) (names rest : List ℕ) → Related met names → Related pending rest → Related (reached_within steps program mem met pending) (walked steps store names rest)
+  walks_told : (steps : ℕ) (met pending : List Reference) (names rest : List ℕ) → Related met names
+      → Related pending rest → Related (reached_within steps program mem met pending) (walked steps store names rest)
   walks_told zero met pending names rest h k = h
   walks_told (suc steps) met [] names [] h k = h
   walks_told (suc steps) met [] names (n ∷ rest) h k = absurd k
   walks_told (suc steps) met (r ∷ pending) names [] h k = absurd k
   walks_told (suc steps) met (r ∷ pending) names (n ∷ rest) h k =
       let cells = (object_at store n).cells in
-      let new = newly_told program store base blocks mem facts met names (r.at + 2) (types_at program mem r) cells h (match_tells r n k.0) (good_at n) in
+      let new = newly_told program store base blocks mem facts met names (r.at + 2) (types_at program mem r) cells h
+      (match_tells r n k.0) (good_at n) in
       let refs = newly_reached mem met (r.at + 2) (types_at program mem r) in
-      walks_told steps (met ++ refs) (pending ++ refs) (names ++ newly_met names cells) (rest ++ newly_met names cells) (rel_append program store base blocks mem facts met names refs (newly_met names cells) h new) (rel_append program store base blocks mem facts pending rest refs (newly_met names cells) k.1 new)
+      walks_told steps (met ++ refs) (pending ++ refs) (names ++ newly_met names cells) (rest ++ newly_met names cells)
+      (rel_append program store base blocks mem facts met names refs (newly_met names cells) h new)
+      (rel_append program store base blocks mem facts pending rest refs (newly_met names cells) k.1 new)
 
   -- the walk in memory and the walk in the store meet the same, in one order
-  pub reached_is_numbered : (bound : ℕ) → Descending bound store → length store ≤ length mem → Related (reached program mem) (numbered store)
+  pub reached_is_numbered : (bound : ℕ) → Descending bound store → length store ≤ length mem
+      → Related (reached program mem) (numbered store)
   reached_is_numbered bound d small =
       let cells = (object_at store main_name).cells in
       let first = newly_met [] cells in
       let refs = newly_reached mem [] (statics_at + 2) (types_of (main_fields program)) in
-      let start = newly_told program store base blocks mem facts [] [] (statics_at + 2) (types_of (main_fields program)) cells tt main_tells (good_at main_name) in
+      let start = newly_told program store base blocks mem facts [] [] (statics_at + 2) (types_of (main_fields program))
+      cells tt main_tells (good_at main_name) in
       let counted = new_count bound store [] cells d (λ m p. (good_at main_name m p).live) in
       let all = unmet_all store in
-      subst (λ names. Related (reached program mem) names) (walks_alike bound store d (λ m p. (facts.held_good m p).live) (length mem) (length store) first first (omega arith) (omega arith))
+      subst (λ names. Related (reached program mem) names)
+      (walks_alike bound store d (λ m p. (facts.held_good m p).live) (length mem) (length store) first first
+      (omega arith) (omega arith))
       (walks_told (length mem) refs refs first first start start)
 
   -- ---- the text
 
-  addresses_are : (references : List Reference) (names : List ℕ) → Related references names → map address_of references ≡ map A names
+  addresses_are : (references : List Reference) (names : List ℕ) → Related references names
+      → map address_of references ≡ map A names
   addresses_are [] [] h = refl
   addresses_are [] (n ∷ names) h = absurd h
   addresses_are (r ∷ references) [] h = absurd h
-  addresses_are (r ∷ references) (n ∷ names) h = ap (λ a. a ∷ map address_of references) h.0.at ∙ ap (λ z. A n ∷ z) (addresses_are references names h.1)
+  addresses_are (r ∷ references) (n ∷ names) h = ap (λ a. a ∷ map address_of references) h.0.at
+      ∙ ap (λ z. A n ∷ z) (addresses_are references names h.1)
 
-  same_length : (references : List Reference) (names : List ℕ) → Related references names → length references ≡ length names
+  same_length : (references : List Reference) (names : List ℕ) → Related references names
+      → length references ≡ length names
   same_length [] [] h = refl
   same_length [] (n ∷ names) h = absurd h
   same_length (r ∷ references) [] h = absurd h
@@ -131,42 +161,58 @@ module _ (program : Source) (store : Store) (base : ℕ) (blocks : List (ℕ × 
   values_good [] h = tt
   values_good (v ∷ vs) h = (one v (λ m p. h m (omega arith)), values_good vs (λ m p. h m (omega arith)))
     where
-      one : (v : Value) → ((m : ℕ) → 0 < Rattle.roopl_semantics.specs.Laws.one_if_name m v → IsGood store m) → ValueGood A Good apart_good v
+      one : (v : Value) → ((m : ℕ) → 0 < Rattle.roopl_semantics.specs.Laws.one_if_name m v → IsGood store m)
+          → ValueGood A Good apart_good v
       one (Word w) g = tt
       one Nil g = tt
-      one (Name n) g = g n (let e = Rattle.sound_execution.proofs.Removal.one_name n in omega arith)
+      one (Name n) g = g n (let e = Rattle.meaning_sound.proofs.Removal.one_name n in omega arith)
 
   abbrev moved : Object → Object
   moved o = record { head = o.head; count = o.count; cells = map (renamed A) o.cells }
 
-  object_is_told : (r : Reference) (n : ℕ) → Match program store base blocks mem facts r n → object_told program mem r ≡ moved (object_at store n)
+  object_is_told : (r : Reference) (n : ℕ) → Match program store base blocks mem facts r n
+      → object_told program mem r ≡ moved (object_at store n)
   object_is_told r n m =
       let o = object_at store n in
       let word : word_at mem r.at ≡ head_word program o.head = ap (word_at mem) m.at ∙ facts.head n m.good in
       let told = head_is_told program store base blocks mem facts r.type o.head m.fit in
       three (ap (head_told program r.type) word ∙ told.told) (ap (λ a. word_at mem (a + 1)) m.at ∙ facts.count n m.good)
-      (values_are_told program store base blocks mem facts (r.at + 2) (types_at program mem r) o.cells (match_tells r n m) (good_at n))
+      (values_are_told program store base blocks mem facts (r.at + 2) (types_at program mem r) o.cells
+      (match_tells r n m) (good_at n))
     where
       object_of : Head → ℕ → List Value → Object
       object_of h c vs = record { head = h; count = c; cells = vs }
 
-      three : {h h' : Head} {c c' : ℕ} {vs vs' : List Value} → h ≡ h' → c ≡ c' → vs ≡ vs' → object_of h c vs ≡ object_of h' c' vs'
+      three : {h h' : Head} {c c' : ℕ} {vs vs' : List Value} → h ≡ h' → c ≡ c' → vs ≡ vs'
+          → object_of h c vs ≡ object_of h' c' vs'
       three e f g = cc
 
-  lines_are_told : (names : List ℕ) → AllGood A Good apart_good names → (references : List Reference) (rest : List ℕ) → Related references rest → lines_told program mem (map A names) references ≡ object_lines program store names rest
+  lines_are_told : (names : List ℕ) → AllGood A Good apart_good names → (references : List Reference) (rest : List ℕ)
+      → Related references rest → lines_told program mem (map A names) references
+      ≡ object_lines program store names rest
   lines_are_told names all [] [] h = refl
   lines_are_told names all [] (n ∷ rest) h = absurd h
   lines_are_told names all (r ∷ references) [] h = absurd h
   lines_are_told names all (r ∷ references) (n ∷ rest) h =
       let o = object_at store n in
       let tail = lines_told program mem (map A names) references in
-      ap (λ (x : Object). number_shown (map A names) r.at ++ codes " " ++ head_shown program x.head ++ codes " count " ++ decimal x.count ++ line_end ++ cell_lines program (map A names) x.head x.cells ++ tail) (object_is_told r n h.0)
-      ∙ ap (λ a. number_shown (map A names) a ++ codes " " ++ head_shown program o.head ++ codes " count " ++ decimal o.count ++ line_end ++ cell_lines program (map A names) o.head (map (renamed A) o.cells) ++ tail) h.0.at
-      ∙ ap (λ z. z ++ codes " " ++ head_shown program o.head ++ codes " count " ++ decimal o.count ++ line_end ++ cell_lines program (map A names) o.head (map (renamed A) o.cells) ++ tail) (number_there A Good apart_good names n all h.0.good)
-      ∙ ap (λ z. number_shown names n ++ codes " " ++ head_shown program o.head ++ codes " count " ++ decimal o.count ++ line_end ++ z ++ tail) (lines_there A Good apart_good program names o.head o.cells all (values_good o.cells (good_at n)))
-      ∙ ap (λ z. number_shown names n ++ codes " " ++ head_shown program o.head ++ codes " count " ++ decimal o.count ++ line_end ++ cell_lines program names o.head o.cells ++ z) (lines_are_told names all references rest h.1)
+      ap (λ (x : Object). number_shown (map A names) r.at ++ codes " " ++ head_shown program x.head ++ codes " count "
+      ++ decimal x.count ++ line_end ++ cell_lines program (map A names) x.head x.cells ++ tail)
+      (object_is_told r n h.0)
+      ∙ ap (λ a. number_shown (map A names) a ++ codes " " ++ head_shown program o.head ++ codes " count "
+      ++ decimal o.count ++ line_end ++ cell_lines program (map A names) o.head (map (renamed A) o.cells) ++ tail)
+      h.0.at
+      ∙ ap (λ z. z ++ codes " " ++ head_shown program o.head ++ codes " count " ++ decimal o.count ++ line_end
+      ++ cell_lines program (map A names) o.head (map (renamed A) o.cells) ++ tail)
+      (number_there A Good apart_good names n all h.0.good)
+      ∙ ap (λ z. number_shown names n ++ codes " " ++ head_shown program o.head ++ codes " count " ++ decimal o.count
+      ++ line_end ++ z ++ tail) (lines_there A Good apart_good program names o.head o.cells all
+      (values_good o.cells (good_at n)))
+      ∙ ap (λ z. number_shown names n ++ codes " " ++ head_shown program o.head ++ codes " count " ++ decimal o.count
+      ++ line_end ++ cell_lines program names o.head o.cells ++ z) (lines_are_told names all references rest h.1)
 
-  pub report_is_told : (bound : ℕ) → Descending bound store → length store ≤ length mem → live_count store ≡ length (numbered store) → report_told program mem ≡ report program store
+  pub report_is_told : (bound : ℕ) → Descending bound store → length store ≤ length mem
+      → live_count store ≡ length (numbered store) → report_told program mem ≡ report program store
   report_is_told bound d small live =
       let refs = reached program mem in
       let names = numbered store in
@@ -174,9 +220,16 @@ module _ (program : Source) (store : Store) (base : ℕ) (blocks : List (ℕ × 
       let all = all_good refs names rel in
       let cells = (object_at store main_name).cells in
       let told = values_told mem (statics_at + 2) (types_of (main_fields program)) in
-      let main_is : told ≡ map (renamed A) cells = values_are_told program store base blocks mem facts (statics_at + 2) (types_of (main_fields program)) cells main_tells (good_at main_name) in
-      ap (λ xs. field_lines [] xs (main_fields program) told ++ lines_told program mem xs refs ++ live_line (length refs)) (addresses_are refs names rel)
-      ∙ ap (λ vs. field_lines [] (map A names) (main_fields program) vs ++ lines_told program mem (map A names) refs ++ live_line (length refs)) main_is
-      ∙ ap (λ z. z ++ lines_told program mem (map A names) refs ++ live_line (length refs)) (fields_there A Good apart_good [] names (main_fields program) cells all (values_good cells (good_at main_name)))
-      ∙ ap (λ z. field_lines [] names (main_fields program) cells ++ z ++ live_line (length refs)) (lines_are_told names all refs names rel)
-      ∙ ap (λ k. field_lines [] names (main_fields program) cells ++ object_lines program store names names ++ live_line k) (same_length refs names rel ∙ sym live)
+      let main_is : told ≡ map (renamed A) cells = values_are_told program store base blocks mem facts (statics_at + 2)
+      (types_of (main_fields program)) cells main_tells (good_at main_name) in
+      ap (λ xs. field_lines [] xs (main_fields program) told ++ lines_told program mem xs refs
+      ++ live_line (length refs)) (addresses_are refs names rel)
+      ∙ ap (λ vs. field_lines [] (map A names) (main_fields program) vs ++ lines_told program mem (map A names) refs
+      ++ live_line (length refs)) main_is
+      ∙ ap (λ z. z ++ lines_told program mem (map A names) refs ++ live_line (length refs))
+      (fields_there A Good apart_good [] names (main_fields program) cells all
+      (values_good cells (good_at main_name)))
+      ∙ ap (λ z. field_lines [] names (main_fields program) cells ++ z ++ live_line (length refs))
+      (lines_are_told names all refs names rel)
+      ∙ ap (λ k. field_lines [] names (main_fields program) cells ++ object_lines program store names names
+      ++ live_line k) (same_length refs names rel ∙ sym live)

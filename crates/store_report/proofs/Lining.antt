@@ -1,5 +1,6 @@
 -- Lines one behind another.
-use Rattle.std.proofs.Common.{◌≡◌, ℕ, suc, ◌+◌, ◌≤◌, sym, ap, ◌∙◌, arith, List, [], ◌∷◌, ◌++◌, append_assoc, length, drop, Some, None}
+use Rattle.std.proofs.Common.{◌≡◌, ℕ, suc, ◌+◌, ◌≤◌, sym, ap, ◌∙◌, arith, List, [], ◌∷◌, ◌++◌, append_assoc, length}
+use Rattle.std.proofs.Common.{drop, Some, None}
 use Rattle.std.specs.Prelude.{codes, Result, Ok, Err, OnOk}
 use Rattle.rpp_tree.specs.declared.tree.Var.{Var}
 use Rattle.std.specs.Fmt.{decimal}
@@ -12,15 +13,20 @@ use Rattle.rpp_tree.specs.Tree.{Source}
 use Rattle.roopl_semantics.specs.Store.{Value, Store, object_at}
 use Rattle.roopl_semantics.specs.Report.{field_lines, object_lines, head_shown, cell_lines, number_shown}
 
-pub object_next : (program : Source) (store : Store) (names : List ℕ) (name : ℕ) (rest : List ℕ) → object_lines program store names (name ∷ rest) ≡ object_lines program store names (name ∷ []) ++ object_lines program store names rest
+pub object_next : (program : Source) (store : Store) (names : List ℕ) (name : ℕ) (rest : List ℕ)
+    → object_lines program store names (name ∷ rest) ≡ object_lines program store names (name ∷ [])
+    ++ object_lines program store names rest
 object_next program store names name rest =
     let object = object_at store name in
     ap (λ text. text ++ object_lines program store names rest)
-    (sym (append-nil (number_shown names name ++ codes " " ++ head_shown program object.head ++ codes " count " ++ decimal object.count ++ line_end ++ cell_lines program names object.head object.cells)))
+    (sym (append-nil (number_shown names name ++ codes " " ++ head_shown program object.head ++ codes " count "
+    ++ decimal object.count ++ line_end ++ cell_lines program names object.head object.cells)))
 
 -- the lines of the same fields
-pub lines_of : {E : Type 0} (r : Result (Unit {0}) E) (out old indent : List ℕ) (names : List ℕ) (vars same : List Var) (cells : List Value) → vars ≡ same
-    → OnOk r (out ≡ old ++ field_lines indent names vars cells) → OnOk r (out ≡ old ++ field_lines indent names same cells)
+pub lines_of : {E : Type 0} (r : Result (Unit {0}) E) (out old indent : List ℕ) (names : List ℕ) (vars same : List Var)
+    (cells : List Value) → vars ≡ same
+    → OnOk r (out ≡ old ++ field_lines indent names vars cells)
+    → OnOk r (out ≡ old ++ field_lines indent names same cells)
 lines_of (Ok u) out old indent names vars same cells e is = is ∙ ap (λ vs. old ++ field_lines indent names vs cells) e
 lines_of (Err why) out old indent names vars same cells e is = tt
 
@@ -30,7 +36,8 @@ module _ (program : Source) (store : Store) (names : List ℕ) where
   abbrev lines : List ℕ → List ℕ
   lines rest = object_lines program store names rest
 
-  pub lists_on : (at name : ℕ) (text new whole : List ℕ) → text ++ lines (drop at names) ≡ whole → slice_get names at ≡ Some name
+  pub lists_on : (at name : ℕ) (text new whole : List ℕ) → text ++ lines (drop at names) ≡ whole
+      → slice_get names at ≡ Some name
       → new ≡ text ++ lines (name ∷ []) → new ++ lines (drop (at + 1) names) ≡ whole
   lists_on at name text new whole w e n =
       let one : at + 1 ≡ suc at = omega arith in
@@ -41,8 +48,10 @@ module _ (program : Source) (store : Store) (names : List ℕ) where
       ∙ ap (λ rest. text ++ lines rest) (sym (drop_at at names name e).0)
       ∙ w
 
-  pub lists_out : (at : ℕ) (text whole : List ℕ) → text ++ lines (drop at names) ≡ whole → slice_get names at ≡ None → text ≡ whole
+  pub lists_out : (at : ℕ) (text whole : List ℕ) → text ++ lines (drop at names) ≡ whole → slice_get names at ≡ None
+      → text ≡ whole
   lists_out at text whole w e = sym (append-nil text) ∙ ap (λ rest. text ++ lines rest) (sym (drop_past at names e)) ∙ w
 
-  pub lists_all : (at size : ℕ) (text whole : List ℕ) → text ++ lines (drop at names) ≡ whole → size ≡ length names → size ≤ at → text ≡ whole
+  pub lists_all : (at size : ℕ) (text whole : List ℕ) → text ++ lines (drop at names) ≡ whole → size ≡ length names
+      → size ≤ at → text ≡ whole
   lists_all at size text whole w s h = lists_out at text whole w (slice_get_past names at (omega arith))

@@ -20,26 +20,36 @@ use Rattle.store_report.specs.Shown.{report_by}
 use Rattle.store_report.specs.Told.{report_told}
 use Rattle.store_report.proofs.Leading.{report_is}
 
-pub main_fields_are : (program : Source) → IsAccepted program → fields_in (table_of program) (table_of program).main.class ≡ main_fields program
-main_fields_are program accepted = each_below-get (fields_of program) (length program.classes) (main_of program).class [] (class_inside program accepted)
+pub main_fields_are : (program : Source) → IsAccepted program
+    → fields_in (table_of program) (table_of program).main.class ≡ main_fields program
+main_fields_are program accepted = each_below-get (fields_of program) (length program.classes) (main_of program).class
+    [] (class_inside program accepted)
 
-place_is : (program : Source) → IsAccepted program → (class : ℕ) → class ≤ length program.classes → table_in (table_of program) class ≡ table_at program class
-place_is program accepted zero h = ap (λ (vars : List Var). statics_at + 2 + length vars) (main_fields_are program accepted)
+place_is : (program : Source) → IsAccepted program → (class : ℕ) → class ≤ length program.classes
+    → table_in (table_of program) class ≡ table_at program class
+place_is program accepted zero h = ap (λ (vars : List Var). statics_at + 2 + length vars)
+    (main_fields_are program accepted)
 place_is program accepted (suc class) h =
     ap (λ k. k + (1 + length (slots_in (table_of program) class))) (place_is program accepted class (omega arith))
-    ∙ ap (λ (s : Slots). table_at program class + (1 + length s)) (each_below-get (slots_of program) (length program.classes) class [] (omega arith))
+    ∙ ap (λ (s : Slots). table_at program class + (1 + length s))
+    (each_below-get (slots_of program) (length program.classes) class [] (omega arith))
 
-places_are : (program : Source) → IsAccepted program → (n : ℕ) → n ≤ length program.classes → each_below (table_in (table_of program)) n ≡ each_below (table_at program) n
+places_are : (program : Source) → IsAccepted program → (n : ℕ) → n ≤ length program.classes
+    → each_below (table_in (table_of program)) n ≡ each_below (table_at program) n
 places_are program accepted zero h = Rattle.std.proofs.Common.refl
 places_are program accepted (suc n) h =
     ap (λ z. z ++ table_in (table_of program) n ∷ []) (places_are program accepted n (omega arith))
     ∙ ap (λ a. each_below (table_at program) n ++ a ∷ []) (place_is program accepted n (omega arith))
 
-pub tables_are : (program : Source) → IsAccepted program → each_below (table_in (table_of program)) (length (table_of program).names) ≡ table_addresses program
+pub tables_are : (program : Source) → IsAccepted program
+    → each_below (table_in (table_of program)) (length (table_of program).names) ≡ table_addresses program
 tables_are program accepted =
-    ap (each_below (table_in (table_of program))) (length-map program.classes name_of) ∙ places_are program accepted (length program.classes) (omega arith)
+    ap (each_below (table_in (table_of program))) (length-map program.classes name_of)
+    ∙ places_are program accepted (length program.classes) (omega arith)
 
-pub code_tells : (program : Source) → IsAccepted program → (tables : List ℕ) (fields : List Var) (cells : List ℕ) → tables ≡ table_addresses program → fields ≡ main_fields program → report_by program (table_of program) tables fields cells ≡ report_told program cells
+pub code_tells : (program : Source) → IsAccepted program → (tables : List ℕ) (fields : List Var) (cells : List ℕ)
+    → tables ≡ table_addresses program → fields ≡ main_fields program
+    → report_by program (table_of program) tables fields cells ≡ report_told program cells
 code_tells program accepted tables fields cells e f =
     let inside = class_inside program accepted in
     ap (λ ts. report_by program (table_of program) ts fields cells) e

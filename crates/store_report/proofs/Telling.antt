@@ -1,5 +1,6 @@
 -- Following references in memory meets what following names in the store meets.
-use Rattle.std.proofs.Common.{◌≡◌, ◌≢◌, ◌∙◌, sym, ap, subst, refl, ℕ, zero, suc, ◌+◌, ◌<◌, Bool, true, false, List, [], ◌∷◌, ◌++◌, map, length, Option, Some, None, arith, slice_get}
+use Rattle.std.proofs.Common.{◌≡◌, ◌≢◌, ◌∙◌, sym, ap, subst, refl, ℕ, zero, suc, ◌+◌, ◌<◌, Bool, true, false, List, []}
+use Rattle.std.proofs.Common.{◌∷◌, ◌++◌, map, length, Option, Some, None, arith, slice_get}
 use Rattle.std.proofs.lemmas.Bool.{eqb-true}
 use Rattle.std.specs.Prelude.{nat_eq, not, ◌&&◌, ◌||◌, replicate, if◌then◌else◌}
 use Rattle.std.specs.List.{list_any}
@@ -14,19 +15,21 @@ use Rattle.class_table.specs.Classes.{class_fields}
 use Rattle.class_table.specs.Table.{table_of, class_of}
 use Rattle.class_table.specs.Scope.{kind_of, class_kind, array_kind}
 use Rattle.buddy_book.specs.Place.{block_of}
-use Rattle.roopl_semantics.specs.Store.{Value, Word, Nil, Name, Head, OfClass, OfInts, OfObjects, Object, Store, main_name, object_named, object_at}
+use Rattle.roopl_semantics.specs.Store.{Value, Word, Nil, Name, Head, OfClass, OfInts, OfObjects, Object, Store}
+use Rattle.roopl_semantics.specs.Store.{main_name, object_named, object_at}
 use Rattle.class_table.specs.Classes.{main_of}
 use Rattle.roopl_semantics.specs.Agreement.{renamed}
 use Rattle.roopl_semantics.specs.Laws.{holders_among, holders}
 use Rattle.roopl_semantics.specs.Report.{newly_met}
 use Rattle.roopl_semantics.specs.Layout.{word_of, head_word, table_at}
-use Rattle.roopl_semantics.specs.Walk.{word_at, class_with_table, types_of, Reference, cell_types, types_at, is_new, newly_reached, reached_within}
+use Rattle.roopl_semantics.specs.Walk.{word_at, class_with_table, types_of, Reference, cell_types, types_at, is_new}
+use Rattle.roopl_semantics.specs.Walk.{newly_reached, reached_within}
 use Rattle.pisa_isa.specs.Loaded.{statics_at}
-use Rattle.sound_execution.specs.Sound.{head_of, head_named, head_fits, named_fits, fits, cell_kinds, is_live, AllFit}
-use Rattle.sound_execution.proofs.Stores.{same_number, other_number, differs, live_object}
+use Rattle.meaning_sound.specs.Sound.{head_of, head_named, head_fits, named_fits, fits, cell_kinds, is_live, AllFit}
+use Rattle.meaning_sound.proofs.Stores.{same_number, other_number, differs, live_object}
 use Rattle.class_table.proofs.FoundMethods.{own_range}
 use Rattle.class_table.specs.Inheritance.{kind_of_var}
-use Rattle.sound_execution.proofs.Makes.{class_is_inside}
+use Rattle.meaning_sound.proofs.Makes.{class_is_inside}
 use Rattle.store_report.specs.Told.{reference_told, value_told, values_told, head_told}
 use Rattle.store_report.proofs.TablePlaces.{class_told}
 
@@ -39,11 +42,17 @@ pub record IsGood (store : Store) (n : ℕ) : Type 0 where
 pub record Facts (program : Source) (store : Store) (base : ℕ) (blocks : List (ℕ × ℕ)) (mem : List ℕ) : Type 0 where
   pub apart : (n m : ℕ) → IsGood store n → IsGood store m → base + block_of blocks n ≡ base + block_of blocks m → n ≡ m
   pub positive : (n : ℕ) → IsGood store n → 0 < base + block_of blocks n
-  pub head : (n : ℕ) → IsGood store n → word_at mem (base + block_of blocks n) ≡ head_word program (object_at store n).head
+  pub head : (n : ℕ) → IsGood store n → word_at mem (base + block_of blocks n)
+      ≡ head_word program (object_at store n).head
   pub count : (n : ℕ) → IsGood store n → word_at mem (base + block_of blocks n + 1) ≡ (object_at store n).count
-  pub part : (n i : ℕ) → IsGood store n → i < length (object_at store n).cells → word_at mem (base + block_of blocks n + 2 + i) ≡ word_of base blocks (unwrap_or (slice_get (object_at store n).cells i) Nil)
-  pub main_part : (i : ℕ) → i < length (object_at store main_name).cells → word_at mem (statics_at + 2 + i) ≡ word_of base blocks (unwrap_or (slice_get (object_at store main_name).cells i) Nil)
-  pub typed : (n : ℕ) (o : Object) → object_named store n ≡ Some o → AllFit program store (cell_kinds program o.head) o.cells
+  pub part : (n i : ℕ) → IsGood store n → i < length (object_at store n).cells
+      → word_at mem (base + block_of blocks n + 2 + i) ≡ word_of base blocks
+      (unwrap_or (slice_get (object_at store n).cells i) Nil)
+  pub main_part : (i : ℕ) → i < length (object_at store main_name).cells
+      → word_at mem (statics_at + 2 + i) ≡ word_of base blocks
+      (unwrap_or (slice_get (object_at store main_name).cells i) Nil)
+  pub typed : (n : ℕ) (o : Object) → object_named store n ≡ Some o
+      → AllFit program store (cell_kinds program o.head) o.cells
   pub main_head : (object_at store main_name).head ≡ OfClass (main_of program).class
   pub main_live : is_live store main_name ≡ true
   pub held_good : (m : ℕ) → 0 < holders m store → IsGood store m
@@ -60,7 +69,8 @@ map_types : (f : VarType → Kind) (vars : List Var) → map f (types_of vars) �
 map_types f [] = refl
 map_types f (var ∷ vars) = ap (λ z. f var.kind ∷ z) (map_types f vars)
 
-module _ (program : Source) (store : Store) (base : ℕ) (blocks : List (ℕ × ℕ)) (mem : List ℕ) (facts : Facts program store base blocks mem) where
+module _ (program : Source) (store : Store) (base : ℕ) (blocks : List (ℕ × ℕ)) (mem : List ℕ)
+    (facts : Facts program store base blocks mem) where
   abbrev pub there : ℕ → ℕ
   there n = base + block_of blocks n
 
@@ -84,13 +94,17 @@ module _ (program : Source) (store : Store) (base : ℕ) (blocks : List (ℕ × 
   head_is_told type.Int head h = absurd (cc)
   head_is_told (type.Class name) head h = by (class_of (table_of program) name.text) refl head h
     where
-      by : (o : Option ℕ) → class_of (table_of program) name.text ≡ o → (head : Head) → head_fits program (class_kind o) head ≡ true → HeadTold (type.Class name) head
+      by : (o : Option ℕ) → class_of (table_of program) name.text ≡ o → (head : Head)
+          → head_fits program (class_kind o) head ≡ true → HeadTold (type.Class name) head
       by None e head q = absurd (cc)
       by (Some c) e (OfClass own) q =
           let inside = own_range program own c q (class_is_inside program name.text c e) in
-          let tells : unwrap_or (class_with_table program (table_at program own)) 0 ≡ own = ap (λ (o : Option ℕ). unwrap_or o 0) (class_told program own inside) in
+          let tells : unwrap_or (class_with_table program (table_at program own)) 0 ≡ own =
+          ap (λ (o : Option ℕ). unwrap_or o 0) (class_told program own inside) in
           record {
-            kinds = map_types kind_told (class_fields program (unwrap_or (class_with_table program (table_at program own)) 0)) ∙ ap (λ k. map (kind_of_var program) (class_fields program k)) tells;
+            kinds = map_types kind_told (class_fields program
+                (unwrap_or (class_with_table program (table_at program own)) 0))
+                ∙ ap (λ k. map (kind_of_var program) (class_fields program k)) tells;
             told = ap OfClass tells;
           }
       by (Some c) e (OfInts n) q = absurd (cc)
@@ -100,14 +114,16 @@ module _ (program : Source) (store : Store) (base : ℕ) (blocks : List (ℕ × 
   head_is_told type.IntArray (OfObjects c n) h = absurd (cc)
   head_is_told (type.ClassArray name) head h = by (class_of (table_of program) name.text) refl head h
     where
-      by : (o : Option ℕ) → class_of (table_of program) name.text ≡ o → (head : Head) → head_fits program (array_kind o) head ≡ true → HeadTold (type.ClassArray name) head
+      by : (o : Option ℕ) → class_of (table_of program) name.text ≡ o → (head : Head)
+          → head_fits program (array_kind o) head ≡ true → HeadTold (type.ClassArray name) head
       by None e head q = absurd (cc)
       by (Some c) e (OfClass own) q = absurd (cc)
       by (Some c) e (OfInts n) q = absurd (cc)
       by (Some c) e (OfObjects d n) q =
           let same = eqb-true d c q in
           record {
-            kinds = map_replicate kind_told n (type.Class name) ∙ ap (λ o. replicate n (class_kind o)) e ∙ ap (λ k. replicate n (kind.Class k)) (sym same);
+            kinds = map_replicate kind_told n (type.Class name) ∙ ap (λ o. replicate n (class_kind o)) e
+                ∙ ap (λ k. replicate n (kind.Class k)) (sym same);
             told = ap (λ (o : Option ℕ). OfObjects (unwrap_or o 0) n) e ∙ ap (λ k. OfObjects k n) (sym same);
           }
 
@@ -123,18 +139,21 @@ module _ (program : Source) (store : Store) (base : ℕ) (blocks : List (ℕ × 
   Rel (r ∷ references) [] = ⊥
   Rel (r ∷ references) (n ∷ names) = Match r n × Rel references names
 
-  pub rel_append : (a : List Reference) (xs : List ℕ) (b : List Reference) (ys : List ℕ) → Rel a xs → Rel b ys → Rel (a ++ b) (xs ++ ys)
+  pub rel_append : (a : List Reference) (xs : List ℕ) (b : List Reference) (ys : List ℕ) → Rel a xs → Rel b ys
+      → Rel (a ++ b) (xs ++ ys)
   rel_append [] [] b ys h k = k
   rel_append [] (n ∷ xs) b ys h k = absurd h
   rel_append (r ∷ a) [] b ys h k = absurd h
   rel_append (r ∷ a) (n ∷ xs) b ys h k = (h.0, rel_append a xs b ys h.1 k)
 
-  met_told : (met : List Reference) (names : List ℕ) (n : ℕ) → Rel met names → IsGood store n → list_any (λ (r : Reference). nat_eq r.at (there n)) met ≡ list_any (nat_eq n) names
+  met_told : (met : List Reference) (names : List ℕ) (n : ℕ) → Rel met names → IsGood store n
+      → list_any (λ (r : Reference). nat_eq r.at (there n)) met ≡ list_any (nat_eq n) names
   met_told [] [] n h g = refl
   met_told [] (m ∷ names) n h g = absurd h
   met_told (r ∷ met) [] n h g = absurd h
   met_told (r ∷ met) (m ∷ names) n h g =
-      ap (λ b. b || list_any (λ (r : Reference). nat_eq r.at (there n)) met) (ap (λ a. nat_eq a (there n)) h.0.at ∙ told_apart m n h.0.good g ∙ turned m n)
+      ap (λ b. b || list_any (λ (r : Reference). nat_eq r.at (there n)) met)
+      (ap (λ a. nat_eq a (there n)) h.0.at ∙ told_apart m n h.0.good g ∙ turned m n)
       ∙ ap (λ b. nat_eq n m || b) (met_told met names n h.1 g)
     where
       turned : (a b : ℕ) → nat_eq a b ≡ nat_eq b a
@@ -151,15 +170,22 @@ module _ (program : Source) (store : Store) (base : ℕ) (blocks : List (ℕ × 
   Tells address [] [] = Unit {0}
   Tells address [] (v ∷ vs) = ⊥
   Tells address (t ∷ ts) [] = ⊥
-  Tells address (t ∷ ts) (v ∷ vs) = (word_at mem address ≡ word_of base blocks v) × (fits program store v (kind_told t) ≡ true) × Tells (address + 1) ts vs
+  Tells address (t ∷ ts) (v ∷ vs) = (word_at mem address ≡ word_of base blocks v)
+      × (fits program store v (kind_told t) ≡ true) × Tells (address + 1) ts vs
 
-  pub tells_from : (address : ℕ) (ts : List VarType) (vs : List Value) → AllFit program store (map kind_told ts) vs → ((i : ℕ) → i < length vs → word_at mem (address + i) ≡ word_of base blocks (unwrap_or (slice_get vs i) Nil)) → Tells address ts vs
+  pub tells_from : (address : ℕ) (ts : List VarType) (vs : List Value) → AllFit program store (map kind_told ts) vs
+      → ((i : ℕ) → i < length vs → word_at mem (address + i) ≡ word_of base blocks (unwrap_or (slice_get vs i) Nil))
+      → Tells address ts vs
   tells_from address [] [] all h = tt
   tells_from address [] (v ∷ vs) all h = absurd all
   tells_from address (t ∷ ts) [] all h = absurd all
   tells_from address (t ∷ ts) (v ∷ vs) all h =
-      let z : address + 0 ≡ address = omega arith in
-      (ap (word_at mem) (sym z) ∙ h 0 (omega arith), all.0, tells_from (address + 1) ts vs all.1 (λ i l. let e : address + 1 + i ≡ address + suc i = omega arith in ap (word_at mem) e ∙ h (suc i) (omega arith)))
+      let z : address + 0 ≡ address = omega arith in (
+        ap (word_at mem) (sym z) ∙ h 0 (omega arith),
+        all.0,
+        tells_from (address + 1) ts vs all.1 (λ i l. let e : address + 1 + i ≡ address + suc i = omega arith in
+            ap (word_at mem) e ∙ h (suc i) (omega arith)),
+      )
 
   -- values whose names are good
   abbrev pub HoldGood : List Value → Type 0
@@ -169,17 +195,20 @@ module _ (program : Source) (store : Store) (base : ℕ) (blocks : List (ℕ × 
   one_name n vs = let a = ap (λ b. (if b then 1 else 0) + holders_among n vs) (same_number n) in omega arith
 
   -- what the words tell is what the values are, by addresses
-  pub values_are_told : (address : ℕ) (ts : List VarType) (vs : List Value) → Tells address ts vs → HoldGood vs → values_told mem address ts ≡ map (renamed there) vs
+  pub values_are_told : (address : ℕ) (ts : List VarType) (vs : List Value) → Tells address ts vs → HoldGood vs
+      → values_told mem address ts ≡ map (renamed there) vs
   values_are_told address [] [] h g = refl
   values_are_told address [] (v ∷ vs) h g = absurd h
   values_are_told address (t ∷ ts) [] h g = absurd h
   values_are_told address (t ∷ ts) (v ∷ vs) h g =
       ap (λ w. value_told t w ∷ values_told mem (address + 1) ts) h.0
-      ∙ ap (λ z. z ∷ values_told mem (address + 1) ts) (one t v h.1 (λ n e. g n (subst (λ x. 0 < holders_among n (x ∷ vs)) (sym e) (one_name n vs))))
+      ∙ ap (λ z. z ∷ values_told mem (address + 1) ts) (one t v h.1
+      (λ n e. g n (subst (λ x. 0 < holders_among n (x ∷ vs)) (sym e) (one_name n vs))))
       ∙ ap (λ z. renamed there v ∷ z) (values_are_told (address + 1) ts vs h.2 (λ m p. g m (omega arith)))
     where
       named : (n : ℕ) → IsGood store n → reference_told (there n) ≡ Name (there n)
-      named n good = ap (λ b. if b then Nil else Name (there n)) (other_number (there n) 0 (λ e. let p = facts.positive n good in omega arith))
+      named n good = ap (λ b. if b then Nil else Name (there n))
+          (other_number (there n) 0 (λ e. let p = facts.positive n good in omega arith))
 
       no_int : (o : Option Head) → named_fits program kind.Int o ≡ true → ⊥
       no_int None q = cc
@@ -193,7 +222,8 @@ module _ (program : Source) (store : Store) (base : ℕ) (blocks : List (ℕ × 
       array_no_word None w q = cc
       array_no_word (Some c) w q = cc
 
-      one : (t : VarType) (v : Value) → fits program store v (kind_told t) ≡ true → ((n : ℕ) → v ≡ Name n → IsGood store n) → value_told t (word_of base blocks v) ≡ renamed there v
+      one : (t : VarType) (v : Value) → fits program store v (kind_told t) ≡ true
+          → ((n : ℕ) → v ≡ Name n → IsGood store n) → value_told t (word_of base blocks v) ≡ renamed there v
       one type.Int (Word w) f good = refl
       one type.Int Nil f good = absurd (cc)
       one type.Int (Name n) f good = absurd (no_int (head_named store n) f)
@@ -208,14 +238,17 @@ module _ (program : Source) (store : Store) (base : ℕ) (blocks : List (ℕ × 
       one (type.ClassArray name) (Name n) f good = named n (good n refl)
 
   -- the head of what a typed name names
-  fit_head : (n : ℕ) (k : Kind) → IsGood store n → named_fits program k (head_named store n) ≡ true → head_fits program k (object_at store n).head ≡ true
+  fit_head : (n : ℕ) (k : Kind) → IsGood store n → named_fits program k (head_named store n) ≡ true
+      → head_fits program k (object_at store n).head ≡ true
   fit_head n k g f = sym (ap (named_fits program k) (ap (option_map head_of) (live_object store n g.live))) ∙ f
 
-  pub newly_told : (met : List Reference) (names : List ℕ) (address : ℕ) (ts : List VarType) (vs : List Value) → Rel met names → Tells address ts vs → HoldGood vs → Rel (newly_reached mem met address ts) (newly_met names vs)
+  pub newly_told : (met : List Reference) (names : List ℕ) (address : ℕ) (ts : List VarType) (vs : List Value)
+      → Rel met names → Tells address ts vs → HoldGood vs → Rel (newly_reached mem met address ts) (newly_met names vs)
   newly_told met names address [] [] rel h g = tt
   newly_told met names address [] (v ∷ vs) rel h g = absurd h
   newly_told met names address (t ∷ ts) [] rel h g = absurd h
-  newly_told met names address (t ∷ ts) (Word w ∷ vs) rel h g = by t h.1 (newly_told met names (address + 1) ts vs rel h.2 (λ m p. g m (omega arith)))
+  newly_told met names address (t ∷ ts) (Word w ∷ vs) rel h g =
+      by t h.1 (newly_told met names (address + 1) ts vs rel h.2 (λ m p. g m (omega arith)))
     where
       class_no_word : (o : Option ℕ) → fits program store (Word w) (class_kind o) ≡ true → ⊥
       class_no_word None q = cc
@@ -225,17 +258,23 @@ module _ (program : Source) (store : Store) (base : ℕ) (blocks : List (ℕ × 
       array_no_word None q = cc
       array_no_word (Some c) q = cc
 
-      by : (t : VarType) → fits program store (Word w) (kind_told t) ≡ true → Rel (newly_reached mem met (address + 1) ts) (newly_met names vs) → Rel (newly_reached mem met address (t ∷ ts)) (newly_met names vs)
+      by : (t : VarType) → fits program store (Word w) (kind_told t) ≡ true
+          → Rel (newly_reached mem met (address + 1) ts) (newly_met names vs)
+          → Rel (newly_reached mem met address (t ∷ ts)) (newly_met names vs)
       by type.Int f rest = rest
       by (type.Class name) f rest = absurd (class_no_word (class_of (table_of program) name.text) f)
       by type.IntArray f rest = absurd (cc)
       by (type.ClassArray name) f rest = absurd (array_no_word (class_of (table_of program) name.text) f)
   newly_told met names address (t ∷ ts) (Nil ∷ vs) rel h g =
-      subst (λ b. Rel (if b then record { at = word_at mem address; type = t } ∷ newly_reached mem (record { at = word_at mem address; type = t } ∷ met) (address + 1) ts else newly_reached mem met (address + 1) ts) (newly_met names vs)) (sym (old t (word_at mem address) h.0))
+      subst (λ b. Rel (if b then record { at = word_at mem address; type = t }
+      ∷ newly_reached mem (record { at = word_at mem address; type = t } ∷ met) (address + 1) ts else
+      newly_reached mem met (address + 1) ts) (newly_met names vs)) (sym (old t (word_at mem address) h.0))
       (newly_told met names (address + 1) ts vs rel h.2 (λ m p. g m (omega arith)))
     where
       old : (t : VarType) (w : ℕ) → w ≡ 0 → is_new met t w ≡ false
-      old t w e = ap (λ z. Rattle.roopl_semantics.specs.Walk.is_reference_type t && not (nat_eq z 0) && not (list_any (λ (r : Reference). nat_eq r.at w) met)) e ∙ by (Rattle.roopl_semantics.specs.Walk.is_reference_type t)
+      old t w e = ap (λ z. Rattle.roopl_semantics.specs.Walk.is_reference_type t && not (nat_eq z 0) && not
+          (list_any (λ (r : Reference). nat_eq r.at w) met)) e
+          ∙ by (Rattle.roopl_semantics.specs.Walk.is_reference_type t)
         where
           by : (a : Bool) → (a && false && not (list_any (λ (r : Reference). nat_eq r.at w) met)) ≡ false
           by true = refl
@@ -243,28 +282,39 @@ module _ (program : Source) (store : Store) (base : ℕ) (blocks : List (ℕ × 
   newly_told met names address (t ∷ ts) (Name n ∷ vs) rel h g =
       let good = g n (one_name n vs) in
       let r : Reference = record { at = word_at mem address; type = t } in
-      let new = newly_told (r ∷ met) (n ∷ names) (address + 1) ts vs (record { at = h.0; good = good; fit = fit_head n (kind_told t) good h.1 }, rel) h.2 (λ m p. g m (omega arith)) in
+      let new = newly_told (r ∷ met) (n ∷ names) (address + 1) ts vs
+      (record { at = h.0; good = good; fit = fit_head n (kind_told t) good h.1 }, rel) h.2
+      (λ m p. g m (omega arith)) in
       let old = newly_told met names (address + 1) ts vs rel h.2 (λ m p. g m (omega arith)) in
-      subst (λ b. Rel (if b then r ∷ newly_reached mem (r ∷ met) (address + 1) ts else newly_reached mem met (address + 1) ts) (newly_met names (Name n ∷ vs))) (sym (is_new_is t (word_at mem address) h.0 good h.1))
-      (by (list_any (nat_eq n) names) (record { at = h.0; good = good; fit = fit_head n (kind_told t) good h.1 }) new old)
+      subst (λ b. Rel (if b then r ∷ newly_reached mem (r ∷ met) (address + 1) ts else newly_reached mem met
+      (address + 1) ts) (newly_met names (Name n ∷ vs))) (sym (is_new_is t (word_at mem address) h.0 good h.1))
+      (by (list_any (nat_eq n) names) (record { at = h.0; good = good; fit = fit_head n (kind_told t) good h.1 }) new
+      old)
     where
       no_int : (o : Option Head) → named_fits program kind.Int o ≡ true → ⊥
       no_int None q = cc
       no_int (Some hd) q = cc
 
-      new_word : (w : ℕ) → w ≡ there n → IsGood store n → (not (nat_eq w 0) && not (list_any (λ (r : Reference). nat_eq r.at w) met)) ≡ not (list_any (nat_eq n) names)
+      new_word : (w : ℕ) → w ≡ there n → IsGood store n → (not (nat_eq w 0) && not
+          (list_any (λ (r : Reference). nat_eq r.at w) met)) ≡ not (list_any (nat_eq n) names)
       new_word w e good =
           ap (λ z. not (nat_eq z 0) && not (list_any (λ (r : Reference). nat_eq r.at z) met)) e
-          ∙ ap (λ b. not b && not (list_any (λ (r : Reference). nat_eq r.at (there n)) met)) (other_number (there n) 0 (λ q. let p = facts.positive n good in omega arith))
+          ∙ ap (λ b. not b && not (list_any (λ (r : Reference). nat_eq r.at (there n)) met))
+          (other_number (there n) 0 (λ q. let p = facts.positive n good in omega arith))
           ∙ ap not (met_told met names n rel good)
 
-      is_new_is : (t : VarType) (w : ℕ) → w ≡ there n → IsGood store n → fits program store (Name n) (kind_told t) ≡ true → is_new met t w ≡ not (list_any (nat_eq n) names)
+      is_new_is : (t : VarType) (w : ℕ) → w ≡ there n → IsGood store n
+          → fits program store (Name n) (kind_told t) ≡ true → is_new met t w ≡ not (list_any (nat_eq n) names)
       is_new_is type.Int w e good f = absurd (no_int (head_named store n) f)
       is_new_is (type.Class name) w e good f = new_word w e good
       is_new_is type.IntArray w e good f = new_word w e good
       is_new_is (type.ClassArray name) w e good f = new_word w e good
 
-      by : (b : Bool) → Match (record { at = word_at mem address; type = t }) n → Rel (newly_reached mem (record { at = word_at mem address; type = t } ∷ met) (address + 1) ts) (newly_met (n ∷ names) vs) → Rel (newly_reached mem met (address + 1) ts) (newly_met names vs)
-          → Rel (if not b then record { at = word_at mem address; type = t } ∷ newly_reached mem (record { at = word_at mem address; type = t } ∷ met) (address + 1) ts else newly_reached mem met (address + 1) ts) (if b then newly_met names vs else n ∷ newly_met (n ∷ names) vs)
+      by : (b : Bool) → Match (record { at = word_at mem address; type = t }) n
+          → Rel (newly_reached mem (record { at = word_at mem address; type = t } ∷ met) (address + 1) ts)
+          (newly_met (n ∷ names) vs) → Rel (newly_reached mem met (address + 1) ts) (newly_met names vs)
+          → Rel (if not b then record { at = word_at mem address; type = t }
+          ∷ newly_reached mem (record { at = word_at mem address; type = t } ∷ met) (address + 1) ts else
+          newly_reached mem met (address + 1) ts) (if b then newly_met names vs else n ∷ newly_met (n ∷ names) vs)
       by true m new old = old
       by false m new old = (m, new)

@@ -1,6 +1,9 @@
--- The walk of a memory as the code makes it: a list of what is met, each address with what it leads to,
+-- The walk of a memory as the code makes it: a list of what is met, each address with what it leads
+-- to,
 -- that grows at its end.
-use Rattle.std.specs.Prelude.{ℕ, zero, suc, ◌+◌, Bool, true, false, not, ◌&&◌, nat_eq, is_none, position, List, [], ◌∷◌, map, length, replicate, Option, Some, None, slice_get, if◌then◌else◌}
+use Rattle.std.specs.Prelude.{ℕ, zero, suc, ◌+◌, Bool, true, false, not, ◌&&◌, nat_eq, is_none}
+use Rattle.std.specs.Prelude.{position, List, [], ◌∷◌, map, length, replicate, Option, Some, None}
+use Rattle.std.specs.Prelude.{slice_get, if◌then◌else◌}
 use Rattle.std.specs.Option.{unwrap_or}
 use Rattle.indexmap.specs.IndexMap.{insert_entry}
 use Rattle.rpp_tree.specs.declared.tree.Var.{Var}
@@ -9,6 +12,7 @@ use Rattle.rpp_tree.specs.declared.tree.VarType.TheVariants as type
 use Rattle.class_table.specs.Table.{Table, class_of, fields_in}
 use Rattle.roopl_semantics.specs.Walk.{word_at}
 use Rattle.pisa_isa.specs.Loaded.{statics_at}
+use Rattle.code_conventions.specs.declared.memory.TheConstants.{HEADER_WORDS}
 use Rattle.store_report.specs.declared.leads.Lead.{Lead}
 use Rattle.store_report.specs.declared.leads.Lead.TheVariants as lead
 
@@ -58,13 +62,14 @@ class_at_table tables word = unwrap_or (position (nat_eq word) tables) 0
 -- what the cells behind a head word lead to; ints lead nowhere
 abbrev pub leads_at : Table → List ℕ → Lead → ℕ → List Lead
 leads_at table tables lead.Int head = []
-leads_at table tables lead.Object head = leads_of table (fields_in table (class_at_table tables head))
+leads_at table tables lead.Object head = leads_of table
+    (fields_in table (class_at_table tables head))
 leads_at table tables lead.Ints head = []
 leads_at table tables (lead.Objects class) head = replicate head lead.Object
 
 abbrev pub meets_behind : Table → List ℕ → List ℕ → Met → ℕ × Lead → Met
 meets_behind table tables cells met entry =
-    meets cells met (entry.0 + 2) (leads_at table tables entry.1 (word_at cells entry.0))
+    meets cells met (entry.0 + HEADER_WORDS) (leads_at table tables entry.1 (word_at cells entry.0))
 
 -- goes on with what was met at this place
 abbrev pub goes_on : Option (ℕ × Lead) → Met → (ℕ × Lead → Met) → Met
@@ -81,4 +86,5 @@ walks (suc steps) table tables cells met next =
 -- what is met from the main object's fields on
 abbrev pub met_all : Table → List ℕ → List Var → List ℕ → Met
 met_all table tables fields cells =
-    walks (length cells) table tables cells (meets cells [] (statics_at + 2) (leads_of table fields)) 0
+    walks (length cells) table tables cells (meets cells [] (statics_at + HEADER_WORDS)
+    (leads_of table fields)) 0

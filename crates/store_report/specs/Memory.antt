@@ -22,10 +22,11 @@ pub record IsMemoryOf (program : Source) (cells : List ℕ) (end : State) : Type
   pub laid : cells ≡ layout program limits image.statics end.store end.log
 
 -- these cells are the memory in which a run of the program on this input begins
-pub record IsFirstMemoryOf (program : Source) (cells : List ℕ) (input : List FieldWord) : Type 0 where
-  pub image : Segments
-  pub limits : Limits
-  pub statics : HasStatics program image
-  pub in_range : IsLimits limits
-  pub valid : IsValid program input
-  pub loads : cells ≡ loaded image.statics limits input
+pub record IsFirstMemoryOf (program : Source) (cells : List ℕ) (input : List FieldWord) : Type 0
+  where
+    pub image : Segments
+    pub limits : Limits
+    pub statics : HasStatics program image
+    pub in_range : IsLimits limits
+    pub valid : IsValid program input
+    pub loads : cells ≡ loaded image.statics limits input

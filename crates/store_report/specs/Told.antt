@@ -1,6 +1,7 @@
 -- What the cells of a memory tell of the objects that are reached, and the report of them. Names
 -- are addresses here.
-use Rattle.std.specs.Prelude.{ℕ, ◌+◌, nat_eq, List, [], ◌∷◌, ◌++◌, length, map, codes, if◌then◌else◌}
+use Rattle.std.specs.Prelude.{ℕ, ◌+◌, nat_eq, List, [], ◌∷◌, ◌++◌, length, map, codes}
+use Rattle.std.specs.Prelude.{if◌then◌else◌}
 use Rattle.std.specs.Option.{unwrap_or}
 use Rattle.std.specs.Fmt.{decimal}
 use Rattle.rpp_words.specs.Texts.{line_end}
@@ -8,11 +9,15 @@ use Rattle.rpp_tree.specs.declared.tree.VarType.{VarType}
 use Rattle.rpp_tree.specs.declared.tree.VarType.TheVariants as kind
 use Rattle.rpp_tree.specs.Tree.{Source}
 use Rattle.class_table.specs.Classes.{class_number}
-use Rattle.roopl_semantics.specs.Store.{Value, Word, Nil, Name, Head, OfClass, OfInts, OfObjects, Object}
+use Rattle.roopl_semantics.specs.Store.{Value, Word, Nil, Name, Head, OfClass, OfInts, OfObjects}
+use Rattle.roopl_semantics.specs.Store.{Object}
 use Rattle.roopl_semantics.specs.Source.{main_fields}
-use Rattle.roopl_semantics.specs.Report.{Text, number_shown, field_lines, head_shown, cell_lines, live_line}
-use Rattle.roopl_semantics.specs.Walk.{word_at, class_with_table, types_of, Reference, types_at, reached}
+use Rattle.roopl_semantics.specs.Report.{Text, number_shown, field_lines, head_shown, cell_lines}
+use Rattle.roopl_semantics.specs.Report.{live_line}
+use Rattle.roopl_semantics.specs.Walk.{word_at, class_with_table, types_of, Reference, types_at}
+use Rattle.roopl_semantics.specs.Walk.{reached}
 use Rattle.pisa_isa.specs.Loaded.{statics_at}
+use Rattle.code_conventions.specs.declared.memory.TheConstants.{HEADER_WORDS}
 
 -- what a word tells in a cell of a reference type: nil, or the address of a block
 abbrev pub reference_told : ℕ → Value
@@ -45,7 +50,7 @@ abbrev pub object_told : Source → List ℕ → Reference → Object
 object_told program cells reference = record {
   head = head_told program reference.type (word_at cells reference.at);
   count = word_at cells (reference.at + 1);
-  cells = values_told cells (reference.at + 2) (types_at program cells reference);
+  cells = values_told cells (reference.at + HEADER_WORDS) (types_at program cells reference);
 }
 
 abbrev pub address_of : Reference → ℕ
@@ -67,6 +72,6 @@ report_told program cells =
     let references = reached program cells in
     let addresses = map address_of references in
     field_lines [] addresses (main_fields program)
-    (values_told cells (statics_at + 2) (types_of (main_fields program)))
+    (values_told cells (statics_at + HEADER_WORDS) (types_of (main_fields program)))
     ++ lines_told program cells addresses references
     ++ live_line (length references)

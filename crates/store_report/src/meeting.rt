@@ -3,12 +3,12 @@ ghost use Rattle.std.specs.Prelude.{◌≡◌, ◌<◌, ◌^◌, ◌++◌, [], �
 ghost use Rattle.std.specs.List.{position};
 ghost use Rattle.roopl_semantics.specs.Store.{object_at};
 ghost use Rattle.roopl_semantics.specs.Report.{newly_met, numbered as numbered_in};
-ghost use Rattle.store_table.specs.ValueView.{value_of, values_of};
+ghost use Rattle.source_store.specs.ValueView.{value_of, values_of};
 
 use indexmap::IndexSet;
 use rpp_words::NoMemory;
+use source_store::{Heap, Value};
 use std::alloc::Global;
-use store_table::{Heap, Value};
 
 /// The place of a name among these.
 pub fn place_of(names: &IndexSet<u32>, name: u32) -> Option<usize>

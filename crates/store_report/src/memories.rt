@@ -9,9 +9,8 @@ ghost use Rattle.class_table.specs.Members.{class_at};
 ghost use Rattle.class_table.specs.Table.{fields_in};
 ghost use Rattle.roopl_semantics.specs.Store.{State};
 ghost use Rattle.roopl_semantics.specs.Source.{starting};
-ghost use Rattle.roopl_semantics.specs.Report.{field_lines, element_lines, value_shown, number_shown, head_shown};
-ghost use Rattle.roopl_semantics.specs.Walk.{run_report};
-ghost use Rattle.roopl_semantics.specs.declared.main_object.TheConstants.{FIRST_FIELD};
+ghost use Rattle.roopl_semantics.specs.Report.{report as report_of, field_lines, element_lines, value_shown, number_shown, head_shown};
+ghost use Rattle.code_conventions.specs.declared.memory.TheConstants.{FIRST_FIELD};
 ghost use Rattle.store_report.specs.Ascii.{HasAsciiName, AreAscii};
 ghost use Rattle.store_report.specs.Leads.{leads_of};
 ghost use Rattle.store_report.specs.Memory.{IsMemoryOf, IsFirstMemoryOf};
@@ -23,9 +22,9 @@ use crate::lines::{add_bytes, add_live, add_name, add_word, class_name};
 use crate::tables::table_addresses;
 use crate::walking::{Memory, met_all, word_at};
 use class_table::Checked;
+use code_conventions::memory::FIRST_FIELD;
 use indexmap::IndexMap;
 use pisa_machine::Machine;
-use roopl_semantics::FIRST_FIELD;
 use rpp_tree::text::Text;
 use rpp_tree::tree::{Program, Var};
 use rpp_words::NoMemory;
@@ -44,13 +43,13 @@ pub fn report(alloc: Global, machine: &Machine, checked: &Checked) -> Result<Str
     // Of a memory where a run ended it is the report of the store that the source gives.
     ensures last { IfOk result (λ text. (end : State)
         → IsMemoryOf (source_of checked.now) machine.now.state.cells end
-        → string_bytes text ≡ run_report (source_of checked.now) end.store machine.now.state.cells) }
+        → string_bytes text ≡ report_of (source_of checked.now) end.store) }
 
     // Of a memory where a run begins it is the report of the store that the source begins with.
     ensures first { IfOk result (λ text. (input : List FieldWord)
         → IsFirstMemoryOf (source_of checked.now) machine.now.state.cells input
-        → string_bytes text ≡ run_report (source_of checked.now)
-        (starting (source_of checked.now) input).store machine.now.state.cells) }
+        → string_bytes text ≡ report_of (source_of checked.now)
+        (starting (source_of checked.now) input).store) }
 {
     let table = checked.table();
     let program = checked.program();

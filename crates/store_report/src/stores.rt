@@ -12,7 +12,7 @@ ghost use Rattle.class_table.specs.Classes.{class_fields, main_of};
 ghost use Rattle.class_table.specs.Program.{IsAccepted};
 ghost use Rattle.roopl_semantics.specs.Store.{object_at, main_name};
 ghost use Rattle.roopl_semantics.specs.Report.{report as report_in, value_shown, number_shown, field_lines, element_lines, head_shown, cell_lines, object_lines, live_line};
-ghost use Rattle.store_table.specs.ValueView.{value_of, values_of, head_of};
+ghost use Rattle.source_store.specs.ValueView.{value_of, values_of, head_of};
 ghost use Rattle.store_report.specs.Ascii.{HasAsciiName};
 
 use crate::lines::{add_bytes, add_live, add_name, add_word, class_name};
@@ -22,8 +22,8 @@ use indexmap::IndexSet;
 use rpp_tree::tree::{Program, Var};
 use rpp_words::NoMemory;
 use source_meaning::Store;
+use source_store::{Head, Heap, Value};
 use std::alloc::{AllocError, Global};
-use store_table::{Head, Heap, Value};
 
 /// The report of a store of the program: a line for each field of the main object, the lines of
 /// each object and array that is reached from it, and the number of those that live.

@@ -4,7 +4,7 @@ ghost use Rattle.class_table.specs.First.{each_below};
 ghost use Rattle.store_report.specs.Tables.{table_in};
 
 use class_table::ClassTable;
-use roopl_semantics::FIRST_FIELD;
+use code_conventions::memory::FIRST_FIELD;
 use std::alloc::{AllocError, Global};
 
 /// The addresses of the classes' tables, in the order of the classes.

@@ -1,15 +1,15 @@
 // The walk of a memory: what is met from the main object on.
 ghost use Rattle.std.specs.Prelude.{◌≡◌, ◌≤◌, ◌<◌, ◌+◌, ◌^◌, length, replicate, OnOk, IfOk};
 ghost use Rattle.roopl_semantics.specs.Walk.{word_at as word_of_cells};
-ghost use Rattle.roopl_semantics.specs.declared.main_object.TheConstants.{FIRST_FIELD};
+ghost use Rattle.code_conventions.specs.declared.memory.TheConstants.{FIRST_FIELD};
 ghost use Rattle.store_report.specs.declared.leads.Lead.TheVariants as lead;
 ghost use Rattle.store_report.specs.Leads.{meets_one, meets, leads_of, meets_behind, walks, met_all};
 
 use crate::leads::{Lead, class_at_table, lead_of};
 use class_table::ClassTable;
+use code_conventions::memory::FIRST_FIELD;
 use indexmap::IndexMap;
 use pisa_machine::Machine;
-use roopl_semantics::FIRST_FIELD;
 use rpp_tree::tree::{Program, Var};
 use rpp_words::NoMemory;
 use std::alloc::Global;

@@ -11,17 +11,20 @@ use Rattle.rpp_tree.specs.Parts.{source_names}
 use Rattle.rpp_tree.specs.Tree.{Source}
 use Rattle.class_table.specs.Program.{IsAccepted}
 use Rattle.stmt_inverter.specs.Inverse.{inverse_program}
-use Rattle.inverse_law.proofs.SameTypes.{inverse_accepted}
+use Rattle.meaning_inverse.proofs.SameTypes.{inverse_accepted}
 
 name_byte_ascii : (b : ℕ) → is_name_byte b ≡ true → b < 128
 name_byte_ascii b is = grind (arith, nat_tests)
 
 name_ascii : (name : Ident) → IsName name.text → IsAscii name.text
-name_ascii name named = IsAscii-from_all name.text (All-weaker (λ b. is_name_byte b ≡ true) (λ b. b < 128) name_byte_ascii name.text named.name_bytes)
+name_ascii name named = IsAscii-from_all name.text (All-weaker (λ b. is_name_byte b ≡ true) (λ b. b < 128)
+    name_byte_ascii name.text named.name_bytes)
 
 -- the names of what is the inverse of an accepted program
-pub inverse_names : (program inverse : Source) → inverse ≡ inverse_program program → IsAccepted program → All (λ (name : Ident). IsAscii name.text) (source_names inverse)
+pub inverse_names : (program inverse : Source) → inverse ≡ inverse_program program → IsAccepted program
+    → All (λ (name : Ident). IsAscii name.text) (source_names inverse)
 inverse_names program inverse is accepted =
     subst (λ tree. All (λ (name : Ident). IsAscii name.text) (source_names tree)) (sym is)
-    (All-weaker (λ (name : Ident). IsName name.text) (λ (name : Ident). IsAscii name.text) name_ascii (source_names (inverse_program program))
+    (All-weaker (λ (name : Ident). IsName name.text) (λ (name : Ident). IsAscii name.text) name_ascii
+    (source_names (inverse_program program))
     (inverse_accepted program accepted).limits.names)

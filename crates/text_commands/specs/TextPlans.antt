@@ -1,5 +1,6 @@
 -- The plans of the commands that write source texts.
 use Rattle.std.specs.Prelude.{◌≡◌, ℕ, List, ◌++◌, length, Result, Ok, Err, codes}
+use Rattle.std.specs.declared.option.Option.{Option}
 use Rattle.std.specs.Fmt.{decimal}
 use Rattle.rpp_words.specs.Texts.{line_end}
 use Rattle.rpp_tree.specs.declared.limits.TheConstants.{MOST_BYTES}
@@ -10,16 +11,17 @@ use Rattle.class_table.specs.Refusal.{Refusal}
 use Rattle.roopl_judge.specs.Judged.{IsJudged}
 use Rattle.stmt_inverter.specs.Inverse.{inverse_program}
 use Rattle.roopl_printer.specs.Spelled.{printed}
-use Rattle.rpp_plan.specs.declared.plan.Verdict.TheVariants.{SourceRefused}
-use Rattle.rpp_plan.specs.Plans.{Planned, prints, writes, WithText}
-use Rattle.rpp_plan.specs.Refusals.{refused_line}
+use Rattle.command_plan.specs.declared.plan.Verdict.TheVariants.{SourceRefused}
+use Rattle.command_plan.specs.Plans.{Planned, prints, writes, WithText}
+use Rattle.command_plan.specs.Refusals.{refused_line}
 
 -- a text is written into a file, and the number of its bytes is printed
 abbrev pub writes_text : (name text : List ℕ) → Planned
 writes_text name text = writes name text
     (codes "written " ++ (decimal (length text) ++ (codes " bytes" ++ line_end)))
 
--- the first refusal of a text is told, or the text of the inverse of the program that it is is written
+-- the first refusal of a text is told, or the text of the inverse of the program that it is is
+-- written
 abbrev pub WritesInverse : Result Source Refusal → (name : List ℕ) → Planned → Type 0
 WritesInverse (Err refusal) name p = p ≡ prints SourceRefused (refused_line refusal)
 WritesInverse (Ok program) name p = p ≡ writes_text name (printed (inverse_program program))
@@ -31,9 +33,9 @@ pub record IsInversePlan (text name : List ℕ) (p : Planned) : Type 0 where
   pub plan : WritesInverse judgement name p
 
 -- the plan of `generate` with this seed and so many items to this file
-abbrev pub Generates : (seed size : ℕ) → (out : List ℕ) → Texts → Planned → Type 0
-Generates seed size out texts p = p ≡ writes_text out (generated seed size)
+abbrev pub Generates : (seed size : ℕ) → (out : List ℕ) → Option Texts → Planned → Type 0
+Generates seed size out told p = p ≡ writes_text out (generated seed size)
 
 -- the plan of `show-inverse` of this file to another
-abbrev pub ShowsInverse : (file out : List ℕ) → Texts → Planned → Type 0
-ShowsInverse file out texts p = WithText texts file MOST_BYTES (λ text. IsInversePlan text out p)
+abbrev pub ShowsInverse : (file out : List ℕ) → Option Texts → Planned → Type 0
+ShowsInverse file out told p = WithText told file MOST_BYTES (λ text. IsInversePlan text out p)

@@ -1,11 +1,11 @@
 // `generate SEED SIZE OUT`: writes a generated program.
 ghost use Rattle.std.specs.Prelude.{[]};
-ghost use Rattle.rpp_plan.specs.Files.{OnlyReads};
-ghost use Rattle.rpp_plan.specs.Plans.{GivesPlan};
+ghost use Rattle.command_plan.specs.Files.{OnlyReads};
+ghost use Rattle.command_plan.specs.Plans.{GivesPlan};
 ghost use Rattle.text_commands.specs.TextPlans.{Generates};
 
 use crate::writing::write_text;
-use rpp_plan::{NoPlan, Plan};
+use command_plan::{NoPlan, Plan};
 use rpp_ports::Shelf;
 use std::alloc::Global;
 

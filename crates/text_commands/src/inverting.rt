@@ -4,15 +4,15 @@ ghost use Rattle.rpp_tree.specs.Views.{source_of};
 ghost use Rattle.rpp_tree.specs.declared.limits.TheConstants.{MOST_BYTES};
 ghost use Rattle.stmt_inverter.specs.Inverse.{inverse_program};
 ghost use Rattle.roopl_printer.specs.Spelled.{printed};
-ghost use Rattle.rpp_plan.specs.Plans.{planned, GivesPlan};
-ghost use Rattle.rpp_plan.specs.Files.{OnlyReads, source};
+ghost use Rattle.command_plan.specs.Plans.{planned, GivesPlan};
+ghost use Rattle.command_plan.specs.Files.{OnlyReads, source};
 ghost use Rattle.text_commands.specs.TextPlans.{writes_text, IsInversePlan, ShowsInverse};
 
 use crate::writing::write_text;
 use class_table::Checked;
+use command_plan::{NoPlan, Plan, read_file, refuse_source};
 use roopl_judge::{SourceError, judge};
 use roopl_printer::print;
-use rpp_plan::{NoPlan, Plan, read_file, refuse_source};
 use rpp_ports::Shelf;
 use rpp_tree::MOST_BYTES;
 use rpp_words::NoMemory;

@@ -1,9 +1,9 @@
 // Plans that write a text.
 ghost use Rattle.std.specs.Prelude.{◌≡◌, IfOk, string_bytes};
-ghost use Rattle.rpp_plan.specs.Plans.{planned};
+ghost use Rattle.command_plan.specs.Plans.{planned};
 ghost use Rattle.text_commands.specs.TextPlans.{writes_text};
 
-use rpp_plan::Plan;
+use command_plan::Plan;
 use rpp_words::NoMemory;
 use std::alloc::Global;
 

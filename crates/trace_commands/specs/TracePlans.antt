@@ -8,7 +8,7 @@ use Rattle.rpp_tree.specs.Tree.{Source}
 use Rattle.rpp_ports.specs.Ports.{Texts}
 use Rattle.pisa_loader.specs.Limiting.{limits_refusal}
 use Rattle.pisa_loader.specs.declared.error.LoadError.{LoadError}
-use Rattle.source_points.specs.Trail.{trail}
+use Rattle.meaning_points.specs.Trail.{trail}
 use Rattle.rpp_words.specs.declared.input.TheConstants.{MOST_DEEP}
 use Rattle.two_way_debugger.specs.declared.command.Command.{Command}
 use Rattle.two_way_debugger.specs.declared.script.TheConstants.{MOST_SCRIPT}
@@ -17,9 +17,9 @@ use Rattle.two_way_debugger.specs.declared.error.ScriptError.TheVariants.{BadCom
 use Rattle.two_way_debugger.specs.declared.error.ScriptError.TheVariants as script
 use Rattle.two_way_debugger.specs.Scripts.{script_of}
 use Rattle.source_debugger.specs.Shown.{told}
-use Rattle.rpp_plan.specs.declared.plan.Verdict.TheVariants.{Done, InputRefused}
-use Rattle.rpp_plan.specs.Plans.{Planned, prints, WithText, WithInput}
-use Rattle.rpp_plan.specs.Texts.{load_line, bad_command_line}
+use Rattle.command_plan.specs.declared.plan.Verdict.TheVariants.{Done, InputRefused}
+use Rattle.command_plan.specs.Plans.{Planned, prints, WithText, WithInput}
+use Rattle.command_plan.specs.Texts.{load_line, bad_command_line}
 use Rattle.program_commands.specs.Inputs.{given_input}
 use Rattle.program_commands.specs.ProgramPlans.{IsJudgedPlan}
 
@@ -45,10 +45,12 @@ IsScriptPlan (Ok commands) program limits input p =
 abbrev pub IsInputPlan : Result (List FieldWord) LoadError → (script : List ℕ) → Source → Limits
     → Planned → Type 0
 IsInputPlan (Err e) script program limits p = p ≡ prints InputRefused (load_line e)
-IsInputPlan (Ok input) script program limits p = IsScriptPlan (script_of script) program limits input p
+IsInputPlan (Ok input) script program limits p =
+    IsScriptPlan (script_of script) program limits input p
 
 -- the sizes are tried before the input
-abbrev pub IsSizedPlan : Option LoadError → (script given : List ℕ) → Source → Limits → Planned → Type 0
+abbrev pub IsSizedPlan : Option LoadError → (script given : List ℕ) → Source → Limits → Planned
+    → Type 0
 IsSizedPlan (Some e) script given program limits p = p ≡ prints InputRefused (load_line e)
 IsSizedPlan None script given program limits p =
     IsInputPlan (given_input program given) script program limits p
@@ -59,9 +61,10 @@ IsTracePlan text script given heap deep p =
     program (record { heap = heap; deep = deep })) p
 
 -- the plan of `trace` by this script over this file, on an input where there is one
-abbrev pub Traces : (file script : List ℕ) → (input : Option (List ℕ)) → (heap deep : ℕ) → Texts
+abbrev pub Traces : (file script : List ℕ) → (input : Option (List ℕ)) → (heap deep : ℕ)
+    → Option Texts
     → Planned → Type 0
-Traces file script input heap deep texts p =
-    WithText texts file MOST_BYTES
-    (λ text. WithText texts script MOST_SCRIPT (λ commands. WithInput texts input (λ given.
+Traces file script input heap deep told p =
+    WithText told file MOST_BYTES
+    (λ text. WithText told script MOST_SCRIPT (λ commands. WithInput told input (λ given.
     IsTracePlan text commands given heap deep p)))

@@ -1,5 +1,5 @@
 // `trace F H D SCRIPT [INPUT]`: follows a script along the run of a program, both ways.
-ghost use Rattle.std.specs.Prelude.{◌≡◌, ◌≤◌, ◌∷◌, length, option_map, List, ℕ, IfOk, IfSome, string_bytes};
+ghost use Rattle.std.specs.Prelude.{◌≡◌, ◌≤◌, ◌∷◌, length, option_map, List, ℕ, IfOk, string_bytes};
 ghost use Rattle.rpp_words.specs.Limits.{IsLimits};
 ghost use Rattle.rpp_tree.specs.Views.{source_of};
 ghost use Rattle.rpp_tree.specs.declared.limits.TheConstants.{MOST_BYTES};
@@ -10,20 +10,21 @@ ghost use Rattle.two_way_debugger.specs.Scripts.{script_of};
 ghost use Rattle.source_debugger.specs.Standing.{IsValidRun};
 ghost use Rattle.pisa_loader.specs.Limiting.{limits_refusal};
 ghost use Rattle.pisa_loader.specs.declared.input.TheConstants.{MOST_INPUT};
-ghost use Rattle.rpp_plan.specs.Plans.{planned, prints, GivesPlan, WithText, WithInput};
-ghost use Rattle.rpp_plan.specs.Files.{OnlyReads, source, input_files};
+ghost use Rattle.command_plan.specs.Plans.{planned, prints, GivesPlan, IsInputText};
+ghost use Rattle.rpp_ports.specs.Ports.{IsTextOf};
+ghost use Rattle.command_plan.specs.Files.{OnlyReads, source, input_files};
 ghost use Rattle.image_commands.specs.DebugPlans.{script_file};
 ghost use Rattle.program_commands.specs.Inputs.{given_input};
 ghost use Rattle.trace_commands.specs.TracePlans.{Follows, IsScriptPlan, IsInputPlan, IsSizedPlan, IsTracePlan, Traces};
 
 use class_table::Checked;
+use command_plan::{
+    NoPlan, Plan, Verdict, bad_command_line, load_line, read_file, read_input_file, refuse_source,
+};
 use image_commands::Room;
 use pisa_loader::{LoadError, check_limits, read_input};
 use program_commands::input_fields;
 use roopl_judge::{SourceError, judge};
-use rpp_plan::{
-    NoPlan, Plan, Verdict, bad_command_line, load_line, read_file, read_input_file, refuse_source,
-};
 use rpp_ports::Shelf;
 use rpp_tree::MOST_BYTES;
 use rpp_words::{Input, Limits, MOST_DEEP, NoMemory};
@@ -68,12 +69,10 @@ fn read_all<S: Shelf>(
     script: &str,
     input: &Option<String>,
 ) -> Result<Read, NoPlan>
-    ensures text { IfOk result (λ read. IfSome (S.texts shelf.old)
-        (λ texts. WithText texts file.now MOST_BYTES
-        (λ text. WithText texts script.now MOST_SCRIPT
-        (λ commands. WithInput texts (option_map string_bytes input.now)
-        (λ given. (read.text.items ≡ text) × (read.script.items ≡ commands)
-        × (read.given.items ≡ given)))))) }
+    ensures text { IfOk result (λ read. IsTextOf (S.texts shelf.old) file.now read.text.items) }
+    ensures script { IfOk result (λ read. IsTextOf (S.texts shelf.old) script.now read.script.items) }
+    ensures input { IfOk result (λ read. IsInputText (S.texts shelf.old)
+        (option_map string_bytes input.now) read.given.items) }
     ensures within { IfOk result (λ read. length read.text.items ≤ MOST_BYTES) }
     ensures within_script { IfOk result (λ read. length read.script.items ≤ MOST_SCRIPT) }
     ensures within_input { IfOk result (λ read. length read.given.items ≤ MOST_INPUT) }

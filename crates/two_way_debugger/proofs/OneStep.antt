@@ -14,14 +14,17 @@ bound_counts_none : (o : Option Cell) (m : State) → counted (stop_at_bound o m
 bound_counts_none None m = refl
 bound_counts_none (Some c) m = refl
 
-pub no_step : (code : List Cell) (m last : State) (why : Stop) (spent made after : ℕ) → run code 1 m ≡ end_of why spent last → after + counted why ≡ made + spent → after ≡ made
+pub no_step : (code : List Cell) (m last : State) (why : Stop) (spent made after : ℕ)
+    → run code 1 m ≡ end_of why spent last → after + counted why ≡ made + spent → after ≡ made
     → (stop code m ≡ Some why) × (last ≡ m)
 no_step code m last why spent made after r count same = by_stop (stop code m) refl r
   where
-    by_stop : (o : Option Stop) → stop code m ≡ o → after_step o m (run code 0 (next code m)) ≡ end_of why spent last → (stop code m ≡ Some why) × (last ≡ m)
+    by_stop : (o : Option Stop) → stop code m ≡ o → after_step o m (run code 0 (next code m)) ≡ end_of why spent last
+        → (stop code m ≡ Some why) × (last ≡ m)
     by_stop (Some e) h r = (h ∙ ap Some (ap (λ (x : End). x.why) r), sym (ap (λ (x : End). x.last) r))
     by_stop None h r =
-        let none : counted why ≡ 0 = ap counted (sym (ap (λ (x : End). x.why) r)) ∙ bound_counts_none (fetch code (next code m).pc) (next code m) in
+        let none : counted why ≡ 0 = ap counted (sym (ap (λ (x : End). x.why) r))
+        ∙ bound_counts_none (fetch code (next code m).pc) (next code m) in
         let one : 1 ≡ spent = ap (λ (x : End). x.spent) r in
         absurd (omega arith)
 

@@ -1,5 +1,6 @@
 -- A walk move by move, as a loop makes it.
-use Rattle.std.proofs.Common.{◌≡◌, ◌∙◌, ℕ, zero, suc, ◌+◌, ◌-◌, ◌<◌, ◌≤◌, ℤ, Bool, true, false, cond, sym, ap, Option, Some, None, arith}
+use Rattle.std.proofs.Common.{◌≡◌, ◌∙◌, ℕ, zero, suc, ◌+◌, ◌-◌, ◌<◌, ◌≤◌, ℤ, Bool, true, false, cond, sym, ap, Option}
+use Rattle.std.proofs.Common.{Some, None, arith}
 use Rattle.pisa_machine.specs.Position.{Position}
 use Rattle.pisa_isa.specs.declared.machine.Stop.{Stop}
 use Rattle.pisa_isa.specs.declared.machine.Stop.TheVariants.{Finished, Returned, Trap, BadAddress, OffCode, Bound}
@@ -33,7 +34,8 @@ walk_within backward place (suc n) p =
     by_place rest h true = omega arith
     by_place rest h false = h
 
-    by_barrier : (rest : Walk) → rest.spent ≤ n → (b : Bool) (o : Option Ending) → (unless_ended o p (cond b (ends (moved backward p) Made) rest)).spent ≤ suc n
+    by_barrier : (rest : Walk) → rest.spent ≤ n → (b : Bool) (o : Option Ending)
+        → (unless_ended o p (cond b (ends (moved backward p) Made) rest)).spent ≤ suc n
     by_barrier rest h b (Some e) = let one = end_counts e in omega arith
     by_barrier rest h b None = let some = by_place rest h b in omega arith
 
@@ -47,34 +49,46 @@ again : (i : ℕ) (w : Walk) → one_later i w ≡ later (i + 1) w
 again i w = let e : i + suc w.spent ≡ i + 1 + w.spent = omega arith in ap (λ (s : ℕ). record w { spent = s }) e
 
 -- no move is made any more
-pub walk_ended : (backward : Bool) (place : Option ℤ) (n i : ℕ) (p : Position) (e : Ending) → i < n → barrier backward p ≡ Some e
+pub walk_ended : (backward : Bool) (place : Option ℤ) (n i : ℕ) (p : Position) (e : Ending) → i < n
+    → barrier backward p ≡ Some e
     → later i (walk backward place (n - i) p) ≡ later i (ends p e)
 walk_ended backward place n i p e more is =
     ap (λ (k : ℕ). later i (walk backward place k p)) (less_one n i more)
-    ∙ ap (λ (o : Option Ending). later i (unless_ended o p (cond (is_at place (moved backward p)) (ends (moved backward p) Made) (walk backward place (n - (i + 1)) (moved backward p))))) is
+    ∙ ap (λ (o : Option Ending). later i (unless_ended o p
+    (cond (is_at place (moved backward p)) (ends (moved backward p) Made)
+    (walk backward place (n - (i + 1)) (moved backward p))))) is
 
 -- the last that was wanted
-pub walk_arrived : (backward : Bool) (place : Option ℤ) (n i : ℕ) (p q : Position) → i < n → barrier backward p ≡ None → q ≡ moved backward p → is_at place q ≡ true
+pub walk_arrived : (backward : Bool) (place : Option ℤ) (n i : ℕ) (p q : Position) → i < n → barrier backward p ≡ None
+    → q ≡ moved backward p → is_at place q ≡ true
     → later i (walk backward place (n - i) p) ≡ later (i + 1) (ends q Made)
 walk_arrived backward place n i p q more is next there =
     ap (λ (k : ℕ). later i (walk backward place k p)) (less_one n i more)
-    ∙ ap (λ (o : Option Ending). later i (unless_ended o p (cond (is_at place (moved backward p)) (ends (moved backward p) Made) (walk backward place (n - (i + 1)) (moved backward p))))) is
-    ∙ ap (λ (x : Position). one_later i (cond (is_at place x) (ends x Made) (walk backward place (n - (i + 1)) x))) (sym next)
+    ∙ ap (λ (o : Option Ending). later i (unless_ended o p
+    (cond (is_at place (moved backward p)) (ends (moved backward p) Made)
+    (walk backward place (n - (i + 1)) (moved backward p))))) is
+    ∙ ap (λ (x : Position). one_later i (cond (is_at place x) (ends x Made) (walk backward place (n - (i + 1)) x)))
+    (sym next)
     ∙ ap (λ (b : Bool). one_later i (cond b (ends q Made) (walk backward place (n - (i + 1)) q))) there
     ∙ again i (ends q Made)
 
 -- one move more
-pub walk_more : (backward : Bool) (place : Option ℤ) (n i : ℕ) (p q : Position) → i < n → barrier backward p ≡ None → q ≡ moved backward p → is_at place q ≡ false
+pub walk_more : (backward : Bool) (place : Option ℤ) (n i : ℕ) (p q : Position) → i < n → barrier backward p ≡ None
+    → q ≡ moved backward p → is_at place q ≡ false
     → later i (walk backward place (n - i) p) ≡ later (i + 1) (walk backward place (n - (i + 1)) q)
 walk_more backward place n i p q more is next there =
     ap (λ (k : ℕ). later i (walk backward place k p)) (less_one n i more)
-    ∙ ap (λ (o : Option Ending). later i (unless_ended o p (cond (is_at place (moved backward p)) (ends (moved backward p) Made) (walk backward place (n - (i + 1)) (moved backward p))))) is
-    ∙ ap (λ (x : Position). one_later i (cond (is_at place x) (ends x Made) (walk backward place (n - (i + 1)) x))) (sym next)
+    ∙ ap (λ (o : Option Ending). later i (unless_ended o p
+    (cond (is_at place (moved backward p)) (ends (moved backward p) Made)
+    (walk backward place (n - (i + 1)) (moved backward p))))) is
+    ∙ ap (λ (x : Position). one_later i (cond (is_at place x) (ends x Made) (walk backward place (n - (i + 1)) x)))
+    (sym next)
     ∙ ap (λ (b : Bool). one_later i (cond b (ends q Made) (walk backward place (n - (i + 1)) q))) there
     ∙ again i (walk backward place (n - (i + 1)) q)
 
 -- no more are wanted
-pub walk_over : (backward : Bool) (place : Option ℤ) (n i : ℕ) (p : Position) → n ≤ i → later i (walk backward place (n - i) p) ≡ later i (ends p Made)
+pub walk_over : (backward : Bool) (place : Option ℤ) (n i : ℕ) (p : Position) → n ≤ i
+    → later i (walk backward place (n - i) p) ≡ later i (ends p Made)
 walk_over backward place n i p over =
     let none : n - i ≡ 0 = omega arith in
     ap (λ (k : ℕ). later i (walk backward place k p)) none

@@ -1,3 +1,4 @@
 pub mod Moves
 pub mod Shown
 pub mod Scripts
+pub mod Along

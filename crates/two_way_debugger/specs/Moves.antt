@@ -1,5 +1,6 @@
 -- Moves along the positions of a machine.
-use Rattle.std.specs.Prelude.{ℕ, zero, suc, ◌+◌, ◌-◌, ℤ, Bool, true, false, nat_eq, nat_lt, if◌then◌else◌, Option, Some, None, option_map}
+use Rattle.std.specs.Prelude.{ℕ, zero, suc, ◌+◌, ◌-◌, ℤ, Bool, true, false, nat_eq, nat_lt}
+use Rattle.std.specs.Prelude.{if◌then◌else◌, Option, Some, None, option_map}
 use Rattle.std.specs.Ordering.{int_eq}
 use Rattle.pisa_isa.specs.Machine.{stop, next, back}
 use Rattle.pisa_isa.specs.Runs.{counted}
@@ -13,7 +14,8 @@ abbrev pub moved : (backward : Bool) → Position → Position
 moved false p = record p { state = next p.image.code p.state; made = suc p.made }
 moved true p = record p { state = back p.image.code p.state; made = p.made - 1 }
 
--- why no move is made from a position, if none is: at a stop, at the last position and at position 0
+-- why no move is made from a position, if none is: at a stop, at the last position and at position
+-- 0
 abbrev pub barrier : (backward : Bool) → Position → Option Ending
 barrier false p = if nat_lt p.made LAST_POSITION then option_map Stopped (stop p.image.code p.state)
     else Some Last

@@ -1,9 +1,11 @@
 -- What a script says, and the first line that is refused.
-use Rattle.std.specs.Prelude.{◌≡◌, ℕ, ◌+◌, ◌-◌, ◌^◌, pos, nat_eq, if◌then◌else◌, List, [], ◌∷◌, ◌++◌, Option, Some, None, Result, Ok, Err, option_map, codes}
+use Rattle.std.specs.Prelude.{◌≡◌, ℕ, ◌+◌, ◌-◌, ◌^◌, pos, nat_eq, if◌then◌else◌, List, [], ◌∷◌}
+use Rattle.std.specs.Prelude.{◌++◌, Option, Some, None, Result, Ok, Err, option_map, codes}
 use Rattle.std.specs.Str.{bytes_eq}
-use Rattle.machine_texts.specs.Lines.{number_up_to, short_number, is_blank, pieces, without_returns}
+use Rattle.pisa_scripts.specs.Lines.{number_up_to, short_number, is_blank, pieces, without_returns}
 use Rattle.two_way_debugger.specs.declared.command.Command.{Command}
-use Rattle.two_way_debugger.specs.declared.command.Command.TheVariants.{Step, Back, To, BackTo, Regs, Cells}
+use Rattle.two_way_debugger.specs.declared.command.Command.TheVariants.{Step, Back, To, BackTo}
+use Rattle.two_way_debugger.specs.declared.command.Command.TheVariants.{Regs, Cells}
 use Rattle.two_way_debugger.specs.declared.error.ScriptError.{ScriptError}
 use Rattle.two_way_debugger.specs.declared.error.ScriptError.TheVariants.{BadCommand, NoMemory}
 
@@ -47,7 +49,8 @@ command_of (name ∷ args) =
     else None
 
 -- the commands so far, and that of a line with this number; one space parts its words
-abbrev pub with_command : (line : ℕ) → List Command → Option Command → Result (List Command) ScriptError
+abbrev pub with_command : (line : ℕ) → List Command → Option Command
+    → Result (List Command) ScriptError
 with_command line commands None = Err (BadCommand line)
 with_command line commands (Some command) = Ok (commands ++ command ∷ [])
 

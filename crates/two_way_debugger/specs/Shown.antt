@@ -1,16 +1,18 @@
 -- What commands print, and where they lead.
-use Rattle.std.specs.Prelude.{ℕ, suc, ◌+◌, true, false, nat_eq, if◌then◌else◌, List, [], ◌∷◌, ◌++◌, take, drop, Some, None, codes}
+use Rattle.std.specs.Prelude.{ℕ, suc, ◌+◌, true, false, nat_eq, if◌then◌else◌, List, [], ◌∷◌, ◌++◌}
+use Rattle.std.specs.Prelude.{take, drop, Some, None, codes}
 use Rattle.std.specs.List.{list_all}
 use Rattle.std.specs.Fmt.{decimal, signed_decimal}
 use Rattle.pisa_machine.specs.Position.{Position}
 use Rattle.two_way_debugger.specs.declared.moves.Ending.{Ending}
 use Rattle.two_way_debugger.specs.declared.moves.Ending.TheVariants.{Made, Last, Start, Stopped}
 use Rattle.two_way_debugger.specs.declared.command.Command.{Command}
-use Rattle.two_way_debugger.specs.declared.command.Command.TheVariants.{Step, Back, To, BackTo, Regs, Cells}
+use Rattle.two_way_debugger.specs.declared.command.Command.TheVariants.{Step, Back, To, BackTo}
+use Rattle.two_way_debugger.specs.declared.command.Command.TheVariants.{Regs, Cells}
 use Rattle.two_way_debugger.specs.Moves.{Walk, ends, walk}
 use Rattle.rpp_words.specs.Texts.{line_end}
-use Rattle.machine_texts.specs.Words.{word_shown, direction, register_lines, cell_line}
-use Rattle.machine_texts.specs.Stops.{stop_line}
+use Rattle.pisa_scripts.specs.Words.{word_shown, direction, register_lines, cell_line}
+use Rattle.pisa_scripts.specs.Stops.{stop_line}
 
 -- what the line on a move says of how it ended, with the line's end
 abbrev pub ending_shown : Ending → List ℕ

@@ -1,5 +1,6 @@
 // Debuggers.
 ghost use Rattle.std.specs.Prelude.{◌≡◌, ◌≤◌, ◌+◌, ◌++◌, IfOk, OnOk, OnErr, string_bytes};
+ghost use Rattle.two_way_debugger.specs.Along.{IsAlong};
 ghost use Rattle.two_way_debugger.specs.Moves.{walk};
 ghost use Rattle.two_way_debugger.specs.Shown.{walk_of, walk_shown, text_of, most_moves, position_after, shown, spent_in};
 
@@ -98,7 +99,7 @@ impl Debugger {
     }
 
     /// Carries out commands, one after the other, and adds what they print to a text. After want of
-    /// memory the text is as before.
+    /// memory the moves of some first commands were made, and the text is as before.
     pub fn follow<L: Ledger>(
         &mut self,
         alloc: Global,
@@ -111,6 +112,7 @@ impl Debugger {
             ≡ string_bytes out.old ++ shown script.now self.old) }
         ensures counter { OnOk result (steps.new ≡ steps.old + spent_in script.now self.old) }
         ensures kept { OnErr result (string_bytes out.new ≡ string_bytes out.old) }
+        ensures along { OnErr result (IsAlong script.now self.old self.new steps.old steps.new) }
     {
         let mut text = String::new(alloc);
         for command in script {

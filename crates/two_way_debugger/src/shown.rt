@@ -4,8 +4,8 @@ ghost use Rattle.std.specs.List.{list_all};
 ghost use Rattle.two_way_debugger.specs.Shown.{ending_shown, at_shown, registers_shown, cells_shown};
 
 use crate::moves::Ending;
-use machine_texts::{add_cell, add_registers, add_stop, direction};
 use pisa_machine::Machine;
+use pisa_scripts::{add_cell, add_registers, add_stop, direction};
 use std::alloc::{AllocError, Global};
 
 /// The line on where a machine stands after moves that ended so.

@@ -1,5 +1,5 @@
 -- A plan of `wrap` writes nothing.
-use Rattle.std.proofs.Common.{ℕ, List, [], None, Some, Ok, Err, inl, refl}
+use Rattle.std.proofs.Common.{ℕ, List, None, Some, Ok, Err, inl, refl}
 use Rattle.std.specs.declared.option.Option.{Option}
 use Rattle.std.specs.Prelude.{Result}
 use Rattle.rpp_words.specs.declared.input.FieldWord.{FieldWord}
@@ -14,8 +14,8 @@ use Rattle.pisa_isa.specs.Machine.{State}
 use Rattle.pisa_loader.specs.Limiting.{limits_refusal}
 use Rattle.pisa_loader.specs.declared.error.LoadError.{LoadError}
 use Rattle.pisa_loader.specs.declared.input.InputField.{InputField}
-use Rattle.rpp_plan.specs.Plans.{Planned, WritesOnly, WithInput}
-use Rattle.rpp_plan.proofs.Writes.{of_text, along}
+use Rattle.command_plan.specs.Plans.{Planned, WritesOnly}
+use Rattle.command_plan.proofs.Writes.{along}
 use Rattle.program_commands.specs.Inputs.{input_fields, given_input}
 use Rattle.program_commands.proofs.ProgramTargets.{judged_writes}
 use Rattle.wrap_commands.specs.declared.error.NamesError.{NamesError}
@@ -23,7 +23,9 @@ use Rattle.wrap_commands.specs.declared.error.NamesError.TheVariants.{UnknownRes
 use Rattle.wrap_commands.specs.WrapNames.{results_of}
 use Rattle.wrap_commands.specs.WrapPlans.{TellsStop, IsGivenPlan, IsNamedPlan, IsSizedPlan, IsWrapPlan, WrapsFile}
 
-stop_writes : (why : Stop) (program : Source) (image : Segments) (fields : List InputField) (limits : Limits) (input : List FieldWord) (last : State) (spent steps : ℕ) (p : Planned) → TellsStop why program image fields limits input last spent steps p → WritesOnly p None
+stop_writes : (why : Stop) (program : Source) (image : Segments) (fields : List InputField) (limits : Limits)
+    (input : List FieldWord) (last : State) (spent steps : ℕ) (p : Planned)
+    → TellsStop why program image fields limits input last spent steps p → WritesOnly p None
 stop_writes Finished program image fields limits input last spent steps p h = along p _ None h.told (inl refl)
 stop_writes (Trap code) program image fields limits input last spent steps p h = along p _ None h.reported (inl refl)
 stop_writes Bound program image fields limits input last spent steps p h = along p _ None h.told (inl refl)
@@ -31,28 +33,33 @@ stop_writes Returned program image fields limits input last spent steps p h = ab
 stop_writes (BadAddress a) program image fields limits input last spent steps p h = absurd h
 stop_writes (OffCode a) program image fields limits input last spent steps p h = absurd h
 
-given_writes : (input : Result (List FieldWord) LoadError) (program : Source) (fields : List InputField) (limits : Limits) (steps : ℕ) (p : Planned) → IsGivenPlan input program fields limits steps p → WritesOnly p None
+given_writes : (input : Result (List FieldWord) LoadError) (program : Source) (fields : List InputField)
+    (limits : Limits) (steps : ℕ) (p : Planned) → IsGivenPlan input program fields limits steps p → WritesOnly p None
 given_writes (Err e) program fields limits steps p h = along p _ None h (inl refl)
-given_writes (Ok input) program fields limits steps p h = stop_writes _ program h.image fields limits input _ _ steps p h.tells
+given_writes (Ok input) program fields limits steps p h =
+    stop_writes _ program h.image fields limits input _ _ steps p h.tells
 
-named_writes : (named : Result (List InputField) NamesError) (given : List ℕ) (program : Source) (limits : Limits) (steps : ℕ) (p : Planned) → IsNamedPlan named given program limits steps p → WritesOnly p None
+named_writes : (named : Result (List InputField) NamesError) (given : List ℕ) (program : Source) (limits : Limits)
+    (steps : ℕ) (p : Planned) → IsNamedPlan named given program limits steps p → WritesOnly p None
 named_writes (Err (UnknownResult at)) given program limits steps p h = along p _ None h (inl refl)
 named_writes (Err NoMemory) given program limits steps p h = absurd h
-named_writes (Ok fields) given program limits steps p h = given_writes (given_input program given) program fields limits steps p h
+named_writes (Ok fields) given program limits steps p h =
+    given_writes (given_input program given) program fields limits steps p h
 
-sized_writes : (refusal : Option LoadError) (names given : List ℕ) (program : Source) (limits : Limits) (steps : ℕ) (p : Planned) → IsSizedPlan refusal names given program limits steps p → WritesOnly p None
+sized_writes : (refusal : Option LoadError) (names given : List ℕ) (program : Source) (limits : Limits) (steps : ℕ)
+    (p : Planned) → IsSizedPlan refusal names given program limits steps p → WritesOnly p None
 sized_writes (Some e) names given program limits steps p h = along p _ None h (inl refl)
-sized_writes None names given program limits steps p h = named_writes (results_of (input_fields program) names) given program limits steps p h
+sized_writes None names given program limits steps p h =
+    named_writes (results_of (input_fields program) names) given program limits steps p h
 
-wrap_writes : (text names given : List ℕ) (heap deep steps : ℕ) (p : Planned) → IsWrapPlan text names given heap deep steps p → WritesOnly p None
+wrap_writes : (text names given : List ℕ) (heap deep steps : ℕ) (p : Planned)
+    → IsWrapPlan text names given heap deep steps p → WritesOnly p None
 wrap_writes text names given heap deep steps p g =
     judged_writes g.judgement _ None p
-    (λ program q h. sized_writes (limits_refusal heap deep MOST_DEEP) names given program (record { heap = heap; deep = deep }) steps q h) g.plan
+    (λ program q h. sized_writes (limits_refusal heap deep MOST_DEEP) names given program
+    (record { heap = heap; deep = deep }) steps q h) g.plan
 
-of_input : (texts : Texts) (input : Option (List ℕ)) (text names : List ℕ) (heap deep steps : ℕ) (p : Planned) → WithInput texts input (λ given. IsWrapPlan text names given heap deep steps p) → WritesOnly p None
-of_input texts None text names heap deep steps p g = wrap_writes text names [] heap deep steps p g
-of_input texts (Some name) text names heap deep steps p h = of_text (texts name) _ _ (WritesOnly p None) h (λ given g. wrap_writes text names given heap deep steps p g)
-
-pub wraps_file_writes : (file names : List ℕ) (input : Option (List ℕ)) (heap deep steps : ℕ) (texts : Texts) (p : Planned) → WrapsFile file names input heap deep steps texts p → WritesOnly p None
-wraps_file_writes file names input heap deep steps texts p h =
-    of_text (texts file) _ _ (WritesOnly p None) h (λ text g. of_input texts input text names heap deep steps p g)
+pub wraps_file_writes : (file names : List ℕ) (input : Option (List ℕ)) (heap deep steps : ℕ)
+    (told : Option Texts) (p : Planned) → WrapsFile file names input heap deep steps told p → WritesOnly p None
+wraps_file_writes file names input heap deep steps told p h =
+    wrap_writes h.text names h.holds.text heap deep steps p h.holds.holds

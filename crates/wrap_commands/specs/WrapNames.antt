@@ -1,11 +1,12 @@
 -- Which fields names joined by commas name, and the first name that is refused.
-use Rattle.std.specs.Prelude.{◌≡◌, ◌<◌, ◌+◌, ◌^◌, ℕ, if◌then◌else◌, List, [], ◌∷◌, ◌++◌, length, map, Option, Some, None, Result, Ok, Err}
+use Rattle.std.specs.Prelude.{◌≡◌, ◌<◌, ◌+◌, ◌^◌, ℕ, if◌then◌else◌, List, [], ◌∷◌, ◌++◌, length}
+use Rattle.std.specs.Prelude.{map, Option, Some, None, Result, Ok, Err}
 use Rattle.std.specs.Str.{bytes_eq}
-use Rattle.machine_texts.specs.Lines.{pieces}
+use Rattle.pisa_scripts.specs.Lines.{pieces}
 use Rattle.pisa_image.specs.Numbers.{◌>>=◌}
 use Rattle.pisa_loader.specs.declared.input.InputField.{InputField}
 use Rattle.pisa_loader.specs.InputLines.{is_field}
-use Rattle.program_wrap.specs.Programs.{field_cell}
+use Rattle.refine_wrap.specs.Programs.{field_cell}
 use Rattle.wrap_commands.specs.declared.error.NamesError.{NamesError}
 use Rattle.wrap_commands.specs.declared.error.NamesError.TheVariants.{UnknownResult, NoMemory}
 

@@ -1,5 +1,6 @@
 -- The plan of `wrap`.
-use Rattle.std.specs.Prelude.{◌≡◌, ℕ, ◌<◌, ◌≤◌, List, ◌++◌, All, length, slice_get, None, Some, Result, Ok, Err, codes, IsTrue}
+use Rattle.std.specs.Prelude.{◌≡◌, ℕ, ◌<◌, ◌≤◌, List, ◌++◌, All, length, slice_get, None, Some}
+use Rattle.std.specs.Prelude.{Result, Ok, Err, codes, IsTrue}
 use Rattle.std.specs.declared.option.Option.{Option}
 use Rattle.rpp_words.specs.Texts.{line_end}
 use Rattle.rpp_words.specs.declared.input.FieldWord.{FieldWord}
@@ -21,20 +22,22 @@ use Rattle.roopl_semantics.specs.Store.{main_name, object_at}
 use Rattle.roopl_semantics.specs.Source.{main_fields, is_int_field}
 use Rattle.roopl_semantics.specs.StandsFor.{StandsFor, EndsAt}
 use Rattle.bennett_wrap.specs.Wrapped.{Wrapped}
-use Rattle.program_wrap.specs.Programs.{EndsDone, wrapped_run, enough_wrapped}
-use Rattle.rpp_plan.specs.declared.plan.Verdict.TheVariants.{Done, Bound, InputRefused}
-use Rattle.rpp_plan.specs.Plans.{Planned, prints, WithText, WithInput}
-use Rattle.rpp_plan.specs.Texts.{load_line, steps_line}
+use Rattle.refine_wrap.specs.Programs.{EndsDone, wrapped_run, enough_wrapped}
+use Rattle.command_plan.specs.declared.plan.Verdict.TheVariants.{Done, Bound, InputRefused}
+use Rattle.command_plan.specs.Plans.{Planned, prints, WithText, WithInput}
+use Rattle.command_plan.specs.Texts.{load_line, steps_line}
 use Rattle.program_commands.specs.Inputs.{input_fields, given_input}
 use Rattle.program_commands.specs.ProgramPlans.{IsJudgedPlan, ReportsFault}
 use Rattle.wrap_commands.specs.declared.error.NamesError.{NamesError}
 use Rattle.wrap_commands.specs.declared.error.NamesError.TheVariants.{UnknownResult, NoMemory}
 use Rattle.wrap_commands.specs.WrapNames.{result_cells, results_of}
-use Rattle.wrap_commands.specs.WrapShown.{HasAsciiName, result_lines, initial_line, unknown_result_line}
+use Rattle.wrap_commands.specs.WrapShown.{HasAsciiName, result_lines, initial_line}
+use Rattle.wrap_commands.specs.WrapShown.{unknown_result_line}
 
 -- at most 64 int fields of the main class
 pub record AreResults (program : Source) (fields : List InputField) : Type 0 where
-  pub ints : All (λ field. IsTrue (is_int_field (slice_get (main_fields program) field.field))) fields
+  pub ints : All (λ field. IsTrue (is_int_field (slice_get (main_fields program) field.field)))
+      fields
   pub names : All HasAsciiName fields
   pub few : length fields ≤ 64
 
@@ -88,7 +91,8 @@ pub record WrapsImage (program : Source) (fields : List InputField) (limits : Li
 abbrev pub IsGivenPlan : Result (List FieldWord) LoadError → Source → List InputField → Limits → ℕ
     → Planned → Type 0
 IsGivenPlan (Err e) program fields limits steps p = p ≡ prints InputRefused (load_line e)
-IsGivenPlan (Ok input) program fields limits steps p = WrapsImage program fields limits input steps p
+IsGivenPlan (Ok input) program fields limits steps p =
+    WrapsImage program fields limits input steps p
 
 -- the names are judged before the input
 abbrev pub IsNamedPlan : Result (List InputField) NamesError → (given : List ℕ) → Source → Limits
@@ -113,7 +117,7 @@ IsWrapPlan text names given heap deep steps p =
 
 -- the plan of `wrap` of this file for these names, on an input where there is one
 abbrev pub WrapsFile : (file names : List ℕ) → (input : Option (List ℕ)) → (heap deep steps : ℕ)
-    → Texts → Planned → Type 0
-WrapsFile file names input heap deep steps texts p =
-    WithText texts file MOST_BYTES
-    (λ text. WithInput texts input (λ given. IsWrapPlan text names given heap deep steps p))
+    → Option Texts → Planned → Type 0
+WrapsFile file names input heap deep steps told p =
+    WithText told file MOST_BYTES
+    (λ text. WithInput told input (λ given. IsWrapPlan text names given heap deep steps p))

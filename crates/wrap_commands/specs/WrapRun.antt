@@ -10,7 +10,7 @@ use Rattle.pisa_isa.specs.Image.{Segments, IsImage}
 use Rattle.pisa_machine.specs.Position.{Position}
 use Rattle.pisa_loader.specs.declared.input.InputField.{InputField}
 use Rattle.roopl_semantics.specs.Source.{IsValid}
-use Rattle.program_wrap.specs.Programs.{FollowsWrapped, wrapped_run}
+use Rattle.refine_wrap.specs.Programs.{FollowsWrapped, wrapped_run}
 use Rattle.wrap_commands.specs.WrapNames.{result_cells}
 use Rattle.wrap_commands.specs.WrapPlans.{AreResults}
 

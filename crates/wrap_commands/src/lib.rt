@@ -8,4 +8,4 @@ mod planning;
 mod running;
 mod shown;
 
-pub use planning::{Wanted, wrap};
+pub use planning::wrap;

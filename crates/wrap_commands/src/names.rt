@@ -4,8 +4,8 @@ ghost use Rattle.pisa_loader.specs.InputLines.{is_field};
 ghost use Rattle.wrap_commands.specs.WrapNames.{field_of_name, with_result, results_of, Gives};
 
 use crate::error::NamesError;
-use machine_texts::pieces;
 use pisa_loader::InputField;
+use pisa_scripts::pieces;
 use std::alloc::{AllocError, Global};
 
 /// The fields that names joined by commas name, in the order of the names. The first name that no

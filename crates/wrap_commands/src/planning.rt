@@ -5,8 +5,8 @@ ghost use Rattle.rpp_tree.specs.declared.limits.TheConstants.{MOST_BYTES};
 ghost use Rattle.rpp_words.specs.Limits.{IsLimits};
 ghost use Rattle.pisa_loader.specs.Limiting.{limits_refusal};
 ghost use Rattle.pisa_loader.specs.declared.input.TheConstants.{MOST_INPUT};
-ghost use Rattle.rpp_plan.specs.Files.{OnlyReads, source, input_files};
-ghost use Rattle.rpp_plan.specs.Plans.{planned, GivesPlan};
+ghost use Rattle.command_plan.specs.Files.{OnlyReads, source, input_files};
+ghost use Rattle.command_plan.specs.Plans.{planned, GivesPlan};
 ghost use Rattle.program_commands.specs.Inputs.{input_fields as fields_of, given_input};
 ghost use Rattle.wrap_commands.specs.WrapNames.{results_of};
 ghost use Rattle.wrap_commands.specs.WrapPlans.{AreResults, IsGivenPlan, IsNamedPlan, IsSizedPlan, IsWrapPlan, WrapsFile};
@@ -16,24 +16,16 @@ use crate::names::read_names;
 use crate::running::{Setting, is_accepted, run_wrapped};
 use crate::shown::refuse_name;
 use class_table::Checked;
+use command_plan::{NoPlan, Plan, Sizes, Verdict, load_line, read_given, refuse_source};
 use pisa_loader::{InputField, LoadError, check_limits, read_input};
 use pisa_machine::Steps;
 use program_commands::input_fields;
 use roopl_judge::{SourceError, judge};
-use rpp_plan::{NoPlan, Plan, Sizes, Verdict, load_line, read_given, refuse_source};
 use rpp_ports::Shelf;
 use rpp_tree::MOST_BYTES;
 use rpp_words::{Limits, MOST_DEEP, NoMemory};
 use std::alloc::Global;
 use std::sync::ledger::Ledger;
-
-/// What stands behind the sizes: the names of the results, joined by commas, and the file of the
-/// input, if there is one.
-#[derive(Debug, Drop)]
-pub struct Wanted {
-    pub names: String,
-    pub input: Option<String>,
-}
 
 // What a program is wrapped with: the names, the text of the input, and the sizes of the run.
 #[derive(Drop)]
@@ -43,26 +35,29 @@ struct Request {
     sizes: Sizes,
 }
 
-/// Compiles a file, wraps the image, runs it on an input where there is one, and tells the results.
+/// Compiles a file, wraps the image for the fields with these names, which commas join, runs it on
+/// an input where there is one, and tells the results.
 pub fn wrap<S: Shelf, L: Ledger>(
     alloc: Global,
     shelf: &mut S,
     file: &str,
-    wanted: &Wanted,
+    names: &str,
+    input: &Option<String>,
     sizes: Sizes,
     steps: &mut Steps<L>,
 ) -> Result<Plan, NoPlan>
     requires { sizes.bound < 2 ^ 63 }
     ensures plan { GivesPlan (S.texts shelf.old)
-        (WrapsFile file.now (string_bytes wanted.now.names)
-        (option_map string_bytes wanted.now.input) sizes.heap sizes.deep sizes.bound) result }
+        (WrapsFile file.now names.now (option_map string_bytes input.now) sizes.heap sizes.deep
+        sizes.bound) result }
     ensures reads { OnlyReads (S.texts shelf.old) (S.texts shelf.new) (S.faults shelf.old)
         (S.faults shelf.new)
-        (source file.now ∷ input_files (option_map string_bytes wanted.now.input)) result }
+        (source file.now ∷ input_files (option_map string_bytes input.now)) result }
 {
-    let given = read_given(alloc, shelf, file, &wanted.input)?;
+    let given = read_given(alloc, shelf, file, input)?;
+    let wanted = names.as_bytes().to_vec(alloc)?;
     let request = Request {
-        names: wanted.names.as_bytes().to_vec(alloc)?,
+        names: wanted,
         input: given.input,
         sizes,
     };

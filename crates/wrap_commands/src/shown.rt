@@ -3,12 +3,12 @@ ghost use Rattle.std.specs.Prelude.{◌≡◌, ◌≤◌, ◌+◌, ◌++◌, ◌
 ghost use Rattle.std.specs.Str.{IsAscii};
 ghost use Rattle.roopl_semantics.specs.Report.{signed_decimal};
 ghost use Rattle.roopl_semantics.specs.Walk.{word_at as word_of_cells};
-ghost use Rattle.rpp_plan.specs.Plans.{planned, prints};
+ghost use Rattle.command_plan.specs.Plans.{planned, prints};
 ghost use Rattle.wrap_commands.specs.WrapShown.{HasAsciiName, result_line, word_lines, initial_line, unknown_result_line};
 
+use command_plan::{Plan, Verdict};
 use pisa_loader::InputField;
 use pisa_machine::Machine;
-use rpp_plan::{Plan, Verdict};
 use std::alloc::{AllocError, Global};
 
 /// Adds the lines of results whose words stand in a memory from an address on.

@@ -4,8 +4,10 @@ use Rattle.rpp_tree.specs.Views.{expression_of, statement_of, statements_of, blo
 use Rattle.block_codegen.specs.Pieces.{StatementStands, StandsIn}
 use Rattle.statement_codegen.specs.Codes.{with_variable}
 use Rattle.rpp_tree.proofs.Statements.{statement_if, statement_from, statement_construct, statement_local}
-use Rattle.block_codegen.proofs.Standing.{taken_stands, other_stands, entered_stands, repeated_stands, inside_stands, constructed_stands}
-use Rattle.block_codegen.proofs.Walk.{place_fits, item_stands, making_first, making_next, making_last, item_falls, if_falls, from_falls, construct_falls, local_falls}
+use Rattle.block_codegen.proofs.Standing.{taken_stands, other_stands, entered_stands, repeated_stands, inside_stands}
+use Rattle.block_codegen.proofs.Standing.{constructed_stands}
+use Rattle.block_codegen.proofs.Walk.{place_fits, item_stands, making_first, making_next, making_last, item_falls}
+use Rattle.block_codegen.proofs.Walk.{if_falls, from_falls, construct_falls, local_falls}
 use Rattle.block_codegen.proofs.Arms.{if_room, from_room, local_room, if_made, from_made, local_made, popped_is}
 use Rattle.block_codegen.proofs.ObjectArms.{construct_made}
 use Rattle.block_codegen.proofs.blocks.+blocks.Goals as goal
@@ -13,104 +15,191 @@ use Rattle.block_codegen.proofs.blocks.+blocks.Goals as goal
 pub block_piece-loop-stmt-init : goal.block_piece-loop-stmt-init
 block_piece-loop-stmt-init t c =
     making_first c.args.scope.now (block_of c.args.body.now) _ c.empty-piece.result
-    (block_of-list c.args.body.now ∙ ap (λ z. statements_of (map statement_of z)) (sym c.deref-stmt-items.ensures.value)) c.empty-piece.ensures.code c.requires.stands
+    (block_of-list c.args.body.now ∙ ap (λ z. statements_of (map statement_of z))
+    (sym c.deref-stmt-items.ensures.value)) c.empty-piece.ensures.code c.requires.stands
 
 pub block_piece-inner_piece-requires : goal.block_piece-inner_piece-requires
 block_piece-inner_piece-requires t c = (
   (
       let smaller =
       item_falls (block_of c.args.body.now) c.deref-stmt-items.result.now c.loop-stmt.stmt-index c.stmt-item.result
-      (block_of-list c.args.body.now ∙ ap (λ z. statements_of (map statement_of z)) (sym c.deref-stmt-items.ensures.value)) c.loop-stmt-test.true c.stmt-item.is in
+      (block_of-list c.args.body.now ∙ ap (λ z. statements_of (map statement_of z))
+      (sym c.deref-stmt-items.ensures.value)) c.loop-stmt-test.true c.stmt-item.is in
       omega (arith, smaller)
       ),
   subst (λ z. StatementStands z (statement_of c.stmt-item.result)) (sym c.loop-stmt.invariant.same)
-      (item_stands c.args.scope.now c.deref-stmt-items.result.now c.loop-stmt.stmt-index c.stmt-item.result c.loop-stmt-test.true c.stmt-item.is c.loop-stmt.invariant.stands),
+      (item_stands c.args.scope.now c.deref-stmt-items.result.now c.loop-stmt.stmt-index c.stmt-item.result
+      c.loop-stmt-test.true c.stmt-item.is c.loop-stmt.invariant.stands),
 )
 
 pub block_piece-then_marked-requires : goal.block_piece-then_marked-requires
 block_piece-then_marked-requires t c = record {
-  place = place_fits c.args.scope.now (statement_of c.stmt-item.result) (item_stands c.args.scope.now c.deref-stmt-items.result.now c.loop-stmt.stmt-index c.stmt-item.result c.loop-stmt-test.true c.stmt-item.is c.loop-stmt.invariant.stands);
+  place = place_fits c.args.scope.now (statement_of c.stmt-item.result)
+      (item_stands c.args.scope.now c.deref-stmt-items.result.now c.loop-stmt.stmt-index c.stmt-item.result
+      c.loop-stmt-test.true c.stmt-item.is c.loop-stmt.invariant.stands);
 }
 
 pub block_piece-loop-stmt-preserved : goal.block_piece-loop-stmt-preserved
 block_piece-loop-stmt-preserved t c =
-    making_next c.args.scope.now (block_of c.args.body.now) c.deref-stmt-items.result.now c.loop-stmt.stmt-index c.stmt-item.result c.loop-stmt.scope c.inner_piece.new.scope c.loop-stmt.piece c.in_ok-inner.inner c.in_ok-piece.piece
-    c.loop-stmt-test.true c.stmt-item.is c.loop-stmt.invariant c.in_ok-inner.ensures.piece c.in_ok-inner.ensures.scope c.in_ok-piece.ensures.code
+    making_next c.args.scope.now (block_of c.args.body.now) c.deref-stmt-items.result.now c.loop-stmt.stmt-index
+    c.stmt-item.result c.loop-stmt.scope c.inner_piece.new.scope c.loop-stmt.piece c.in_ok-inner.inner
+    c.in_ok-piece.piece
+    c.loop-stmt-test.true c.stmt-item.is c.loop-stmt.invariant c.in_ok-inner.ensures.piece c.in_ok-inner.ensures.scope
+    c.in_ok-piece.ensures.code
 
 pub block_piece-returns-clause-piece : goal.block_piece-returns-clause-piece
 block_piece-returns-clause-piece t c =
-    making_last c.args.scope.now (block_of c.args.body.now) c.deref-stmt-items.result.now c.loop-stmt.stmt-index c.loop-stmt.scope c.loop-stmt.piece c.loop-stmt-test.false c.loop-stmt.invariant
+    making_last c.args.scope.now (block_of c.args.body.now) c.deref-stmt-items.result.now c.loop-stmt.stmt-index
+    c.loop-stmt.scope c.loop-stmt.piece c.loop-stmt-test.false c.loop-stmt.invariant
 
 pub inner_piece-block_piece-requires : goal.inner_piece-block_piece-requires
-inner_piece-block_piece-requires t c = (let smaller = (if_falls (statement_of c.args.s.now) c.in-If.at (expression_of c.in-If.test) (expression_of c.in-If.after) (block_of c.in-If.yes) (block_of c.in-If.no) (ap statement_of c.in-If.is ∙ statement_if _ _ _ _ _)).0 in omega (arith, smaller), taken_stands c.args.scope.now c.in-If.at (expression_of c.in-If.test) (block_of c.in-If.yes) (block_of c.in-If.no) (expression_of c.in-If.after) (subst (StatementStands c.args.scope.now) (ap statement_of c.in-If.is ∙ statement_if _ _ _ _ _) c.requires.stands))
+inner_piece-block_piece-requires t c = (
+  let smaller = (if_falls (statement_of c.args.s.now) c.in-If.at
+      (expression_of c.in-If.test) (expression_of c.in-If.after) (block_of c.in-If.yes) (block_of c.in-If.no)
+      (ap statement_of c.in-If.is ∙ statement_if _ _ _ _ _)).0 in omega (arith, smaller),
+  taken_stands c.args.scope.now c.in-If.at (expression_of c.in-If.test) (block_of c.in-If.yes) (block_of c.in-If.no)
+      (expression_of c.in-If.after) (subst (StatementStands c.args.scope.now)
+      (ap statement_of c.in-If.is ∙ statement_if _ _ _ _ _) c.requires.stands),
+)
 
 pub inner_piece-block_piece-requires-in-If : goal.inner_piece-block_piece-requires-in-If
 inner_piece-block_piece-requires-in-If t c = (
-  (let smaller = (if_falls (statement_of c.args.s.now) c.in-If.at (expression_of c.in-If.test) (expression_of c.in-If.after) (block_of c.in-If.yes) (block_of c.in-If.no) (ap statement_of c.in-If.is ∙ statement_if _ _ _ _ _)).1 in omega (arith, smaller)),
+  (let smaller = (if_falls (statement_of c.args.s.now) c.in-If.at (expression_of c.in-If.test)
+      (expression_of c.in-If.after) (block_of c.in-If.yes) (block_of c.in-If.no)
+      (ap statement_of c.in-If.is ∙ statement_if _ _ _ _ _)).1 in omega (arith, smaller)),
   subst (λ z. StandsIn z (block_of c.in-If.no)) (sym c.in_ok-yes-in-If.ensures.scope)
-      (other_stands c.args.scope.now c.in-If.at (expression_of c.in-If.test) (block_of c.in-If.yes) (block_of c.in-If.no) (expression_of c.in-If.after) (subst (StatementStands c.args.scope.now) (ap statement_of c.in-If.is ∙ statement_if _ _ _ _ _) c.requires.stands)),
+      (other_stands c.args.scope.now c.in-If.at (expression_of c.in-If.test) (block_of c.in-If.yes)
+      (block_of c.in-If.no) (expression_of c.in-If.after)
+      (subst (StatementStands c.args.scope.now) (ap statement_of c.in-If.is ∙ statement_if _ _ _ _ _)
+      c.requires.stands)),
 )
 
 pub inner_piece-if_code-requires-clause-test_room : goal.inner_piece-if_code-requires-clause-test_room
-inner_piece-if_code-requires-clause-test_room t c = (if_room c.args.scope.now (statement_of c.args.s.now) c.in-If.at (expression_of c.in-If.test) (expression_of c.in-If.after) (block_of c.in-If.yes) (block_of c.in-If.no) (ap statement_of c.in-If.is ∙ statement_if _ _ _ _ _) c.requires.stands).0
+inner_piece-if_code-requires-clause-test_room t c = (if_room c.args.scope.now (statement_of c.args.s.now) c.in-If.at
+    (expression_of c.in-If.test) (expression_of c.in-If.after) (block_of c.in-If.yes) (block_of c.in-If.no)
+    (ap statement_of c.in-If.is ∙ statement_if _ _ _ _ _) c.requires.stands).0
 
 pub inner_piece-if_code-requires-clause-after_room : goal.inner_piece-if_code-requires-clause-after_room
-inner_piece-if_code-requires-clause-after_room t c = (if_room c.args.scope.now (statement_of c.args.s.now) c.in-If.at (expression_of c.in-If.test) (expression_of c.in-If.after) (block_of c.in-If.yes) (block_of c.in-If.no) (ap statement_of c.in-If.is ∙ statement_if _ _ _ _ _) c.requires.stands).1
+inner_piece-if_code-requires-clause-after_room t c = (if_room c.args.scope.now (statement_of c.args.s.now) c.in-If.at
+    (expression_of c.in-If.test) (expression_of c.in-If.after) (block_of c.in-If.yes) (block_of c.in-If.no)
+    (ap statement_of c.in-If.is ∙ statement_if _ _ _ _ _) c.requires.stands).1
 
 pub inner_piece-block_piece-requires-in-From : goal.inner_piece-block_piece-requires-in-From
-inner_piece-block_piece-requires-in-From t c = (let smaller = (from_falls (statement_of c.args.s.now) c.in-From.at (expression_of c.in-From.entry) (expression_of c.in-From.until) (block_of c.in-From.first) (block_of c.in-From.again) (ap statement_of c.in-From.is ∙ statement_from _ _ _ _ _)).0 in omega (arith, smaller), entered_stands c.args.scope.now c.in-From.at (expression_of c.in-From.entry) (block_of c.in-From.first) (block_of c.in-From.again) (expression_of c.in-From.until) (subst (StatementStands c.args.scope.now) (ap statement_of c.in-From.is ∙ statement_from _ _ _ _ _) c.requires.stands))
+inner_piece-block_piece-requires-in-From t c = (
+  let smaller
+      = (from_falls (statement_of c.args.s.now) c.in-From.at (expression_of c.in-From.entry)
+      (expression_of c.in-From.until) (block_of c.in-From.first) (block_of c.in-From.again)
+      (ap statement_of c.in-From.is ∙ statement_from _ _ _ _ _)).0 in omega (arith, smaller),
+  entered_stands c.args.scope.now c.in-From.at (expression_of c.in-From.entry) (block_of c.in-From.first)
+      (block_of c.in-From.again) (expression_of c.in-From.until)
+      (subst (StatementStands c.args.scope.now) (ap statement_of c.in-From.is ∙ statement_from _ _ _ _ _)
+      c.requires.stands),
+)
 
 pub inner_piece-block_piece-requires-in-From-2 : goal.inner_piece-block_piece-requires-in-From-2
 inner_piece-block_piece-requires-in-From-2 t c = (
-  (let smaller = (from_falls (statement_of c.args.s.now) c.in-From.at (expression_of c.in-From.entry) (expression_of c.in-From.until) (block_of c.in-From.first) (block_of c.in-From.again) (ap statement_of c.in-From.is ∙ statement_from _ _ _ _ _)).1 in omega (arith, smaller)),
+  (let smaller = (from_falls (statement_of c.args.s.now) c.in-From.at (expression_of c.in-From.entry)
+      (expression_of c.in-From.until) (block_of c.in-From.first) (block_of c.in-From.again)
+      (ap statement_of c.in-From.is ∙ statement_from _ _ _ _ _)).1 in omega (arith, smaller)),
   subst (λ z. StandsIn z (block_of c.in-From.again)) (sym c.in_ok-first-in-From.ensures.scope)
-      (repeated_stands c.args.scope.now c.in-From.at (expression_of c.in-From.entry) (block_of c.in-From.first) (block_of c.in-From.again) (expression_of c.in-From.until) (subst (StatementStands c.args.scope.now) (ap statement_of c.in-From.is ∙ statement_from _ _ _ _ _) c.requires.stands)),
+      (repeated_stands c.args.scope.now c.in-From.at (expression_of c.in-From.entry) (block_of c.in-From.first)
+      (block_of c.in-From.again) (expression_of c.in-From.until)
+      (subst (StatementStands c.args.scope.now) (ap statement_of c.in-From.is ∙ statement_from _ _ _ _ _)
+      c.requires.stands)),
 )
 
 pub inner_piece-from_code-requires-clause-entry_room : goal.inner_piece-from_code-requires-clause-entry_room
-inner_piece-from_code-requires-clause-entry_room t c = (from_room c.args.scope.now (statement_of c.args.s.now) c.in-From.at (expression_of c.in-From.entry) (expression_of c.in-From.until) (block_of c.in-From.first) (block_of c.in-From.again) (ap statement_of c.in-From.is ∙ statement_from _ _ _ _ _) c.requires.stands).0
+inner_piece-from_code-requires-clause-entry_room t c =
+    (from_room c.args.scope.now (statement_of c.args.s.now) c.in-From.at (expression_of c.in-From.entry)
+    (expression_of c.in-From.until) (block_of c.in-From.first) (block_of c.in-From.again)
+    (ap statement_of c.in-From.is ∙ statement_from _ _ _ _ _) c.requires.stands).0
 
 pub inner_piece-from_code-requires-clause-exit_room : goal.inner_piece-from_code-requires-clause-exit_room
-inner_piece-from_code-requires-clause-exit_room t c = (from_room c.args.scope.now (statement_of c.args.s.now) c.in-From.at (expression_of c.in-From.entry) (expression_of c.in-From.until) (block_of c.in-From.first) (block_of c.in-From.again) (ap statement_of c.in-From.is ∙ statement_from _ _ _ _ _) c.requires.stands).1
+inner_piece-from_code-requires-clause-exit_room t c = (from_room c.args.scope.now (statement_of c.args.s.now)
+    c.in-From.at (expression_of c.in-From.entry) (expression_of c.in-From.until) (block_of c.in-From.first)
+    (block_of c.in-From.again) (ap statement_of c.in-From.is ∙ statement_from _ _ _ _ _) c.requires.stands).1
 
 pub inner_piece-block_piece-requires-in-Local : goal.inner_piece-block_piece-requires-in-Local
 inner_piece-block_piece-requires-in-Local t c = (
-  (let smaller = local_falls (statement_of c.args.s.now) c.in-Local.at c.in-Local.var (expression_of c.in-Local.value) (block_of c.in-Local.body) c.in-Local.end_var (expression_of c.in-Local.end_value) (ap statement_of c.in-Local.is ∙ statement_local _ _ _ _ _ _) in omega (arith, smaller)),
+  (let smaller = local_falls (statement_of c.args.s.now) c.in-Local.at c.in-Local.var (expression_of c.in-Local.value)
+      (block_of c.in-Local.body) c.in-Local.end_var (expression_of c.in-Local.end_value)
+      (ap statement_of c.in-Local.is ∙ statement_local _ _ _ _ _ _) in omega (arith, smaller)),
   subst (λ z. StandsIn z (block_of c.in-Local.body)) (sym c.in_ok-push-in-Local.ensures.pushed)
-      (inside_stands c.args.scope.now c.in-Local.at c.in-Local.var (expression_of c.in-Local.value) (block_of c.in-Local.body) c.in-Local.end_var (expression_of c.in-Local.end_value) (subst (StatementStands c.args.scope.now) (ap statement_of c.in-Local.is ∙ statement_local _ _ _ _ _ _) c.requires.stands)),
+      (inside_stands c.args.scope.now c.in-Local.at c.in-Local.var (expression_of c.in-Local.value)
+      (block_of c.in-Local.body) c.in-Local.end_var (expression_of c.in-Local.end_value)
+      (subst (StatementStands c.args.scope.now) (ap statement_of c.in-Local.is ∙ statement_local _ _ _ _ _ _)
+      c.requires.stands)),
 )
 
 pub inner_piece-local_code-requires-clause-value_room : goal.inner_piece-local_code-requires-clause-value_room
-inner_piece-local_code-requires-clause-value_room t c = (local_room c.args.scope.now (statement_of c.args.s.now) c.in-Local.at c.in-Local.var (expression_of c.in-Local.value) (block_of c.in-Local.body) c.in-Local.end_var (expression_of c.in-Local.end_value) (ap statement_of c.in-Local.is ∙ statement_local _ _ _ _ _ _) c.requires.stands).0
+inner_piece-local_code-requires-clause-value_room t c =
+    (local_room c.args.scope.now (statement_of c.args.s.now) c.in-Local.at c.in-Local.var
+    (expression_of c.in-Local.value) (block_of c.in-Local.body) c.in-Local.end_var
+    (expression_of c.in-Local.end_value) (ap statement_of c.in-Local.is ∙ statement_local _ _ _ _ _ _)
+    c.requires.stands).0
 
 pub inner_piece-local_code-requires-clause-last_room : goal.inner_piece-local_code-requires-clause-last_room
-inner_piece-local_code-requires-clause-last_room t c = (local_room c.args.scope.now (statement_of c.args.s.now) c.in-Local.at c.in-Local.var (expression_of c.in-Local.value) (block_of c.in-Local.body) c.in-Local.end_var (expression_of c.in-Local.end_value) (ap statement_of c.in-Local.is ∙ statement_local _ _ _ _ _ _) c.requires.stands).1
+inner_piece-local_code-requires-clause-last_room t c =
+    (local_room c.args.scope.now (statement_of c.args.s.now) c.in-Local.at c.in-Local.var
+    (expression_of c.in-Local.value) (block_of c.in-Local.body) c.in-Local.end_var
+    (expression_of c.in-Local.end_value) (ap statement_of c.in-Local.is ∙ statement_local _ _ _ _ _ _)
+    c.requires.stands).1
 
 pub inner_piece-block_piece-requires-in-Construct : goal.inner_piece-block_piece-requires-in-Construct
 inner_piece-block_piece-requires-in-Construct t c = (
-  (let smaller = construct_falls (statement_of c.args.s.now) c.in-Construct.at c.in-Construct.class c.in-Construct.name (block_of c.in-Construct.body) c.in-Construct.end (ap statement_of c.in-Construct.is ∙ statement_construct _ _ _ _ _) in omega (arith, smaller)),
-  subst (λ z. StandsIn z (block_of c.in-Construct.body)) (sym (c.in_ok-push-in-Construct.ensures.pushed ∙ ap (with_variable c.args.scope.now) c.in_ok-var-in-Construct.ensures))
-      (constructed_stands c.args.scope.now c.in-Construct.at c.in-Construct.class c.in-Construct.name (block_of c.in-Construct.body) c.in-Construct.end (subst (StatementStands c.args.scope.now) (ap statement_of c.in-Construct.is ∙ statement_construct _ _ _ _ _) c.requires.stands)),
+  (let smaller = construct_falls (statement_of c.args.s.now) c.in-Construct.at c.in-Construct.class c.in-Construct.name
+      (block_of c.in-Construct.body) c.in-Construct.end (ap statement_of c.in-Construct.is
+      ∙ statement_construct _ _ _ _ _) in omega (arith, smaller)),
+  subst (λ z. StandsIn z (block_of c.in-Construct.body))
+      (sym (c.in_ok-push-in-Construct.ensures.pushed ∙ ap (with_variable c.args.scope.now)
+      c.in_ok-var-in-Construct.ensures))
+      (constructed_stands c.args.scope.now c.in-Construct.at c.in-Construct.class c.in-Construct.name
+      (block_of c.in-Construct.body) c.in-Construct.end
+      (subst (StatementStands c.args.scope.now) (ap statement_of c.in-Construct.is
+      ∙ statement_construct _ _ _ _ _) c.requires.stands)),
 )
 
-pub inner_piece-returns-in_ok-body-in-Construct-clause-piece : goal.inner_piece-returns-in_ok-body-in-Construct-clause-piece
+pub inner_piece-returns-in_ok-body-in-Construct-clause-piece :
+    goal.inner_piece-returns-in_ok-body-in-Construct-clause-piece
 inner_piece-returns-in_ok-body-in-Construct-clause-piece t c =
-    construct_made c.args.scope.now c.push-in-Construct.new.self c.block_piece-in-Construct.new.scope (statement_of c.args.s.now) c.in-Construct.at c.in-Construct.class c.in-Construct.name (block_of c.in-Construct.body) c.in-Construct.end c.in_ok-var-in-Construct.var c.in_ok-making-in-Construct.making c.in_ok-body-in-Construct.body c.pop-in-Construct.new.self c.construct_code.result
-    (ap statement_of c.in-Construct.is ∙ statement_construct _ _ _ _ _) c.requires.stands c.in_ok-var-in-Construct.ensures c.in_ok-push-in-Construct.ensures.pushed c.in_ok-body-in-Construct.ensures.scope
-    (popped_is c.args.scope.now c.push-in-Construct.new.self c.block_piece-in-Construct.new.scope c.pop-in-Construct.new.self c.in_ok-var-in-Construct.var c.in_ok-push-in-Construct.ensures.pushed c.in_ok-body-in-Construct.ensures.scope c.pop-in-Construct.ensures)
-    c.in_ok-making-in-Construct.ensures.law c.in_ok-making-in-Construct.ensures.size c.in_ok-body-in-Construct.ensures.piece c.construct_code.ensures.law c.construct_code.ensures.held c.construct_code.ensures.size
+    construct_made c.args.scope.now c.push-in-Construct.new.self c.block_piece-in-Construct.new.scope
+    (statement_of c.args.s.now) c.in-Construct.at c.in-Construct.class c.in-Construct.name
+    (block_of c.in-Construct.body) c.in-Construct.end c.in_ok-var-in-Construct.var
+    c.in_ok-making-in-Construct.making c.in_ok-body-in-Construct.body c.pop-in-Construct.new.self
+    c.construct_code.result
+    (ap statement_of c.in-Construct.is ∙ statement_construct _ _ _ _ _) c.requires.stands
+    c.in_ok-var-in-Construct.ensures c.in_ok-push-in-Construct.ensures.pushed
+    c.in_ok-body-in-Construct.ensures.scope
+    (popped_is c.args.scope.now c.push-in-Construct.new.self c.block_piece-in-Construct.new.scope
+    c.pop-in-Construct.new.self c.in_ok-var-in-Construct.var c.in_ok-push-in-Construct.ensures.pushed
+    c.in_ok-body-in-Construct.ensures.scope c.pop-in-Construct.ensures)
+    c.in_ok-making-in-Construct.ensures.law c.in_ok-making-in-Construct.ensures.size
+    c.in_ok-body-in-Construct.ensures.piece c.construct_code.ensures.law c.construct_code.ensures.held
+    c.construct_code.ensures.size
 
 pub inner_piece-returns-in_ok-no-in-If-clause-piece : goal.inner_piece-returns-in_ok-no-in-If-clause-piece
 inner_piece-returns-in_ok-no-in-If-clause-piece t c =
-    if_made c.args.scope.now c.block_piece.new.scope c.block_piece-in-If.new.scope (statement_of c.args.s.now) c.in-If.at (expression_of c.in-If.test) (expression_of c.in-If.after) (block_of c.in-If.yes) (block_of c.in-If.no) c.in_ok-yes-in-If.yes c.in_ok-no-in-If.no c.if_code.result (ap statement_of c.in-If.is ∙ statement_if _ _ _ _ _) c.requires.stands
-    c.in_ok-yes-in-If.ensures.scope c.in_ok-no-in-If.ensures.scope c.in_ok-yes-in-If.ensures.piece c.in_ok-no-in-If.ensures.piece c.if_code.ensures.law c.if_code.ensures.held c.if_code.ensures.size
+    if_made c.args.scope.now c.block_piece.new.scope c.block_piece-in-If.new.scope (statement_of c.args.s.now)
+    c.in-If.at (expression_of c.in-If.test) (expression_of c.in-If.after) (block_of c.in-If.yes)
+    (block_of c.in-If.no) c.in_ok-yes-in-If.yes c.in_ok-no-in-If.no c.if_code.result
+    (ap statement_of c.in-If.is ∙ statement_if _ _ _ _ _) c.requires.stands
+    c.in_ok-yes-in-If.ensures.scope c.in_ok-no-in-If.ensures.scope c.in_ok-yes-in-If.ensures.piece
+    c.in_ok-no-in-If.ensures.piece c.if_code.ensures.law c.if_code.ensures.held c.if_code.ensures.size
 
 pub inner_piece-returns-in_ok-again-in-From-clause-piece : goal.inner_piece-returns-in_ok-again-in-From-clause-piece
 inner_piece-returns-in_ok-again-in-From-clause-piece t c =
-    from_made c.args.scope.now c.block_piece-in-From.new.scope c.block_piece-in-From-2.new.scope (statement_of c.args.s.now) c.in-From.at (expression_of c.in-From.entry) (expression_of c.in-From.until) (block_of c.in-From.first) (block_of c.in-From.again) c.in_ok-first-in-From.first c.in_ok-again-in-From.again c.from_code.result (ap statement_of c.in-From.is ∙ statement_from _ _ _ _ _) c.requires.stands
-    c.in_ok-first-in-From.ensures.scope c.in_ok-again-in-From.ensures.scope c.in_ok-first-in-From.ensures.piece c.in_ok-again-in-From.ensures.piece c.from_code.ensures.law c.from_code.ensures.held c.from_code.ensures.size
+    from_made c.args.scope.now c.block_piece-in-From.new.scope c.block_piece-in-From-2.new.scope
+    (statement_of c.args.s.now) c.in-From.at (expression_of c.in-From.entry) (expression_of c.in-From.until)
+    (block_of c.in-From.first) (block_of c.in-From.again) c.in_ok-first-in-From.first c.in_ok-again-in-From.again
+    c.from_code.result (ap statement_of c.in-From.is ∙ statement_from _ _ _ _ _) c.requires.stands
+    c.in_ok-first-in-From.ensures.scope c.in_ok-again-in-From.ensures.scope c.in_ok-first-in-From.ensures.piece
+    c.in_ok-again-in-From.ensures.piece c.from_code.ensures.law c.from_code.ensures.held c.from_code.ensures.size
 
 pub inner_piece-returns-in_ok-body-in-Local-clause-piece : goal.inner_piece-returns-in_ok-body-in-Local-clause-piece
 inner_piece-returns-in_ok-body-in-Local-clause-piece t c =
-    local_made c.args.scope.now c.push.new.self c.block_piece-in-Local.new.scope c.pop.new.self (statement_of c.args.s.now) c.in-Local.at c.in-Local.var (expression_of c.in-Local.value) (block_of c.in-Local.body) c.in-Local.end_var (expression_of c.in-Local.end_value) c.in_ok-body-in-Local.body c.local_code.result (ap statement_of c.in-Local.is ∙ statement_local _ _ _ _ _ _) c.requires.stands
-    c.in_ok-push-in-Local.ensures.pushed c.in_ok-body-in-Local.ensures.scope c.pop.ensures c.in_ok-body-in-Local.ensures.piece c.local_code.ensures.law c.local_code.ensures.held c.local_code.ensures.size
+    local_made c.args.scope.now c.push.new.self c.block_piece-in-Local.new.scope c.pop.new.self
+    (statement_of c.args.s.now) c.in-Local.at c.in-Local.var (expression_of c.in-Local.value)
+    (block_of c.in-Local.body) c.in-Local.end_var (expression_of c.in-Local.end_value) c.in_ok-body-in-Local.body
+    c.local_code.result (ap statement_of c.in-Local.is ∙ statement_local _ _ _ _ _ _) c.requires.stands
+    c.in_ok-push-in-Local.ensures.pushed c.in_ok-body-in-Local.ensures.scope c.pop.ensures
+    c.in_ok-body-in-Local.ensures.piece c.local_code.ensures.law c.local_code.ensures.held c.local_code.ensures.size

@@ -12,4 +12,5 @@ decreases-inner_piece l = 2 * statement_tokens (statement_of l.s.now)
 
 abbrev pub invariant-block_piece-loop-stmt : goal.invariant-block_piece-loop-stmt
 invariant-block_piece-loop-stmt l =
-    IsMaking l.fn.scope (block_of l.body) (statements_of (map statement_of (drop l.stmt-index l.stmt-items))) l.scope l.piece
+    IsMaking l.fn.scope (block_of l.body) (statements_of (map statement_of (drop l.stmt-index l.stmt-items))) l.scope
+    l.piece

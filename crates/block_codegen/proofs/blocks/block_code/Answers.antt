@@ -16,4 +16,5 @@ pub returns-clause-size : goal.returns-clause-size
 returns-clause-size c = if_ok c.block_piece.result (λ p h. h.size) c.block_piece.ensures.piece
 
 pub returns-clause-few : goal.returns-clause-few
-returns-clause-few c = if_ok c.block_piece.result (λ p h. marks_few c.args.scope.now (block_of c.args.body.now) p h.marks) c.block_piece.ensures.piece
+returns-clause-few c = if_ok c.block_piece.result (λ p h. marks_few c.args.scope.now (block_of c.args.body.now) p
+    h.marks) c.block_piece.ensures.piece

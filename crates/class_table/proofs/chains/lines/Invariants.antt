@@ -7,5 +7,7 @@ use Rattle.class_table.proofs.chains.lines.Given as goal
 abbrev pub invariant-loop-number : goal.invariant-loop-number
 invariant-loop-number l = record {
   lines : map (λ line. line.items) l.list.items ≡ each_below (line_of (source_of l.fn.program)) l.number;
-  first : first_at (endless_chain (source_of l.fn.program)) 0 (map class_text_of l.fn.program.classes.items) ≡ first_at (endless_chain (source_of l.fn.program)) l.number (map class_text_of (drop l.number l.fn.program.classes.items));
+  first : first_at (endless_chain (source_of l.fn.program)) 0 (map class_text_of l.fn.program.classes.items)
+      ≡ first_at (endless_chain (source_of l.fn.program)) l.number
+      (map class_text_of (drop l.number l.fn.program.classes.items));
 }

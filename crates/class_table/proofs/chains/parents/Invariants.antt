@@ -4,4 +4,5 @@ use Rattle.class_table.specs.Chains.{parent_named}
 use Rattle.class_table.proofs.chains.parents.Given as goal
 
 abbrev pub invariant-loop-class : goal.invariant-loop-class
-invariant-loop-class l = l.list.items ≡ map (λ class. parent_named l.names.keys class.parent) (map class_text_of (take l.class-index l.class-items))
+invariant-loop-class l = l.list.items ≡ map (λ class. parent_named l.names.keys class.parent)
+    (map class_text_of (take l.class-index l.class-items))

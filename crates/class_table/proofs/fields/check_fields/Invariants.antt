@@ -5,4 +5,6 @@ use Rattle.class_table.specs.Members.{duplicate_field_at}
 use Rattle.class_table.proofs.fields.check_fields.Given as goal
 
 abbrev pub invariant-loop-number : goal.invariant-loop-number
-invariant-loop-number l = first_at (duplicate_field_at (source_of l.program)) 0 (map class_text_of l.program.classes.items) ≡ first_at (duplicate_field_at (source_of l.program)) l.number (map class_text_of (drop l.number l.program.classes.items))
+invariant-loop-number l = first_at (duplicate_field_at (source_of l.program)) 0
+    (map class_text_of l.program.classes.items) ≡ first_at (duplicate_field_at (source_of l.program)) l.number
+    (map class_text_of (drop l.number l.program.classes.items))

@@ -4,4 +4,5 @@ use Rattle.class_table.specs.Members.{with_methods}
 use Rattle.class_table.proofs.slots.add_methods.Given as goal
 
 abbrev pub invariant-loop-number : goal.invariant-loop-number
-invariant-loop-number l = with_methods l.class l.number (map procedure_of (drop l.number l.methods)) l.slots.entries ≡ with_methods l.class 0 (map procedure_of l.methods) l.initial.slots.entries
+invariant-loop-number l = with_methods l.class l.number (map procedure_of (drop l.number l.methods)) l.slots.entries
+    ≡ with_methods l.class 0 (map procedure_of l.methods) l.initial.slots.entries

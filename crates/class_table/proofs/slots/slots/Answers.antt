@@ -14,5 +14,7 @@ loop-number-preserved c =
     let pushed = rw (ok, own.0, c.loop-number.invariant.slots) at c.push.ensures.items in
     record {
       slots = pushed ∙ sym (each_below-next (slots_of program) c.loop-number.number);
-      first = c.loop-number.invariant.first ∙ first_at-next (too_many_slots_at program) class_text_of c.args.program.now.classes.items c.loop-number.number c.class-item.result (rw same at c.loop-number-test.true) (rw same at c.class-item.is) own.1;
+      first = c.loop-number.invariant.first ∙ first_at-next (too_many_slots_at program) class_text_of
+          c.args.program.now.classes.items c.loop-number.number c.class-item.result (rw same at c.loop-number-test.true)
+          (rw same at c.class-item.is) own.1;
     }

@@ -7,5 +7,7 @@ use Rattle.class_table.proofs.slots.slots.Given as goal
 abbrev pub invariant-loop-number : goal.invariant-loop-number
 invariant-loop-number l = record {
   slots : l.list.items ≡ each_below (slots_of (source_of l.fn.program)) l.number;
-  first : first_at (too_many_slots_at (source_of l.fn.program)) 0 (map class_text_of l.fn.program.classes.items) ≡ first_at (too_many_slots_at (source_of l.fn.program)) l.number (map class_text_of (drop l.number l.fn.program.classes.items));
+  first : first_at (too_many_slots_at (source_of l.fn.program)) 0 (map class_text_of l.fn.program.classes.items)
+      ≡ first_at (too_many_slots_at (source_of l.fn.program)) l.number
+      (map class_text_of (drop l.number l.fn.program.classes.items));
 }

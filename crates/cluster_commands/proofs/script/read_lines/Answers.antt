@@ -1,7 +1,7 @@
 use Rattle.std.proofs.Common.{◌≡◌, ◌∙◌, ◌≤◌, ◌+◌, sym, ap, [], map, length, get_or, Bor, List, ℕ, arith}
 use Rattle.std.proofs.lemmas.Result.{err_from_is_err_and}
 use Rattle.cluster_commands.specs.ClusterScripts.{with_line, events_from}
-use Rattle.machine_texts.specs.Lines.{pieces}
+use Rattle.pisa_scripts.specs.Lines.{pieces}
 use Rattle.cluster_commands.proofs.Reading.{fails_with, goes_on, stops, is_done, few_lines}
 use Rattle.cluster_commands.proofs.script.read_lines.Goals as goal
 
@@ -14,7 +14,9 @@ no_line = record { ref_ptr = (0, 0); now = [] }
 pub overflow_add-number : goal.overflow_add-number
 overflow_add-number c =
     let items = c.deref-line-items.result.now in
-    let few : length items ≤ length c.args.text.now + 1 = few_lines text_of items 10 c.args.text.now (ap (map text_of) c.deref-line-items.ensures.value ∙ c.in_ok-lines.ensures) in
+    let few : length items ≤ length c.args.text.now + 1 =
+    few_lines text_of items 10 c.args.text.now (ap (map text_of) c.deref-line-items.ensures.value
+    ∙ c.in_ok-lines.ensures) in
     omega arith
 
 pub returns-in_err-add_line : goal.returns-in_err-add_line
@@ -22,10 +24,16 @@ returns-in_err-add_line c =
     let p = err_from_is_err_and c.from_residual-in_err-add_line.result c.from_residual-in_err-add_line.ensures.1 in
     let items = c.deref-line-items.result.now in
     let l = c.loop-line in
-    let all : events_from c.args.processors 1 [] (map text_of items) ≡ events_from c.args.processors 1 [] (pieces 10 c.args.text.now) = ap (λ xs. events_from c.args.processors 1 [] (map text_of xs)) c.deref-line-items.ensures.value ∙ ap (events_from c.args.processors 1 []) c.in_ok-lines.ensures in
+    let all : events_from c.args.processors 1 [] (map text_of items)
+    ≡ events_from c.args.processors 1 [] (pieces 10 c.args.text.now) =
+    ap (λ xs. events_from c.args.processors 1 [] (map text_of xs)) c.deref-line-items.ensures.value
+    ∙ ap (events_from c.args.processors 1 []) c.in_ok-lines.ensures in
     rw (p.1, p.2) (record {
-      events = fails_with c.in_err-add_line.field-0.0 (with_line c.args.processors l.number l.events.items (text_of (get_or items l.line-index no_line))) (events_from c.args.processors 1 [] (pieces 10 c.args.text.now))
-          (λ r e. sym all ∙ stops c.args.processors text_of l.number l.events.items items l.line-index no_line r (events_from c.args.processors 1 [] (map text_of items)) c.loop-line-test.true e l.invariant.so_far)
+      events = fails_with c.in_err-add_line.field-0.0 (with_line c.args.processors l.number l.events.items
+          (text_of (get_or items l.line-index no_line))) (events_from c.args.processors 1 []
+          (pieces 10 c.args.text.now))
+          (λ r e. sym all ∙ stops c.args.processors text_of l.number l.events.items items l.line-index no_line r
+          (events_from c.args.processors 1 [] (map text_of items)) c.loop-line-test.true e l.invariant.so_far)
           c.in_err-add_line.ensures.events;
       there = tt;
       few = tt;
@@ -37,7 +45,9 @@ loop-line-preserved c =
     let l = c.loop-line in
     record {
       line = omega arith;
-      so_far = goes_on c.args.processors text_of l.number l.events.items c.add_line.new.events.items items l.line-index no_line (events_from c.args.processors 1 [] (map text_of items)) c.loop-line-test.true c.in_ok-add_line.ensures.events l.invariant.so_far;
+      so_far = goes_on c.args.processors text_of l.number l.events.items c.add_line.new.events.items items l.line-index
+          no_line (events_from c.args.processors 1 [] (map text_of items)) c.loop-line-test.true
+          c.in_ok-add_line.ensures.events l.invariant.so_far;
       there = c.in_ok-add_line.ensures.there;
       few = let one = c.in_ok-add_line.ensures.one in let so_far = l.invariant.few in omega (arith, one, so_far);
     }
@@ -46,8 +56,20 @@ pub returns : goal.returns
 returns c =
     let items = c.deref-line-items.result.now in
     let l = c.loop-line in
-    let all : events_from c.args.processors 1 [] (map text_of items) ≡ events_from c.args.processors 1 [] (pieces 10 c.args.text.now) = ap (λ xs. events_from c.args.processors 1 [] (map text_of xs)) c.deref-line-items.ensures.value ∙ ap (events_from c.args.processors 1 []) c.in_ok-lines.ensures in
-    let lines : length items ≤ length c.args.text.now + 1 = few_lines text_of items 10 c.args.text.now (ap (map text_of) c.deref-line-items.ensures.value ∙ c.in_ok-lines.ensures) in
+    let all : events_from c.args.processors 1 [] (map text_of items)
+    ≡ events_from c.args.processors 1 [] (pieces 10 c.args.text.now) =
+    ap (λ xs. events_from c.args.processors 1 [] (map text_of xs)) c.deref-line-items.ensures.value
+    ∙ ap (events_from c.args.processors 1 []) c.in_ok-lines.ensures in
+    let lines : length items ≤ length c.args.text.now + 1 =
+    few_lines text_of items 10 c.args.text.now (ap (map text_of) c.deref-line-items.ensures.value
+    ∙ c.in_ok-lines.ensures) in
     let so_far = l.invariant.few in
-    let few : length l.events.items ≤ length c.args.text.now + 1 = let end = l.auto.line-index-end in omega (arith, so_far, lines, end) in
-    record { there = l.invariant.there; few = few; events = sym all ∙ is_done c.args.processors text_of l.number l.events.items items l.line-index (events_from c.args.processors 1 [] (map text_of items)) c.loop-line-test.false l.invariant.so_far }
+    let few : length l.events.items ≤ length c.args.text.now + 1 = let end = l.auto.line-index-end in
+    omega (arith, so_far, lines, end) in
+    record {
+      there = l.invariant.there;
+      few = few;
+      events = sym all
+          ∙ is_done c.args.processors text_of l.number l.events.items items l.line-index
+          (events_from c.args.processors 1 [] (map text_of items)) c.loop-line-test.false l.invariant.so_far;
+    }

@@ -13,7 +13,13 @@ loop-before-preserved c =
     let core = c.core.result.now in
     let next : suc n ≡ n + 1 = omega arith in
     let further : suc (n + 1) ≡ n + 1 + 1 = omega arith in
-    let there : option_map (λ (p : Processor). p.core) (slice_get ps n) ≡ Some core = subst (λ k. option_map (λ (p : Processor). p.core) (processor_at c.args.cluster.now.joint k) ≡ Some core) (sym next) c.core.ensures.core in
-    line_on (string_bytes c.loop-before.text) (string_bytes c.add_processor.new.text) (processor_line (n + 1) core) (processor_lines (n + 1 + 1) (drop (n + 1) ps)) (processor_lines (n + 1) (drop n ps)) _
-    c.in_ok-add_processor.ensures (subst (λ k. processor_lines (n + 1) (drop n ps) ≡ processor_line (n + 1) core ++ processor_lines k (drop (n + 1) ps)) further
-    (subst (λ k. processor_lines (n + 1) (drop n ps) ≡ processor_line (n + 1) core ++ processor_lines (suc (n + 1)) (drop k ps)) next (front_processor (n + 1) n ps core there))) c.loop-before.invariant
+    let there : option_map (λ (p : Processor). p.core) (slice_get ps n) ≡ Some core =
+    subst (λ k. option_map (λ (p : Processor). p.core) (processor_at c.args.cluster.now.joint k) ≡ Some core)
+    (sym next) c.core.ensures.core in
+    line_on (string_bytes c.loop-before.text) (string_bytes c.add_processor.new.text) (processor_line (n + 1) core)
+    (processor_lines (n + 1 + 1) (drop (n + 1) ps)) (processor_lines (n + 1) (drop n ps)) _
+    c.in_ok-add_processor.ensures (subst (λ k. processor_lines (n + 1) (drop n ps)
+    ≡ processor_line (n + 1) core ++ processor_lines k (drop (n + 1) ps)) further
+    (subst (λ k. processor_lines (n + 1) (drop n ps) ≡ processor_line (n + 1) core
+    ++ processor_lines (suc (n + 1)) (drop k ps)) next (front_processor (n + 1) n ps core there)))
+    c.loop-before.invariant

@@ -3,7 +3,7 @@ use Rattle.std.specs.Prelude.{◌≤◌, ◌*◌, ◌+◌, length}
 use Rattle.rpp_tree.specs.Views.{expression_of, lvalue_of}
 use Rattle.paired_code.specs.Code.{unmarked}
 use Rattle.paired_code.proofs.Contract.{if_ok_law}
-use Rattle.method_scope.specs.Visible.{spot_of, free_of, known_by}
+use Rattle.code_scope.specs.Visible.{spot_of, free_of, known_by}
 use Rattle.expr_uncompute.specs.Code.{around, found_value_cells}
 use Rattle.expr_uncompute.specs.Found.{ValueAroundLaw}
 use Rattle.expr_uncompute.specs.Steps.{tokens, place_tokens}
@@ -15,7 +15,18 @@ pub returns-clause-code : goal.returns-clause-code
 returns-clause-code c = search rules
 
 pub returns-clause-law : goal.returns-clause-law
-returns-clause-law c = if_ok_law (λ p. ValueAroundLaw (spot_of (known_by c.args.names.now)) (free_of (known_by c.args.names.now)) (lvalue_of c.args.place.now) (expression_of c.args.value.now) c.args.middle.cells p.cells) _ (unmarked (around (found_value_cells (spot_of (known_by c.args.names.now)) (free_of (known_by c.args.names.now)) (lvalue_of c.args.place.now) (expression_of c.args.value.now)) c.args.middle.cells)) (returns-clause-code c) (AroundLaws.value_around (spot_of (known_by c.args.names.now)) (free_of (known_by c.args.names.now)) (lvalue_of c.args.place.now) (expression_of c.args.value.now) c.args.middle.cells)
+returns-clause-law c = if_ok_law (λ p. ValueAroundLaw (spot_of (known_by c.args.names.now))
+    (free_of (known_by c.args.names.now)) (lvalue_of c.args.place.now) (expression_of c.args.value.now)
+    c.args.middle.cells p.cells) _ (unmarked (around (found_value_cells (spot_of (known_by c.args.names.now))
+    (free_of (known_by c.args.names.now)) (lvalue_of c.args.place.now) (expression_of c.args.value.now))
+    c.args.middle.cells)) (returns-clause-code c) (AroundLaws.value_around (spot_of (known_by c.args.names.now))
+    (free_of (known_by c.args.names.now)) (lvalue_of c.args.place.now) (expression_of c.args.value.now)
+    c.args.middle.cells)
 
 pub returns-clause-size : goal.returns-clause-size
-returns-clause-size c = if_ok_law (λ p. length p.cells ≤ length c.args.middle.cells + 80 * (place_tokens (lvalue_of c.args.place.now) + tokens (expression_of c.args.value.now))) _ (unmarked (around (found_value_cells (spot_of (known_by c.args.names.now)) (free_of (known_by c.args.names.now)) (lvalue_of c.args.place.now) (expression_of c.args.value.now)) c.args.middle.cells)) (returns-clause-code c) (Bounds.value_around (spot_of (known_by c.args.names.now)) (free_of (known_by c.args.names.now)) (lvalue_of c.args.place.now) (expression_of c.args.value.now) c.args.middle.cells)
+returns-clause-size c = if_ok_law (λ p. length p.cells ≤ length c.args.middle.cells + 80 *
+    (place_tokens (lvalue_of c.args.place.now) + tokens (expression_of c.args.value.now))) _
+    (unmarked (around (found_value_cells (spot_of (known_by c.args.names.now)) (free_of (known_by c.args.names.now))
+    (lvalue_of c.args.place.now) (expression_of c.args.value.now)) c.args.middle.cells)) (returns-clause-code c)
+    (Bounds.value_around (spot_of (known_by c.args.names.now)) (free_of (known_by c.args.names.now))
+    (lvalue_of c.args.place.now) (expression_of c.args.value.now) c.args.middle.cells)

@@ -2,7 +2,7 @@ use Rattle.std.proofs.Common.{rules}
 use Rattle.rpp_tree.specs.Views.{lvalue_of}
 use Rattle.paired_code.specs.Code.{unmarked}
 use Rattle.paired_code.proofs.Contract.{if_ok_law}
-use Rattle.method_scope.specs.Visible.{spot_of, free_of, known_by}
+use Rattle.code_scope.specs.Visible.{spot_of, free_of, known_by}
 use Rattle.expr_uncompute.specs.Code.{swap_cells}
 use Rattle.expr_uncompute.specs.Promises.{SwapLaw}
 use Rattle.std.specs.Prelude.{◌≤◌, length}
@@ -15,7 +15,16 @@ pub returns-clause-code : goal.returns-clause-code
 returns-clause-code c = search rules
 
 pub returns-clause-law : goal.returns-clause-law
-returns-clause-law c = if_ok_law (λ p. SwapLaw (spot_of (known_by c.args.names.now)) (free_of (known_by c.args.names.now)) (lvalue_of c.args.left.now) (lvalue_of c.args.right.now) p.cells) _ (unmarked (swap_cells (spot_of (known_by c.args.names.now)) (free_of (known_by c.args.names.now)) (lvalue_of c.args.left.now) (lvalue_of c.args.right.now))) (returns-clause-code c) (swap_law (spot_of (known_by c.args.names.now)) (free_of (known_by c.args.names.now)) (lvalue_of c.args.left.now) (lvalue_of c.args.right.now))
+returns-clause-law c = if_ok_law (λ p. SwapLaw (spot_of (known_by c.args.names.now))
+    (free_of (known_by c.args.names.now)) (lvalue_of c.args.left.now) (lvalue_of c.args.right.now) p.cells) _
+    (unmarked (swap_cells (spot_of (known_by c.args.names.now)) (free_of (known_by c.args.names.now))
+    (lvalue_of c.args.left.now) (lvalue_of c.args.right.now))) (returns-clause-code c)
+    (swap_law (spot_of (known_by c.args.names.now)) (free_of (known_by c.args.names.now)) (lvalue_of c.args.left.now)
+    (lvalue_of c.args.right.now))
 
 pub returns-clause-size : goal.returns-clause-size
-returns-clause-size c = if_ok_law (λ p. length p.cells ≤ swap_size (lvalue_of c.args.left.now) (lvalue_of c.args.right.now)) _ (unmarked (swap_cells (spot_of (known_by c.args.names.now)) (free_of (known_by c.args.names.now)) (lvalue_of c.args.left.now) (lvalue_of c.args.right.now))) (returns-clause-code c) (Bounds.swap_cells (spot_of (known_by c.args.names.now)) (free_of (known_by c.args.names.now)) (lvalue_of c.args.left.now) (lvalue_of c.args.right.now))
+returns-clause-size c = if_ok_law (λ p. length p.cells ≤ swap_size (lvalue_of c.args.left.now)
+    (lvalue_of c.args.right.now)) _ (unmarked (swap_cells (spot_of (known_by c.args.names.now))
+    (free_of (known_by c.args.names.now)) (lvalue_of c.args.left.now) (lvalue_of c.args.right.now)))
+    (returns-clause-code c) (Bounds.swap_cells (spot_of (known_by c.args.names.now))
+    (free_of (known_by c.args.names.now)) (lvalue_of c.args.left.now) (lvalue_of c.args.right.now))

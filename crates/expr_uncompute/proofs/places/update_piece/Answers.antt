@@ -2,7 +2,7 @@ use Rattle.std.proofs.Common.{rules}
 use Rattle.rpp_tree.specs.Views.{expression_of, lvalue_of}
 use Rattle.paired_code.specs.Code.{unmarked}
 use Rattle.paired_code.proofs.Contract.{if_ok_law}
-use Rattle.method_scope.specs.Visible.{spot_of, free_of, known_by}
+use Rattle.code_scope.specs.Visible.{spot_of, free_of, known_by}
 use Rattle.expr_uncompute.specs.Code.{update_cells}
 use Rattle.expr_uncompute.specs.Promises.{UpdateLaw}
 use Rattle.std.specs.Prelude.{◌≤◌, ◌*◌, ◌+◌, length}
@@ -15,7 +15,17 @@ pub returns-clause-code : goal.returns-clause-code
 returns-clause-code c = search rules
 
 pub returns-clause-law : goal.returns-clause-law
-returns-clause-law c = if_ok_law (λ p. UpdateLaw (spot_of (known_by c.args.names.now)) (free_of (known_by c.args.names.now)) c.args.op (lvalue_of c.args.place.now) (expression_of c.args.value.now) p.cells) _ (unmarked (update_cells (spot_of (known_by c.args.names.now)) (free_of (known_by c.args.names.now)) c.args.op (lvalue_of c.args.place.now) (expression_of c.args.value.now))) (returns-clause-code c) (update_law (spot_of (known_by c.args.names.now)) (free_of (known_by c.args.names.now)) c.args.op (lvalue_of c.args.place.now) (expression_of c.args.value.now))
+returns-clause-law c = if_ok_law (λ p. UpdateLaw (spot_of (known_by c.args.names.now))
+    (free_of (known_by c.args.names.now)) c.args.op (lvalue_of c.args.place.now) (expression_of c.args.value.now)
+    p.cells) _ (unmarked (update_cells (spot_of (known_by c.args.names.now)) (free_of (known_by c.args.names.now))
+    c.args.op (lvalue_of c.args.place.now) (expression_of c.args.value.now))) (returns-clause-code c)
+    (update_law (spot_of (known_by c.args.names.now)) (free_of (known_by c.args.names.now)) c.args.op
+    (lvalue_of c.args.place.now) (expression_of c.args.value.now))
 
 pub returns-clause-size : goal.returns-clause-size
-returns-clause-size c = if_ok_law (λ p. length p.cells ≤ 80 * (place_tokens (lvalue_of c.args.place.now) + 1 + tokens (expression_of c.args.value.now))) _ (unmarked (update_cells (spot_of (known_by c.args.names.now)) (free_of (known_by c.args.names.now)) c.args.op (lvalue_of c.args.place.now) (expression_of c.args.value.now))) (returns-clause-code c) (Bounds.update_cells (spot_of (known_by c.args.names.now)) (free_of (known_by c.args.names.now)) c.args.op (lvalue_of c.args.place.now) (expression_of c.args.value.now))
+returns-clause-size c = if_ok_law (λ p. length p.cells ≤ 80 *
+    (place_tokens (lvalue_of c.args.place.now) + 1 + tokens (expression_of c.args.value.now))) _
+    (unmarked (update_cells (spot_of (known_by c.args.names.now)) (free_of (known_by c.args.names.now)) c.args.op
+    (lvalue_of c.args.place.now) (expression_of c.args.value.now))) (returns-clause-code c)
+    (Bounds.update_cells (spot_of (known_by c.args.names.now)) (free_of (known_by c.args.names.now)) c.args.op
+    (lvalue_of c.args.place.now) (expression_of c.args.value.now))

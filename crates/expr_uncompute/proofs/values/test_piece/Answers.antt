@@ -2,7 +2,7 @@ use Rattle.std.proofs.Common.{rules}
 use Rattle.rpp_tree.specs.Views.{expression_of}
 use Rattle.paired_code.specs.Code.{unmarked}
 use Rattle.paired_code.proofs.Contract.{if_ok_law}
-use Rattle.method_scope.specs.Visible.{spot_of, free_of, known_by}
+use Rattle.code_scope.specs.Visible.{spot_of, free_of, known_by}
 use Rattle.expr_uncompute.specs.Code.{test_cells}
 use Rattle.expr_uncompute.specs.Promises.{TestLaw}
 use Rattle.std.specs.Prelude.{◌≤◌, ◌*◌, length}
@@ -15,7 +15,16 @@ pub returns-clause-code : goal.returns-clause-code
 returns-clause-code c = search rules
 
 pub returns-clause-law : goal.returns-clause-law
-returns-clause-law c = if_ok_law (λ p. TestLaw (spot_of (known_by c.args.names.now)) (free_of (known_by c.args.names.now)) c.args.into (expression_of c.args.e.now) p.cells) _ (unmarked (test_cells (spot_of (known_by c.args.names.now)) (free_of (known_by c.args.names.now)) (expression_of c.args.e.now) c.args.into)) (returns-clause-code c) (test_law (spot_of (known_by c.args.names.now)) (free_of (known_by c.args.names.now)) c.args.into (expression_of c.args.e.now) c.requires.register)
+returns-clause-law c = if_ok_law (λ p. TestLaw (spot_of (known_by c.args.names.now))
+    (free_of (known_by c.args.names.now)) c.args.into (expression_of c.args.e.now) p.cells) _
+    (unmarked (test_cells (spot_of (known_by c.args.names.now)) (free_of (known_by c.args.names.now))
+    (expression_of c.args.e.now) c.args.into)) (returns-clause-code c)
+    (test_law (spot_of (known_by c.args.names.now)) (free_of (known_by c.args.names.now)) c.args.into
+    (expression_of c.args.e.now) c.requires.register)
 
 pub returns-clause-size : goal.returns-clause-size
-returns-clause-size c = if_ok_law (λ p. length p.cells ≤ 58 * tokens (expression_of c.args.e.now)) _ (unmarked (test_cells (spot_of (known_by c.args.names.now)) (free_of (known_by c.args.names.now)) (expression_of c.args.e.now) c.args.into)) (returns-clause-code c) (Bounds.test_cells (spot_of (known_by c.args.names.now)) (free_of (known_by c.args.names.now)) (expression_of c.args.e.now) c.args.into)
+returns-clause-size c = if_ok_law (λ p. length p.cells ≤ 58 * tokens (expression_of c.args.e.now)) _
+    (unmarked (test_cells (spot_of (known_by c.args.names.now)) (free_of (known_by c.args.names.now))
+    (expression_of c.args.e.now) c.args.into)) (returns-clause-code c)
+    (Bounds.test_cells (spot_of (known_by c.args.names.now)) (free_of (known_by c.args.names.now))
+    (expression_of c.args.e.now) c.args.into)

@@ -11,6 +11,8 @@ seal-requires c =
     let n = c.args.noted.now in
     let turned = c.in_ok-turned.ensures.flipped ∙ ap flipped_image c.image-image.ensures.image in
     let notes = c.in_ok-notes.ensures
-    ∙ ap (λ (code : List Cell). turned_notes (length code) c.notes.result.now) (c.code.ensures.code ∙ ap (λ (i : Segments). i.code) c.image-image.ensures.image)
+    ∙ ap (λ (code : List Cell). turned_notes (length code) c.notes.result.now)
+    (c.code.ensures.code ∙ ap (λ (i : Segments). i.code) c.image-image.ensures.image)
     ∙ ap (turned_notes (length n.image.code)) c.notes.ensures.notes in
-    subst₂ (λ (i : Segments) (s : NoteLists). fits i s ≡ true) (sym turned) (sym notes) (fits-flipped n c.image-image.ensures.fits)
+    subst₂ (λ (i : Segments) (s : NoteLists). fits i s ≡ true) (sym turned) (sym notes)
+    (fits-flipped n c.image-image.ensures.fits)

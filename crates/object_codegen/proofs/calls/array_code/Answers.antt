@@ -1,7 +1,7 @@
 use Rattle.std.proofs.Common.{refl}
 use Rattle.std.specs.Prelude.{◌+◌, ◌*◌}
 use Rattle.rpp_tree.specs.Views.{expression_of, lvalue_of}
-use Rattle.method_scope.specs.Visible.{spot_of, free_of, known_in}
+use Rattle.code_scope.specs.Visible.{spot_of, free_of, known_in}
 use Rattle.expr_uncompute.specs.Steps.{tokens, place_tokens}
 use Rattle.object_codegen.specs.declared.shape.Shape.TheVariants.{Lengthy}
 use Rattle.object_codegen.specs.Code.{order_cells, new_mid}
@@ -9,9 +9,12 @@ use Rattle.object_codegen.proofs.Clauses.{array_returns, array_length, size_retu
 use Rattle.object_codegen.proofs.calls.array_code.Goals as goal
 
 pub returns-clause-law : goal.returns-clause-law
-returns-clause-law c = array_returns (spot_of (known_in c.args.scope.now)) (free_of (known_in c.args.scope.now)) (lvalue_of c.args.place.now) (expression_of c.args.size.now) _ _ c.place_and_value_around.result c.in_ok-orders.ensures c.in_ok-middle.ensures c.place_and_value_around.ensures.law
+returns-clause-law c = array_returns (spot_of (known_in c.args.scope.now)) (free_of (known_in c.args.scope.now))
+    (lvalue_of c.args.place.now) (expression_of c.args.size.now) _ _ c.place_and_value_around.result
+    c.in_ok-orders.ensures c.in_ok-middle.ensures c.place_and_value_around.ensures.law
 
 pub returns-clause-size : goal.returns-clause-size
 returns-clause-size c =
-    size_returns 184 (80 * (place_tokens (lvalue_of c.args.place.now) + tokens (expression_of c.args.size.now))) (new_mid Lengthy order_cells) _ c.place_and_value_around.result
+    size_returns 184 (80 * (place_tokens (lvalue_of c.args.place.now) + tokens (expression_of c.args.size.now)))
+    (new_mid Lengthy order_cells) _ c.place_and_value_around.result
     (array_length _ _ c.in_ok-orders.ensures c.in_ok-middle.ensures) refl c.place_and_value_around.ensures.size

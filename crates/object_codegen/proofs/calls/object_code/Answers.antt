@@ -1,7 +1,7 @@
 use Rattle.std.proofs.Common.{[], ◌∷◌, refl, arith}
 use Rattle.std.specs.Prelude.{◌+◌, ◌*◌}
 use Rattle.rpp_tree.specs.Views.{lvalue_of}
-use Rattle.method_scope.specs.Visible.{spot_of, free_of, known_in}
+use Rattle.code_scope.specs.Visible.{spot_of, free_of, known_in}
 use Rattle.expr_uncompute.specs.Code.{xori}
 use Rattle.expr_uncompute.specs.Steps.{place_tokens}
 use Rattle.object_codegen.specs.declared.shape.Shape.TheVariants.{Fixed}
@@ -10,9 +10,13 @@ use Rattle.object_codegen.proofs.Clauses.{object_returns, object_length, size_re
 use Rattle.object_codegen.proofs.calls.object_code.Goals as goal
 
 pub returns-clause-law : goal.returns-clause-law
-returns-clause-law c = object_returns (spot_of (known_in c.args.scope.now)) (free_of (known_in c.args.scope.now)) c.args.table c.args.fields c.args.order (lvalue_of c.args.place.now) _ _ c.place_around.result (omega arith) (omega arith) (omega arith) c.in_ok-orders.ensures c.in_ok-middle.ensures c.place_around.ensures.law
+returns-clause-law c = object_returns (spot_of (known_in c.args.scope.now)) (free_of (known_in c.args.scope.now))
+    c.args.table c.args.fields c.args.order (lvalue_of c.args.place.now) _ _ c.place_around.result (omega arith)
+    (omega arith) (omega arith) c.in_ok-orders.ensures c.in_ok-middle.ensures c.place_around.ensures.law
 
 pub returns-clause-size : goal.returns-clause-size
 returns-clause-size c =
-    size_returns 87 (80 * (1 + place_tokens (lvalue_of c.args.place.now))) (new_mid (Fixed c.args.table c.args.fields) (xori order c.args.order ∷ [])) _ c.place_around.result
-    (object_length c.args.table c.args.fields c.args.order _ _ c.in_ok-orders.ensures c.in_ok-middle.ensures) refl c.place_around.ensures.size
+    size_returns 87 (80 * (1 + place_tokens (lvalue_of c.args.place.now)))
+    (new_mid (Fixed c.args.table c.args.fields) (xori order c.args.order ∷ [])) _ c.place_around.result
+    (object_length c.args.table c.args.fields c.args.order _ _ c.in_ok-orders.ensures c.in_ok-middle.ensures) refl
+    c.place_around.ensures.size

@@ -7,4 +7,6 @@ use Rattle.object_codegen.proofs.tables.field_count.Goals as goal
 
 pub returns-clause-count : goal.returns-clause-count
 returns-clause-count c =
-    ap (λ (vars : List Var). length vars) (c.fields.ensures.fields ∙ ap (λ (t : Table). fields_in t c.args.class) c.table.ensures.table ∙ (table_reads (source_of c.args.checked.now) c.args.class c.requires.inside).fields)
+    ap (λ (vars : List Var). length vars) (c.fields.ensures.fields
+    ∙ ap (λ (t : Table). fields_in t c.args.class) c.table.ensures.table
+    ∙ (table_reads (source_of c.args.checked.now) c.args.class c.requires.inside).fields)

@@ -8,8 +8,10 @@ pub loop-before-preserved : goal.loop-before-preserved
 loop-before-preserved c =
     let program = source_of c.args.checked.now in
     let before = c.loop-before.before in
-    let inside : before < length program.classes = (let a = c.loop-before-test.true in let b = c.requires.inside in omega arith) in
-    let count : c.slot_count.result ≡ length (slots_in (table_of program) before) = c.slot_count.ensures.count ∙ ap (λ (t : Table). length (slots_in t before)) c.table-table.ensures.table in
+    let inside : before < length program.classes = (let a = c.loop-before-test.true in let b = c.requires.inside in
+    omega arith) in
+    let count : c.slot_count.result ≡ length (slots_in (table_of program) before) = c.slot_count.ensures.count
+    ∙ ap (λ (t : Table). length (slots_in t before)) c.table-table.ensures.table in
     record {
       address =
           ap (λ n. c.loop-before.at + (1 + n)) count

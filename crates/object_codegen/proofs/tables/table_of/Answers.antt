@@ -8,9 +8,11 @@ use Rattle.object_codegen.proofs.tables.table_of.Goals as goal
 
 pub table_at-requires-clause-fields : goal.table_at-requires-clause-fields
 table_at-requires-clause-fields c =
-    let main = c.main-class.ensures ∙ ap (λ (t : Table). t.main) (c.table.ensures.table ∙ sym c.table-2.ensures.table) in
+    let main = c.main-class.ensures ∙ ap (λ (t : Table). t.main) (c.table.ensures.table ∙ sym c.table-2.ensures.table)
+    in
     ap (λ (vars : List Var). length vars)
-    (fields_read (source_of c.args.checked.now) c.table-2.result.now c.main-class.result c.fields.result.now c.table.ensures.accepted c.table-2.ensures.table main c.fields.ensures.fields)
+    (fields_read (source_of c.args.checked.now) c.table-2.result.now c.main-class.result c.fields.result.now
+    c.table.ensures.accepted c.table-2.ensures.table main c.fields.ensures.fields)
 
 pub table_at-requires-clause-small : goal.table_at-requires-clause-small
 table_at-requires-clause-small c = omega (arith, c.requires, c.table.ensures.accepted.limits.classes_few)

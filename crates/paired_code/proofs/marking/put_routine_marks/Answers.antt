@@ -9,7 +9,10 @@ loop-piece-preserved c =
     let x = c.piece-item.result in
     let size : length c.cells_of.result.now ≡ length x.cells = ap length c.cells_of.ensures.cells in
     record {
-      done = marks_next xs i x _ _ _ _ c.loop-piece.top _ c.loop-piece-test.true c.piece-item.is c.marks_in.ensures.marks c.in_ok-put_marks.ensures (omega (arith, size)) c.loop-piece.invariant.done;
-      room = room_next xs i x c.loop-piece.top _ c.loop-piece-test.true c.piece-item.is (omega (arith, size)) c.loop-piece.invariant.room;
-      within = within_next xs i x c.loop-piece-test.true c.piece-item.is c.marks_in.ensures.within c.loop-piece.invariant.within;
+      done = marks_next xs i x _ _ _ _ c.loop-piece.top _ c.loop-piece-test.true c.piece-item.is
+          c.marks_in.ensures.marks c.in_ok-put_marks.ensures (omega (arith, size)) c.loop-piece.invariant.done;
+      room = room_next xs i x c.loop-piece.top _ c.loop-piece-test.true c.piece-item.is (omega (arith, size))
+          c.loop-piece.invariant.room;
+      within = within_next xs i x c.loop-piece-test.true c.piece-item.is c.marks_in.ensures.within
+          c.loop-piece.invariant.within;
     }

@@ -6,7 +6,8 @@ use Rattle.paired_code.proofs.marking.put_routine_marks.Given as goal
 -- the marks so far and those of what is left are the whole
 abbrev pub invariant-loop-piece : goal.invariant-loop-piece
 invariant-loop-piece l = record {
-  done : l.marks.items ++ routine_marks l.top (drop l.piece-index l.routines) ≡ l.initial.marks.items ++ routine_marks l.first l.routines;
+  done : l.marks.items ++ routine_marks l.top (drop l.piece-index l.routines)
+      ≡ l.initial.marks.items ++ routine_marks l.first l.routines;
   room : l.top + routines_size (bodies (drop l.piece-index l.routines)) ≤ 8050000;
   within : EachWithin (take l.piece-index l.routines);
 }

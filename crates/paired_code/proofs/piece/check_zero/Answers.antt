@@ -10,4 +10,5 @@ pub returns-clause-code : goal.returns-clause-code
 returns-clause-code c = search rules
 
 pub returns-clause-law : goal.returns-clause-law
-returns-clause-law c = if_ok_law (λ p. CheckLaw c.args.reg c.args.code p.cells) _ (unmarked (check_cells c.args.reg c.args.code)) (returns-clause-code c) (check_law c.args.reg c.args.code)
+returns-clause-law c = if_ok_law (λ p. CheckLaw c.args.reg c.args.code p.cells) _
+    (unmarked (check_cells c.args.reg c.args.code)) (returns-clause-code c) (check_law c.args.reg c.args.code)

@@ -10,4 +10,5 @@ pub returns-clause-code : goal.returns-clause-code
 returns-clause-code c = search rules
 
 pub returns-clause-law : goal.returns-clause-law
-returns-clause-law c = if_ok_law (λ p. EnterLaw c.args.routine c.args.back p.cells) _ (unmarked (Enter c.args.routine c.args.back ∷ [])) (returns-clause-code c) (enter_law c.args.routine c.args.back)
+returns-clause-law c = if_ok_law (λ p. EnterLaw c.args.routine c.args.back p.cells) _
+    (unmarked (Enter c.args.routine c.args.back ∷ [])) (returns-clause-code c) (enter_law c.args.routine c.args.back)

@@ -10,4 +10,6 @@ pub returns-clause-code : goal.returns-clause-code
 returns-clause-code c = search rules
 
 pub returns-clause-law : goal.returns-clause-law
-returns-clause-law c = if_ok_law (λ p. EnterAtLaw c.args.reg c.args.back p.cells) _ (unmarked (enter_at_cells (place_register c.args.reg) c.args.back)) (returns-clause-code c) (enter_at_law c.args.reg c.args.back)
+returns-clause-law c = if_ok_law (λ p. EnterAtLaw c.args.reg c.args.back p.cells) _
+    (unmarked (enter_at_cells (place_register c.args.reg) c.args.back)) (returns-clause-code c)
+    (enter_at_law c.args.reg c.args.back)

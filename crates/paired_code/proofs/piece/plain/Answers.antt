@@ -12,10 +12,13 @@ use Rattle.paired_code.proofs.piece.plain.Goals as goal
 
 pub sealed-requires-clause-fit : goal.sealed-requires-clause-fit
 sealed-requires-clause-fit c =
-    subst AllFit (sym (c.in_ok-push.ensures.items ∙ ap (λ (z : List Symbol). z ++ Own c.args.cell ∷ []) c.new-cells.ensures.items)) (inner_single c.args.cell c.requires.single c.requires.cell, tt)
+    subst AllFit (sym (c.in_ok-push.ensures.items ∙ ap (λ (z : List Symbol). z ++ Own c.args.cell ∷ [])
+    c.new-cells.ensures.items)) (inner_single c.args.cell c.requires.single c.requires.cell, tt)
 
 pub returns-clause-code : goal.returns-clause-code
 returns-clause-code c = search rules
 
 pub returns-clause-law : goal.returns-clause-law
-returns-clause-law c = if_ok_law (λ p. PlainLaw c.args.cell p.cells) _ (unmarked (Own c.args.cell ∷ [])) (returns-clause-code c) (λ im d m. runs_single im c.args.cell d m c.requires.single (imm_word c.args.cell c.requires.cell.in_range))
+returns-clause-law c = if_ok_law (λ p. PlainLaw c.args.cell p.cells) _ (unmarked (Own c.args.cell ∷ []))
+    (returns-clause-code c) (λ im d m. runs_single im c.args.cell d m c.requires.single
+    (imm_word c.args.cell c.requires.cell.in_range))

@@ -11,16 +11,22 @@ pub put_marks-requires-clause-within : goal.put_marks-requires-clause-within
 put_marks-requires-clause-within c = kept_within _ c.deref.ensures.value c.second.invariant
 
 pub sealed-requires-clause-fit : goal.sealed-requires-clause-fit
-sealed-requires-clause-fit c = subst AllFit (sym c.in_ok-append.ensures.items) (fit_append _ _ c.first.invariant.fit c.second.invariant.fit)
+sealed-requires-clause-fit c = subst AllFit (sym c.in_ok-append.ensures.items)
+    (fit_append _ _ c.first.invariant.fit c.second.invariant.fit)
 
 pub sealed-requires-clause-within : goal.sealed-requires-clause-within
-sealed-requires-clause-within c = seq_within _ _ _ _ _ _ _ _ c.in_ok-append.ensures.items c.in_ok-put_marks.ensures (c.len.ensures ∙ c.first.inside.cells.ok.0) c.deref.ensures.value c.first.invariant.within c.second.invariant.within
+sealed-requires-clause-within c = seq_within _ _ _ _ _ _ _ _ c.in_ok-append.ensures.items c.in_ok-put_marks.ensures
+    (c.len.ensures ∙ c.first.inside.cells.ok.0) c.deref.ensures.value c.first.invariant.within c.second.invariant.within
 
 pub returns-clause-code : goal.returns-clause-code
 returns-clause-code c = search rules
 
 pub returns-clause-law : goal.returns-clause-law
-returns-clause-law c = if_ok_law (λ p. SeqLaw c.args.first.cells c.args.second.cells p.cells) _ (seq_code c.args.first c.args.second) (returns-clause-code c) (seq_law c.args.first.cells c.args.second.cells)
+returns-clause-law c = if_ok_law (λ p. SeqLaw c.args.first.cells c.args.second.cells p.cells) _
+    (seq_code c.args.first c.args.second) (returns-clause-code c) (seq_law c.args.first.cells c.args.second.cells)
 
 pub returns-clause-marks : goal.returns-clause-marks
-returns-clause-marks c = if_ok_law (λ p. parts p ≡ parts c.args.first ++ parts c.args.second) _ (seq_code c.args.first c.args.second) (returns-clause-code c) (seq_parts c.args.first c.args.second (kept_view c.args.first c.first.view_is c.first.invariant) (kept_view c.args.second c.second.view_is c.second.invariant))
+returns-clause-marks c = if_ok_law (λ p. parts p ≡ parts c.args.first ++ parts c.args.second) _
+    (seq_code c.args.first c.args.second) (returns-clause-code c)
+    (seq_parts c.args.first c.args.second (kept_view c.args.first c.first.view_is c.first.invariant)
+    (kept_view c.args.second c.second.view_is c.second.invariant))

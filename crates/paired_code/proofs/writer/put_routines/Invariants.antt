@@ -6,7 +6,8 @@ use Rattle.paired_code.proofs.writer.put_routines.Given as goal
 
 abbrev pub invariant-loop-piece : goal.invariant-loop-piece
 invariant-loop-piece l = record {
-  done : l.code.items ++ routines_code l.places (length l.code.items) (bodies (drop l.piece-index l.routines)) ≡ l.initial.code.items ++ routines_code l.places (length l.initial.code.items) (bodies l.routines);
+  done : l.code.items ++ routines_code l.places (length l.code.items) (bodies (drop l.piece-index l.routines))
+      ≡ l.initial.code.items ++ routines_code l.places (length l.initial.code.items) (bodies l.routines);
   room : length l.code.items + routines_size (bodies (drop l.piece-index l.routines)) < 2 ^ 30;
   fit : EachFit (bodies (take l.piece-index l.routines));
 }

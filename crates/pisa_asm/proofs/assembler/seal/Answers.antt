@@ -11,7 +11,8 @@ pub unreachable-requires : goal.unreachable-requires
 unreachable-requires c =
     let code = c.args.code.items in
     no_other (nat_eq (count_by is_start code) 1) (nat_eq (count_by is_finish code) 1) c.in-Err-NotOneToOne.field-0-0
-    (sym (tests_of code c.requires.cells) ∙ c.in-Err-NotOneToOne.ensures.sealed ∙ ap Some c.in-Err-NotOneToOne.field-0-is)
+    (sym (tests_of code c.requires.cells) ∙ c.in-Err-NotOneToOne.ensures.sealed
+    ∙ ap Some c.in-Err-NotOneToOne.field-0-is)
 
 pub unreachable-requires-in-Err-NoMemory : goal.unreachable-requires-in-Err-NoMemory
 unreachable-requires-in-Err-NoMemory c =

@@ -10,7 +10,8 @@ returns-in-None c =
     let labels : Labels = c.args.labels.now.entries in
     let name : List ℕ = c.args.name.now in
     let none : place_of name labels ≡ None = rw c.in_ok-of.ensures at (sym c.in_ok-insert.ensures.old ∙ c.in-None.is) in
-    let added : c.insert.new.self.entries ≡ insert_entry bytes_eq labels name c.args.place = rw c.in_ok-of.ensures at c.in_ok-insert.ensures.entries in
+    let added : c.insert.new.self.entries ≡ insert_entry bytes_eq labels name c.args.place =
+    rw c.in_ok-of.ensures at c.in_ok-insert.ensures.entries in
     rw (none, added, not_placed labels name c.args.place none) refl
 
 pub returns-in-Some : goal.returns-in-Some

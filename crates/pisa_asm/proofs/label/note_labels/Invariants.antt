@@ -7,7 +7,8 @@ use Rattle.pisa_asm.proofs.label.note_labels.Given as goal
 -- what is left decides
 abbrev pub invariant-loop-word : goal.invariant-loop-word
 invariant-loop-word l =
-    labels_at l.line l.place l.labels.entries (label_names (words_of l.rest)) ≡ labels_at l.line l.place l.initial.labels.entries (label_names (words_of l.content))
+    labels_at l.line l.place l.labels.entries (label_names (words_of l.rest))
+    ≡ labels_at l.line l.place l.initial.labels.entries (label_names (words_of l.content))
 
 abbrev pub decreases-loop-word : goal.decreases-loop-word
 decreases-loop-word l = length l.rest

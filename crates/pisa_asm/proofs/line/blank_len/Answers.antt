@@ -5,4 +5,5 @@ use Rattle.pisa_asm.proofs.line.blank_len.Goals as goal
 
 pub returns-clause-length : goal.returns-clause-length
 returns-clause-length c =
-    sym (prefix_len_is (is_blank) c.args.line.now (length c.args.line.now) 0 (omega arith) (λ k below. c.loop-i.invariant k (omega arith)) (λ below. absurd (omega arith)))
+    sym (prefix_len_is (is_blank) c.args.line.now (length c.args.line.now) 0 (omega arith)
+    (λ k below. c.loop-i.invariant k (omega arith)) (λ below. absurd (omega arith)))

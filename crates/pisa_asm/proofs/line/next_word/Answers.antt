@@ -8,13 +8,16 @@ pub returns-then-is_empty : goal.returns-then-is_empty
 returns-then-is_empty c =
     let same : c.behind-line.result.now ≡ drop (prefix_len is_blank c.args.line.now) c.args.line.now =
     c.behind-line.ensures ∙ ap (λ n. drop n c.args.line.now) c.blank_len.ensures.length in
-    words_skip c.args.line.now ∙ ap words_of (sym same) ∙ no_words c.behind-line.result.now (sym c.is_empty.ensures ∙ c.if-is_empty.true)
+    words_skip c.args.line.now ∙ ap words_of (sym same) ∙ no_words c.behind-line.result.now
+    (sym c.is_empty.ensures ∙ c.if-is_empty.true)
 
 pub returns : goal.returns
 returns c =
     let rest : List ℕ = drop (prefix_len is_blank c.args.line.now) c.args.line.now in
-    let same : c.behind-line.result.now ≡ rest = c.behind-line.ensures ∙ ap (λ n. drop n c.args.line.now) c.blank_len.ensures.length in
-    let some : 0 < length rest = rw same at (some_bytes c.behind-line.result.now (sym c.is_empty.ensures ∙ c.if-is_empty.false)) in
+    let same : c.behind-line.result.now ≡ rest = c.behind-line.ensures
+    ∙ ap (λ n. drop n c.args.line.now) c.blank_len.ensures.length in
+    let some : 0 < length rest = rw same at (some_bytes c.behind-line.result.now
+    (sym c.is_empty.ensures ∙ c.if-is_empty.false)) in
     let word = word_some c.args.line.now some in
     let cut : c.word_len.result ≡ position_or_len is_blank rest = rw same at c.word_len.ensures.length in (
       rw (c.split_at.ensures.front, c.split_at.ensures.back, cut, same) (words_cut c.args.line.now some),

@@ -5,4 +5,5 @@ use Rattle.pisa_asm.proofs.line.word_len.Goals as goal
 
 pub returns-clause-length : goal.returns-clause-length
 returns-clause-length c =
-    sym (prefix_len_is (λ b. not (is_blank b)) c.args.line.now (length c.args.line.now) 0 (omega arith) (λ k below. c.loop-i.invariant k (omega arith)) (λ below. absurd (omega arith)))
+    sym (prefix_len_is (λ b. not (is_blank b)) c.args.line.now (length c.args.line.now) 0 (omega arith)
+    (λ k below. c.loop-i.invariant k (omega arith)) (λ below. absurd (omega arith)))

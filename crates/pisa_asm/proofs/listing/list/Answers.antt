@@ -16,17 +16,21 @@ add_names-requires c =
     let n = c.args.noted.now in
     let image : IsImage n.image = subst IsImage c.image-image.ensures.image c.statics.ensures.image in
     let names : c.deref-2.result.now ≡ n.notes.names = search rules in
-    subst (λ (names : List FieldName). All HasAsciiText names) (sym names) (ascii_names n image c.image-image.ensures.fits)
+    subst (λ (names : List FieldName). All HasAsciiText names) (sym names)
+    (ascii_names n image c.image-image.ensures.fits)
 
 pub returns-clause-within : goal.returns-clause-within
 returns-clause-within c =
     let n = c.args.noted.now in
     let whole : string_bytes c.add_names.new.out ≡ listing n = search rules in
     let image : IsImage n.image = subst IsImage c.image-image.ensures.image c.statics.ensures.image in
-    let same : c.statics.result.now ≡ n.image.statics = c.statics.ensures.statics ∙ ap (λ (i : Segments). i.statics) c.image-image.ensures.image in
-    let words : All IsWord n.image.statics = subst (λ (statics : List ℕ). All IsWord statics) same c.are_words.ensures in
+    let same : c.statics.result.now ≡ n.image.statics = c.statics.ensures.statics
+    ∙ ap (λ (i : Segments). i.statics) c.image-image.ensures.image in
+    let words : All IsWord n.image.statics = subst (λ (statics : List ℕ). All IsWord statics) same c.are_words.ensures
+    in
     let short : length (string_bytes c.add_names.new.out) ≤ MOST_TEXT =
-    subst (λ (text : List ℕ). length text ≤ MOST_TEXT) (sym whole) (listing_short n image words c.image-image.ensures.fits) in
+    subst (λ (text : List ℕ). length text ≤ MOST_TEXT) (sym whole)
+    (listing_short n image words c.image-image.ensures.fits) in
     search rules
 
 pub returns-clause-reads_back : goal.returns-clause-reads_back
@@ -34,6 +38,8 @@ returns-clause-reads_back c =
     let n = c.args.noted.now in
     let whole : string_bytes c.add_names.new.out ≡ listing n = search rules in
     let image : IsImage n.image = subst IsImage c.image-image.ensures.image c.statics.ensures.image in
-    let same : c.statics.result.now ≡ n.image.statics = c.statics.ensures.statics ∙ ap (λ (i : Segments). i.statics) c.image-image.ensures.image in
-    let words : All IsWord n.image.statics = subst (λ (statics : List ℕ). All IsWord statics) same c.are_words.ensures in
+    let same : c.statics.result.now ≡ n.image.statics = c.statics.ensures.statics
+    ∙ ap (λ (i : Segments). i.statics) c.image-image.ensures.image in
+    let words : All IsWord n.image.statics = subst (λ (statics : List ℕ). All IsWord statics) same c.are_words.ensures
+    in
     ap noted_of_text whole ∙ listing_read n image words c.image-image.ensures.fits

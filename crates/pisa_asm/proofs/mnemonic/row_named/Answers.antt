@@ -13,12 +13,14 @@ pub returns-then-eq : goal.returns-then-eq
 unfolding rows
 returns-then-eq c =
     let e : bytes_eq c.args.word.now (mnemonic (get_or rows c.loop-op.op-index Add)) ≡ true =
-    ap (λ m. bytes_eq c.args.word.now m) (sym (c.as_bytes.ensures.value ∙ c.mnemonic.ensures)) ∙ sym c.eq.ensures ∙ c.if-eq.true in
+    ap (λ m. bytes_eq c.args.word.now m) (sym (c.as_bytes.ensures.value ∙ c.mnemonic.ensures)) ∙ sym c.eq.ensures
+    ∙ c.if-eq.true in
     sym (row_found rows c.loop-op.op-index Add c.args.word.now c.loop-op-test.true e) ∙ c.loop-op.invariant
 
 pub loop-op-preserved : goal.loop-op-preserved
 unfolding rows
 loop-op-preserved c =
     let e : bytes_eq c.args.word.now (mnemonic (get_or rows c.loop-op.op-index Add)) ≡ false =
-    ap (λ m. bytes_eq c.args.word.now m) (sym (c.as_bytes.ensures.value ∙ c.mnemonic.ensures)) ∙ sym c.eq.ensures ∙ c.if-eq.false in
+    ap (λ m. bytes_eq c.args.word.now m) (sym (c.as_bytes.ensures.value ∙ c.mnemonic.ensures)) ∙ sym c.eq.ensures
+    ∙ c.if-eq.false in
     sym (row_passed rows c.loop-op.op-index Add c.args.word.now c.loop-op-test.true e) ∙ c.loop-op.invariant

@@ -9,20 +9,29 @@ use Rattle.pisa_image.proofs.note_reading.names_at.Goals as goal
 pub returns-in_err-name-clause-read : goal.returns-in_err-name-clause-read
 returns-in_err-name-clause-read c =
     let p = err_from_is_err_and c.from_residual.result c.from_residual.ensures.1 in
-    rw (p.1, p.2) (fails_with c.in_err-name.field-0.0 (name_at c.args.statics c.loop.left c.loop.at c.loop.rest.now) (names_at c.args.statics MOST_NAME_BYTES c.args.count c.args.from c.args.bytes.now)
-    (λ e h. names_stop c.loop.names.items c.args.statics c.loop.left c.args.count c.loop.counter c.loop.at c.loop.rest.now e (names_at c.args.statics MOST_NAME_BYTES c.args.count c.args.from c.args.bytes.now) c.loop-test.true h c.loop.invariant.reads)
+    rw (p.1, p.2) (fails_with c.in_err-name.field-0.0 (name_at c.args.statics c.loop.left c.loop.at c.loop.rest.now)
+    (names_at c.args.statics MOST_NAME_BYTES c.args.count c.args.from c.args.bytes.now)
+    (λ e h. names_stop c.loop.names.items c.args.statics c.loop.left c.args.count c.loop.counter c.loop.at
+    c.loop.rest.now e (names_at c.args.statics MOST_NAME_BYTES c.args.count c.args.from c.args.bytes.now)
+    c.loop-test.true h c.loop.invariant.reads)
     c.in_err-name.ensures.read)
 
 pub returns-clause-read : goal.returns-clause-read
-returns-clause-read c = names_done c.loop.names.items c.args.statics c.loop.left c.args.count c.loop.counter c.loop.at c.loop.rest.now (names_at c.args.statics MOST_NAME_BYTES c.args.count c.args.from c.args.bytes.now) c.loop-test.false c.loop.invariant.reads
+returns-clause-read c = names_done c.loop.names.items c.args.statics c.loop.left c.args.count c.loop.counter c.loop.at
+    c.loop.rest.now (names_at c.args.statics MOST_NAME_BYTES c.args.count c.args.from c.args.bytes.now)
+    c.loop-test.false c.loop.invariant.reads
 
 pub returns-clause-fit : goal.returns-clause-fit
 returns-clause-fit c =
-    (names_take c.args.statics MOST_NAME_BYTES c.args.count c.args.from c.args.bytes.now (c.loop.names.items, c.loop.at, c.loop.rest.now) (λ i. omega (arith, c.type_inv.bytes i)) (returns-clause-read c)).fit
+    (names_take c.args.statics MOST_NAME_BYTES c.args.count c.args.from c.args.bytes.now
+    (c.loop.names.items, c.loop.at, c.loop.rest.now) (λ i. omega (arith, c.type_inv.bytes i))
+    (returns-clause-read c)).fit
 
 pub returns-clause-len : goal.returns-clause-len
 returns-clause-len c =
-    (names_take c.args.statics MOST_NAME_BYTES c.args.count c.args.from c.args.bytes.now (c.loop.names.items, c.loop.at, c.loop.rest.now) (λ i. omega (arith, c.type_inv.bytes i)) (returns-clause-read c)).len
+    (names_take c.args.statics MOST_NAME_BYTES c.args.count c.args.from c.args.bytes.now
+    (c.loop.names.items, c.loop.at, c.loop.rest.now) (λ i. omega (arith, c.type_inv.bytes i))
+    (returns-clause-read c)).len
 
 pub loop-preserved : goal.loop-preserved
 loop-preserved c =
@@ -34,6 +43,8 @@ loop-preserved c =
     record {
       place = omega (arith, len, short, place);
       left = omega (arith, left);
-      reads = names_next c.loop.names.items _ c.args.statics c.loop.left c.args.count c.loop.counter c.loop.at (length c.bytes.result.now) c.loop.rest.now n c.in_ok-name.after.now
-          (names_at c.args.statics MOST_NAME_BYTES c.args.count c.args.from c.args.bytes.now) c.loop-test.true len c.in_ok-push.ensures.items c.in_ok-name.ensures.read c.loop.invariant.reads;
+      reads = names_next c.loop.names.items _ c.args.statics c.loop.left c.args.count c.loop.counter c.loop.at
+          (length c.bytes.result.now) c.loop.rest.now n c.in_ok-name.after.now
+          (names_at c.args.statics MOST_NAME_BYTES c.args.count c.args.from c.args.bytes.now) c.loop-test.true len
+          c.in_ok-push.ensures.items c.in_ok-name.ensures.read c.loop.invariant.reads;
     }

@@ -13,8 +13,10 @@ use Rattle.pisa_image.proofs.reading.cells_at.Goals as goal
 pub returns-in_err-cell-clause-read : goal.returns-in_err-cell-clause-read
 returns-in_err-cell-clause-read c =
     let p = err_from_is_err_and c.from_residual-in_err-cell.result c.from_residual-in_err-cell.ensures.1 in
-    rw (p.1, p.2) (fails_with c.in_err-cell.field-0.0 (cell_at c.loop.at c.loop.rest.now) (many_at cell_at 8 c.args.count 16 c.args.bytes.now)
-    (λ e h. stops cell_at 8 c.loop.cells.items c.args.count c.loop.counter c.loop.at c.loop.rest.now e (many_at cell_at 8 c.args.count 16 c.args.bytes.now) c.loop-test.true h c.loop.invariant.reads)
+    rw (p.1, p.2) (fails_with c.in_err-cell.field-0.0 (cell_at c.loop.at c.loop.rest.now)
+    (many_at cell_at 8 c.args.count 16 c.args.bytes.now)
+    (λ e h. stops cell_at 8 c.loop.cells.items c.args.count c.loop.counter c.loop.at c.loop.rest.now e
+    (many_at cell_at 8 c.args.count 16 c.args.bytes.now) c.loop-test.true h c.loop.invariant.reads)
     c.in_err-cell.ensures)
 
 pub loop-preserved : goal.loop-preserved
@@ -22,21 +24,26 @@ loop-preserved c =
     let pushed : c.push.new.self.items ≡ c.loop.cells.items ++ c.in_ok-cell.cell ∷ [] = c.in_ok-push.ensures.items in
     record {
       place = omega arith;
-      reads = rw pushed (goes_on cell_at 8 c.loop.cells.items c.args.count c.loop.counter c.loop.at c.loop.rest.now c.in_ok-cell.cell c.in_ok-cell.after.now
-          (many_at cell_at 8 c.args.count 16 c.args.bytes.now) c.loop-test.true c.in_ok-cell.ensures c.loop.invariant.reads);
+      reads = rw pushed (goes_on cell_at 8 c.loop.cells.items c.args.count c.loop.counter c.loop.at c.loop.rest.now
+          c.in_ok-cell.cell c.in_ok-cell.after.now
+          (many_at cell_at 8 c.args.count 16 c.args.bytes.now) c.loop-test.true c.in_ok-cell.ensures
+          c.loop.invariant.reads);
     }
 
 pub returns-clause-read : goal.returns-clause-read
-returns-clause-read c = is_done cell_at 8 c.loop.cells.items c.args.count c.loop.counter c.loop.at c.loop.rest.now (many_at cell_at 8 c.args.count 16 c.args.bytes.now) c.loop-test.false c.loop.invariant.reads
+returns-clause-read c = is_done cell_at 8 c.loop.cells.items c.args.count c.loop.counter c.loop.at c.loop.rest.now
+    (many_at cell_at 8 c.args.count 16 c.args.bytes.now) c.loop-test.false c.loop.invariant.reads
 
 pub returns-clause-len : goal.returns-clause-len
 returns-clause-len c =
     let t : Taken cell_bytes IsCell c.args.count c.args.bytes.now (c.loop.cells.items, c.loop.rest.now) =
-    many_take cell_at 8 cell_bytes IsCell cell_takes c.args.count 16 c.args.bytes.now (c.loop.cells.items, c.loop.rest.now) (λ i. omega (arith, c.type_inv.bytes i)) (returns-clause-read c) in
+    many_take cell_at 8 cell_bytes IsCell cell_takes c.args.count 16 c.args.bytes.now
+    (c.loop.cells.items, c.loop.rest.now) (λ i. omega (arith, c.type_inv.bytes i)) (returns-clause-read c) in
     omega (arith, t.1)
 
 pub returns-clause-cells : goal.returns-clause-cells
 returns-clause-cells c =
     let t : Taken cell_bytes IsCell c.args.count c.args.bytes.now (c.loop.cells.items, c.loop.rest.now) =
-    many_take cell_at 8 cell_bytes IsCell cell_takes c.args.count 16 c.args.bytes.now (c.loop.cells.items, c.loop.rest.now) (λ i. omega (arith, c.type_inv.bytes i)) (returns-clause-read c) in
+    many_take cell_at 8 cell_bytes IsCell cell_takes c.args.count 16 c.args.bytes.now
+    (c.loop.cells.items, c.loop.rest.now) (λ i. omega (arith, c.type_inv.bytes i)) (returns-clause-read c) in
     All-from_recursion IsCell c.loop.cells.items t.2

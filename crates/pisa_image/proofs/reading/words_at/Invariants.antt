@@ -7,5 +7,6 @@ use Rattle.pisa_image.proofs.reading.words_at.Given as goal
 abbrev pub invariant-loop : goal.invariant-loop
 invariant-loop l = record {
   place : l.at ≡ l.fn.from + 4 * l.counter;
-  reads : with_front l.words.items (many_at (word_at (λ k. ImageTruncated k)) 4 (l.count - l.counter) l.at l.rest) ≡ many_at (word_at (λ k. ImageTruncated k)) 4 l.count l.fn.from l.bytes;
+  reads : with_front l.words.items (many_at (word_at (λ k. ImageTruncated k)) 4 (l.count - l.counter) l.at l.rest)
+      ≡ many_at (word_at (λ k. ImageTruncated k)) 4 l.count l.fn.from l.bytes;
 }

@@ -20,6 +20,8 @@ returns-clause-reads_back c =
     let n = c.args.noted.now in
     let text : c.add_notes.new.bytes.items ≡ image_bytes n = search rules in
     let image : IsImage n.image = subst IsImage c.image-image.ensures.image c.code-code.ensures.image in
-    let same : c.statics-statics.result.now ≡ n.image.statics = c.statics-statics.ensures.statics ∙ ap (λ (i : Segments). i.statics) c.image-image.ensures.image in
-    let words : All IsWord n.image.statics = subst (λ (statics : List ℕ). All IsWord statics) same c.add_words.ensures.words in
+    let same : c.statics-statics.result.now ≡ n.image.statics = c.statics-statics.ensures.statics
+    ∙ ap (λ (i : Segments). i.statics) c.image-image.ensures.image in
+    let words : All IsWord n.image.statics = subst (λ (statics : List ℕ). All IsWord statics) same
+    c.add_words.ensures.words in
     ap image_at text ∙ image_again n image c.image-image.ensures.fits words

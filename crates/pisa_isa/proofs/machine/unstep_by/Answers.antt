@@ -14,7 +14,8 @@ place_before-pc-requires-clause-high g c = (came_by _ _ c.requires.code c.requir
 pub cell_at-requires-clause-there : goal.cell_at-requires-clause-there
 cell_at-requires-clause-there g c =
     let b = came_by _ _ c.requires.code c.requires.made in
-    let there : fetch c.args.code.now c.place_before-pc.result ≡ Some b.cell = rw (c.place_before-pc.ensures, c.requires.back) b.there in
+    let there : fetch c.args.code.now c.place_before-pc.result ≡ Some b.cell =
+    rw (c.place_before-pc.ensures, c.requires.back) b.there in
     let f : SFits w64 c.place_before-pc.result = search rules in
     simp (to_z-of_z, there)
 
@@ -23,16 +24,21 @@ returns-clause-back g c =
     let m = state_of c.args.core.now (g.C.Cells.words c.args.cells.now) in
     let b = came_by _ _ c.requires.code c.requires.made in
     let f : SFits w64 c.place_before-pc.result = search rules in
-    let place : c.place_before-pc.result ≡ (moved (turned m)).pc = c.place_before-pc.ensures ∙ ap (λ b. place_moved b m.pc m.br) c.requires.back in
+    let place : c.place_before-pc.result ≡ (moved (turned m)).pc = c.place_before-pc.ensures
+    ∙ ap (λ b. place_moved b m.pc m.br) c.requires.back in
     let is_place : to_z w64 (of_z w64 c.place_before-pc.result) ≡ (moved (turned m)).pc = simp to_z-of_z place in
-    let there : fetch c.args.code.now (moved (turned m)).pc ≡ Some c.cell_at.result.now = sym (ap (fetch c.args.code.now) is_place) ∙ c.cell_at.ensures.found in
+    let there : fetch c.args.code.now (moved (turned m)).pc ≡ Some c.cell_at.result.now =
+    sym (ap (fetch c.args.code.now) is_place) ∙ c.cell_at.ensures.found in
     let both : Some b.cell ≡ Some c.cell_at.result.now = sym b.there ∙ there in
     let same : b.cell ≡ c.cell_at.result.now = cc in
-    let known_found : has_cell c.cell_at.result.now.op c.cell_at.result.now.b (moved (turned m)) ≡ true = rw (sym same) b.found in
-    let found : has_cell c.cell_at.result.now.op c.cell_at.result.now.b m ≡ true = has_cell-before c.cell_at.result.now m known_found in
+    let known_found : has_cell c.cell_at.result.now.op c.cell_at.result.now.b (moved (turned m)) ≡ true =
+    rw (sym same) b.found in
+    let found : has_cell c.cell_at.result.now.op c.cell_at.result.now.b m ≡ true =
+    has_cell-before c.cell_at.result.now m known_found in
     let acts = c.act_by-stop.ensures.acts found ∙ ap (λ b. row_of (faced b c.cell_at.result.now) m) c.requires.back in
     ap (λ k. state_of k (g.C.Cells.words c.act_by-stop.new.cells)) c.stand_at.ensures
-    ∙ stepped_back c.args.code.now m c.cell_at.result.now (state_of c.act_by-stop.new.core (g.C.Cells.words c.act_by-stop.new.cells)) _ there acts is_place
+    ∙ stepped_back c.args.code.now m c.cell_at.result.now
+    (state_of c.act_by-stop.new.core (g.C.Cells.words c.act_by-stop.new.cells)) _ there acts is_place
 
 pub returns-clause-undoes : goal.returns-clause-undoes
 returns-clause-undoes g c = λ m s h e.

@@ -18,16 +18,20 @@ returns-in_err-word c =
     let items = c.deref-line-items.result.now in
     let fields = c.args.fields.now in
     let all : words_from fields 1 [] (map text_of items) ≡ input_of fields c.args.bytes.now =
-    ap (λ xs. words_from fields 1 [] (map text_of xs)) c.deref-line-items.ensures.value ∙ ap (words_from fields 1 []) c.in_ok-lines.ensures in
+    ap (λ xs. words_from fields 1 [] (map text_of xs)) c.deref-line-items.ensures.value
+    ∙ ap (words_from fields 1 []) c.in_ok-lines.ensures in
     rw (p.1, p.2) (fails_with c.in_err-word.field-0.0 _ (input_of fields c.args.bytes.now)
-    (λ r e. sym all ∙ stops text_of fields c.loop-line.number c.deref.result.now c.loop-line.words.items items c.loop-line.line-index no_line r (words_from fields 1 [] (map text_of items)) c.loop-line-test.true c.deref.ensures.value e c.loop-line.invariant.so_far)
+    (λ r e. sym all ∙ stops text_of fields c.loop-line.number c.deref.result.now c.loop-line.words.items items
+    c.loop-line.line-index no_line r (words_from fields 1 [] (map text_of items)) c.loop-line-test.true
+    c.deref.ensures.value e c.loop-line.invariant.so_far)
     c.in_err-word.ensures)
 
 pub overflow_add-number : goal.overflow_add-number
 overflow_add-number c =
     let items = c.deref-line-items.result.now in
     let few : length items ≤ length c.args.bytes.now + 1 =
-    few_lines text_of items (λ b. nat_eq b 10) c.args.bytes.now (ap (map text_of) c.deref-line-items.ensures.value ∙ c.in_ok-lines.ensures) in
+    few_lines text_of items (λ b. nat_eq b 10) c.args.bytes.now
+    (ap (map text_of) c.deref-line-items.ensures.value ∙ c.in_ok-lines.ensures) in
     omega arith
 
 pub loop-line-preserved : goal.loop-line-preserved
@@ -36,7 +40,9 @@ loop-line-preserved c =
     let fields = c.args.fields.now in
     record {
       line = omega arith;
-      so_far = goes_on text_of fields c.loop-line.number c.deref.result.now c.loop-line.words.items c.add.new.words.items c.in_ok-word.word items c.loop-line.line-index no_line (words_from fields 1 [] (map text_of items)) c.loop-line-test.true c.deref.ensures.value c.in_ok-word.ensures
+      so_far = goes_on text_of fields c.loop-line.number c.deref.result.now c.loop-line.words.items
+          c.add.new.words.items c.in_ok-word.word items c.loop-line.line-index no_line
+          (words_from fields 1 [] (map text_of items)) c.loop-line-test.true c.deref.ensures.value c.in_ok-word.ensures
           c.in_ok-add.ensures c.loop-line.invariant.so_far;
     }
 
@@ -45,5 +51,7 @@ returns c =
     let items = c.deref-line-items.result.now in
     let fields = c.args.fields.now in
     let all : words_from fields 1 [] (map text_of items) ≡ input_of fields c.args.bytes.now =
-    ap (λ xs. words_from fields 1 [] (map text_of xs)) c.deref-line-items.ensures.value ∙ ap (words_from fields 1 []) c.in_ok-lines.ensures in
-    sym all ∙ is_done text_of fields c.loop-line.number c.loop-line.words.items items c.loop-line.line-index (words_from fields 1 [] (map text_of items)) c.loop-line-test.false c.loop-line.invariant.so_far
+    ap (λ xs. words_from fields 1 [] (map text_of xs)) c.deref-line-items.ensures.value
+    ∙ ap (words_from fields 1 []) c.in_ok-lines.ensures in
+    sym all ∙ is_done text_of fields c.loop-line.number c.loop-line.words.items items c.loop-line.line-index
+    (words_from fields 1 [] (map text_of items)) c.loop-line-test.false c.loop-line.invariant.so_far

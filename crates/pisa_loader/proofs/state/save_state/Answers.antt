@@ -7,4 +7,5 @@ pub returns-clause-reads_back : goal.returns-clause-reads_back
 returns-clause-reads_back c =
     let p = c.args.machine.now in
     let text : c.add_cells.new.bytes.items ≡ state_bytes (memory p.state.regs p.state.cells) = search rules in
-    ap (state_at (length p.state.cells)) text ∙ state_again (length p.state.cells) (memory p.state.regs p.state.cells) (omega arith) (saved_memory p c.core.ensures.machine)
+    ap (state_at (length p.state.cells)) text ∙ state_again (length p.state.cells) (memory p.state.regs p.state.cells)
+    (omega arith) (saved_memory p c.core.ensures.machine)

@@ -11,8 +11,11 @@ use Rattle.pisa_loader.proofs.state.words_at.Goals as goal
 pub returns-in_err-word-clause-read : goal.returns-in_err-word-clause-read
 returns-in_err-word-clause-read c =
     let p = err_from_is_err_and c.from_residual-in_err-word.result c.from_residual-in_err-word.ensures.1 in
-    rw (p.1, p.2) (fails_with c.in_err-word.field-0.0 ((word_at (λ k. BadState k)) c.loop.at c.loop.rest.now) (many_at (word_at (λ k. BadState k)) 4 c.args.count c.args.from c.args.bytes.now)
-    (λ e h. stops (word_at (λ k. BadState k)) 4 c.loop.words.items c.args.count c.loop.counter c.loop.at c.loop.rest.now e (many_at (word_at (λ k. BadState k)) 4 c.args.count c.args.from c.args.bytes.now) c.loop-test.true h c.loop.invariant.reads)
+    rw (p.1, p.2) (fails_with c.in_err-word.field-0.0 ((word_at (λ k. BadState k)) c.loop.at c.loop.rest.now)
+    (many_at (word_at (λ k. BadState k)) 4 c.args.count c.args.from c.args.bytes.now)
+    (λ e h. stops (word_at (λ k. BadState k)) 4 c.loop.words.items c.args.count c.loop.counter c.loop.at c.loop.rest.now
+    e (many_at (word_at (λ k. BadState k)) 4 c.args.count c.args.from c.args.bytes.now) c.loop-test.true h
+    c.loop.invariant.reads)
     c.in_err-word.ensures)
 
 pub loop-preserved : goal.loop-preserved
@@ -20,15 +23,21 @@ loop-preserved c =
     let pushed : c.push.new.self.items ≡ c.loop.words.items ++ c.in_ok-word.word ∷ [] = c.in_ok-push.ensures.items in
     record {
       place = omega arith;
-      reads = rw pushed (goes_on (word_at (λ k. BadState k)) 4 c.loop.words.items c.args.count c.loop.counter c.loop.at c.loop.rest.now c.in_ok-word.word c.in_ok-word.after.now
-          (many_at (word_at (λ k. BadState k)) 4 c.args.count c.args.from c.args.bytes.now) c.loop-test.true c.in_ok-word.ensures c.loop.invariant.reads);
+      reads = rw pushed (goes_on (word_at (λ k. BadState k)) 4 c.loop.words.items c.args.count c.loop.counter c.loop.at
+          c.loop.rest.now c.in_ok-word.word c.in_ok-word.after.now
+          (many_at (word_at (λ k. BadState k)) 4 c.args.count c.args.from c.args.bytes.now) c.loop-test.true
+          c.in_ok-word.ensures c.loop.invariant.reads);
     }
 
 pub returns-clause-read : goal.returns-clause-read
-returns-clause-read c = is_done (word_at (λ k. BadState k)) 4 c.loop.words.items c.args.count c.loop.counter c.loop.at c.loop.rest.now (many_at (word_at (λ k. BadState k)) 4 c.args.count c.args.from c.args.bytes.now) c.loop-test.false c.loop.invariant.reads
+returns-clause-read c = is_done (word_at (λ k. BadState k)) 4 c.loop.words.items c.args.count c.loop.counter c.loop.at
+    c.loop.rest.now (many_at (word_at (λ k. BadState k)) 4 c.args.count c.args.from c.args.bytes.now) c.loop-test.false
+    c.loop.invariant.reads
 
 pub returns-clause-len : goal.returns-clause-len
 returns-clause-len c =
     let t : Taken word_bytes IsWord c.args.count c.args.bytes.now (c.loop.words.items, c.loop.rest.now) =
-    many_take (word_at (λ k. BadState k)) 4 word_bytes IsWord (word_takes (λ k. BadState k)) c.args.count c.args.from c.args.bytes.now (c.loop.words.items, c.loop.rest.now) (λ i. omega (arith, c.type_inv.bytes i)) (returns-clause-read c) in
+    many_take (word_at (λ k. BadState k)) 4 word_bytes IsWord (word_takes (λ k. BadState k)) c.args.count c.args.from
+    c.args.bytes.now (c.loop.words.items, c.loop.rest.now) (λ i. omega (arith, c.type_inv.bytes i))
+    (returns-clause-read c) in
     omega (arith, t.1)

@@ -13,9 +13,11 @@ pub returns-in-Turns-clause-makes : goal.returns-in-Turns-clause-makes
 returns-in-Turns-clause-makes g c =
     let words = g.C.Cells.words c.loop-made.cells in
     let fits : SFits w64 c.loop-made.way.pc = search rules in
-    let found : fetch c.args.code.now c.loop-made.way.pc ≡ Some c.cell_at-cell.result.now = ap (fetch c.args.code.now) (sym (to_z-of_z w64 c.loop-made.way.pc fits)) ∙ c.cell_at-cell.ensures.found in
+    let found : fetch c.args.code.now c.loop-made.way.pc ≡ Some c.cell_at-cell.result.now =
+    ap (fetch c.args.code.now) (sym (to_z-of_z w64 c.loop-made.way.pc fits)) ∙ c.cell_at-cell.ensures.found in
     let here = state_at c.loop-made.way.pc c.loop-made.way.br c.args.back c.loop-made.core.regs words in
-    one_more_at c.args.code.now c.loop-made.made (state_of c.args.core.now (g.C.Cells.words c.args.cells.now)) here _ c.cell_at-cell.result.now
+    one_more_at c.args.code.now c.loop-made.made (state_of c.args.core.now (g.C.Cells.words c.args.cells.now)) here _
+    c.cell_at-cell.result.now
     c.loop-made.invariant.reaches found c.in-Turns.ensures.stops
     (ap (λ k. state_of k (g.C.Cells.words c.step_by.new.cells)) c.leave-in-Turns.ensures ∙ c.in-Turns.ensures.goes refl)
 
@@ -23,27 +25,33 @@ pub returns-in-Turns-clause-notes : goal.returns-in-Turns-clause-notes
 returns-in-Turns-clause-notes g c =
     let words = g.C.Cells.words c.loop-made.cells in
     let fits : SFits w64 c.loop-made.way.pc = search rules in
-    let found : fetch c.args.code.now c.loop-made.way.pc ≡ Some c.cell_at-cell.result.now = ap (fetch c.args.code.now) (sym (to_z-of_z w64 c.loop-made.way.pc fits)) ∙ c.cell_at-cell.ensures.found in
+    let found : fetch c.args.code.now c.loop-made.way.pc ≡ Some c.cell_at-cell.result.now =
+    ap (fetch c.args.code.now) (sym (to_z-of_z w64 c.loop-made.way.pc fits)) ∙ c.cell_at-cell.ensures.found in
     let first = state_of c.args.core.now (g.C.Cells.words c.args.cells.now) in
     let here = state_at c.loop-made.way.pc c.loop-made.way.br c.args.back c.loop-made.core.regs words in
     let there = state_of c.leave-in-Turns.new.core (g.C.Cells.words c.step_by.new.cells) in
     let makes : steps c.args.code.now (c.loop-made.made + 1) first ≡ Some there =
     one_more_at c.args.code.now c.loop-made.made first here there c.cell_at-cell.result.now
     c.loop-made.invariant.reaches found c.in-Turns.ensures.stops
-    (ap (λ k. state_of k (g.C.Cells.words c.step_by.new.cells)) c.leave-in-Turns.ensures ∙ c.in-Turns.ensures.goes refl) in
+    (ap (λ k. state_of k (g.C.Cells.words c.step_by.new.cells)) c.leave-in-Turns.ensures ∙ c.in-Turns.ensures.goes refl)
+    in
     let less : c.loop-made.made < length c.loop-made.noted = omega arith in
     ap (take (c.loop-made.made + 1))
-    (c.note.ensures ∙ ap (λ (pc : ℤ). slice_set c.loop-made.noted c.loop-made.made (record { place = place_of pc; back = c.args.back })) (to_z-of_z w64 c.loop-made.way.pc fits))
-    ∙ noted_more c.args.code.now c.loop-made.made first here there c.loop-made.noted c.loop-made.invariant.reaches makes c.loop-made.invariant.notes less
+    (c.note.ensures ∙ ap (λ (pc : ℤ). slice_set c.loop-made.noted c.loop-made.made
+    (record { place = place_of pc; back = c.args.back })) (to_z-of_z w64 c.loop-made.way.pc fits))
+    ∙ noted_more c.args.code.now c.loop-made.made first here there c.loop-made.noted c.loop-made.invariant.reaches makes
+    c.loop-made.invariant.notes less
 
 pub loop-made-preserved : goal.loop-made-preserved
 loop-made-preserved g c =
     let words = g.C.Cells.words c.loop-made.cells in
     let fits : SFits w64 c.loop-made.way.pc = search rules in
-    let found : fetch c.args.code.now c.loop-made.way.pc ≡ Some c.cell_at-cell.result.now = ap (fetch c.args.code.now) (sym (to_z-of_z w64 c.loop-made.way.pc fits)) ∙ c.cell_at-cell.ensures.found in
+    let found : fetch c.args.code.now c.loop-made.way.pc ≡ Some c.cell_at-cell.result.now =
+    ap (fetch c.args.code.now) (sym (to_z-of_z w64 c.loop-made.way.pc fits)) ∙ c.cell_at-cell.ensures.found in
     let first = state_of c.args.core.now (g.C.Cells.words c.args.cells.now) in
     let here = state_at c.loop-made.way.pc c.loop-made.way.br c.args.back c.loop-made.core.regs words in
-    let there = state_at c.step_by.new.way.pc c.step_by.new.way.br c.args.back c.step_by.new.regs (g.C.Cells.words c.step_by.new.cells) in
+    let there = state_at c.step_by.new.way.pc c.step_by.new.way.br c.args.back c.step_by.new.regs
+    (g.C.Cells.words c.step_by.new.cells) in
     let makes : steps c.args.code.now (c.loop-made.made + 1) first ≡ Some there =
     one_more_at c.args.code.now c.loop-made.made first here there c.cell_at-cell.result.now
     c.loop-made.invariant.reaches found c.in-Goes.ensures.stops (c.in-Goes.ensures.goes refl) in
@@ -51,7 +59,9 @@ loop-made-preserved g c =
     record {
       reaches = makes;
       notes = ap (take (c.loop-made.made + 1))
-          (c.note.ensures ∙ ap (λ (pc : ℤ). slice_set c.loop-made.noted c.loop-made.made (record { place = place_of pc; back = c.args.back })) (to_z-of_z w64 c.loop-made.way.pc fits))
-          ∙ noted_more c.args.code.now c.loop-made.made first here there c.loop-made.noted c.loop-made.invariant.reaches makes c.loop-made.invariant.notes less;
+          (c.note.ensures ∙ ap (λ (pc : ℤ). slice_set c.loop-made.noted c.loop-made.made
+          (record { place = place_of pc; back = c.args.back })) (to_z-of_z w64 c.loop-made.way.pc fits))
+          ∙ noted_more c.args.code.now c.loop-made.made first here there c.loop-made.noted c.loop-made.invariant.reaches
+          makes c.loop-made.invariant.notes less;
       counter = grind (arith, c.tick.ensures, c.loop-made.invariant.counter);
     }

@@ -2,18 +2,23 @@ use Rattle.std.proofs.Common.{◌≡◌, ◌∙◌, sym, ap, ◌+◌, [], ◌∷
 use Rattle.rpp_tree.specs.Views.{class_text_of, source_of}
 use Rattle.class_table.specs.First.{each_below}
 use Rattle.class_table.proofs.Numbers.{each_below-next}
-use Rattle.program_laws.specs.Methods.{methods_before}
+use Rattle.refine_program.specs.Methods.{methods_before}
 use Rattle.program_codegen.proofs.Tables.{none_before, first_counted}
 use Rattle.program_codegen.proofs.Counts.{methods_few}
 use Rattle.program_codegen.proofs.numbers.first_routines.Goals as goal
 
 pub loop-class-init : goal.loop-class-init
-loop-class-init c = record { firsts = c.new-firsts.ensures.items; next = none_before (map class_text_of c.args.program.now.classes.items) }
+loop-class-init c = record {
+  firsts = c.new-firsts.ensures.items;
+  next = none_before (map class_text_of c.args.program.now.classes.items);
+}
 
 -- the number of the next class's first routine
-next_is : (c : goal.After-len) → c.loop-class.next + c.len.result ≡ methods_before (source_of c.args.program.now).classes (c.loop-class.class-index + 1)
+next_is : (c : goal.After-len) → c.loop-class.next + c.len.result
+    ≡ methods_before (source_of c.args.program.now).classes (c.loop-class.class-index + 1)
 next_is c =
-    let counted = first_counted c.args.program.now c.loop-class.class-index c.deref-class-items.result.now c.class-item.result c.deref-class-items.ensures.value c.loop-class-test.true c.class-item.is in
+    let counted = first_counted c.args.program.now c.loop-class.class-index c.deref-class-items.result.now
+    c.class-item.result c.deref-class-items.ensures.value c.loop-class-test.true c.class-item.is in
     omega (arith, counted, c.loop-class.invariant.next, c.len.ensures, c.class-item.result.methods.ok.0)
 
 pub overflow_cast-next : goal.overflow_cast-next

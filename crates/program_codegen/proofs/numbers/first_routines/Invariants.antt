@@ -1,7 +1,7 @@
 use Rattle.std.proofs.Common.{◌≡◌}
 use Rattle.rpp_tree.specs.Views.{source_of}
 use Rattle.class_table.specs.First.{each_below}
-use Rattle.program_laws.specs.Methods.{methods_before}
+use Rattle.refine_program.specs.Methods.{methods_before}
 use Rattle.program_codegen.proofs.numbers.first_routines.Given as goal
 
 -- the numbers so far, and the next one

@@ -8,7 +8,12 @@ returns c =
     record {
       allocator = heap;
       methods = methods;
-      all = c.in_ok-append.ensures.items ∙ ap (λ xs. xs ++ methods) (c.in_ok-push.ensures.items ∙ ap (λ xs. xs ++ heap ∷ []) c.new-pieces.ensures.items);
-      allocates = record { law = c.in_ok-allocator.ensures.law; marks = c.in_ok-allocator.ensures.marks; size = c.in_ok-allocator.ensures.count };
+      all = c.in_ok-append.ensures.items ∙ ap (λ xs. xs ++ methods)
+          (c.in_ok-push.ensures.items ∙ ap (λ xs. xs ++ heap ∷ []) c.new-pieces.ensures.items);
+      allocates = record {
+        law = c.in_ok-allocator.ensures.law;
+        marks = c.in_ok-allocator.ensures.marks;
+        size = c.in_ok-allocator.ensures.count;
+      };
       codes = c.in_ok-methods.ensures;
     }

@@ -3,7 +3,7 @@ use Rattle.std.specs.Prelude.{slice_index}
 use Rattle.rpp_tree.specs.Views.{source_of}
 use Rattle.class_table.specs.Classes.{class_slots}
 use Rattle.paired_code.specs.Link.{static_word}
-use Rattle.program_laws.specs.Methods.{routine_of}
+use Rattle.refine_program.specs.Methods.{routine_of}
 use Rattle.program_codegen.proofs.statics.add_slots.Given as goal
 
 -- the slots so far
@@ -11,4 +11,5 @@ abbrev pub invariant-loop-slot : goal.invariant-loop-slot
 invariant-loop-slot l =
     (places : List ℕ) → map (static_word places) l.words.items
     ≡ map (static_word places) l.initial.words.items
-    ++ map (λ x. slice_index places (1 + routine_of (source_of l.checked) x.1)) (take l.slot (class_slots (source_of l.checked) l.class))
+    ++ map (λ x. slice_index places (1 + routine_of (source_of l.checked) x.1))
+    (take l.slot (class_slots (source_of l.checked) l.class))

@@ -3,11 +3,12 @@ use Rattle.rpp_tree.specs.Views.{source_of}
 use Rattle.class_table.specs.First.{each_below}
 use Rattle.roopl_semantics.specs.Layout.{tables}
 use Rattle.paired_code.specs.Link.{static_word}
-use Rattle.program_laws.specs.Methods.{slot_places}
+use Rattle.refine_program.specs.Methods.{slot_places}
 use Rattle.program_codegen.proofs.statics.add_tables.Given as goal
 
 -- the tables so far
 abbrev pub invariant-loop-class : goal.invariant-loop-class
 invariant-loop-class l =
     (places : List ℕ) → map (static_word places) l.words.items
-    ≡ map (static_word places) l.initial.words.items ++ tables 1 (each_below (slot_places (source_of l.checked) 1 places) l.class)
+    ≡ map (static_word places) l.initial.words.items ++ tables 1
+    (each_below (slot_places (source_of l.checked) 1 places) l.class)

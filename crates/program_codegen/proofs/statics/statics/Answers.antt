@@ -7,38 +7,48 @@ use Rattle.class_table.specs.Table.{Table}
 use Rattle.roopl_semantics.specs.Layout.{table_at, tables}
 use Rattle.roopl_semantics.specs.Source.{main_fields}
 use Rattle.roopl_semantics.proofs.MainPlace.{class_inside, fields_read}
-use Rattle.program_laws.specs.Methods.{table_places}
+use Rattle.refine_program.specs.Methods.{table_places}
 use Rattle.program_codegen.proofs.Tables.{statics_read}
 use Rattle.program_codegen.proofs.statics.statics.Goals as goal
 
 pub table_at-requires-clause-fields : goal.table_at-requires-clause-fields
 table_at-requires-clause-fields c =
-    let main = c.main-class.ensures ∙ ap (λ (t : Table). t.main) (c.table.ensures.table ∙ sym c.table-2.ensures.table) in
+    let main = c.main-class.ensures ∙ ap (λ (t : Table). t.main) (c.table.ensures.table ∙ sym c.table-2.ensures.table)
+    in
     ap (λ (vars : List Var). length vars)
-    (fields_read (source_of c.args.checked.now) c.table-2.result.now c.main-class.result c.fields.result.now c.table.ensures.accepted c.table-2.ensures.table main c.fields.ensures.fields)
+    (fields_read (source_of c.args.checked.now) c.table-2.result.now c.main-class.result c.fields.result.now
+    c.table.ensures.accepted c.table-2.ensures.table main c.fields.ensures.fields)
 
 pub table_at-requires-clause-inside : goal.table_at-requires-clause-inside
 table_at-requires-clause-inside c =
     let program = source_of c.args.checked.now in
-    let main = ap (λ (id : MethodId). id.class) (c.main-class.ensures ∙ ap (λ (t : Table). t.main) c.table.ensures.table) in
+    let main = ap (λ (id : MethodId). id.class) (c.main-class.ensures
+    ∙ ap (λ (t : Table). t.main) c.table.ensures.table) in
     omega (arith, main, class_inside program c.table.ensures.accepted)
 
 pub table_at-requires-clause-small : goal.table_at-requires-clause-small
 table_at-requires-clause-small c =
     let program = source_of c.args.checked.now in
-    let main = ap (λ (id : MethodId). id.class) (c.main-class.ensures ∙ ap (λ (t : Table). t.main) c.table.ensures.table) in
+    let main = ap (λ (id : MethodId). id.class) (c.main-class.ensures
+    ∙ ap (λ (t : Table). t.main) c.table.ensures.table) in
     omega (arith, main, class_inside program c.table.ensures.accepted, c.table.ensures.accepted.limits.classes_few)
 
 pub returns : goal.returns
 returns c =
     let program = source_of c.args.checked.now in
     let main = c.main-class.ensures ∙ ap (λ (t : Table). t.main) c.table.ensures.table in
-    let again = c.main-class.ensures ∙ ap (λ (t : Table). t.main) (c.table.ensures.table ∙ sym c.table-2.ensures.table) in
-    let fields : c.fields.result.now ≡ main_fields program = fields_read program c.table-2.result.now c.main-class.result c.fields.result.now c.table.ensures.accepted c.table-2.ensures.table again c.fields.ensures.fields in
-    let at : c.table_at.result ≡ table_at program (main_of program).class = c.table_at.ensures ∙ ap (λ (id : MethodId). table_at program id.class) main in
+    let again = c.main-class.ensures ∙ ap (λ (t : Table). t.main) (c.table.ensures.table ∙ sym c.table-2.ensures.table)
+    in
+    let fields : c.fields.result.now ≡ main_fields program =
+    fields_read program c.table-2.result.now c.main-class.result c.fields.result.now c.table.ensures.accepted
+    c.table-2.ensures.table again c.fields.ensures.fields in
+    let at : c.table_at.result ≡ table_at program (main_of program).class = c.table_at.ensures
+    ∙ ap (λ (id : MethodId). table_at program id.class) main in
     λ places.
     let ts = tables 1 (table_places program 1 places) in
-    statics_read places program c.table_at.result (length c.fields.result.now) c.new-words.result.items c.push.new.self.items c.push-2.new.self.items c.add_zeros.new.words.items c.add_tables.new.words.items ts
-    c.new-words.ensures.items c.in_ok-push.ensures.items c.in_ok-push-2.ensures.items c.in_ok-add_zeros.ensures (c.in_ok-add_tables.ensures places)
+    statics_read places program c.table_at.result (length c.fields.result.now) c.new-words.result.items
+    c.push.new.self.items c.push-2.new.self.items c.add_zeros.new.words.items c.add_tables.new.words.items ts
+    c.new-words.ensures.items c.in_ok-push.ensures.items c.in_ok-push-2.ensures.items c.in_ok-add_zeros.ensures
+    (c.in_ok-add_tables.ensures places)
     ∙ ap (λ a. a ∷ 1 ∷ (replicate (length c.fields.result.now) 0 ++ ts)) at
     ∙ ap (λ (vars : List Var). table_at program (main_of program).class ∷ 1 ∷ (replicate (length vars) 0 ++ ts)) fields

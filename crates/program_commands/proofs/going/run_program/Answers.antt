@@ -1,13 +1,15 @@
 use Rattle.std.proofs.Common.{false}
 use Rattle.rpp_tree.specs.Views.{source_of}
-use Rattle.rpp_plan.specs.Plans.{planned}
+use Rattle.command_plan.specs.Plans.{planned}
 use Rattle.program_commands.proofs.Turned.{has_run, runs_image, weaken}
 use Rattle.program_commands.proofs.going.run_program.Goals as goal
 
 pub report_run-requires : goal.report_run-requires
 report_run-requires g c =
-    has_run (source_of c.args.setting.now.checked) c.args.setting.now.limits c.args.setting.now.input.words.items c.args.setting.now.bound c.run-end.new.self c.run-end.result.spent
-    c.in_ok-machine.machine c.run-end.result.stop c.in_ok-machine.ensures c.run-end.ensures.machine c.run-end.ensures.image c.run-end.ensures.within c.run-end.ensures.runs
+    has_run (source_of c.args.setting.now.checked) c.args.setting.now.limits c.args.setting.now.input.words.items
+    c.args.setting.now.bound c.run-end.new.self c.run-end.result.spent
+    c.in_ok-machine.machine c.run-end.result.stop c.in_ok-machine.ensures c.run-end.ensures.machine
+    c.run-end.ensures.image c.run-end.ensures.within c.run-end.ensures.runs
 
 pub returns : goal.returns
 returns g c =
@@ -18,7 +20,9 @@ returns g c =
     let end = c.run-end.new.self in
     let has =
     has_run program limits input bound end c.run-end.result.spent
-    c.in_ok-machine.machine c.run-end.result.stop c.in_ok-machine.ensures c.run-end.ensures.machine c.run-end.ensures.image c.run-end.ensures.within c.run-end.ensures.runs in
+    c.in_ok-machine.machine c.run-end.result.stop c.in_ok-machine.ensures c.run-end.ensures.machine
+    c.run-end.ensures.image c.run-end.ensures.within c.run-end.ensures.runs in
     weaken c.report_run.result _ _
-    (λ plan stop. runs_image program limits input bound end c.run-end.result.spent false c.run-end.result.stop has (planned plan) stop)
+    (λ plan stop. runs_image program limits input bound end c.run-end.result.spent false c.run-end.result.stop has
+    (planned plan) stop)
     c.report_run.ensures

@@ -4,4 +4,5 @@ use Rattle.program_commands.proofs.profiling.add_lines.Given as goal
 
 -- the lines so far
 abbrev pub invariant-loop-line : goal.invariant-loop-line
-invariant-loop-line l = string_bytes l.out ≡ string_bytes l.initial.out ++ lines_shown (map string_bytes (take l.line-index l.lines))
+invariant-loop-line l = string_bytes l.out ≡ string_bytes l.initial.out
+    ++ lines_shown (map string_bytes (take l.line-index l.lines))

@@ -1,19 +1,23 @@
-use Rattle.std.proofs.Common.{◌∙◌, ◌++◌, ap, map, string_bytes}
+use Rattle.std.proofs.Common.{◌≡◌, ◌∙◌, ◌++◌, ap, map, string_bytes, inl, inr}
+use Rattle.std.specs.Prelude.{◌⊎◌}
+use Rattle.program_commands.specs.ToldShort.{ProfilesShort}
 use Rattle.rpp_tree.specs.Views.{source_of}
 use Rattle.rpp_probes.specs.Tally.{lines_after}
 use Rattle.pisa_machine.specs.Told.{counted_steps}
-use Rattle.rpp_plan.specs.Plans.{planned}
+use Rattle.command_plan.specs.Plans.{planned}
 use Rattle.program_commands.proofs.Turned.{has_run, weaken}
-use Rattle.program_commands.proofs.Watched.{profiles_image}
+use Rattle.program_commands.proofs.Watched.{profiles_image, err_always, told_short, loaded_short}
 use Rattle.program_commands.proofs.profiling.profile_program.Goals as goal
 
 pub report_run-requires : goal.report_run-requires
 report_run-requires g c =
-    has_run (source_of c.args.setting.now.checked) c.args.setting.now.limits c.args.setting.now.input.words.items c.args.setting.now.bound c.run_told.new.self c.in_ok-end.end.spent
-    c.in_ok-machine.machine c.in_ok-end.end.stop c.in_ok-machine.ensures c.run_told.ensures.machine c.run_told.ensures.image c.in_ok-end.ensures.within c.in_ok-end.ensures.runs
+    has_run (source_of c.args.setting.now.checked) c.args.setting.now.limits c.args.setting.now.input.words.items
+    c.args.setting.now.bound c.run_told.new.self c.in_ok-end.end.spent
+    c.in_ok-machine.machine c.in_ok-end.end.stop c.in_ok-machine.ensures c.run_told.ensures.machine
+    c.run_told.ensures.image c.in_ok-end.ensures.within c.in_ok-end.ensures.runs
 
-pub returns : goal.returns
-returns g c =
+pub returns-clause-plan : goal.returns-clause-plan
+returns-clause-plan g c =
     let program = source_of c.args.setting.now.checked in
     let limits = c.args.setting.now.limits in
     let input = c.args.setting.now.input.words.items in
@@ -23,12 +27,53 @@ returns g c =
     let before = g.P.Probes.watches c.args.probes.now in
     let has =
     has_run program limits input bound end c.in_ok-end.end.spent
-    start c.in_ok-end.end.stop c.in_ok-machine.ensures c.run_told.ensures.machine c.run_told.ensures.image c.in_ok-end.ensures.within c.in_ok-end.ensures.runs in
+    start c.in_ok-end.end.stop c.in_ok-machine.ensures c.run_told.ensures.machine c.run_told.ensures.image
+    c.in_ok-end.ensures.within c.in_ok-end.ensures.runs in
     weaken c.with_probes.result _ _
     (λ plan is.
-    profiles_image program limits input bound end c.in_ok-end.end.spent c.in_ok-end.end.stop has start c.in_ok-machine.ensures c.run_told.ensures.image
+    profiles_image program limits input bound end c.in_ok-end.end.spent c.in_ok-end.end.stop has start
+    c.in_ok-machine.ensures c.run_told.ensures.image
     before (g.P.Probes.watches c.run_told.new.probes) (map string_bytes c.deref.result.now) c.in_ok-end.ensures.told
     (ap (map string_bytes) c.deref.ensures.value ∙ c.in_ok-end.ensures.lines
-    ∙ ap (λ l. map string_bytes l ++ lines_after (counted_steps start.image.code bound start.state) before) c.new-lines.ensures.items)
+    ∙ ap (λ l. map string_bytes l ++ lines_after (counted_steps start.image.code bound start.state) before)
+    c.new-lines.ensures.items)
     (planned c.in_ok-said.said) (planned plan) c.in_ok-said.ensures is)
     c.with_probes.ensures
+
+pub returns-in_err-end-clause-short : goal.returns-in_err-end-clause-short
+returns-in_err-end-clause-short g c =
+    let program = source_of c.args.setting.now.checked in
+    let limits = c.args.setting.now.limits in
+    let input = c.args.setting.now.input.words.items in
+    let bound = c.args.setting.now.bound in
+    let before = g.P.Probes.watches c.args.probes.now in
+    let after = g.P.Probes.watches c.run_told.new.probes in
+    err_always c.from_residual-in_err-end.result ((after ≡ before)
+    ⊎ ProfilesShort before after program limits input bound)
+    (inr (loaded_short program limits input bound c.in_ok-machine.machine c.in_ok-machine.ensures
+    c.run_told.ensures.machine.is_image before after (told_short _ _ _ _ _ _ _ _ _ c.in_err-end.ensures.broken_off)))
+
+pub returns-in_err-said-clause-short : goal.returns-in_err-said-clause-short
+returns-in_err-said-clause-short g c =
+    let program = source_of c.args.setting.now.checked in
+    let limits = c.args.setting.now.limits in
+    let input = c.args.setting.now.input.words.items in
+    let bound = c.args.setting.now.bound in
+    let before = g.P.Probes.watches c.args.probes.now in
+    let after = g.P.Probes.watches c.run_told.new.probes in
+    err_always c.from_residual-in_err-said.result ((after ≡ before)
+    ⊎ ProfilesShort before after program limits input bound)
+    (inr (loaded_short program limits input bound c.in_ok-machine.machine c.in_ok-machine.ensures
+    c.run_told.ensures.machine.is_image before after (inl c.in_ok-end.ensures.told)))
+
+pub returns-clause-short : goal.returns-clause-short
+returns-clause-short g c =
+    let program = source_of c.args.setting.now.checked in
+    let limits = c.args.setting.now.limits in
+    let input = c.args.setting.now.input.words.items in
+    let bound = c.args.setting.now.bound in
+    let before = g.P.Probes.watches c.args.probes.now in
+    let after = g.P.Probes.watches c.run_told.new.probes in
+    err_always c.with_probes.result ((after ≡ before) ⊎ ProfilesShort before after program limits input bound)
+    (inr (loaded_short program limits input bound c.in_ok-machine.machine c.in_ok-machine.ensures
+    c.run_told.ensures.machine.is_image before after (inl c.in_ok-end.ensures.told)))

@@ -8,4 +8,5 @@ use Rattle.program_commands.proofs.readying.ready_within.Goals as goal
 pub invariant_of-result-clause-valid : goal.invariant_of-result-clause-valid
 invariant_of-result-clause-valid c =
     valid_input (source_of c.args.checked) c.in-Ok.input.words.items
-    (subst (λ (fields : List InputField). AreInput fields c.in-Ok.input.words.items) (c.deref.ensures.value ∙ c.in_ok-fields.ensures.fields) c.in-Ok.ensures.input)
+    (subst (λ (fields : List InputField). AreInput fields c.in-Ok.input.words.items)
+    (c.deref.ensures.value ∙ c.in_ok-fields.ensures.fields) c.in-Ok.ensures.input)

@@ -9,5 +9,6 @@ use Rattle.program_commands.proofs.settable.input_fields.Goals as goal
 pub returns-clause-fields : goal.returns-clause-fields
 returns-clause-fields c =
     subst (λ (vars : List Var). IfOk c.int_fields.result (λ fields. fields.items ≡ fields_from 0 vars))
-    (fields_read (source_of c.args.checked.now) c.table-table.result.now c.main.result c.fields.result.now c.table-table.ensures.accepted c.table-table.ensures.table c.main.ensures c.fields.ensures.fields)
+    (fields_read (source_of c.args.checked.now) c.table-table.result.now c.main.result c.fields.result.now
+    c.table-table.ensures.accepted c.table-table.ensures.table c.main.ensures c.fields.ensures.fields)
     c.int_fields.ensures.fields

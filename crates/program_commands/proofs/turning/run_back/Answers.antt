@@ -1,4 +1,9 @@
-use Rattle.std.proofs.Common.{◌≡◌, ◌∙◌, sym, ap}
+use Rattle.std.proofs.Common.{◌≡◌, ◌∙◌, sym, ap, inr}
+use Rattle.std.specs.Prelude.{◌⊎◌}
+use Rattle.pisa_isa.specs.Flipped.{flipped}
+use Rattle.pisa_isa.specs.Runs.{started}
+use Rattle.program_commands.specs.ToldShort.{IsToldSoFar}
+use Rattle.program_commands.proofs.Watched.{err_always, told_short, so_far_from}
 use Rattle.rpp_tree.specs.Views.{source_of}
 use Rattle.pisa_isa.specs.Flipped.{flipped_image}
 use Rattle.pisa_isa.specs.Image.{Segments}
@@ -10,19 +15,40 @@ use Rattle.program_commands.proofs.turning.run_back.Goals as goal
 pub returns-clause-cells : goal.returns-clause-cells
 returns-clause-cells g c =
     let m = c.args.machine in
-    let same : c.in_ok-flipped.flipped ≡ flipped_image m.image = c.in_ok-flipped.ensures.flipped ∙ ap flipped_image c.image.ensures.image in
+    let same : c.in_ok-flipped.flipped ≡ flipped_image m.image = c.in_ok-flipped.ensures.flipped
+    ∙ ap flipped_image c.image.ensures.image in
     let first : c.with_image-machine.result ≡ first_position (flipped_image m.image) m.state.regs m.state.cells =
     c.with_image-machine.ensures ∙ ap (λ (i : Segments). first_position i m.state.regs m.state.cells) same in
-    back_cells (source_of c.args.setting.now.checked) c.args.setting.now.limits c.args.setting.now.input.words.items c.args.setting.now.bound m c.args._spent c.requires
+    back_cells (source_of c.args.setting.now.checked) c.args.setting.now.limits c.args.setting.now.input.words.items
+    c.args.setting.now.bound m c.args._spent c.requires
     (record { why = c.in_ok-back.back.stop; spent = c.in_ok-back.back.spent; last = c.run_told.new.self.state })
     (sym (ap (λ (p : Position). run p.image.code c.args.setting.now.bound p.state) first) ∙ c.in_ok-back.ensures.runs)
 
 pub returns-clause-spent : goal.returns-clause-spent
 returns-clause-spent g c =
     let m = c.args.machine in
-    let same : c.in_ok-flipped.flipped ≡ flipped_image m.image = c.in_ok-flipped.ensures.flipped ∙ ap flipped_image c.image.ensures.image in
+    let same : c.in_ok-flipped.flipped ≡ flipped_image m.image = c.in_ok-flipped.ensures.flipped
+    ∙ ap flipped_image c.image.ensures.image in
     let first : c.with_image-machine.result ≡ first_position (flipped_image m.image) m.state.regs m.state.cells =
     c.with_image-machine.ensures ∙ ap (λ (i : Segments). first_position i m.state.regs m.state.cells) same in
-    back_spent (source_of c.args.setting.now.checked) c.args.setting.now.limits c.args.setting.now.input.words.items c.args.setting.now.bound m c.args._spent c.requires
+    back_spent (source_of c.args.setting.now.checked) c.args.setting.now.limits c.args.setting.now.input.words.items
+    c.args.setting.now.bound m c.args._spent c.requires
     (record { why = c.in_ok-back.back.stop; spent = c.in_ok-back.back.spent; last = c.run_told.new.self.state })
     (sym (ap (λ (p : Position). run p.image.code c.args.setting.now.bound p.state) first) ∙ c.in_ok-back.ensures.runs)
+
+pub returns-in_err-back-clause-short : goal.returns-in_err-back-clause-short
+returns-in_err-back-clause-short g c =
+    let m = c.args.machine in
+    let bound = c.args.setting.now.bound in
+    let before = g.P.Probes.watches c.args.probes.now in
+    let after = g.P.Probes.watches c.run_told.new.probes in
+    let code = flipped m.image.code in
+    let same : c.in_ok-flipped.flipped ≡ flipped_image m.image = c.in_ok-flipped.ensures.flipped
+    ∙ ap flipped_image c.image.ensures.image in
+    let first : c.with_image-machine.result ≡ first_position (flipped_image m.image) m.state.regs m.state.cells =
+    c.with_image-machine.ensures ∙ ap (λ (i : Segments). first_position i m.state.regs m.state.cells) same in
+    err_always c.from_residual-in_err-back.result
+    ((after ≡ before) ⊎ IsToldSoFar code bound (started code m.state.regs m.state.cells) before after)
+    (inr (so_far_from code (started code m.state.regs m.state.cells) c.with_image-machine.result bound before after
+    (ap (λ (p : Position). p.image.code) first) (ap (λ (p : Position). p.state) first)
+    (told_short _ _ _ _ _ _ _ _ _ c.in_err-back.ensures.broken_off)))

@@ -1,16 +1,19 @@
 use Rattle.rpp_tree.specs.Views.{source_of}
-use Rattle.rpp_plan.specs.Plans.{planned}
+use Rattle.command_plan.specs.Plans.{planned}
 use Rattle.program_commands.proofs.Turned.{has_run, weaken_with}
-use Rattle.program_commands.proofs.Watched.{turns_image}
+use Rattle.std.proofs.Common.{◌≡◌, inl, inr, ⊎_elim}
+use Rattle.program_commands.proofs.Watched.{turns_image, turns_short, err_weaken}
 use Rattle.program_commands.proofs.turning.turn_program.Goals as goal
 
 pub report_turn-requires : goal.report_turn-requires
 report_turn-requires g c =
-    has_run (source_of c.args.setting.now.checked) c.args.setting.now.limits c.args.setting.now.input.words.items c.args.setting.now.bound c.run-end.new.self c.run-end.result.spent
-    c.in_ok-machine.machine c.run-end.result.stop c.in_ok-machine.ensures c.run-end.ensures.machine c.run-end.ensures.image c.run-end.ensures.within c.run-end.ensures.runs
+    has_run (source_of c.args.setting.now.checked) c.args.setting.now.limits c.args.setting.now.input.words.items
+    c.args.setting.now.bound c.run-end.new.self c.run-end.result.spent
+    c.in_ok-machine.machine c.run-end.result.stop c.in_ok-machine.ensures c.run-end.ensures.machine
+    c.run-end.ensures.image c.run-end.ensures.within c.run-end.ensures.runs
 
-pub returns : goal.returns
-returns g c =
+pub returns-clause-plan : goal.returns-clause-plan
+returns-clause-plan g c =
     let program = source_of c.args.setting.now.checked in
     let limits = c.args.setting.now.limits in
     let input = c.args.setting.now.input.words.items in
@@ -18,9 +21,27 @@ returns g c =
     let end = c.run-end.new.self in
     let has =
     has_run program limits input bound end c.run-end.result.spent
-    c.in_ok-machine.machine c.run-end.result.stop c.in_ok-machine.ensures c.run-end.ensures.machine c.run-end.ensures.image c.run-end.ensures.within c.run-end.ensures.runs in
+    c.in_ok-machine.machine c.run-end.result.stop c.in_ok-machine.ensures c.run-end.ensures.machine
+    c.run-end.ensures.image c.run-end.ensures.within c.run-end.ensures.runs in
     weaken_with c.report_turn.result _ _ _
     (λ told plan stop.
     turns_image program limits input bound end c.run-end.result.spent c.run-end.result.stop has
     (g.P.Probes.watches c.args.probes.now) (g.P.Probes.watches c.report_turn.new.probes) told (planned plan) stop)
     c.report_turn.ensures.told c.report_turn.ensures.stop
+
+pub returns-clause-short : goal.returns-clause-short
+returns-clause-short g c =
+    let program = source_of c.args.setting.now.checked in
+    let limits = c.args.setting.now.limits in
+    let input = c.args.setting.now.input.words.items in
+    let bound = c.args.setting.now.bound in
+    let end = c.run-end.new.self in
+    let has =
+    has_run program limits input bound end c.run-end.result.spent
+    c.in_ok-machine.machine c.run-end.result.stop c.in_ok-machine.ensures c.run-end.ensures.machine
+    c.run-end.ensures.image c.run-end.ensures.within c.run-end.ensures.runs in
+    err_weaken c.report_turn.result _ _
+    (⊎_elim (λ e. inl e)
+    (λ told. inr (turns_short program limits input bound end c.run-end.result.spent c.run-end.result.stop has
+    (g.P.Probes.watches c.args.probes.now) (g.P.Probes.watches c.report_turn.new.probes) told)))
+    c.report_turn.ensures.short

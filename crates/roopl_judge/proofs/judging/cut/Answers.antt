@@ -5,4 +5,5 @@ use Rattle.roopl_judge.proofs.judging.cut.Goals as goal
 
 pub returns-in-Err-clause-refused : goal.returns-in-Err-clause-refused
 returns-in-Err-clause-refused c =
-    subst (IfRefused (IsRefusal c.args.text.now)) (sym c.of_lexer.ensures) (by_lexer c.args.text.now c.in-Err.error c.in-Err.ensures.refusal)
+    subst (IfRefused (IsRefusal c.args.text.now)) (sym c.of_lexer.ensures)
+    (by_lexer c.args.text.now c.in-Err.error c.in-Err.ensures.refusal)

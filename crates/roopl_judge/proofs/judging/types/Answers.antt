@@ -15,4 +15,5 @@ returns-in-Ok-clause-accepted c =
 pub returns-in-Err-clause-refused : goal.returns-in-Err-clause-refused
 returns-in-Err-clause-refused c =
     subst (IfRefused (IsRefusal c.args._text.now)) (sym c.of_types.ensures)
-    (by_types c.args._text.now (source_of c.args.program) (refusal_of c.in-Err.error) c.requires.tree c.requires.classes c.in-Err.ensures.refused)
+    (by_types c.args._text.now (source_of c.args.program) (refusal_of c.in-Err.error) c.requires.tree c.requires.classes
+    c.in-Err.ensures.refused)

@@ -5,4 +5,5 @@ use Rattle.roopl_lexer.proofs.pieces.name_len.Goals as goal
 
 pub returns-clause-length : goal.returns-clause-length
 returns-clause-length c =
-    sym (prefix_len_is is_name_byte c.args.rest.now (length c.args.rest.now) 0 (omega arith) (λ k below. c.loop-i.invariant k (omega arith)) (λ below. absurd (omega arith)))
+    sym (prefix_len_is is_name_byte c.args.rest.now (length c.args.rest.now) 0 (omega arith)
+    (λ k below. c.loop-i.invariant k (omega arith)) (λ below. absurd (omega arith)))

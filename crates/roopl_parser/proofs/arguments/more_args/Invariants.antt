@@ -5,7 +5,8 @@ use Rattle.roopl_parser.proofs.arguments.more_args.Given as goal
 
 abbrev pub invariant-names : goal.invariant-names
 invariant-names l = record {
-  read : (n : ℕ) (s : List Part) (vs : List Value) → scan true l.end l.fn.tokens n (MoreArgs ∷ s) (Idents l.fn.first.items ∷ vs) ≡ scan true l.end l.rest n (MoreArgs ∷ s) (Idents l.names.items ∷ vs);
+  read : (n : ℕ) (s : List Part) (vs : List Value) → scan true l.end l.fn.tokens n (MoreArgs ∷ s)
+      (Idents l.fn.first.items ∷ vs) ≡ scan true l.end l.rest n (MoreArgs ∷ s) (Idents l.names.items ∷ vs);
   shorter : length l.rest ≤ length l.fn.tokens;
 }
 

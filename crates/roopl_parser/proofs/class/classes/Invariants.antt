@@ -9,6 +9,8 @@ decreases-classes l = length l.rest
 
 abbrev pub invariant-classes : goal.invariant-classes
 invariant-classes l = record {
-  read : (s : List Part) (vs : List Value) → scan true l.end l.fn.tokens 0 (Program 0 ∷ s) (Classes [] ∷ vs) ≡ scan true l.end l.rest 0 (Program (length l.classes.items) ∷ s) (Classes (map class_text_of l.classes.items) ∷ vs);
+  read : (s : List Part) (vs : List Value) → scan true l.end l.fn.tokens 0 (Program 0 ∷ s) (Classes [] ∷ vs)
+      ≡ scan true l.end l.rest 0 (Program (length l.classes.items) ∷ s)
+      (Classes (map class_text_of l.classes.items) ∷ vs);
   shorter : length l.rest ≤ length l.fn.tokens;
 }

@@ -8,6 +8,7 @@ decreases-fields l = length l.rest
 
 abbrev pub invariant-fields : goal.invariant-fields
 invariant-fields l = record {
-  read : (s : List Part) (vs : List Value) → scan true l.end l.fn.tokens 0 (Fields ∷ s) (Vars [] ∷ vs) ≡ scan true l.end l.rest 0 (Fields ∷ s) (Vars l.fields.items ∷ vs);
+  read : (s : List Part) (vs : List Value) → scan true l.end l.fn.tokens 0 (Fields ∷ s) (Vars [] ∷ vs)
+      ≡ scan true l.end l.rest 0 (Fields ∷ s) (Vars l.fields.items ∷ vs);
   shorter : length l.rest ≤ length l.fn.tokens;
 }

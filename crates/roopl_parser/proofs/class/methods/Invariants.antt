@@ -9,6 +9,7 @@ decreases-methods l = length l.rest
 
 abbrev pub invariant-methods : goal.invariant-methods
 invariant-methods l = record {
-  read : (s : List Part) (vs : List Value) → scan true l.end l.fn.tokens 0 (Procedures ∷ s) (Methods [] ∷ vs) ≡ scan true l.end l.rest 0 (Procedures ∷ s) (Methods (map procedure_of l.methods.items) ∷ vs);
+  read : (s : List Part) (vs : List Value) → scan true l.end l.fn.tokens 0 (Procedures ∷ s) (Methods [] ∷ vs)
+      ≡ scan true l.end l.rest 0 (Procedures ∷ s) (Methods (map procedure_of l.methods.items) ∷ vs);
   shorter : length l.rest ≤ length l.fn.tokens;
 }

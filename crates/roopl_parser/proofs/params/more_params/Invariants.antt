@@ -5,7 +5,9 @@ use Rattle.roopl_parser.proofs.params.more_params.Given as goal
 
 abbrev pub invariant-params : goal.invariant-params
 invariant-params l = record {
-  read : (n : ℕ) (s : List Part) (vs : List Value) → scan true l.end l.fn.tokens n (MoreParams (length l.fn.first.items) ∷ s) (Vars l.fn.first.items ∷ vs) ≡ scan true l.end l.rest n (MoreParams (length l.params.items) ∷ s) (Vars l.params.items ∷ vs);
+  read : (n : ℕ) (s : List Part) (vs : List Value) → scan true l.end l.fn.tokens n
+      (MoreParams (length l.fn.first.items) ∷ s) (Vars l.fn.first.items ∷ vs)
+      ≡ scan true l.end l.rest n (MoreParams (length l.params.items) ∷ s) (Vars l.params.items ∷ vs);
   shorter : length l.rest ≤ length l.fn.tokens;
 }
 

@@ -8,4 +8,5 @@ use Rattle.roopl_parser.proofs.params.param.Goals as goal
 pub returns-else-count-clause-gives : goal.returns-else-count-clause-gives
 returns-else-count-clause-gives c =
     let few : c.args.count < MOST_PARAMETERS = omega arith in
-    λ n xs. gives_through _ _ _ _ _ (λ s. Build AddVar ∷ s) (λ vs. Vars xs ∷ vs) (λ s vs. run_param _ _ _ _ _ _ few) (λ x s vs. run_build _ _ _ _ _ _ _) (c.variable.ensures.gives n)
+    λ n xs. gives_through _ _ _ _ _ (λ s. Build AddVar ∷ s) (λ vs. Vars xs ∷ vs) (λ s vs. run_param _ _ _ _ _ _ few)
+    (λ x s vs. run_build _ _ _ _ _ _ _) (c.variable.ensures.gives n)

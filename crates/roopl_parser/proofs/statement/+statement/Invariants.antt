@@ -33,6 +33,8 @@ decreases-block-statements l = length l.rest
 
 abbrev pub invariant-block-statements : goal.invariant-block-statements
 invariant-block-statements l = record {
-  read : (n : ℕ) (s : List Part) (vs : List Value) → scan true l.end l.fn.tokens n (Block l.depth l.locals ∷ s) vs ≡ scan true l.end l.rest 0 (Stmts l.depth l.locals ∷ Build MakeBlock ∷ s) (Many (map statement_of l.list.items) ∷ vs);
+  read : (n : ℕ) (s : List Part) (vs : List Value) → scan true l.end l.fn.tokens n (Block l.depth l.locals ∷ s) vs
+      ≡ scan true l.end l.rest 0 (Stmts l.depth l.locals ∷ Build MakeBlock ∷ s)
+      (Many (map statement_of l.list.items) ∷ vs);
   shorter : length l.rest < length l.fn.tokens;
 }

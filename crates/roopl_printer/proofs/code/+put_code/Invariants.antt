@@ -12,4 +12,5 @@ decreases-put_stmt l = goal.size-put_stmt l
 
 abbrev pub invariant-put_block-loop-stmt : goal.invariant-put_block-loop-stmt
 invariant-put_block-loop-stmt l =
-    l.out.items ++ with_gaps (spelled_block (statements_of (map statement_of (drop l.stmt-index l.stmt-items)))) ≡ l.initial.out.items ++ with_gaps (spelled_block (block_of l.fn.block))
+    l.out.items ++ with_gaps (spelled_block (statements_of (map statement_of (drop l.stmt-index l.stmt-items))))
+    ≡ l.initial.out.items ++ with_gaps (spelled_block (block_of l.fn.block))

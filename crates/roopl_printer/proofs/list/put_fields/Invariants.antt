@@ -5,4 +5,5 @@ use Rattle.roopl_printer.specs.Spelled.{spelled_var}
 use Rattle.roopl_printer.proofs.list.put_fields.Given as goal
 
 abbrev pub invariant-loop-field : goal.invariant-loop-field
-invariant-loop-field l = l.out.items ≡ l.initial.out.items ++ with_gaps (flat_map spelled_var (take l.field-index l.fields))
+invariant-loop-field l = l.out.items ≡ l.initial.out.items
+    ++ with_gaps (flat_map spelled_var (take l.field-index l.fields))

@@ -5,4 +5,5 @@ use Rattle.roopl_printer.specs.Spelled.{after_comma, spelled_var}
 use Rattle.roopl_printer.proofs.list.put_more_vars.Given as goal
 
 abbrev pub invariant-loop-var : goal.invariant-loop-var
-invariant-loop-var l = l.out.items ≡ l.initial.out.items ++ with_gaps (flat_map (after_comma spelled_var) (take l.var-index l.vars))
+invariant-loop-var l = l.out.items ≡ l.initial.out.items
+    ++ with_gaps (flat_map (after_comma spelled_var) (take l.var-index l.vars))

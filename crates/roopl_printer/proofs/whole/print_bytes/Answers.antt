@@ -9,5 +9,7 @@ use Rattle.roopl_printer.proofs.whole.print_bytes.Goals as goal
 
 pub returns : goal.returns
 returns c =
-    c.loop-class.invariant ∙ ap (flat_map (λ class. text_of (spelled_class (class_text_of class)))) (take_all c.loop-class.class-index c.args.classes.now c.loop-class-test.false)
-    ∙ sym (flat_map-map (λ class. text_of (spelled_class class)) class_text_of c.args.classes.now) ∙ class_by_class (map class_text_of c.args.classes.now)
+    c.loop-class.invariant ∙ ap (flat_map (λ class. text_of (spelled_class (class_text_of class))))
+    (take_all c.loop-class.class-index c.args.classes.now c.loop-class-test.false)
+    ∙ sym (flat_map-map (λ class. text_of (spelled_class class)) class_text_of c.args.classes.now)
+    ∙ class_by_class (map class_text_of c.args.classes.now)

@@ -6,4 +6,5 @@ use Rattle.roopl_printer.specs.Spelled.{spelled_class}
 use Rattle.roopl_printer.proofs.whole.print_bytes.Given as goal
 
 abbrev pub invariant-loop-class : goal.invariant-loop-class
-invariant-loop-class l = l.out.items ≡ flat_map (λ class. text_of (spelled_class (class_text_of class))) (take l.class-index l.classes)
+invariant-loop-class l = l.out.items ≡ flat_map (λ class. text_of (spelled_class (class_text_of class)))
+    (take l.class-index l.classes)

@@ -6,4 +6,5 @@ use Rattle.roopl_printer.specs.Spelled.{spelled_method}
 use Rattle.roopl_printer.proofs.whole.put_methods.Given as goal
 
 abbrev pub invariant-loop-method : goal.invariant-loop-method
-invariant-loop-method l = l.out.items ≡ l.initial.out.items ++ with_gaps (flat_map spelled_method (map procedure_of (take l.method-index l.methods)))
+invariant-loop-method l = l.out.items ≡ l.initial.out.items
+    ++ with_gaps (flat_map spelled_method (map procedure_of (take l.method-index l.methods)))

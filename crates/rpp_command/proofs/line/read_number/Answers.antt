@@ -4,7 +4,8 @@ use Rattle.rpp_command.proofs.line.read_number.Goals as goal
 
 -- fewer than 18 digits leave room for one more
 has_room : (n i : ℕ) → n < 10 ^ i → i < 18 → n < 10 ^ 17
-has_room n i small few = let wide : 10 ^ i ≤ 10 ^ 17 = pow-le-pow_right {n = 10} (lit< tt) {i = i} {j = 17} (omega arith) in omega arith
+has_room n i small few = let wide : 10 ^ i ≤ 10 ^ 17 =
+    pow-le-pow_right {n = 10} (lit< tt) {i = i} {j = 17} (omega arith) in omega arith
 
 pub overflow_mul-number : goal.overflow_mul-number
 overflow_mul-number c =
@@ -16,4 +17,5 @@ overflow_add-number c =
 
 pub returns-clause-short : goal.returns-clause-short
 returns-clause-short c =
-    let wide : 10 ^ c.loop-b.b-index ≤ 10 ^ 18 = pow-le-pow_right {n = 10} (lit< tt) {i = c.loop-b.b-index} {j = 18} (omega arith) in omega arith
+    let wide : 10 ^ c.loop-b.b-index ≤ 10 ^ 18 = pow-le-pow_right {n = 10} (lit< tt) {i = c.loop-b.b-index} {j = 18}
+    (omega arith) in omega arith

@@ -6,4 +6,5 @@ use Rattle.rpp_probes.proofs.telling.add_lines.Given as goal
 abbrev pub invariant-loop-probe : goal.invariant-loop-probe
 invariant-loop-probe g l =
     string_bytes l.out ≡ string_bytes l.initial.out
-    ++ lines_shown (map line_of (map (λ b. (goal.Probe-dyn g (b.vtable, b.value)).watch b.value) (take l.probe-index l.probes)))
+    ++ lines_shown (map line_of (map (λ b. (goal.Probe-dyn g (b.vtable, b.value)).watch b.value)
+    (take l.probe-index l.probes)))

@@ -6,5 +6,10 @@ use Rattle.rpp_probes.proofs.tests.a_probe_of_the_callers_own_is_not_sure.Goals 
 
 pub told_each-requires : goal.told_each-requires
 told_each-requires g c =
-    let last : Watch = record { tally = 0 ∷ []; rule = λ tally step. step.place ∷ []; is_end = λ tally. false; shown = λ tally. codes "last" } in
+    let last : Watch = record {
+      tally = 0 ∷ [];
+      rule = λ tally step. step.place ∷ [];
+      is_end = λ tally. false;
+      shown = λ tally. codes "last";
+    } in
     never_ends c.deref.result.now last (λ tally. refl)

@@ -9,5 +9,6 @@ use Rattle.rpp_tree.proofs.alike_code.alike.Given as goal
 abbrev pub invariant-loop-i : goal.invariant-loop-i
 invariant-loop-i l = record {
   long : length l.a.classes.items ≡ length l.b.classes.items;
-  rest : RestDecides Class (List ClassText) (λ xs. map bare_class (map class_text_of xs)) l.a.classes.items l.b.classes.items l.i;
+  rest : RestDecides Class (List ClassText) (λ xs. map bare_class (map class_text_of xs)) l.a.classes.items
+      l.b.classes.items l.i;
 }

@@ -7,4 +7,7 @@ use Rattle.rpp_tree.proofs.PartByPart.{RestDecides}
 use Rattle.rpp_tree.proofs.alike_code.alike_method_lists.Given as goal
 
 abbrev pub invariant-loop-i : goal.invariant-loop-i
-invariant-loop-i l = record { long : length l.a ≡ length l.b; rest : RestDecides Method (List Procedure) (λ xs. map bare_procedure (map procedure_of xs)) l.a l.b l.i }
+invariant-loop-i l = record {
+  long : length l.a ≡ length l.b;
+  rest : RestDecides Method (List Procedure) (λ xs. map bare_procedure (map procedure_of xs)) l.a l.b l.i;
+}

@@ -5,4 +5,7 @@ use Rattle.rpp_tree.proofs.PartByPart.{RestDecides}
 use Rattle.rpp_tree.proofs.alike_code.alike_var_lists.Given as goal
 
 abbrev pub invariant-loop-i : goal.invariant-loop-i
-invariant-loop-i l = record { long : length l.a ≡ length l.b; rest : RestDecides Var (List Var) (map bare_var) l.a l.b l.i }
+invariant-loop-i l = record {
+  long : length l.a ≡ length l.b;
+  rest : RestDecides Var (List Var) (map bare_var) l.a l.b l.i;
+}

@@ -20,11 +20,16 @@ decreases-conditional l = 20 * l.bound + 10
 
 abbrev pub invariant-run_list-loop-stmt : goal.invariant-run_list-loop-stmt
 invariant-run_list-loop-stmt l =
-    IsSeen l.setting l.scope l.fn.bound l.fn.fuel (in_direction l.fn.back (block_of l.body)) (state_of l.setting l.scope l.fn.heap l.fn.values.items) l.fn.watch.watching l.bound l.fuel (statements_of (map statement_of (drop l.stmt-index l.stmt-items))) l.heap l.values.items l.watch
+    IsSeen l.setting l.scope l.fn.bound l.fn.fuel (in_direction l.fn.back (block_of l.body))
+    (state_of l.setting l.scope l.fn.heap l.fn.values.items) l.fn.watch.watching l.bound l.fuel
+    (statements_of (map statement_of (drop l.stmt-index l.stmt-items))) l.heap l.values.items l.watch
 
 abbrev pub invariant-run_list-loop-k : goal.invariant-run_list-loop-k
 invariant-run_list-loop-k l =
-    IsSeen l.setting l.scope l.fn.bound l.fn.fuel (in_direction l.fn.back (block_of l.body)) (state_of l.setting l.scope l.fn.heap l.fn.values.items) l.fn.watch.watching l.bound l.fuel (inverse (statements_of (map statement_of (take (l.count - l.k) l.body.list.items)))) l.heap l.values.items l.watch
+    IsSeen l.setting l.scope l.fn.bound l.fn.fuel (in_direction l.fn.back (block_of l.body))
+    (state_of l.setting l.scope l.fn.heap l.fn.values.items) l.fn.watch.watching l.bound l.fuel
+    (inverse (statements_of (map statement_of (take (l.count - l.k) l.body.list.items)))) l.heap l.values.items
+    l.watch
 
 abbrev pub decreases-with_local : goal.decreases-with_local
 decreases-with_local l = 20 * l.bound + 7
@@ -37,7 +42,10 @@ decreases-repeated l = 20 * l.bound + 7
 
 abbrev pub invariant-repeat-loop-heap : goal.invariant-repeat-loop-heap
 invariant-repeat-loop-heap l =
-    IsSeenTurning l.setting l.scope l.bound l.fn.fuel (expression_of l.entry) (in_direction l.back (block_of l.first)) (in_direction l.back (block_of l.again)) (expression_of l.until) (state_of l.setting l.scope l.fn.heap l.fn.values.items) l.fn.watch.watching l.left l.fuel l.heap l.values.items l.watch
+    IsSeenTurning l.setting l.scope l.bound l.fn.fuel (expression_of l.entry) (in_direction l.back (block_of l.first))
+    (in_direction l.back (block_of l.again)) (expression_of l.until)
+    (state_of l.setting l.scope l.fn.heap l.fn.values.items) l.fn.watch.watching l.left l.fuel l.heap l.values.items
+    l.watch
 
 abbrev pub decreases-repeat-loop-heap : goal.decreases-repeat-loop-heap
 decreases-repeat-loop-heap l = l.left

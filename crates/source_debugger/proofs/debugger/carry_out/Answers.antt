@@ -1,7 +1,7 @@
 use Rattle.std.proofs.Common.{◌≡◌, ◌∙◌, sym, ap, subst, rules, Option, Some}
 use Rattle.std.specs.Prelude.{IfOk, string_bytes}
 use Rattle.rpp_tree.specs.Views.{source_of}
-use Rattle.source_points.specs.Trail.{trail}
+use Rattle.meaning_points.specs.Trail.{trail}
 use Rattle.two_way_debugger.specs.declared.command.Command.{Command}
 use Rattle.source_debugger.specs.declared.running.TheConstants.{MOST_COST}
 use Rattle.source_debugger.specs.declared.moves.Walk.{Walk}
@@ -13,38 +13,69 @@ use Rattle.source_debugger.proofs.debugger.carry_out.Goals as goal
 
 pub returns-in_ok-forward-in-Step-clause-told : goal.returns-in_ok-forward-in-Step-clause-told
 returns-in_ok-forward-in-Step-clause-told c =
-    subst (λ (o : Option Told). IfOk c.walk_answer.result (λ (answer : Answer). o ≡ Some (record { position = answer.position; text = string_bytes answer.text })))
-    (sym (ap (λ (command : Command). told_by (source_of c.args.run.now.checked.now) (trail (source_of c.args.run.now.checked.now) c.args.run.now.limits c.args.run.now.input.now.words.items MOST_COST) command c.args.position) c.in-Step.is ∙ ap (walked (trail (source_of c.args.run.now.checked.now) c.args.run.now.limits c.args.run.now.input.now.words.items MOST_COST)) c.in_ok-forward-in-Step.ensures.walk))
+    subst (λ (o : Option Told). IfOk c.walk_answer.result
+    (λ (answer : Answer). o ≡ Some (record { position = answer.position; text = string_bytes answer.text })))
+    (sym (ap (λ (command : Command). told_by (source_of c.args.run.now.checked.now)
+    (trail (source_of c.args.run.now.checked.now) c.args.run.now.limits c.args.run.now.input.now.words.items
+    MOST_COST) command c.args.position) c.in-Step.is
+    ∙ ap (walked (trail (source_of c.args.run.now.checked.now) c.args.run.now.limits
+    c.args.run.now.input.now.words.items MOST_COST)) c.in_ok-forward-in-Step.ensures.walk))
     c.walk_answer.ensures.told
 
 pub returns-in_ok-forward-in-Step-clause-within : goal.returns-in_ok-forward-in-Step-clause-within
-returns-in_ok-forward-in-Step-clause-within c = within_as c.walk_answer.result (λ (answer : Answer). answer.position) c.in_ok-forward-in-Step.field-0.position _ c.in_ok-forward-in-Step.ensures.within c.walk_answer.ensures.within
+returns-in_ok-forward-in-Step-clause-within c = within_as c.walk_answer.result (λ (answer : Answer). answer.position)
+    c.in_ok-forward-in-Step.field-0.position _ c.in_ok-forward-in-Step.ensures.within c.walk_answer.ensures.within
 
 pub returns-in_ok-backward-in-Back-clause-told : goal.returns-in_ok-backward-in-Back-clause-told
 returns-in_ok-backward-in-Back-clause-told c =
-    subst (λ (o : Option Told). IfOk c.walk_answer-in-Back.result (λ (answer : Answer). o ≡ Some (record { position = answer.position; text = string_bytes answer.text })))
-    (sym (ap (λ (command : Command). told_by (source_of c.args.run.now.checked.now) (trail (source_of c.args.run.now.checked.now) c.args.run.now.limits c.args.run.now.input.now.words.items MOST_COST) command c.args.position) c.in-Back.is ∙ ap (λ (w : Walk). walked (trail (source_of c.args.run.now.checked.now) c.args.run.now.limits c.args.run.now.input.now.words.items MOST_COST) (Some w)) c.in_ok-backward-in-Back.ensures.walk))
+    subst (λ (o : Option Told). IfOk c.walk_answer-in-Back.result
+    (λ (answer : Answer). o ≡ Some (record { position = answer.position; text = string_bytes answer.text })))
+    (sym (ap (λ (command : Command). told_by (source_of c.args.run.now.checked.now)
+    (trail (source_of c.args.run.now.checked.now) c.args.run.now.limits c.args.run.now.input.now.words.items
+    MOST_COST) command c.args.position) c.in-Back.is
+    ∙ ap (λ (w : Walk). walked (trail (source_of c.args.run.now.checked.now) c.args.run.now.limits
+    c.args.run.now.input.now.words.items MOST_COST) (Some w)) c.in_ok-backward-in-Back.ensures.walk))
     c.walk_answer-in-Back.ensures.told
 
 pub returns-in_ok-backward-in-Back-clause-within : goal.returns-in_ok-backward-in-Back-clause-within
-returns-in_ok-backward-in-Back-clause-within c = within_as c.walk_answer-in-Back.result (λ (answer : Answer). answer.position) c.in_ok-backward-in-Back.field-0.position _ c.in_ok-backward-in-Back.ensures.within c.walk_answer-in-Back.ensures.within
+returns-in_ok-backward-in-Back-clause-within c = within_as c.walk_answer-in-Back.result
+    (λ (answer : Answer). answer.position) c.in_ok-backward-in-Back.field-0.position _
+    c.in_ok-backward-in-Back.ensures.within c.walk_answer-in-Back.ensures.within
 
 pub returns-in_ok-forward-in-To-clause-told : goal.returns-in_ok-forward-in-To-clause-told
 returns-in_ok-forward-in-To-clause-told c =
-    let walk : forward (trail (source_of c.args.run.now.checked.now) c.args.run.now.limits c.args.run.now.input.now.words.items MOST_COST) (Some c.in-To.place) c.in-To.most c.args.position ≡ Some c.in_ok-forward-in-To.field-0 = search (rules, c.in_ok-forward-in-To.ensures.walk) in
-    subst (λ (o : Option Told). IfOk c.walk_answer-in-To.result (λ (answer : Answer). o ≡ Some (record { position = answer.position; text = string_bytes answer.text })))
-    (sym (ap (λ (command : Command). told_by (source_of c.args.run.now.checked.now) (trail (source_of c.args.run.now.checked.now) c.args.run.now.limits c.args.run.now.input.now.words.items MOST_COST) command c.args.position) c.in-To.is ∙ ap (walked (trail (source_of c.args.run.now.checked.now) c.args.run.now.limits c.args.run.now.input.now.words.items MOST_COST)) walk))
+    let walk : forward (trail (source_of c.args.run.now.checked.now) c.args.run.now.limits
+    c.args.run.now.input.now.words.items MOST_COST) (Some c.in-To.place) c.in-To.most c.args.position
+    ≡ Some c.in_ok-forward-in-To.field-0 = search (rules, c.in_ok-forward-in-To.ensures.walk) in
+    subst (λ (o : Option Told). IfOk c.walk_answer-in-To.result
+    (λ (answer : Answer). o ≡ Some (record { position = answer.position; text = string_bytes answer.text })))
+    (sym (ap (λ (command : Command). told_by (source_of c.args.run.now.checked.now)
+    (trail (source_of c.args.run.now.checked.now) c.args.run.now.limits c.args.run.now.input.now.words.items
+    MOST_COST) command c.args.position) c.in-To.is ∙ ap
+    (walked (trail (source_of c.args.run.now.checked.now) c.args.run.now.limits
+    c.args.run.now.input.now.words.items MOST_COST)) walk))
     c.walk_answer-in-To.ensures.told
 
 pub returns-in_ok-forward-in-To-clause-within : goal.returns-in_ok-forward-in-To-clause-within
-returns-in_ok-forward-in-To-clause-within c = within_as c.walk_answer-in-To.result (λ (answer : Answer). answer.position) c.in_ok-forward-in-To.field-0.position _ c.in_ok-forward-in-To.ensures.within c.walk_answer-in-To.ensures.within
+returns-in_ok-forward-in-To-clause-within c = within_as c.walk_answer-in-To.result
+    (λ (answer : Answer). answer.position) c.in_ok-forward-in-To.field-0.position _ c.in_ok-forward-in-To.ensures.within
+    c.walk_answer-in-To.ensures.within
 
 pub returns-in_ok-backward-in-BackTo-clause-told : goal.returns-in_ok-backward-in-BackTo-clause-told
 returns-in_ok-backward-in-BackTo-clause-told c =
-    let walk : backward (trail (source_of c.args.run.now.checked.now) c.args.run.now.limits c.args.run.now.input.now.words.items MOST_COST) (Some c.in-BackTo.place) c.in-BackTo.most c.args.position ≡ c.in_ok-backward-in-BackTo.field-0 = search (rules, c.in_ok-backward-in-BackTo.ensures.walk) in
-    subst (λ (o : Option Told). IfOk c.walk_answer-in-BackTo.result (λ (answer : Answer). o ≡ Some (record { position = answer.position; text = string_bytes answer.text })))
-    (sym (ap (λ (command : Command). told_by (source_of c.args.run.now.checked.now) (trail (source_of c.args.run.now.checked.now) c.args.run.now.limits c.args.run.now.input.now.words.items MOST_COST) command c.args.position) c.in-BackTo.is ∙ ap (λ (w : Walk). walked (trail (source_of c.args.run.now.checked.now) c.args.run.now.limits c.args.run.now.input.now.words.items MOST_COST) (Some w)) walk))
+    let walk : backward (trail (source_of c.args.run.now.checked.now) c.args.run.now.limits
+    c.args.run.now.input.now.words.items MOST_COST) (Some c.in-BackTo.place) c.in-BackTo.most c.args.position
+    ≡ c.in_ok-backward-in-BackTo.field-0 = search (rules, c.in_ok-backward-in-BackTo.ensures.walk) in
+    subst (λ (o : Option Told). IfOk c.walk_answer-in-BackTo.result
+    (λ (answer : Answer). o ≡ Some (record { position = answer.position; text = string_bytes answer.text })))
+    (sym (ap (λ (command : Command). told_by (source_of c.args.run.now.checked.now)
+    (trail (source_of c.args.run.now.checked.now) c.args.run.now.limits c.args.run.now.input.now.words.items
+    MOST_COST) command c.args.position) c.in-BackTo.is
+    ∙ ap (λ (w : Walk). walked (trail (source_of c.args.run.now.checked.now) c.args.run.now.limits
+    c.args.run.now.input.now.words.items MOST_COST) (Some w)) walk))
     c.walk_answer-in-BackTo.ensures.told
 
 pub returns-in_ok-backward-in-BackTo-clause-within : goal.returns-in_ok-backward-in-BackTo-clause-within
-returns-in_ok-backward-in-BackTo-clause-within c = within_as c.walk_answer-in-BackTo.result (λ (answer : Answer). answer.position) c.in_ok-backward-in-BackTo.field-0.position _ c.in_ok-backward-in-BackTo.ensures.within c.walk_answer-in-BackTo.ensures.within
+returns-in_ok-backward-in-BackTo-clause-within c = within_as c.walk_answer-in-BackTo.result
+    (λ (answer : Answer). answer.position) c.in_ok-backward-in-BackTo.field-0.position _
+    c.in_ok-backward-in-BackTo.ensures.within c.walk_answer-in-BackTo.ensures.within

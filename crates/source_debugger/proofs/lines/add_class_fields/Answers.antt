@@ -3,13 +3,15 @@ use Rattle.std.specs.Prelude.{string_bytes}
 use Rattle.rpp_tree.specs.Views.{source_of}
 use Rattle.rpp_tree.specs.declared.tree.Var.{Var}
 use Rattle.class_table.specs.Table.{fields_in}
-use Rattle.store_table.specs.ValueView.{values_of}
+use Rattle.source_store.specs.ValueView.{values_of}
 use Rattle.source_steps.proofs.Tables.{fields_read}
 use Rattle.source_debugger.specs.Named.{fields_named}
 use Rattle.source_debugger.proofs.lines.add_class_fields.Goals as goal
 
 pub returns : goal.returns
 returns c =
-    subst (λ (fs : List Var). OnOk c.add_fields.result (string_bytes c.add_fields.new.out ≡ string_bytes c.args.out.now ++ fields_named c.args.indent.now fs (values_of c.args.values.now)))
-    (c.fields-fields.ensures.fields ∙ ap (λ t. fields_in t c.args.class) c.table-table.ensures.table ∙ fields_read (source_of c.args.checked.now) c.args.class)
+    subst (λ (fs : List Var). OnOk c.add_fields.result (string_bytes c.add_fields.new.out
+    ≡ string_bytes c.args.out.now ++ fields_named c.args.indent.now fs (values_of c.args.values.now)))
+    (c.fields-fields.ensures.fields ∙ ap (λ t. fields_in t c.args.class) c.table-table.ensures.table
+    ∙ fields_read (source_of c.args.checked.now) c.args.class)
     c.add_fields.ensures

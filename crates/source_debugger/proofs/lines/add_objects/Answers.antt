@@ -13,7 +13,11 @@ loop-at-preserved c =
     let a = c.from.ensures in
     let b = c.from-in-loop-at.ensures in
     let same : c.from.result + c.from-in-loop-at.result ≡ c.args.from + c.loop-at.at = omega arith in
-    ap (λ (s : List ℕ). s ++ objects_from program store (c.args.from + (c.loop-at.at + 1)) (c.args.count - (c.loop-at.at + 1)))
-    (c.in_ok-add_named.ensures ∙ ap (λ (n : ℕ). string_bytes c.loop-at.out ++ object_lines program n (object_named store n)) same)
-    ∙ objects_next program store c.args.from c.loop-at.at c.args.count (string_bytes c.loop-at.out) (object_lines program (c.args.from + c.loop-at.at) (object_named store (c.args.from + c.loop-at.at))) c.loop-at-test.true refl
+    ap (λ (s : List ℕ). s ++ objects_from program store (c.args.from + (c.loop-at.at + 1))
+    (c.args.count - (c.loop-at.at + 1)))
+    (c.in_ok-add_named.ensures ∙ ap (λ (n : ℕ). string_bytes c.loop-at.out
+    ++ object_lines program n (object_named store n)) same)
+    ∙ objects_next program store c.args.from c.loop-at.at c.args.count (string_bytes c.loop-at.out)
+    (object_lines program (c.args.from + c.loop-at.at) (object_named store (c.args.from + c.loop-at.at)))
+    c.loop-at-test.true refl
     ∙ c.loop-at.invariant

@@ -7,4 +7,5 @@ use Rattle.source_debugger.proofs.lines.add_objects.Given as goal
 -- the lines so far and those of the names that are left are the whole
 abbrev pub invariant-loop-at : goal.invariant-loop-at
 invariant-loop-at l =
-    string_bytes l.out ++ objects_from (source_of l.checked) l.heap.store (l.from + l.at) (l.count - l.at) ≡ string_bytes l.fn.out ++ objects_from (source_of l.checked) l.heap.store l.from l.count
+    string_bytes l.out ++ objects_from (source_of l.checked) l.heap.store (l.from + l.at) (l.count - l.at)
+    ≡ string_bytes l.fn.out ++ objects_from (source_of l.checked) l.heap.store l.from l.count

@@ -1,6 +1,6 @@
 use Rattle.std.proofs.Common.{◌∙◌, sym, subst, None}
 use Rattle.rpp_tree.specs.Views.{source_of}
-use Rattle.source_points.specs.Trail.{trail}
+use Rattle.meaning_points.specs.Trail.{trail}
 use Rattle.source_blocks.specs.declared.watch.Watching.TheVariants as watch
 use Rattle.source_debugger.specs.declared.running.TheConstants.{MOST_COST}
 use Rattle.source_debugger.specs.Ended.{IsEnded}
@@ -9,11 +9,17 @@ use Rattle.source_debugger.proofs.shown.place_at.Goals as goal
 
 pub returns-in-At : goal.returns-in-At
 returns-in-At c =
-    placed_at (trail (source_of c.args.run.now.checked.now) c.args.run.now.limits c.args.run.now.input.now.words.items MOST_COST) c.args.position c.in-At.arrival c.in-At.heap c.in-At.watching
-    (subst (λ e. IsEnded e (watch.First None 0 c.args.position) (trail (source_of c.args.run.now.checked.now) c.args.run.now.limits c.args.run.now.input.now.words.items MOST_COST)) c.in-At.is c.in_ok-arrival.ensures)
+    placed_at (trail (source_of c.args.run.now.checked.now) c.args.run.now.limits c.args.run.now.input.now.words.items
+    MOST_COST) c.args.position c.in-At.arrival c.in-At.heap c.in-At.watching
+    (subst (λ e. IsEnded e (watch.First None 0 c.args.position)
+    (trail (source_of c.args.run.now.checked.now) c.args.run.now.limits c.args.run.now.input.now.words.items
+    MOST_COST)) c.in-At.is c.in_ok-arrival.ensures)
 
 pub returns-then-left_in-eq0 : goal.returns-then-left_in-eq0
 returns-then-left_in-eq0 c =
-    placed_end (trail (source_of c.args.run.now.checked.now) c.args.run.now.limits c.args.run.now.input.now.words.items MOST_COST) c.args.position c.in-Over.heap c.in-Over.watching
-    (subst (λ e. IsEnded e (watch.First None 0 c.args.position) (trail (source_of c.args.run.now.checked.now) c.args.run.now.limits c.args.run.now.input.now.words.items MOST_COST)) c.in-Over.is c.in_ok-arrival.ensures)
+    placed_end (trail (source_of c.args.run.now.checked.now) c.args.run.now.limits c.args.run.now.input.now.words.items
+    MOST_COST) c.args.position c.in-Over.heap c.in-Over.watching
+    (subst (λ e. IsEnded e (watch.First None 0 c.args.position)
+    (trail (source_of c.args.run.now.checked.now) c.args.run.now.limits c.args.run.now.input.now.words.items
+    MOST_COST)) c.in-Over.is c.in_ok-arrival.ensures)
     (sym c.left_in.ensures ∙ c.if-left_in-eq0.true)

@@ -3,7 +3,8 @@ use Rattle.source_meaning.proofs.Numbering.{listed_next, all_listed}
 use Rattle.source_meaning.proofs.store.all_numbers.Goals as goal
 
 pub loop-name-preserved : goal.loop-name-preserved
-loop-name-preserved c = listed_next c.args.heap.now c.loop-name.objects.items _ c.loop-name.name _ c.loop-name.invariant c.in_ok-numbers_at.ensures c.in_ok-push.ensures.items
+loop-name-preserved c = listed_next c.args.heap.now c.loop-name.objects.items _ c.loop-name.name _ c.loop-name.invariant
+    c.in_ok-numbers_at.ensures c.in_ok-push.ensures.items
 
 pub returns : goal.returns
 returns c =

@@ -11,13 +11,17 @@ pub returns-in-None : goal.returns-in-None
 returns-in-None c =
     let program = (setting_of c.args.setting.now).program in
     let st = state_of c.args.setting.now c.args.scope.now c.args.heap.now c.args.values.now in
-    rw c.in-None.is (c.meets-later.ensures ∙ ap (λ v. meets program st v (expression_of c.args.second.now)) c.variable-array.ensures ∙ meets_one program st c.args.name.now (expression_of c.args.second.now))
+    rw c.in-None.is (c.meets-later.ensures ∙ ap (λ v. meets program st v (expression_of c.args.second.now))
+    c.variable-array.ensures ∙ meets_one program st c.args.name.now (expression_of c.args.second.now))
 
 pub returns-in-Some : goal.returns-in-Some
 returns-in-Some c =
     let program = (setting_of c.args.setting.now).program in
     let st = state_of c.args.setting.now c.args.scope.now c.args.heap.now c.args.values.now in
     rw c.in-Some.is (c.either.ensures
-    ∙ ap (λ b. b || c.meets-later.result) (c.meets-sooner.ensures ∙ ap (λ v. meets program st v (expression_of c.in-Some.first.now)) c.variable-array.ensures)
-    ∙ ap (λ b. meets program st (variable_value program st c.args.name.now.text) (expression_of c.in-Some.first.now) || b) (c.meets-later.ensures ∙ ap (λ v. meets program st v (expression_of c.args.second.now)) c.variable-array.ensures)
+    ∙ ap (λ b. b || c.meets-later.result) (c.meets-sooner.ensures
+    ∙ ap (λ v. meets program st v (expression_of c.in-Some.first.now)) c.variable-array.ensures)
+    ∙ ap (λ b. meets program st (variable_value program st c.args.name.now.text) (expression_of c.in-Some.first.now) ||
+    b) (c.meets-later.ensures ∙ ap (λ v. meets program st v (expression_of c.args.second.now))
+    c.variable-array.ensures)
     ∙ meets_both program st c.args.name.now (expression_of c.in-Some.first.now) (expression_of c.args.second.now))

@@ -5,4 +5,5 @@ use Rattle.source_steps.specs.StateView.{state_of, setting_of}
 use Rattle.source_steps.proofs.calls.name_cells.Given as goal
 
 abbrev pub invariant-loop-name : goal.invariant-loop-name
-invariant-loop-name l = map cell_of l.cells.items ≡ map cell_of l.fn.cells.items ++ cells_named (setting_of l.setting) (state_of l.setting l.scope l.heap l.values) (take l.name-index l.names)
+invariant-loop-name l = map cell_of l.cells.items ≡ map cell_of l.fn.cells.items
+    ++ cells_named (setting_of l.setting) (state_of l.setting l.scope l.heap l.values) (take l.name-index l.names)

@@ -5,8 +5,12 @@ use Rattle.source_steps.proofs.cell.cell_of_name.Goals as goal
 
 pub returns-in-Some : goal.returns-in-Some
 returns-in-Some c =
-    cell_slot (setting_of c.args.setting.now).program (state_of c.args.setting.now c.args.scope.now c.args.heap.now c.args.values.now) _ _ (c.in-Some.ensures.place ∙ sym (slot_named c.args.scope.now c.args.values.now c.args.name.now c.requires.each))
+    cell_slot (setting_of c.args.setting.now).program (state_of c.args.setting.now c.args.scope.now c.args.heap.now
+    c.args.values.now) _ _ (c.in-Some.ensures.place ∙ sym
+    (slot_named c.args.scope.now c.args.values.now c.args.name.now c.requires.each))
 
 pub returns-in-None : goal.returns-in-None
 returns-in-None c =
-    cell_field (setting_of c.args.setting.now).program (state_of c.args.setting.now c.args.scope.now c.args.heap.now c.args.values.now) _ _ (c.in-None.ensures.place ∙ sym (slot_named c.args.scope.now c.args.values.now c.args.name.now c.requires.each)) c.field_number.ensures
+    cell_field (setting_of c.args.setting.now).program (state_of c.args.setting.now c.args.scope.now c.args.heap.now
+    c.args.values.now) _ _ (c.in-None.ensures.place ∙ sym
+    (slot_named c.args.scope.now c.args.values.now c.args.name.now c.requires.each)) c.field_number.ensures

@@ -9,6 +9,11 @@ returns-in-Slot c =
     let st : State = state_of c.args.setting.now c.args.scope.now c.args.heap.now c.args.values.now.items in
     let build : List Binding → State = λ frame. record st { frame = frame } in
     record {
-      written = rw c.in-Slot.is (ap build (ap (frame_of c.args.scope.now) c.put_value.ensures ∙ frame_set c.args.scope.now c.args.values.now.items c.in-Slot.index c.args.value));
-      framed = record { each = ap length c.put_value.ensures ∙ (length_set c.args.values.now.items c.in-Slot.index c.args.value ∙ c.requires.each); order = c.requires.order };
+      written = rw c.in-Slot.is (ap build (ap (frame_of c.args.scope.now) c.put_value.ensures
+          ∙ frame_set c.args.scope.now c.args.values.now.items c.in-Slot.index c.args.value));
+      framed = record {
+        each = ap length c.put_value.ensures
+            ∙ (length_set c.args.values.now.items c.in-Slot.index c.args.value ∙ c.requires.each);
+        order = c.requires.order;
+      };
     }

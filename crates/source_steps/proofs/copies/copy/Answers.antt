@@ -14,6 +14,8 @@ returns-clause-ends c =
     let target = lvalue_of c.args.target.now in
     let program = (setting_of c.args.setting.now).program in
     let check = kept_apart program (own_element target) (index_elements source ++ index_elements target) st in
-    subst (λ m. Gives (λ (u : Unit {0}). state_of c.args.setting.now c.args.scope.now c.refer.new.heap c.refer.new.values.items) c.refer.result c.refer.new.fuel m)
-    (sym (pair_goes program source target st check (λ a b. copied a b st) c.args.fuel.now _ _ c.in_ok-a.ensures.gives _ _ c.in_ok-b.ensures.gives _ c.in_ok-copy_apart.ensures.gives))
+    subst (λ m. Gives (λ (u : Unit {0}). state_of c.args.setting.now c.args.scope.now c.refer.new.heap
+    c.refer.new.values.items) c.refer.result c.refer.new.fuel m)
+    (sym (pair_goes program source target st check (λ a b. copied a b st) c.args.fuel.now _ _ c.in_ok-a.ensures.gives _
+    _ c.in_ok-b.ensures.gives _ c.in_ok-copy_apart.ensures.gives))
     c.refer.ensures.ends

@@ -16,7 +16,8 @@ returns-in_err-b-clause-ends c =
     let program = (setting_of c.args.setting.now).program in
     let check = kept_apart program (own_element target) (index_elements source ++ index_elements target) st in
     handed _ c.in_err-b.field-0.0 _ _ _ (search rules)
-    (target_fails program source target st check (λ a b. uncopied a b st) c.args.fuel.now _ _ c.in_ok-a.ensures.gives _ c.in_err-b.field-0.0 c.in_err-b.ensures.gives)
+    (target_fails program source target st check (λ a b. uncopied a b st) c.args.fuel.now _ _ c.in_ok-a.ensures.gives _
+    c.in_err-b.field-0.0 c.in_err-b.ensures.gives)
 
 pub returns-in_err-copy_apart-clause-ends : goal.returns-in_err-copy_apart-clause-ends
 returns-in_err-copy_apart-clause-ends c =
@@ -26,7 +27,8 @@ returns-in_err-copy_apart-clause-ends c =
     let program = (setting_of c.args.setting.now).program in
     let check = kept_apart program (own_element target) (index_elements source ++ index_elements target) st in
     handed _ c.in_err-copy_apart.field-0.0 _ _ _ (search rules)
-    (check_fails program source target st check (λ a b. uncopied a b st) c.args.fuel.now _ _ c.in_ok-a.ensures.gives _ _ c.in_ok-b.ensures.gives _ c.in_err-copy_apart.field-0.0 c.in_err-copy_apart.ensures.gives)
+    (check_fails program source target st check (λ a b. uncopied a b st) c.args.fuel.now _ _ c.in_ok-a.ensures.gives _ _
+    c.in_ok-b.ensures.gives _ c.in_err-copy_apart.field-0.0 c.in_err-copy_apart.ensures.gives)
 
 pub returns-clause-ends : goal.returns-clause-ends
 returns-clause-ends c =
@@ -35,6 +37,8 @@ returns-clause-ends c =
     let target = lvalue_of c.args.target.now in
     let program = (setting_of c.args.setting.now).program in
     let check = kept_apart program (own_element target) (index_elements source ++ index_elements target) st in
-    subst (λ m. Gives (λ (u : Unit {0}). state_of c.args.setting.now c.args.scope.now c.take_back.new.heap c.take_back.new.values.items) c.take_back.result c.take_back.new.fuel m)
-    (sym (pair_goes program source target st check (λ a b. uncopied a b st) c.args.fuel.now _ _ c.in_ok-a.ensures.gives _ _ c.in_ok-b.ensures.gives _ c.in_ok-copy_apart.ensures.gives))
+    subst (λ m. Gives (λ (u : Unit {0}). state_of c.args.setting.now c.args.scope.now c.take_back.new.heap
+    c.take_back.new.values.items) c.take_back.result c.take_back.new.fuel m)
+    (sym (pair_goes program source target st check (λ a b. uncopied a b st) c.args.fuel.now _ _ c.in_ok-a.ensures.gives
+    _ _ c.in_ok-b.ensures.gives _ c.in_ok-copy_apart.ensures.gives))
     c.take_back.ensures.ends

@@ -2,8 +2,8 @@ use Rattle.std.proofs.Common.{◌≡◌, ◌∙◌, sym, ap, subst, arith, lengt
 use Rattle.std.proofs.lemmas.List.{length-map}
 use Rattle.std.specs.Prelude.{nat_lt}
 use Rattle.roopl_semantics.specs.Execution.{order_of_cells}
-use Rattle.store_table.specs.HeapView.{Took}
-use Rattle.store_table.specs.ValueView.{value_of, values_of, head_of}
+use Rattle.source_store.specs.HeapView.{Took}
+use Rattle.source_store.specs.ValueView.{value_of, values_of, head_of}
 use Rattle.source_steps.specs.CellView.{cell_of}
 use Rattle.source_steps.proofs.Allocated.{placed_new}
 use Rattle.source_steps.proofs.objects.allocate.Goals as goal
@@ -13,10 +13,13 @@ returns-in-Some-clause-ends c =
     let l = c.len.ensures in
     let k = c.args.cells.ok.0 in
     let many : c.len.result ≡ length c.args.cells.items = omega arith in
-    placed_new c.args.setting.now c.args.scope.now c.args.fuel.now c.in-Some.name (length c.args.cells.items) (cell_of c.args.cell) (head_of c.args.head) (values_of c.args.cells.items) c.args.heap.now c.take.new.self c.args.values.now.items _
+    placed_new c.args.setting.now c.args.scope.now c.args.fuel.now c.in-Some.name (length c.args.cells.items)
+    (cell_of c.args.cell) (head_of c.args.head) (values_of c.args.cells.items) c.args.heap.now c.take.new.self
+    c.args.values.now.items _
     (sym (length-map c.args.cells.items value_of))
     (ap (λ o. nat_lt o (order_of_cells (length c.args.cells.items))) (sym c.requires.framed.order)
     ∙ ap (λ n. nat_lt c.args.heap.now.order (order_of_cells n)) (sym many)
     ∙ sym c.is_too_large.ensures ∙ c.if-is_too_large.false)
     c.requires.framed.order
-    (subst (λ r. Took r c.args.heap.now c.take.new.self (head_of c.args.head) (values_of c.args.cells.items)) c.in-Some.is c.in_ok-take.ensures) c.write_cell.ensures.written
+    (subst (λ r. Took r c.args.heap.now c.take.new.self (head_of c.args.head) (values_of c.args.cells.items))
+    c.in-Some.is c.in_ok-take.ensures) c.write_cell.ensures.written

@@ -3,7 +3,7 @@ use Rattle.std.proofs.lemmas.List.{length-map}
 use Rattle.class_table.specs.Classes.{class_fields}
 use Rattle.roopl_semantics.specs.Store.{OfClass, zero_values}
 use Rattle.roopl_semantics.specs.Execution.{allocated}
-use Rattle.store_table.specs.ValueView.{value_of, values_of}
+use Rattle.source_store.specs.ValueView.{value_of, values_of}
 use Rattle.source_steps.specs.CellView.{cell_of}
 use Rattle.source_steps.specs.Metered.{Gives, metered}
 use Rattle.source_steps.specs.StateView.{state_of, setting_of}
@@ -14,8 +14,14 @@ returns-clause-ends c =
     let st = state_of c.args.setting.now c.args.scope.now c.args.heap.now c.args.values.now.items in
     let setting = setting_of c.args.setting.now in
     let items = c.in_ok-cells.cells.items in
-    subst (λ m. Gives (λ (u : Unit {0}). state_of c.args.setting.now c.args.scope.now c.allocate.new.heap c.allocate.new.values.items) c.allocate.result c.allocate.new.fuel m)
-    (ap (λ n. metered c.args.fuel.now (allocated setting n (cell_of c.args.cell) (OfClass c.class_of_name-number.result) (values_of items) st)) (sym (length-map items value_of))
-    ∙ ap (λ vs. metered c.args.fuel.now (allocated setting (length vs) (cell_of c.args.cell) (OfClass c.class_of_name-number.result) vs st)) (c.in_ok-cells.ensures ∙ ap (λ fs. zero_values fs) c.fields_of.ensures.fields)
-    ∙ ap (λ k. metered c.args.fuel.now (allocated setting (length (zero_values (class_fields setting.program k))) (cell_of c.args.cell) (OfClass k) (zero_values (class_fields setting.program k)) st)) c.class_of_name-number.ensures)
+    subst (λ m. Gives (λ (u : Unit {0}). state_of c.args.setting.now c.args.scope.now c.allocate.new.heap
+    c.allocate.new.values.items) c.allocate.result c.allocate.new.fuel m)
+    (ap (λ n. metered c.args.fuel.now (allocated setting n (cell_of c.args.cell) (OfClass c.class_of_name-number.result)
+    (values_of items) st)) (sym (length-map items value_of))
+    ∙ ap (λ vs. metered c.args.fuel.now (allocated setting (length vs) (cell_of c.args.cell)
+    (OfClass c.class_of_name-number.result) vs st)) (c.in_ok-cells.ensures
+    ∙ ap (λ fs. zero_values fs) c.fields_of.ensures.fields)
+    ∙ ap (λ k. metered c.args.fuel.now (allocated setting (length (zero_values (class_fields setting.program k)))
+    (cell_of c.args.cell) (OfClass k) (zero_values (class_fields setting.program k)) st))
+    c.class_of_name-number.ensures)
     c.allocate.ensures.ends

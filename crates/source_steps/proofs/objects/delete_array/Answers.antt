@@ -9,6 +9,10 @@ use Rattle.source_steps.proofs.objects.delete_array.Goals as goal
 pub returns-clause-ends : goal.returns-clause-ends
 returns-clause-ends c =
     let st = state_of c.args.setting.now c.args.scope.now c.args.heap.now c.args.values.now.items in
-    subst (λ m. Gives (λ (u : Unit {0}). state_of c.args.setting.now c.args.scope.now c.drop_array.new.heap c.drop_array.new.values.items) c.drop_array.result c.drop_array.new.fuel m)
-    (sym (sized_goes (setting_of c.args.setting.now).program (lvalue_of c.args.place.now) (expression_of c.args.size.now) st c.args.fuel.now _ _ _ _ (λ cell v. gone_array (setting_of c.args.setting.now) cell v st) c.in_ok-cell.ensures.gives c.in_ok-value.ensures.gives))
+    subst (λ m. Gives (λ (u : Unit {0}). state_of c.args.setting.now c.args.scope.now c.drop_array.new.heap
+    c.drop_array.new.values.items) c.drop_array.result c.drop_array.new.fuel m)
+    (sym (sized_goes (setting_of c.args.setting.now).program (lvalue_of c.args.place.now)
+    (expression_of c.args.size.now) st c.args.fuel.now _ _ _ _
+    (λ cell v. gone_array (setting_of c.args.setting.now) cell v st) c.in_ok-cell.ensures.gives
+    c.in_ok-value.ensures.gives))
     c.drop_array.ensures.ends

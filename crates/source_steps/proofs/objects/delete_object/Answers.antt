@@ -12,6 +12,10 @@ returns-clause-ends c =
     let st = state_of c.args.setting.now c.args.scope.now c.args.heap.now c.args.values.now.items in
     let target = lvalue_of c.args.place.now in
     let program = (setting_of c.args.setting.now).program in
-    subst (λ m. Gives (λ (u : Unit {0}). state_of c.args.setting.now c.args.scope.now c.drop_object.new.heap c.drop_object.new.values.items) c.drop_object.result c.drop_object.new.fuel m)
-    (sym (apart_goes program target st c.args.fuel.now _ _ _ (kept_apart program (own_element target) (index_elements target) st) (λ cell. gone (setting_of c.args.setting.now) c.args.class.now.text cell st) c.in_ok-cell.ensures.gives c.in_ok-place_apart.ensures.gives))
+    subst (λ m. Gives (λ (u : Unit {0}). state_of c.args.setting.now c.args.scope.now c.drop_object.new.heap
+    c.drop_object.new.values.items) c.drop_object.result c.drop_object.new.fuel m)
+    (sym (apart_goes program target st c.args.fuel.now _ _ _
+    (kept_apart program (own_element target) (index_elements target) st)
+    (λ cell. gone (setting_of c.args.setting.now) c.args.class.now.text cell st) c.in_ok-cell.ensures.gives
+    c.in_ok-place_apart.ensures.gives))
     c.drop_object.ensures.ends

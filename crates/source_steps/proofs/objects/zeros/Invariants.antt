@@ -1,6 +1,6 @@
 use Rattle.std.proofs.Common.{◌≡◌, take, map}
 use Rattle.roopl_semantics.specs.Store.{zero_values}
-use Rattle.store_table.specs.ValueView.{value_of}
+use Rattle.source_store.specs.ValueView.{value_of}
 use Rattle.source_steps.proofs.objects.zeros.Given as goal
 
 abbrev pub invariant-loop-var : goal.invariant-loop-var

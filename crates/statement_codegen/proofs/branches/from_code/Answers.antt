@@ -1,7 +1,9 @@
 use Rattle.rpp_tree.specs.Views.{expression_of}
-use Rattle.method_scope.specs.Visible.{known_in}
+use Rattle.code_scope.specs.Visible.{known_in}
 use Rattle.statement_codegen.proofs.Clauses.{from_returns}
 use Rattle.statement_codegen.proofs.branches.from_code.Goals as goal
 
 pub returns-clause-law : goal.returns-clause-law
-returns-clause-law c = from_returns (known_in c.args.scope.now) (expression_of c.args.entry.now) (expression_of c.args.until.now) _ _ _ _ c.repetition.result c.in_ok-begins.ensures.law c.in_ok-exits.ensures.law c.repetition.ensures.law
+returns-clause-law c = from_returns (known_in c.args.scope.now) (expression_of c.args.entry.now)
+    (expression_of c.args.until.now) _ _ _ _ c.repetition.result c.in_ok-begins.ensures.law c.in_ok-exits.ensures.law
+    c.repetition.ensures.law

@@ -1,7 +1,9 @@
 use Rattle.rpp_tree.specs.Views.{expression_of}
-use Rattle.method_scope.specs.Visible.{known_in}
+use Rattle.code_scope.specs.Visible.{known_in}
 use Rattle.statement_codegen.proofs.Clauses.{if_returns}
 use Rattle.statement_codegen.proofs.branches.if_code.Goals as goal
 
 pub returns-clause-law : goal.returns-clause-law
-returns-clause-law c = if_returns (known_in c.args.scope.now) (expression_of c.args.test.now) (expression_of c.args.after.now) _ _ _ _ c.conditional.result c.in_ok-tested.ensures.law c.in_ok-ended.ensures.law c.conditional.ensures.law
+returns-clause-law c = if_returns (known_in c.args.scope.now) (expression_of c.args.test.now)
+    (expression_of c.args.after.now) _ _ _ _ c.conditional.result c.in_ok-tested.ensures.law c.in_ok-ended.ensures.law
+    c.conditional.ensures.law

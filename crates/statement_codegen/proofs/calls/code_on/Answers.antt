@@ -1,7 +1,7 @@
 use Rattle.std.proofs.Common.{List, subst, sym, ap, ◌∙◌}
 use Rattle.std.specs.Prelude.{IfOk}
 use Rattle.rpp_tree.specs.Views.{source_of}
-use Rattle.statement_laws.specs.declared.spot.Spot.{Spot}
+use Rattle.refine_form.specs.declared.spot.Spot.{Spot}
 use Rattle.method_calls.specs.Names.{slot_of}
 use Rattle.method_calls.specs.Laws.{CallOnCode}
 use Rattle.statement_codegen.proofs.CallLaws.{on_returns}
@@ -9,13 +9,16 @@ use Rattle.statement_codegen.proofs.calls.code_on.Goals as goal
 
 pub returns-clause-law : goal.returns-clause-law
 returns-clause-law c =
-    on_returns c.args.scope.now c.args.back c.args.receiver.now c.args.method.now c.args.args.now c.spot_at-spot.result c.slot_at-slot.result _ c.call_on.result
+    on_returns c.args.scope.now c.args.back c.args.receiver.now c.args.method.now c.args.args.now c.spot_at-spot.result
+    c.slot_at-slot.result _ c.call_on.result
     (sym c.spot_at-spot.ensures.value) c.spot_at-spot.ensures.near
     (record {
-      slot_is = sym (c.slot_at-slot.ensures.value ∙ ap (λ class. slot_of (source_of c.args.scope.now.program) class c.args.method.now) c.class_at-class.ensures);
+      slot_is = sym (c.slot_at-slot.ensures.value ∙ ap (λ class. slot_of (source_of c.args.scope.now.program) class
+          c.args.method.now) c.class_at-class.ensures);
       small = c.slot_at-slot.ensures.small;
       few = c.requires.few;
       spots_are = sym c.in_ok-spots.ensures.values;
       near = c.in_ok-spots.ensures.near;
     })
-    (subst (λ (spots : List Spot). IfOk c.call_on.result (λ p. CallOnCode c.args.back c.spot_at-spot.result c.slot_at-slot.result spots p.cells)) c.deref.ensures.value c.call_on.ensures.law)
+    (subst (λ (spots : List Spot). IfOk c.call_on.result (λ p. CallOnCode c.args.back c.spot_at-spot.result
+    c.slot_at-slot.result spots p.cells)) c.deref.ensures.value c.call_on.ensures.law)

@@ -2,7 +2,7 @@ use Rattle.std.proofs.Common.{List, subst, sym, ap, ◌∙◌}
 use Rattle.std.specs.Prelude.{IfOk}
 use Rattle.rpp_tree.specs.Views.{source_of}
 use Rattle.class_table.specs.declared.method.MethodId.{MethodId}
-use Rattle.statement_laws.specs.declared.spot.Spot.{Spot}
+use Rattle.refine_form.specs.declared.spot.Spot.{Spot}
 use Rattle.method_calls.specs.Names.{slot_of}
 use Rattle.method_calls.specs.Laws.{OwnCallCode}
 use Rattle.statement_codegen.proofs.CallLaws.{own_returns}
@@ -12,10 +12,13 @@ pub returns-clause-law : goal.returns-clause-law
 returns-clause-law c =
     own_returns c.args.scope.now c.args.back c.args.method.now c.args.args.now c.slot_at-slot.result _ c.own_call.result
     (record {
-      slot_is = sym (c.slot_at-slot.ensures.value ∙ ap (λ (id : MethodId). slot_of (source_of c.args.scope.now.program) id.class c.args.method.now) c.method-id.ensures);
+      slot_is = sym (c.slot_at-slot.ensures.value ∙ ap (λ (id : MethodId). slot_of (source_of c.args.scope.now.program)
+          id.class c.args.method.now) c.method-id.ensures);
       small = c.slot_at-slot.ensures.small;
       few = c.requires.few;
       spots_are = sym c.in_ok-spots.ensures.values;
       near = c.in_ok-spots.ensures.near;
     })
-    (subst (λ (spots : List Spot). IfOk c.own_call.result (λ p. OwnCallCode c.args.back c.slot_at-slot.result spots p.cells)) c.deref.ensures.value c.own_call.ensures.law)
+    (subst (λ (spots : List Spot). IfOk c.own_call.result
+    (λ p. OwnCallCode c.args.back c.slot_at-slot.result spots p.cells)) c.deref.ensures.value
+    c.own_call.ensures.law)

@@ -1,10 +1,11 @@
 use Rattle.std.proofs.Common.{◌≡◌, take, map}
 use Rattle.std.specs.List.{All}
 use Rattle.rpp_tree.specs.declared.tree.Ident.{Ident}
-use Rattle.method_scope.specs.Visible.{spot_of, known_in}
+use Rattle.code_scope.specs.Visible.{spot_of, known_in}
 use Rattle.method_calls.specs.Facts.{IsNear}
 use Rattle.statement_codegen.proofs.calls.spots_at.Given as goal
 
 abbrev pub invariant-loop-name : goal.invariant-loop-name
 invariant-loop-name l =
-    (l.spots.items ≡ map (λ (name : Ident). spot_of (known_in l.scope) name.text) (take l.name-index l.names)) × All IsNear l.spots.items
+    (l.spots.items ≡ map (λ (name : Ident). spot_of (known_in l.scope) name.text) (take l.name-index l.names))
+    × All IsNear l.spots.items

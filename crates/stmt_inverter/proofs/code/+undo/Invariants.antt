@@ -4,4 +4,5 @@ use Rattle.stmt_inverter.specs.Inverse.{inverse_statement_as}
 use Rattle.stmt_inverter.proofs.code.+undo.Given as goal
 
 abbrev pub invariant-undo_block-loop-stmt : goal.invariant-undo_block-loop-stmt
-invariant-undo_block-loop-stmt l = map statement_of l.list.items ≡ map (λ s. inverse_statement_as l.turn (statement_of s)) (take l.stmt-index l.stmt-items)
+invariant-undo_block-loop-stmt l = map statement_of l.list.items
+    ≡ map (λ s. inverse_statement_as l.turn (statement_of s)) (take l.stmt-index l.stmt-items)

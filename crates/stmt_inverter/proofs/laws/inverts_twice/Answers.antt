@@ -3,4 +3,8 @@ use Rattle.stmt_inverter.proofs.Inverses.{inverse_statement-twice, inverse-twice
 use Rattle.stmt_inverter.proofs.laws.inverts_twice.Goals as goal
 
 pub returns : goal.returns
-returns c = record { statement = inverse_statement-twice true; block = inverse-twice true; program = inverse_program-twice }
+returns c = record {
+  statement = inverse_statement-twice true;
+  block = inverse-twice true;
+  program = inverse_program-twice;
+}

@@ -4,4 +4,5 @@ use Rattle.stmt_inverter.specs.Inverse.{inverse_procedure}
 use Rattle.stmt_inverter.proofs.whole.invert_methods.Given as goal
 
 abbrev pub invariant-loop-method : goal.invariant-loop-method
-invariant-loop-method l = map procedure_of l.inverted.items ≡ map inverse_procedure (map procedure_of (take l.method-index l.methods))
+invariant-loop-method l = map procedure_of l.inverted.items
+    ≡ map inverse_procedure (map procedure_of (take l.method-index l.methods))

@@ -7,7 +7,8 @@ loop-next-init c = begins c.args.heap.now.store _ _ _ c.live-size.ensures (searc
 
 pub loop-next-preserved : goal.loop-next-preserved
 loop-next-preserved c =
-    walks_on c.args.heap.now.store c.live-size.result c.loop-next.next c.in-Some.name c.loop-next.names.keys _ c.loop-next-test.true c.loop-next.invariant
+    walks_on c.args.heap.now.store c.live-size.result c.loop-next.next c.in-Some.name c.loop-next.names.keys _
+    c.loop-next-test.true c.loop-next.invariant
     (sym c.name_at.ensures ∙ c.in-Some.is) c.in_ok-meet_object-in-Some.ensures
 
 pub returns-in-None : goal.returns-in-None
@@ -16,4 +17,5 @@ returns-in-None c =
     (sym c.name_at.ensures ∙ c.in-None.is)
 
 pub returns : goal.returns
-returns c = walked_all c.args.heap.now.store c.live-size.result c.loop-next.next c.loop-next.names.keys c.loop-next-test.false c.loop-next.invariant
+returns c = walked_all c.args.heap.now.store c.live-size.result c.loop-next.next c.loop-next.names.keys
+    c.loop-next-test.false c.loop-next.invariant

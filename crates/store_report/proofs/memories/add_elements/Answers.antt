@@ -9,14 +9,19 @@ use Rattle.store_report.specs.Shown.{value_by, values_by, addresses_of}
 use Rattle.store_report.proofs.memories.add_elements.Goals as goal
 
 abbrev line : List ℕ → ℕ → Lead → ℕ → Text
-line names index lead word = codes "  [" ++ decimal index ++ codes "] = " ++ value_shown names (value_by lead word) ++ line_end
+line names index lead word = codes "  [" ++ decimal index ++ codes "] = " ++ value_shown names (value_by lead word)
+    ++ line_end
 
-next : (cells names : List ℕ) (before : Text) (at n count : ℕ) (lead : Lead) → n < count → (before ++ line names n lead (word_told cells (at + n))) ++ element_lines names (n + 1) (values_by cells (at + (n + 1)) (replicate (count - (n + 1)) lead)) ≡ before ++ element_lines names n (values_by cells (at + n) (replicate (count - n) lead))
+next : (cells names : List ℕ) (before : Text) (at n count : ℕ) (lead : Lead) → n < count
+    → (before ++ line names n lead (word_told cells (at + n)))
+    ++ element_lines names (n + 1) (values_by cells (at + (n + 1)) (replicate (count - (n + 1)) lead))
+    ≡ before ++ element_lines names n (values_by cells (at + n) (replicate (count - n) lead))
 next cells names before at n count lead h =
     let e : suc (count - (n + 1)) ≡ count - n = omega arith in
     let f : at + (n + 1) ≡ at + n + 1 = omega arith in
     let rest = element_lines names (n + 1) (values_by cells (at + n + 1) (replicate (count - (n + 1)) lead)) in
-    ap (λ a. (before ++ line names n lead (word_told cells (at + n))) ++ element_lines names (n + 1) (values_by cells a (replicate (count - (n + 1)) lead))) f
+    ap (λ a. (before ++ line names n lead (word_told cells (at + n)))
+    ++ element_lines names (n + 1) (values_by cells a (replicate (count - (n + 1)) lead))) f
     ∙ append_assoc before (line names n lead (word_told cells (at + n))) rest
     ∙ ap (λ k. before ++ element_lines names n (values_by cells (at + n) (replicate k lead))) e
 
@@ -27,8 +32,10 @@ loop-index-preserved c =
     let at = c.args.at in
     let names = addresses_of c.args.met.now.entries in
     let before = string_bytes c.loop-index.out in
-    let rest = element_lines names (n + 1) (values_by cells (at + (n + 1)) (replicate (c.args.count - (n + 1)) c.args.lead)) in
-    let word : c.word_at.result ≡ word_told cells (at + n) = c.word_at.ensures ∙ ap (λ k. word_told cells (at + k)) c.from.ensures in
+    let rest = element_lines names (n + 1) (values_by cells (at + (n + 1))
+    (replicate (c.args.count - (n + 1)) c.args.lead)) in
+    let word : c.word_at.result ≡ word_told cells (at + n) = c.word_at.ensures
+    ∙ ap (λ k. word_told cells (at + k)) c.from.ensures in
     ap (λ z. z ++ rest) c.in_ok-add_element.ensures
     ∙ ap (λ w. (before ++ line names n c.args.lead w) ++ rest) word
     ∙ next cells names before at n c.args.count c.args.lead (omega (arith, c.loop-index-test.true))

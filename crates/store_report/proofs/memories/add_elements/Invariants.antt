@@ -7,5 +7,7 @@ use Rattle.store_report.proofs.memories.add_elements.Given as goal
 -- the lines so far and those of what is left are the whole
 abbrev pub invariant-loop-index : goal.invariant-loop-index
 invariant-loop-index l =
-    string_bytes l.out ++ element_lines (addresses_of l.met.entries) l.index (values_by l.machine.state.cells (l.at + l.index) (replicate (l.count - l.index) l.lead))
-    ≡ string_bytes l.initial.out ++ element_lines (addresses_of l.met.entries) 0 (values_by l.machine.state.cells l.at (replicate l.count l.lead))
+    string_bytes l.out ++ element_lines (addresses_of l.met.entries) l.index
+    (values_by l.machine.state.cells (l.at + l.index) (replicate (l.count - l.index) l.lead))
+    ≡ string_bytes l.initial.out ++ element_lines (addresses_of l.met.entries) 0
+    (values_by l.machine.state.cells l.at (replicate l.count l.lead))

@@ -1,4 +1,5 @@
-use Rattle.std.proofs.Common.{◌≡◌, ◌∙◌, sym, ap, ◌+◌, ◌++◌, drop, ℕ, zero, suc, List, [], ◌∷◌, Some, slice_get, arith, append_assoc}
+use Rattle.std.proofs.Common.{◌≡◌, ◌∙◌, sym, ap, ◌+◌, ◌++◌, drop, ℕ, zero, suc, List, [], ◌∷◌, Some, slice_get, arith}
+use Rattle.std.proofs.Common.{append_assoc}
 use Rattle.std.specs.Prelude.{string_bytes}
 use Rattle.rpp_tree.specs.Views.{source_of}
 use Rattle.rpp_tree.specs.Tree.{Source}
@@ -14,12 +15,17 @@ dropped [] k entry e = absurd (cc)
 dropped (x ∷ met) zero entry e = let q : entry ≡ x = cc in ap (λ z. z ∷ met) (sym q)
 dropped (x ∷ met) (suc k) entry e = dropped met k entry e
 
-next : (program : Source) (table : Table) (tables cells names : List ℕ) (before : Text) (met : Met) (k : ℕ) (entry : ℕ × Lead) → Some entry ≡ slice_get met k
-    → (before ++ object_by program table tables cells names entry) ++ objects_by program table tables cells names (drop (k + 1) met) ≡ before ++ objects_by program table tables cells names (drop k met)
+next : (program : Source) (table : Table) (tables cells names : List ℕ) (before : Text) (met : Met) (k : ℕ)
+    (entry : ℕ × Lead) → Some entry ≡ slice_get met k
+    → (before ++ object_by program table tables cells names entry)
+    ++ objects_by program table tables cells names (drop (k + 1) met)
+    ≡ before ++ objects_by program table tables cells names (drop k met)
 next program table tables cells names before met k entry e =
     let one : k + 1 ≡ suc k = omega arith in
-    ap (λ j. (before ++ object_by program table tables cells names entry) ++ objects_by program table tables cells names (drop j met)) one
-    ∙ append_assoc before (object_by program table tables cells names entry) (objects_by program table tables cells names (drop (suc k) met))
+    ap (λ j. (before ++ object_by program table tables cells names entry)
+    ++ objects_by program table tables cells names (drop j met)) one
+    ∙ append_assoc before (object_by program table tables cells names entry)
+    (objects_by program table tables cells names (drop (suc k) met))
     ∙ ap (λ rest. before ++ objects_by program table tables cells names rest) (sym (dropped met k entry e))
 
 pub loop-number-preserved : goal.loop-number-preserved
@@ -29,6 +35,8 @@ loop-number-preserved c =
     let program = source_of c.args.memory.now.program.now in
     let names = addresses_of met in
     let k = c.loop-number.number in
-    ap (λ z. z ++ objects_by program c.args.memory.now.table.now c.args.memory.now.tables.now cells names (drop (k + 1) met)) c.in_ok-add_object.ensures
-    ∙ next program c.args.memory.now.table.now c.args.memory.now.tables.now cells names (string_bytes c.loop-number.out) met k (c.in-Some.at.now, c.in-Some.lead.now) c.in-Some.ensures.entry
+    ap (λ z. z ++ objects_by program c.args.memory.now.table.now c.args.memory.now.tables.now cells names
+    (drop (k + 1) met)) c.in_ok-add_object.ensures
+    ∙ next program c.args.memory.now.table.now c.args.memory.now.tables.now cells names (string_bytes c.loop-number.out)
+    met k (c.in-Some.at.now, c.in-Some.lead.now) c.in-Some.ensures.entry
     ∙ c.loop-number.invariant

@@ -17,7 +17,8 @@ use Rattle.store_report.proofs.memories.report.Goals as goal
 pub compose-requires-clause-few : goal.compose-requires-clause-few
 compose-requires-clause-few c =
     let table = c.table-table.result.now in
-    let e : length c.deref.result.now ≡ length (each_below (table_in table) (length table.names)) = ap length (c.deref.ensures.value ∙ c.in_ok-tables.ensures.places) in
+    let e : length c.deref.result.now ≡ length (each_below (table_in table) (length table.names)) =
+    ap length (c.deref.ensures.value ∙ c.in_ok-tables.ensures.places) in
     let few = c.in_ok-tables.ensures.few in
     omega (arith, length-each_below (table_in table) (length table.names))
 
@@ -25,12 +26,14 @@ pub compose-requires-clause-names : goal.compose-requires-clause-names
 compose-requires-clause-names c =
     let program = source_of c.args.checked.now in
     subst (λ (t : Table). AreAscii (source_of c.program-program.result.now) t) (sym c.table-table.ensures.table)
-    (subst (λ p. AreAscii (source_of p) (table_of program)) (sym c.program-program.ensures.program) (names_ascii program c.table-table.ensures.accepted))
+    (subst (λ p. AreAscii (source_of p) (table_of program)) (sym c.program-program.ensures.program)
+    (names_ascii program c.table-table.ensures.accepted))
 
 pub compose-requires-clause-field_names : goal.compose-requires-clause-field_names
 compose-requires-clause-field_names c =
     let program = source_of c.args.checked.now in
-    let are = fields_read program c.table-table.result.now c.main.result c.fields-fields.result.now c.table-table.ensures.accepted c.table-table.ensures.table c.main.ensures c.fields-fields.ensures.fields in
+    let are = fields_read program c.table-table.result.now c.main.result c.fields-fields.result.now
+    c.table-table.ensures.accepted c.table-table.ensures.table c.main.ensures c.fields-fields.ensures.fields in
     subst (All HasAsciiName) (sym are) (ascii_main_fields program c.table-table.ensures.accepted)
 
 map_ok : {A E : Type 0} (P Q : A → Type 0) (r : Result A E) → ((x : A) → P x → Q x) → IfOk r P → IfOk r Q
@@ -42,24 +45,34 @@ returns-clause-lines c =
     let program = source_of c.args.checked.now in
     let cells = c.args.machine.now.state.cells in
     let accepted = c.table-table.ensures.accepted in
-    let are = fields_read program c.table-table.result.now c.main.result c.fields-fields.result.now accepted c.table-table.ensures.table c.main.ensures c.fields-fields.ensures.fields in
-    let places = c.deref.ensures.value ∙ c.in_ok-tables.ensures.places ∙ ap (λ (t : Table). each_below (table_in t) (length t.names)) c.table-table.ensures.table ∙ tables_are program accepted in
-    map_ok (λ text. string_bytes text ≡ report_by (source_of c.program-program.result.now) c.table-table.result.now c.deref.result.now c.fields-fields.result.now cells) (λ text. string_bytes text ≡ report_told program cells) c.compose.result
+    let are = fields_read program c.table-table.result.now c.main.result c.fields-fields.result.now accepted
+    c.table-table.ensures.table c.main.ensures c.fields-fields.ensures.fields in
+    let places = c.deref.ensures.value ∙ c.in_ok-tables.ensures.places
+    ∙ ap (λ (t : Table). each_below (table_in t) (length t.names)) c.table-table.ensures.table
+    ∙ tables_are program accepted in
+    map_ok (λ text. string_bytes text ≡ report_by (source_of c.program-program.result.now) c.table-table.result.now
+    c.deref.result.now c.fields-fields.result.now cells) (λ text. string_bytes text ≡ report_told program cells)
+    c.compose.result
     (λ text told.
     told
-    ∙ ap (λ p. report_by (source_of p) c.table-table.result.now c.deref.result.now c.fields-fields.result.now cells) c.program-program.ensures.program
+    ∙ ap (λ p. report_by (source_of p) c.table-table.result.now c.deref.result.now c.fields-fields.result.now cells)
+    c.program-program.ensures.program
     ∙ ap (λ t. report_by program t c.deref.result.now c.fields-fields.result.now cells) c.table-table.ensures.table
     ∙ code_tells program accepted c.deref.result.now c.fields-fields.result.now cells places are)
     c.compose.ensures
 
 pub returns-clause-last : goal.returns-clause-last
 returns-clause-last c =
-    map_ok (λ text. string_bytes text ≡ report_told (source_of c.args.checked.now) c.args.machine.now.state.cells) _ c.compose.result
-    (λ text told end memory. told ∙ last_told (source_of c.args.checked.now) c.args.machine.now.state.cells end c.table-table.ensures.accepted memory)
+    map_ok (λ text. string_bytes text ≡ report_told (source_of c.args.checked.now) c.args.machine.now.state.cells) _
+    c.compose.result
+    (λ text told end memory. told ∙ last_told (source_of c.args.checked.now) c.args.machine.now.state.cells end
+    c.table-table.ensures.accepted memory)
     (returns-clause-lines c)
 
 pub returns-clause-first : goal.returns-clause-first
 returns-clause-first c =
-    map_ok (λ text. string_bytes text ≡ report_told (source_of c.args.checked.now) c.args.machine.now.state.cells) _ c.compose.result
-    (λ text told input memory. told ∙ first_told (source_of c.args.checked.now) c.args.machine.now.state.cells input memory)
+    map_ok (λ text. string_bytes text ≡ report_told (source_of c.args.checked.now) c.args.machine.now.state.cells) _
+    c.compose.result
+    (λ text told input memory. told ∙ first_told (source_of c.args.checked.now) c.args.machine.now.state.cells input
+    memory)
     (returns-clause-lines c)

@@ -5,4 +5,6 @@ use Rattle.roopl_semantics.specs.Report.{object_lines}
 use Rattle.store_report.proofs.stores.add_objects.Given as goal
 
 abbrev pub invariant-loop-at : goal.invariant-loop-at
-invariant-loop-at l = string_bytes l.out ++ object_lines (source_of l.checked) l.heap.store l.names.keys (drop l.at l.names.keys) ≡ string_bytes l.fn.out ++ object_lines (source_of l.checked) l.heap.store l.names.keys l.names.keys
+invariant-loop-at l = string_bytes l.out ++ object_lines (source_of l.checked) l.heap.store l.names.keys
+    (drop l.at l.names.keys) ≡ string_bytes l.fn.out ++ object_lines (source_of l.checked) l.heap.store l.names.keys
+    l.names.keys

@@ -4,11 +4,14 @@ use Rattle.store_report.specs.Leads.{Met, meets_one, meets}
 use Rattle.roopl_semantics.specs.Walk.{word_at as word_told}
 use Rattle.store_report.proofs.walking.meet_elements.Goals as goal
 
-next : (cells : List ℕ) (met : Met) (at n count : ℕ) → n < count → meets cells (meets_one met lead.Object (word_told cells (at + n))) (at + (n + 1)) (replicate (count - (n + 1)) lead.Object) ≡ meets cells met (at + n) (replicate (count - n) lead.Object)
+next : (cells : List ℕ) (met : Met) (at n count : ℕ) → n < count
+    → meets cells (meets_one met lead.Object (word_told cells (at + n))) (at + (n + 1))
+    (replicate (count - (n + 1)) lead.Object) ≡ meets cells met (at + n) (replicate (count - n) lead.Object)
 next cells met at n count h =
     let e : count - n ≡ suc (count - (n + 1)) = omega arith in
     let f : at + (n + 1) ≡ at + n + 1 = omega arith in
-    ap (λ a. meets cells (meets_one met lead.Object (word_told cells (at + n))) a (replicate (count - (n + 1)) lead.Object)) f
+    ap (λ a. meets cells (meets_one met lead.Object (word_told cells (at + n))) a
+    (replicate (count - (n + 1)) lead.Object)) f
     ∙ ap (λ k. meets cells met (at + n) (replicate k lead.Object)) (sym e)
 
 pub loop-number-preserved : goal.loop-number-preserved
@@ -17,8 +20,10 @@ loop-number-preserved c =
     let n = c.loop-number.number in
     let at = c.args.at in
     let old = c.loop-number.met.entries in
-    let word : c.word_at.result ≡ word_told cells (at + n) = c.word_at.ensures ∙ ap (λ k. word_told cells (at + k)) c.from.ensures in
+    let word : c.word_at.result ≡ word_told cells (at + n) = c.word_at.ensures
+    ∙ ap (λ k. word_told cells (at + k)) c.from.ensures in
     ap (λ met. meets cells met (at + (n + 1)) (replicate (c.args.count - (n + 1)) lead.Object)) c.in_ok-meet.ensures
-    ∙ ap (λ w. meets cells (meets_one old lead.Object w) (at + (n + 1)) (replicate (c.args.count - (n + 1)) lead.Object)) word
+    ∙ ap (λ w. meets cells (meets_one old lead.Object w) (at + (n + 1))
+    (replicate (c.args.count - (n + 1)) lead.Object)) word
     ∙ next cells old at n c.args.count (omega (arith, c.loop-number-test.true))
     ∙ c.loop-number.invariant

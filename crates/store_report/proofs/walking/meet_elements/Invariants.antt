@@ -6,4 +6,6 @@ use Rattle.store_report.proofs.walking.meet_elements.Given as goal
 
 -- what is left decides
 abbrev pub invariant-loop-number : goal.invariant-loop-number
-invariant-loop-number l = meets l.machine.state.cells l.met.entries (l.at + l.number) (replicate (l.count - l.number) lead.Object) ≡ meets l.machine.state.cells l.initial.met.entries l.at (replicate l.count lead.Object)
+invariant-loop-number l = meets l.machine.state.cells l.met.entries (l.at + l.number)
+    (replicate (l.count - l.number) lead.Object) ≡ meets l.machine.state.cells l.initial.met.entries l.at
+    (replicate l.count lead.Object)

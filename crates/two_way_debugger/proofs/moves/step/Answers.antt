@@ -11,7 +11,8 @@ returns-then-made-clause-ending g c =
     let new = c.run-end.new.self in
     let end = c.run-end.result in
     let same : new.made ≡ old.made = omega arith in
-    let stays = no_step old.image.code old.state new.state end.stop end.spent old.made new.made c.run-end.ensures.runs c.run-end.ensures.made same in
+    let stays = no_step old.image.code old.state new.state end.stop end.spent old.made new.made c.run-end.ensures.runs
+    c.run-end.ensures.made same in
     let below : nat_lt old.made LAST_POSITION ≡ true = grind (arith, nat_tests) in
     rw (below, stays.0) refl
 
@@ -21,5 +22,6 @@ returns-then-made-clause-position g c =
     let new = c.run-end.new.self in
     let end = c.run-end.result in
     let same : new.made ≡ old.made = omega arith in
-    let stays = no_step old.image.code old.state new.state end.stop end.spent old.made new.made c.run-end.ensures.runs c.run-end.ensures.made same in
+    let stays = no_step old.image.code old.state new.state end.stop end.spent old.made new.made c.run-end.ensures.runs
+    c.run-end.ensures.made same in
     same_position new old c.run-end.ensures.image stays.1 same

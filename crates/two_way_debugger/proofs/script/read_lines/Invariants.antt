@@ -6,5 +6,6 @@ use Rattle.two_way_debugger.proofs.script.read_lines.Given as goal
 abbrev pub invariant-loop-line : goal.invariant-loop-line
 invariant-loop-line l = record {
   line : l.number ≡ l.line-index + 1;
-  so_far : commands_from l.number l.commands.items (map (λ line. line.now) (drop l.line-index l.line-items)) ≡ commands_from 1 [] (map (λ line. line.now) l.line-items);
+  so_far : commands_from l.number l.commands.items (map (λ line. line.now) (drop l.line-index l.line-items))
+      ≡ commands_from 1 [] (map (λ line. line.now) l.line-items);
 }

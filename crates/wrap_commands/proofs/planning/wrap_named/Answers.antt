@@ -12,5 +12,6 @@ wrap_given-requires-clause-results g c =
     let fields : c.in_ok-fields.fields.items ≡ input_fields program = c.in_ok-fields.ensures.fields in
     let few = subst (λ (xs : List InputField). length xs ≤ 64) fields c.in_ok-fields.ensures.few in
     are_results program c.args.request.now.names.items c.in-Ok.results.items c.is_accepted.ensures few
-    (ap (λ (xs : List InputField). results_of xs c.args.request.now.names.items) (sym fields ∙ sym c.deref-2.ensures.value)
+    (ap (λ (xs : List InputField). results_of xs c.args.request.now.names.items)
+    (sym fields ∙ sym c.deref-2.ensures.value)
     ∙ ap (results_of c.deref-2.result.now) (sym c.deref.ensures.value) ∙ c.in-Ok.ensures)

@@ -12,8 +12,16 @@ take_back-requires-clause-free c =
 pub loop-left-preserved : goal.loop-left-preserved
 loop-left-preserved c =
     let i = c.loop-left.invariant in
-    let on = rewinds_on c.loop-left.self c.take_back.new.self c.args.self.now c.loop-left.left c.loop-left-test.true i.0 i.1 i.2 c.take_back.ensures.leads in
-    (on.long, on.same_start, on.same_next, c.take_back.ensures.cluster, c.take_back.ensures.processors ∙ i.4, c.take_back.ensures.cells ∙ i.5)
+    let on = rewinds_on c.loop-left.self c.take_back.new.self c.args.self.now c.loop-left.left c.loop-left-test.true i.0
+    i.1 i.2 c.take_back.ensures.leads in (
+      on.long,
+      on.same_start,
+      on.same_next,
+      c.take_back.ensures.cluster,
+      c.take_back.ensures.processors
+          ∙ i.4,
+      c.take_back.ensures.cells ∙ i.5,
+    )
 
 pub returns-clause-rewinds : goal.returns-clause-rewinds
 returns-clause-rewinds c =

@@ -9,5 +9,6 @@ invariant_of-result c =
     let code = c.args.code.items in
     let code_in_limit : length code ≤ MOST_CELLS = rw (← c.deref.ensures.value) (omega arith) in
     let statics_in_limit : length c.args.statics.items ≤ MOST_STATICS = search rules in
-    let accepted : first_seal_refusal code ≡ None = rw (← c.deref.ensures.value) (sym c.first_refusal.ensures ∙ c.in-None.is) in
+    let accepted : first_seal_refusal code ≡ None = rw (← c.deref.ensures.value)
+    (sym c.first_refusal.ensures ∙ c.in-None.is) in
     IsImage-sealed code c.args.statics.items code_in_limit statics_in_limit c.requires.in_range accepted

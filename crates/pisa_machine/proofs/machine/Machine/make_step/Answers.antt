@@ -15,5 +15,6 @@ invariant_of-self-in-None g c =
       is_image = c.self.invariant.is_image;
       reached = rw (c.in-None.ensures.goes refl, c.code.ensures.code)
           (subst (λ (k : ℕ). IsReached self.image.code k (next self.image.code m)) n
-          (reached_after self.image.code self.made m c.self.invariant.is_image.is_code c.self.invariant.reached (sym stops)));
+          (reached_after self.image.code self.made m c.self.invariant.is_image.is_code c.self.invariant.reached
+          (sym stops)));
     }

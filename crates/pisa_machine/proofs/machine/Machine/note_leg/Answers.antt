@@ -11,5 +11,6 @@ invariant_of-self g c =
     let makes = rw c.code.ensures.code at c.note_leg-made.ensures.makes in
     record {
       is_image = machine.is_image;
-      reached = reached_more self.image.code self.made c.note_leg-made.result m _ machine.is_image.is_code machine.reached makes;
+      reached = reached_more self.image.code self.made c.note_leg-made.result m _ machine.is_image.is_code
+          machine.reached makes;
     }

@@ -14,5 +14,6 @@ invariant_of-self g c =
     let reached = reached_run self.image.code c.args.bound self.made m machine.is_image.is_code machine.reached in
     record {
       is_image = machine.is_image;
-      reached = rw c.steps_of.ensures.value (subst (λ (e : End). IsReached self.image.code (self.made + made_in e) e.last) runs reached);
+      reached = rw c.steps_of.ensures.value (subst (λ (e : End). IsReached self.image.code (self.made + made_in e)
+          e.last) runs reached);
     }

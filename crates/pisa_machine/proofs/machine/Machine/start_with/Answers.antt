@@ -8,14 +8,17 @@ invariant_of-result c =
     let regs = c.are_registers.ensures in
     let cells = rw c.deref.ensures.value at c.are_words.ensures in
     let pages = c.in_ok-of.field-0 in
-    let kept : words_of pages.pages.items pages.count ≡ c.args.cells.items = c.in_ok-of.ensures ∙ c.deref-2.ensures.value in
+    let kept : words_of pages.pages.items pages.count ≡ c.args.cells.items = c.in_ok-of.ensures
+    ∙ c.deref-2.ensures.value in
     record {
       is_image = c.start_core.ensures.image;
-      reached = rw (c.start_core.ensures.core, kept) (reached_first c.args.image.code c.args.regs c.args.cells.items regs.count regs.words cells);
+      reached = rw (c.start_core.ensures.core, kept) (reached_first c.args.image.code c.args.regs c.args.cells.items
+          regs.count regs.words cells);
     }
 
 pub returns : goal.returns
 returns c =
     let pages = c.in_ok-of.field-0 in
-    let kept : words_of pages.pages.items pages.count ≡ c.args.cells.items = c.in_ok-of.ensures ∙ c.deref-2.ensures.value in
+    let kept : words_of pages.pages.items pages.count ≡ c.args.cells.items = c.in_ok-of.ensures
+    ∙ c.deref-2.ensures.value in
     rw (c.start_core.ensures.core, kept)

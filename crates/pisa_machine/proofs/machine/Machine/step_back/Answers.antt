@@ -21,7 +21,8 @@ invariant_of-self g c =
     let r = subst (λ (k : ℕ). IsReached self.image.code k m) n c.self.invariant.reached in
     record {
       is_image = c.self.invariant.is_image;
-      reached = rw (c.unstep.ensures.back, c.code.ensures.code) (reached_before self.image.code (self.made - 1) m c.self.invariant.is_image.is_code r);
+      reached = rw (c.unstep.ensures.back, c.code.ensures.code)
+          (reached_before self.image.code (self.made - 1) m c.self.invariant.is_image.is_code r);
     }
 
 pub returns-clause-undoes : goal.returns-clause-undoes

@@ -7,9 +7,14 @@ pub invariant_of-result : goal.invariant_of-result
 invariant_of-result c =
     let self = c.self.inside in
     let words = words_of self.cells.pages.items self.cells.count in
-    let here = reached_is_state self.image.code self.made (state_of self.core words) c.self.invariant.is_image.is_code c.self.invariant.reached in
+    let here = reached_is_state self.image.code self.made (state_of self.core words) c.self.invariant.is_image.is_code
+    c.self.invariant.reached in
     let regs = c.are_registers.ensures in
-    record { is_image = c.start_core.ensures.image; reached = rw c.start_core.ensures.core (reached_first c.args.image.code self.core.regs words regs.count regs.words here.cell_words) }
+    record {
+      is_image = c.start_core.ensures.image;
+      reached = rw c.start_core.ensures.core
+          (reached_first c.args.image.code self.core.regs words regs.count regs.words here.cell_words);
+    }
 
 pub returns : goal.returns
 returns c = rw (← c.self.view_is, c.start_core.ensures.core)

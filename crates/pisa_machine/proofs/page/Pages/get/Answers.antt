@@ -13,7 +13,8 @@ returns-then-at-self c =
     let low = subst (λ n. c.args.at < n) (words_counted cells.pages.items cells.count cells.room) c.if-at-self.true in
     let word = cell_word cells.pages.items cells.count c.args.at page c.if-at-self.true cells.room
     ∙ ap (λ p. slice_index (words_in p) (c.args.at % 4096)) (sym c.index-page.ensures)
-    ∙ sym (same_or page.words.items (c.args.at % 4096) c.index.result.now (omega (arith, page.whole)) c.index.ensures) in
+    ∙ sym (same_or page.words.items (c.args.at % 4096) c.index.result.now (omega (arith, page.whole)) c.index.ensures)
+    in
     ap Some (sym word) ∙ sym (slice_get-get_or words c.args.at 0 low)
 
 pub returns-else-at-self : goal.returns-else-at-self

@@ -16,15 +16,18 @@ loop-page-preserved c =
     record {
       size = step.0 ∙ c.loop-page.invariant.size;
       paged = subst (λ (ps : List Page). IsPaged words ps behind) (sym c.in_ok-push.ensures.items)
-          (page_more words pages rest c.in-Some.page.now behind page step.1.2 step.1.0 count c.in_ok-of.ensures c.loop-page.invariant.paged);
+          (page_more words pages rest c.in-Some.page.now behind page step.1.2 step.1.0 count c.in_ok-of.ensures
+          c.loop-page.invariant.paged);
     }
 
 pub invariant_of-result : goal.invariant_of-result
 invariant_of-result c =
-    let end = paged_out c.args.words.now c.loop-page.pages.items c.loop-page.page-iterator.rest.now c.in-None.ensures.steps.1.0 c.loop-page.invariant.paged in
+    let end = paged_out c.args.words.now c.loop-page.pages.items c.loop-page.page-iterator.rest.now
+    c.in-None.ensures.steps.1.0 c.loop-page.invariant.paged in
     record { room = pages_room c.args.words.now c.loop-page.pages.items end }
 
 pub returns : goal.returns
 returns c =
-    let end = paged_out c.args.words.now c.loop-page.pages.items c.loop-page.page-iterator.rest.now c.in-None.ensures.steps.1.0 c.loop-page.invariant.paged in
+    let end = paged_out c.args.words.now c.loop-page.pages.items c.loop-page.page-iterator.rest.now
+    c.in-None.ensures.steps.1.0 c.loop-page.invariant.paged in
     pages_hold c.args.words.now c.loop-page.pages.items end

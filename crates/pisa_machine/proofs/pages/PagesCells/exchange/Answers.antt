@@ -10,7 +10,8 @@ returns-clause-cells c =
     let page = c.index_mut.result.now in
     let low = subst (λ n. c.args.at < n) (sym (words_counted cells.pages.items cells.count cells.room)) c.requires in
     cell_changed cells.pages.items cells.count c.args.at c.args.word.now page c.exchange.new.self low cells.room
-    (c.exchange.ensures.words ∙ ap (λ p. slice_set (words_in p) (c.args.at % 4096) c.args.word.now) c.index_mut.ensures.value)
+    (c.exchange.ensures.words ∙ ap (λ p. slice_set (words_in p) (c.args.at % 4096) c.args.word.now)
+    c.index_mut.ensures.value)
 
 pub returns-clause-word : goal.returns-clause-word
 returns-clause-word c =

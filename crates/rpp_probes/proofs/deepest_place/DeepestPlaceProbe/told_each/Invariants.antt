@@ -7,4 +7,5 @@ use Rattle.rpp_probes.proofs.deepest_place.DeepestPlaceProbe.told_each.Given as 
 -- what is left to tell gives the whole tally
 abbrev pub invariant-loop-step : goal.invariant-loop-step
 invariant-loop-step l =
-    told_all (drop l.step-index l.steps) (deepest_place (option_to_list l.deepest)) ≡ told_all l.steps (deepest_place (option_to_list l.initial.deepest))
+    told_all (drop l.step-index l.steps) (deepest_place (option_to_list l.deepest))
+    ≡ told_all l.steps (deepest_place (option_to_list l.initial.deepest))

@@ -5,6 +5,7 @@ use Rattle.rpp_probes.proofs.probe.Probe.told_each.Given as goal
 -- what is left to tell gives the whole tally, and ends nothing
 abbrev pub invariant-loop-step : goal.invariant-loop-step
 invariant-loop-step g l = record {
-  told : told_all (drop l.step-index l.steps) (g.Self.Probe.watch l.self) ≡ told_all l.steps (g.Self.Probe.watch l.initial.self);
+  told : told_all (drop l.step-index l.steps) (g.Self.Probe.watch l.self)
+      ≡ told_all l.steps (g.Self.Probe.watch l.initial.self);
   sure : ends_in (drop l.step-index l.steps) (g.Self.Probe.watch l.self) ≡ false;
 }

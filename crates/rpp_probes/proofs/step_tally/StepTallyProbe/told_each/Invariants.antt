@@ -6,4 +6,5 @@ use Rattle.rpp_probes.proofs.step_tally.StepTallyProbe.told_each.Given as goal
 -- what is left to tell gives the whole tally
 abbrev pub invariant-loop-step : goal.invariant-loop-step
 invariant-loop-step l =
-    told_all (drop l.step-index l.steps) (step_tally l.forward l.back) ≡ told_all l.steps (step_tally l.initial.forward l.initial.back)
+    told_all (drop l.step-index l.steps) (step_tally l.forward l.back)
+    ≡ told_all l.steps (step_tally l.initial.forward l.initial.back)

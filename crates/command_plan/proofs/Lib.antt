@@ -1,0 +1,3 @@
+pub mod TwoReads
+pub mod Writes
+pub mod GivenTexts

@@ -1,0 +1,14 @@
+use Rattle.command_plan.specs.Plans.{planned}
+use Rattle.command_plan.specs.declared.reading.TheConstants.{MOST_IMAGE}
+use Rattle.command_plan.proofs.GivenTexts.{with_text}
+use Rattle.image_commands.specs.ImagePlans.{IsFlipPlan}
+use Rattle.pisa_image.specs.Reading.{image_at}
+use Rattle.image_commands.proofs.images.flip.Goals as goal
+
+pub returns-clause-plan : goal.returns-clause-plan
+returns-clause-plan g c =
+    with_text (g.S.Shelf.texts c.args.shelf.now) c.args.image.now MOST_IMAGE c.in_ok-bytes.bytes.items
+    c.deref.result.now
+    (λ text. IsFlipPlan (image_at text) c.args.flipped.now (planned c.in_ok-flip_bytes.field-0))
+    c.in_ok-bytes.ensures.text c.in_ok-bytes.ensures.within
+    c.deref.ensures.value c.in_ok-flip_bytes.ensures

@@ -1,5 +1,0 @@
-use Rattle.inverse_law.proofs.Law.{elements_at_start}
-use Rattle.inverse_law.proofs.laws.start_has_elements.Goals as goal
-
-pub returns : goal.returns
-returns c = elements_at_start

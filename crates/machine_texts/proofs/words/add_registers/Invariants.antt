@@ -1,8 +1,0 @@
-use Rattle.std.proofs.Common.{◌≡◌, ◌++◌, drop}
-use Rattle.std.specs.Prelude.{string_bytes}
-use Rattle.machine_texts.specs.Words.{register_lines}
-use Rattle.machine_texts.proofs.words.add_registers.Given as goal
-
--- the lines so far and those of the registers that are left are the whole
-abbrev pub invariant-loop-number : goal.invariant-loop-number
-invariant-loop-number l = string_bytes l.text ++ register_lines l.number (drop l.number l.regs) ≡ string_bytes l.initial.text ++ register_lines 0 l.regs

@@ -1,0 +1,17 @@
+-- What is known of the lengths of a run's arrays.
+use Rattle.std.specs.Prelude.{◌≡◌, ℕ, Bool, true, false, length, Some}
+use Rattle.rpp_words.specs.Words.{is_less}
+use Rattle.roopl_semantics.specs.Store.{Head, OfClass, OfInts, OfObjects, Object, Store}
+use Rattle.roopl_semantics.specs.Store.{object_named}
+
+-- whether this is the head of an object, and not of an array
+abbrev pub is_class_head : Head → Bool
+is_class_head (OfClass class) = true
+is_class_head (OfInts length) = false
+is_class_head (OfObjects class length) = false
+
+-- each array has an element, and no more than a positive word tells
+pub record ArraysHaveElements (store : Store) : Type 0 where
+  pub long : (name : ℕ) (object : Object) → object_named store name ≡ Some object
+      → is_class_head object.head ≡ false
+      → is_less (length object.cells) 1 ≡ false

@@ -1,0 +1,90 @@
+-- The law of inverses.
+use Rattle.std.specs.Prelude.{◌≡◌, ◌<◌, ℕ, List, length}
+use Rattle.rpp_words.specs.Limits.{IsLimits}
+use Rattle.rpp_words.specs.declared.input.FieldWord.{FieldWord}
+use Rattle.rpp_words.specs.declared.input.Limits.{Limits}
+use Rattle.rpp_tree.specs.Tree.{Statements, Source}
+use Rattle.class_table.specs.Scope.{Locals}
+use Rattle.class_table.specs.Table.{table_of}
+use Rattle.class_table.specs.Statements.{passed, check_statements}
+use Rattle.class_table.specs.Program.{IsAccepted, setting_in}
+use Rattle.stmt_inverter.specs.Inverse.{inverse}
+use Rattle.roopl_semantics.specs.Run.{Done}
+use Rattle.roopl_semantics.specs.Store.{State}
+use Rattle.roopl_semantics.specs.Execution.{Setting, exec}
+use Rattle.roopl_semantics.specs.Source.{IsValid, source, starting, main_body}
+use Rattle.roopl_semantics.specs.Report.{report}
+use Rattle.meaning_sound.specs.Sound.{Sound}
+use Rattle.meaning_sound.specs.Plain.{IsPlain}
+use Rattle.meaning_sound.specs.Kept.{MeansSame}
+use Rattle.meaning_inverse.specs.StatesAgree.{AgreeStates}
+use Rattle.meaning_inverse.specs.ArrayLengths.{ArraysHaveElements}
+
+-- the inverse of a block leads back from its end, at the same cost, to a state that agrees with its
+-- start
+pub record LeadsBack (setting : Setting) (body : Statements) (start end : State) (cost : ℕ) : Type 0
+  where
+    pub back : State
+    pub runs : exec setting cost (inverse body) end ≡ Done back cost
+    pub agrees : AgreeStates setting.limits.heap start back
+
+-- what an accepted program did, the inverse of its main method undoes
+abbrev pub InverseLaw : Type 0
+InverseLaw =
+    (program : Source) (limits : Limits) (input : List FieldWord) (fuel : ℕ) (end : State)
+    (cost : ℕ)
+    → IsAccepted program → IsLimits limits → IsValid program input
+    → source program limits input fuel ≡ Done end cost
+    → LeadsBack (record { program = program; limits = limits }) (main_body program)
+    (starting program input) end cost
+
+-- it leads back to a state with the report of its start
+pub record ShowsBack (setting : Setting) (body : Statements) (start end : State) (cost : ℕ) : Type 0
+  where
+    pub leads : LeadsBack setting body start end cost
+    pub shown : report setting.program leads.back.store ≡ report setting.program start.store
+
+-- run back, a program prints what it would have printed at its start
+abbrev pub InputComesBack : Type 0
+InputComesBack =
+    (program : Source) (limits : Limits) (input : List FieldWord) (fuel : ℕ) (end : State)
+    (cost : ℕ)
+    → IsAccepted program → IsLimits limits → IsValid program input
+    → source program limits input fuel ≡ Done end cost
+    → ShowsBack (record { program = program; limits = limits }) (main_body program)
+    (starting program input) end cost
+
+-- the inverse of a checked block undoes what the block did from a sound state
+abbrev pub BlocksUndo : Type 0
+BlocksUndo =
+    (program : Source) (limits : Limits) (fuel : ℕ) (extra : ℕ → ℕ) (locals shape : Locals)
+    (class : ℕ)
+    (body : Statements) (start end : State) (cost : ℕ)
+    → IsAccepted program
+    → class < length program.classes → MeansSame locals shape
+    → check_statements (setting_in program (table_of program) class) locals body ≡ passed
+    → IsPlain body
+    → Sound (record { program = program; limits = limits }) extra shape class start
+    → ArraysHaveElements start.store
+    → exec (record { program = program; limits = limits }) fuel body start ≡ Done end cost
+    → LeadsBack (record { program = program; limits = limits }) body start end cost
+
+-- what `BlocksUndo` asks of arrays holds at the start of a run
+abbrev pub StartHasElements : Type 0
+StartHasElements = (program : Source) (input : List FieldWord)
+    → ArraysHaveElements (starting program input).store
+
+-- and checked blocks keep it
+abbrev pub ArraysKeepElements : Type 0
+ArraysKeepElements =
+    (program : Source) (limits : Limits) (fuel : ℕ) (extra : ℕ → ℕ) (locals shape : Locals)
+    (class : ℕ)
+    (body : Statements) (start end : State) (cost : ℕ)
+    → IsAccepted program
+    → class < length program.classes → MeansSame locals shape
+    → check_statements (setting_in program (table_of program) class) locals body ≡ passed
+    → IsPlain body
+    → Sound (record { program = program; limits = limits }) extra shape class start
+    → ArraysHaveElements start.store
+    → exec (record { program = program; limits = limits }) fuel body start ≡ Done end cost
+    → ArraysHaveElements end.store

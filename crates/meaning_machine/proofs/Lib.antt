@@ -1,0 +1,7 @@
+pub mod Steps
+pub mod Following
+pub mod Sources
+pub mod Back
+pub mod Turning
+pub mod Placing
+pub mod Branching

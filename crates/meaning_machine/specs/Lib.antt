@@ -1,0 +1,6 @@
+pub mod Machine
+pub mod MachineLaws
+pub mod SourceLaws
+pub mod Turned
+pub mod BackLaws
+pub mod Placed

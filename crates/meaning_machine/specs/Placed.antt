@@ -1,0 +1,86 @@
+-- The places where a run can stand: each block is the one that its open statement holds.
+use Rattle.std.specs.Prelude.{◌≡◌, ℕ, Bool, List, [], ◌∷◌, Option, Some, if◌then◌else◌}
+use Rattle.rpp_tree.specs.declared.tree.Ident.{Ident}
+use Rattle.rpp_tree.specs.declared.tree.Var.{Var}
+use Rattle.rpp_tree.specs.Tree.{Expression, Null, Lvalue, Item, Statement, Statements, If, From}
+use Rattle.rpp_tree.specs.Tree.{Construct, Local, Call, End, Then}
+use Rattle.roopl_semantics.specs.Run.{Done}
+use Rattle.roopl_semantics.specs.Store.{Value, State}
+use Rattle.roopl_semantics.specs.Value.{Cell}
+use Rattle.roopl_semantics.specs.Execution.{Setting, constructed, element_name, element_call}
+use Rattle.meaning_machine.specs.Machine.{Caller, Part, Chosen, First, Again, Holding, Calling}
+use Rattle.meaning_machine.specs.Machine.{Open}
+use Rattle.meaning_machine.specs.Machine.{Config, next}
+use Rattle.meaning_machine.specs.MachineLaws.{before}
+use Rattle.meaning_machine.specs.Turned.{turn, unwound, StepsBack}
+
+-- the block that runs in a part of an open statement; that of a call is a method's
+pub data RunsIn : Statement → Part → Statements → Type 0 where
+  side : (at : ℕ) (test : Expression) (taken other : Statements) (after : Expression) (b : Bool)
+      → RunsIn (If at test taken other after) (Chosen b test after) (if b then taken else other)
+  first : (at : ℕ) (entry : Expression) (one two : Statements) (exit : Expression)
+      → RunsIn (From at entry one two exit) (First entry one two exit) one
+  again : (at : ℕ) (entry : Expression) (one two : Statements) (exit : Expression)
+      → RunsIn (From at entry one two exit) (Again entry one two exit) two
+  object : (at : ℕ) (class name : Ident) (body : Statements) (end : Ident)
+      → RunsIn (Construct at class name body end) (Holding name.text (Null at) (Null at))
+      (constructed at class name body)
+  local : (at : ℕ) (var : Var) (value : Expression) (body : Statements) (end_var : Var)
+      (end_value : Expression) (name : List ℕ)
+      → RunsIn (Local at var value body end_var end_value) (Holding name value end_value) body
+  element : (at : ℕ) (back : Bool) (name : Ident) (index : Expression) (method : Ident)
+      (args : List Ident)
+      → RunsIn (Call at back (Some (Item name index)) method args)
+      (Holding (element_name at).text (Null at) (Null at))
+      (element_call at back name index method args)
+  body : (at : ℕ) (back : Bool) (receiver : Option Lvalue) (method : Ident) (args : List Ident)
+      (caller : Caller) (cells others : List Cell) (held : List Value) (block : Statements)
+      → RunsIn (Call at back receiver method args) (Calling caller cells others held) block
+
+-- a block stands inside of these open statements, the innermost first
+abbrev pub StandsIn : Statements → List Open → Type 0
+StandsIn block [] = Unit {0}
+StandsIn block (o ∷ around) = RunsIn o.here o.part block
+    × StandsIn (unwound o.past (Then o.here o.rest)) around
+
+-- where a run can stand
+pub record IsPlaced (x : Config) : Type 0 where
+  pub stands : StandsIn (unwound x.past x.rest) x.around
+
+-- it stands so at the start; a step keeps it so, and so does turning round
+pub record StaysPlaced : Type 0 where
+  pub start : (body : Statements) (params : ℕ) (st : State)
+      → IsPlaced (before End body params [] st)
+  pub step : (setting : Setting) (x y : Config) (cost : ℕ)
+      → IsPlaced x → next setting x ≡ Done y cost → IsPlaced y
+  pub turned : (x : Config) → IsPlaced x → IsPlaced (turn x)
+
+-- what is turned round twice is as it was
+abbrev pub TurnsTwice : Type 0
+TurnsTwice = (x : Config) → turn (turn x) ≡ x
+
+-- whether a statement is a choice or a loop
+abbrev pub IsBranch : Statement → Type 0
+IsBranch (If at test taken other after) = Unit {0}
+IsBranch (From at entry one two exit) = Unit {0}
+IsBranch _ = ⊥
+
+abbrev pub IsBranchPart : Part → Type 0
+IsBranchPart (Chosen b test after) = Unit {0}
+IsBranchPart (First entry one two exit) = Unit {0}
+IsBranchPart (Again entry one two exit) = Unit {0}
+IsBranchPart _ = ⊥
+
+-- whether the next step is one of a choice or a loop: into it, out of it, or to another part of it
+abbrev pub Branches : Statements → List Open → Type 0
+Branches (Then s rest) around = IsBranch s
+Branches End [] = ⊥
+Branches End (o ∷ around) = IsBranchPart o.part
+
+-- wherever a run can stand, a step of a choice or a loop is taken back by a step of the machine
+-- turned round
+abbrev pub BranchesStepBack : Type 0
+BranchesStepBack =
+    (setting : Setting) (x y : Config) (cost : ℕ)
+    → IsPlaced x → next setting x ≡ Done y cost → Branches x.rest x.around
+    → StepsBack setting x y

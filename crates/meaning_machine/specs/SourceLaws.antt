@@ -1,0 +1,57 @@
+-- The runs of programs on the machine.
+use Rattle.std.specs.Prelude.{◌≡◌, ◌<◌, ◌≤◌, ℕ, List, []}
+use Rattle.rpp_words.specs.declared.input.FieldWord.{FieldWord}
+use Rattle.rpp_words.specs.declared.input.Limits.{Limits}
+use Rattle.rpp_tree.specs.Tree.{Source, End}
+use Rattle.roopl_semantics.specs.Run.{Run, Done, Fault, More}
+use Rattle.roopl_semantics.specs.Store.{State}
+use Rattle.roopl_semantics.specs.Source.{main_body, starting, source}
+use Rattle.roopl_semantics.specs.Execution.{Setting}
+use Rattle.meaning_points.specs.Trail.{trail}
+use Rattle.meaning_machine.specs.Machine.{Config, walk}
+use Rattle.meaning_machine.specs.MachineLaws.{before, after, Arrives, Breaks}
+
+abbrev pub set_for : Source → Limits → Setting
+set_for program limits = record { program = program; limits = limits }
+
+-- where the run of a program begins
+abbrev pub start_of : Source → List FieldWord → Config
+start_of program input = before End (main_body program) 0 [] (starting program input)
+
+-- where it is over
+abbrev pub end_of : Source → State → Config
+end_of program end = after End (main_body program) 0 [] end
+
+-- a run that costs more than the fuel
+abbrev pub Exceeds : {A : Type 0} → ℕ → Run A → Type 0
+Exceeds fuel (Done result cost) = fuel < cost
+Exceeds fuel (Fault code cost) = fuel < cost
+Exceeds fuel More = ⊥
+
+-- some number of steps costs more than the fuel
+pub record Outlasts (setting : Setting) (x : Config) (fuel : ℕ) : Type 0 where
+  pub steps : ℕ
+  pub exceeds : Exceeds fuel (walk setting steps x)
+
+-- the machine's steps from the start are the source: with every fuel the source gives a state or a
+-- fault exactly where some number of steps comes to it at a cost within the fuel, at the same cost
+-- and along the points of the run; and it is not over exactly where some number of steps costs more
+pub record SourceIsMachine (program : Source) (limits : Limits) (input : List FieldWord)
+    (fuel : ℕ) : Type 0 where
+  pub done : (end : State) (cost : ℕ) → source program limits input fuel ≡ Done end cost
+      → Arrives (set_for program limits) (start_of program input) (end_of program end) cost
+      (trail program limits input fuel).points
+  pub fault : (code cost : ℕ) → source program limits input fuel ≡ Fault code cost
+      → Breaks (set_for program limits) (start_of program input) code cost
+      (trail program limits input fuel).points
+  pub more : source program limits input fuel ≡ More
+      → Outlasts (set_for program limits) (start_of program input) fuel
+  pub done_only : (steps : ℕ) (end : State) (cost : ℕ)
+      → walk (set_for program limits) steps (start_of program input)
+      ≡ Done (end_of program end) cost
+      → cost ≤ fuel → source program limits input fuel ≡ Done end cost
+  pub fault_only : (steps code cost : ℕ)
+      → walk (set_for program limits) steps (start_of program input) ≡ Fault code cost
+      → cost ≤ fuel → source program limits input fuel ≡ Fault code cost
+  pub more_only : Outlasts (set_for program limits) (start_of program input) fuel
+      → source program limits input fuel ≡ More

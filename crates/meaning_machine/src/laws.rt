@@ -1,0 +1,47 @@
+// Laws of the machine, each the contract of a function.
+ghost use Rattle.std.specs.Prelude.{ℕ, List};
+ghost use Rattle.rpp_words.specs.declared.input.FieldWord.{FieldWord};
+ghost use Rattle.rpp_words.specs.declared.input.Limits.{Limits};
+ghost use Rattle.rpp_tree.specs.Tree.{Source};
+ghost use Rattle.meaning_machine.specs.MachineLaws.{MachineIsMeaning};
+ghost use Rattle.meaning_machine.specs.SourceLaws.{SourceIsMachine};
+ghost use Rattle.meaning_machine.specs.BackLaws.{ChoicesStepBack, TurnsStepBack};
+ghost use Rattle.meaning_machine.specs.Placed.{TurnsTwice, StaysPlaced, BranchesStepBack};
+
+/// The machine does what the meaning says of a block.
+pub fn machine_is_meaning()
+    ensures { MachineIsMeaning }
+{}
+
+/// The machine's steps from the start of a program are its source, with every fuel.
+pub fn source_is_machine()
+    ensures { (program : Source) (limits : Limits) (input : List FieldWord) (fuel : ℕ)
+        → SourceIsMachine program limits input fuel }
+{}
+
+/// A step into a choice, or out of one, is taken back by a step of the machine turned round.
+pub fn choices_step_back()
+    ensures { ChoicesStepBack }
+{}
+
+/// So is each step of a loop.
+pub fn turns_step_back()
+    ensures { TurnsStepBack }
+{}
+
+/// The machine that is turned round twice is as it was.
+pub fn turns_twice()
+    ensures { TurnsTwice }
+{}
+
+/// Each block that a run stands in is the one that its open statement holds: at the start, after
+/// each step, and when the machine is turned round.
+pub fn stays_placed()
+    ensures { StaysPlaced }
+{}
+
+/// Wherever a run can stand, a step of a choice or a loop is taken back by a step of the machine
+/// turned round.
+pub fn branches_step_back()
+    ensures { BranchesStepBack }
+{}

@@ -1,0 +1,3 @@
+pub mod Growing
+mod WrittenOut
+mod Rows

@@ -1,0 +1,4 @@
+pub mod Points
+pub mod Trail
+pub mod PointLaws
+pub mod WrittenOut

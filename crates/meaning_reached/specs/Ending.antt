@@ -1,0 +1,57 @@
+-- At the end of every accepted program each live object is reached: the laws.
+use Rattle.std.specs.Prelude.{◌≡◌, ◌≢◌, ◌<◌, ℕ, true, false, List, length, nat_eq}
+use Rattle.std.specs.List.{list_any}
+use Rattle.rpp_words.specs.declared.input.FieldWord.{FieldWord}
+use Rattle.rpp_words.specs.declared.input.Limits.{Limits}
+use Rattle.rpp_tree.specs.Tree.{Statements, Source}
+use Rattle.class_table.specs.Scope.{Locals}
+use Rattle.class_table.specs.Table.{table_of}
+use Rattle.class_table.specs.Statements.{passed, check_statements}
+use Rattle.class_table.specs.Program.{IsAccepted, setting_in}
+use Rattle.roopl_semantics.specs.Run.{Done}
+use Rattle.roopl_semantics.specs.Store.{Store, State, main_name}
+use Rattle.roopl_semantics.specs.Execution.{exec}
+use Rattle.roopl_semantics.specs.Source.{IsValid, source}
+use Rattle.rpp_words.specs.Limits.{IsLimits}
+use Rattle.roopl_semantics.specs.Report.{numbered, live_count, report}
+use Rattle.roopl_semantics.specs.Layout.{is_plain}
+use Rattle.roopl_semantics.specs.Walk.{run_report}
+use Rattle.meaning_sound.specs.Sound.{is_live, Sound}
+use Rattle.meaning_sound.specs.Plain.{IsPlain}
+use Rattle.meaning_sound.specs.Kept.{MeansSame}
+use Rattle.meaning_reached.specs.Reached.{Reaches}
+
+-- what is done by a checked block of an accepted program keeps every live object reached, whatever
+-- is held besides
+abbrev pub ExecutionReaches : Type 0
+ExecutionReaches =
+    (program : Source) (limits : Limits) (fuel : ℕ) (extra : ℕ → ℕ) (locals shape : Locals)
+    (class : ℕ)
+    (body : Statements) (start end : State) (cost : ℕ)
+    → IsAccepted program
+    → class < length program.classes → MeansSame locals shape
+    → check_statements (setting_in program (table_of program) class) locals body ≡ passed
+    → IsPlain body
+    → Sound (record { program = program; limits = limits }) extra shape class start
+    → Reaches extra start
+    → exec (record { program = program; limits = limits }) fuel body start ≡ Done end cost
+    → Reaches extra end
+
+-- a store in which the report's walk from the main object meets every other live object
+pub record IsReached (program : Source) (store : Store) : Type 0 where
+  pub met : (name : ℕ) → is_live store name ≡ true → name ≢ main_name
+      → list_any (nat_eq name) (numbered store) ≡ true
+  pub lives : (name : ℕ) → list_any (nat_eq name) (numbered store) ≡ true
+      → is_live store name ≡ true
+  pub no_main : list_any (nat_eq main_name) (numbered store) ≡ false
+  pub plain : is_plain program store ≡ true
+  pub count : live_count store ≡ length (numbered store)
+  pub reports : (cells : List ℕ) → run_report program store cells ≡ report program store
+
+-- at the end of every accepted program the store is reached
+abbrev pub EndsReached : Type 0
+EndsReached =
+    (program : Source) (limits : Limits) (input : List FieldWord) (fuel : ℕ) (end : State)
+    (cost : ℕ)
+    → IsAccepted program → IsLimits limits → IsValid program input
+    → source program limits input fuel ≡ Done end cost → IsReached program end.store

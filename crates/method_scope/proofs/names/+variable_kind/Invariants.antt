@@ -1,5 +1,0 @@
-use Rattle.std.proofs.Common.{length}
-use Rattle.method_scope.proofs.names.+variable_kind.Given as goal
-
-abbrev pub decreases-variable_kind : goal.decreases-variable_kind
-decreases-variable_kind l = length l.variables.now

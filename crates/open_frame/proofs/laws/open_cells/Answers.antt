@@ -1,5 +1,0 @@
-use Rattle.open_frame.proofs.Stated.{open_cells}
-use Rattle.open_frame.proofs.laws.open_cells.Goals as goal
-
-pub returns : goal.returns
-returns c = open_cells

@@ -1,5 +1,0 @@
-use Rattle.open_frame.proofs.Stated.{open_layout}
-use Rattle.open_frame.proofs.laws.open_layout.Goals as goal
-
-pub returns : goal.returns
-returns c = open_layout

@@ -1,0 +1,54 @@
+// Printed words, and the lines on stops.
+ghost use Rattle.std.specs.Prelude.{◌≡◌, ◌++◌, IfOk, OnOk, string_bytes};
+ghost use Rattle.pisa_scripts.specs.Stops.{fault_name as name_of_fault, stop_line};
+
+use pisa_isa::Stop;
+use std::alloc::AllocError;
+
+/// Adds the line on why a machine stopped.
+pub fn add_stop(text: &mut String, stop: Stop) -> Result<(), AllocError>
+    ensures { OnOk result (string_bytes text.new ≡ string_bytes text.old ++ stop_line stop) }
+{
+    match stop {
+        Stop::Finished => text.push_str("finished\n"),
+        Stop::Returned => text.push_str("returned\n"),
+        Stop::Trap(code) => add_fault(text, code),
+        Stop::BadAddress(address) => write!(text, "bad address {address}\n"),
+        Stop::OffCode(place) => write!(text, "off code {place}\n"),
+        Stop::Bound => text.push_str("bound\n"),
+    }
+}
+
+// The line on a fault, with its name.
+fn add_fault(text: &mut String, code: u32) -> Result<(), AllocError>
+    ensures { OnOk result (string_bytes text.new ≡ string_bytes text.old ++ stop_line (Stop.Trap code)) }
+{
+    let name = fault_name(code);
+    let number = code.cast_signed();
+    write!(text, "fault {number}{name}\n")
+}
+
+// The name of a fault, with a space in front.
+fn fault_name(code: u32) -> &'static str
+    ensures { result.now ≡ name_of_fault code }
+{
+    match code {
+        1 => " Fi",
+        2 => " Loop",
+        3 => " Delocal",
+        4 => " NotNil",
+        5 => " Nil",
+        6 => " Count",
+        7 => " NotEmpty",
+        8 => " HeapFull",
+        9 => " Index",
+        10 => " NotSame",
+        11 => " ClassDiffers",
+        12 => " LengthDiffers",
+        13 => " Length",
+        14 => " TooDeep",
+        15 => " Touched",
+        16 => " SharedArray",
+        _ => "",
+    }
+}

@@ -1,5 +1,0 @@
-use Rattle.program_laws.proofs.Stated.{codes_are_made_in_order}
-use Rattle.program_laws.proofs.laws.codes_are_made_in_order.Goals as goal
-
-pub returns : goal.returns
-returns c = codes_are_made_in_order

@@ -1,5 +1,0 @@
-use Rattle.program_wrap.proofs.IntFields.{int_fields}
-use Rattle.program_wrap.proofs.laws.int_fields_stand_in_static_cells.Goals as goal
-
-pub returns : goal.returns
-returns c = int_fields

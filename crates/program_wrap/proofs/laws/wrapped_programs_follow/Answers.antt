@@ -1,5 +1,0 @@
-use Rattle.program_wrap.proofs.Told.{wrapped_programs_follow}
-use Rattle.program_wrap.proofs.laws.wrapped_programs_follow.Goals as goal
-
-pub returns : goal.returns
-returns c = wrapped_programs_follow

@@ -1,0 +1,83 @@
+-- The table of an object's class, in the memory of an open frame.
+use Rattle.std.proofs.Common.{◌≡◌, ℕ, ◌+◌, ◌<◌, ◌≤◌, true, List, length, Some, sym, ap, ◌∙◌, subst, arith}
+use Rattle.std.specs.Prelude.{slice_index, is_some}
+use Rattle.class_table.specs.declared.kind.Kind.TheVariants as kind
+use Rattle.class_table.specs.Classes.{class_slots}
+use Rattle.buddy_book.specs.Place.{Placing}
+use Rattle.roopl_semantics.specs.Store.{OfClass, State, object_at}
+use Rattle.roopl_semantics.specs.Layout.{HasStatics, table_at, head_word}
+use Rattle.roopl_semantics.specs.Execution.{Setting}
+use Rattle.pisa_isa.specs.Image.{Segments}
+use Rattle.class_table.specs.Inheritance.{is_or_inherits}
+use Rattle.meaning_sound.specs.Sound.{named_fits, head_of}
+use Rattle.meaning_sound.proofs.Stores.{live_object}
+use Rattle.refine_frame.proofs.Memory.{base_above}
+use Rattle.class_table.proofs.FoundMethods.{own_range}
+use Rattle.refine_frame.proofs.Tells.{read_head}
+use Rattle.refine_frame.proofs.TableWords.{places_of, read_table, table_low}
+use Rattle.refine_form.specs.Form.{Scope, Moved}
+use Rattle.method_calls.specs.Facts.{HasPlace}
+use Rattle.refine_form.specs.Frames.{Under, base, address_of}
+use Rattle.refine_form.specs.Stands.{shape_of, extra, setup, Kept, Stands}
+use Rattle.refine_calls.proofs.Bridge.{same_memory, same_at, typed, stack_fits, stack}
+use Rattle.refine_calls.proofs.MovesFit.{frame_long}
+use Rattle.refine_calls.proofs.FramePlaces.{all_small, object_low}
+use Rattle.refine_calls.proofs.Bridge.{reads_of}
+
+module _ (setting : Setting) (statics : List ℕ) (few : length statics ≤ 262144) (image : Segments)
+    (has : HasStatics setting.program image) (same : statics ≡ image.statics) where
+  -- the object's class is the scope's or inherits from it
+  pub class_above : (s : Scope) (u : Under) (moved : List Moved) (st : State) → Kept setting statics s u moved st
+      → is_or_inherits setting.program u.class s.class ≡ true
+  class_above s u moved st k = sym (ap (named_fits setting.program (kind.Class s.class)) k.own_is) ∙ k.self_is
+
+  pub table_read : (s : Scope) (u : Under) (moved : List Moved) (st : State) (cells : List ℕ)
+      → Stands setting statics s u moved st cells → (slot : ℕ) → slot < length (class_slots setting.program u.class)
+      → HasPlace cells u.object slot (slice_index (places_of has.places u.class) slot)
+  table_read s u moved st cells h slot low =
+      let x = setup setting statics in
+      let at = h.frame.at in
+      let words = stack setting statics s u moved st cells (reads_of h) in
+      let own_in = own_range setting.program u.class s.class (class_above s u moved st h.keeps) h.keeps.class_inside in
+      let fits = stack_fits setting statics s u moved st cells (reads_of h) in
+      let all = frame_long setting statics s u moved st cells (reads_of h) in
+      let object = object_low setting statics few s u moved st cells h in
+      let small = all_small setting statics few h.keeps.grounded.limits in
+      let b : 40 + length statics ≤ base setting statics = base_above x in
+      let low_table = table_low setting.program image has u.class slot own_in low in
+      let table : table_at setting.program u.class + 1 + slot < 40 + length statics =
+      subst (λ z. table_at setting.program u.class + 1 + slot < 40 + length z) (sym same) low_table in
+      let shown : cells ≡ Rattle.refine_frame.specs.Open.memory x at st.store words = h.frame.cells_are
+      ∙ sym (same_memory setting statics at st.store words fits) in
+      let live = live_object st.store u.self (ap is_some h.keeps.own_is) in
+      let head : (object_at st.store u.self).head ≡ OfClass u.class =
+      (let e : Some (object_at st.store u.self).head ≡ Some (OfClass u.class) = sym
+      (ap (Rattle.std.specs.Option.option_map head_of) live) ∙ h.keeps.own_is in cc) in
+      let word : slice_index (Rattle.refine_frame.specs.Open.memory x at st.store words)
+      (address_of setting statics at u.self) ≡ table_at setting.program u.class =
+      subst (λ (a : Placing). slice_index (Rattle.refine_frame.specs.Open.memory x a st.store words)
+      (address_of setting statics a u.self) ≡ table_at setting.program u.class)
+      (same_at setting statics s u moved st cells (reads_of h))
+      (read_head x (extra u moved) (shape_of setting.program s) s.class st
+      (typed setting statics s u moved st cells (reads_of h)) h.keeps.main_unheld h.keeps.grounded words u.self
+      (ap is_some h.keeps.own_is) ∙ ap (head_word setting.program) head) in
+      let object_word : slice_index cells u.object ≡ table_at setting.program u.class =
+      ap (slice_index cells) (sym h.frame.stands.1) ∙ ap (λ c. slice_index c (address_of setting statics at u.self))
+      shown ∙ word in
+      let at_entry : table_at setting.program u.class + 1 + slot ≡ table_at setting.program u.class + (1 + slot) =
+      omega arith in
+      let entry_word : slice_index (Rattle.refine_frame.specs.Open.memory x at st.store words)
+      (table_at setting.program u.class + 1 + slot) ≡ slice_index (places_of has.places u.class) slot =
+      subst (λ (a : Placing). slice_index (Rattle.refine_frame.specs.Open.memory x a st.store words)
+      (table_at setting.program u.class + 1 + slot) ≡ slice_index (places_of has.places u.class) slot)
+      (same_at setting statics s u moved st cells (reads_of h))
+      (read_table x (extra u moved) (shape_of setting.program s) s.class st
+      (typed setting statics s u moved st cells (reads_of h)) h.keeps.grounded image has same words u.class slot
+      own_in low) in
+      record {
+        object_in = omega (arith, all, object);
+        small = omega (arith, object_word, small, b, table);
+        entry_in = omega (arith, object_word, all, b, table);
+        entry = ap (λ z. slice_index cells (z + (1 + slot))) object_word ∙ ap (slice_index cells) (sym at_entry)
+            ∙ ap (λ c. slice_index c (table_at setting.program u.class + 1 + slot)) shown ∙ entry_word;
+      }

@@ -1,0 +1,160 @@
+-- Addresses of an open frame, its class's table, and what is put by in it.
+use Rattle.std.proofs.Common.{◌≡◌, ℕ, ◌+◌, ◌*◌, ◌^◌, ◌<◌, ◌≤◌, Bool, true, false, List, [], ◌∷◌, length, refl, sym}
+use Rattle.std.proofs.Common.{subst, arith}
+use Rattle.std.specs.Prelude.{replicate, nat_eq, slice_index, slice_set, not, nat_lt, if◌then◌else◌}
+use Rattle.buddy_book.specs.Place.{Placing, block_of}
+use Rattle.roopl_semantics.specs.Store.{OfClass, State, main_name}
+use Rattle.rpp_words.specs.Limits.{IsLimits}
+use Rattle.roopl_semantics.specs.Execution.{Setting}
+use Rattle.pisa_isa.specs.Loaded.{statics_at}
+use Rattle.meaning_sound.proofs.Stores.{differs}
+use Rattle.meaning_sound.proofs.Regions.{region_inside}
+use Rattle.refine_frame.proofs.Memory.{base_above}
+use Rattle.refine_frame.proofs.Tells.{cells_small}
+use Rattle.refine_form.specs.Form.{Scope, Moved}
+use Rattle.method_calls.specs.Facts.{HasEnd, HasWords}
+use Rattle.refine_form.specs.Frames.{Under, base, stack_base, address_of, OpenFrame}
+use Rattle.refine_calls.proofs.FramesFit.{has_end, link_word, place_word, put_opens}
+use Rattle.refine_form.specs.Stands.{setup, Kept, Stands}
+use Rattle.method_calls.specs.Names.{put}
+use Rattle.refine_calls.proofs.Bridge.{set_words, same_at, before_long}
+use Rattle.refine_calls.proofs.MovesFit.{frame_address, frame_long}
+use Rattle.refine_calls.proofs.FactsMoves.{set_apart}
+use Rattle.refine_form.specs.Worlds.{IsFresh}
+use Rattle.refine_calls.proofs.Bridge.{reads_of}
+
+module _ (setting : Setting) (statics : List ℕ) (few : length statics ≤ 262144) where
+  pub all_small : IsLimits setting.limits → stack_base setting statics + 512 * setting.limits.deep ≤ 2 ^ 23
+  all_small l = cells_small (setup setting statics) l few
+
+  module _ (s : Scope) (u : Under) (moved : List Moved) (st : State) (cells : List ℕ)
+      (h : Stands setting statics s u moved st cells) where
+    pub frame_small : frame_address setting statics u < 2 ^ 23
+    frame_small = let a = all_small h.keeps.grounded.limits in let d = h.frame.depth_is in let i = h.frame.in_depth in
+        omega (arith, a, d, i)
+
+    -- the object stands before the stack
+    pub object_low : u.object + 2 ≤ stack_base setting statics
+    object_low = subst (λ o. o + 2 ≤ stack_base setting statics) h.frame.stands.1
+        (subst (λ (a : Placing). address_of setting statics a u.self + 2 ≤ stack_base setting statics)
+        (same_at setting statics s u moved st cells (reads_of h)) (by (nat_eq u.self main_name) refl))
+      where
+        by : (b : Bool) → nat_eq u.self main_name ≡ b → (if b then statics_at else base setting statics + block_of
+            h.keeps.placed.at.blocks u.self) + 2 ≤ stack_base setting statics
+        by true e = let q : 40 + length statics ≤ base setting statics = base_above (setup setting statics) in
+            let r : 2 ≤ length statics = (let z = h.keeps.grounded.room in omega (arith, z)) in omega (arith, q, r)
+        by false e = let r = region_inside setting st.store st.log h.keeps.placed u.self (OfClass u.class)
+            h.keeps.own_is (differs u.self main_name e) in omega (arith, r)
+
+    pub object_small : u.object < 2 ^ 23
+    object_small = let a = all_small h.keeps.grounded.limits in let o = object_low in omega (arith, a, o)
+
+  pub frame_end : (s : Scope) (u : Under) (st : State) (cells : List ℕ) → Stands setting statics s u [] st cells
+      → HasEnd cells (frame_address setting statics u) (not (nat_lt (1 + length u.callers) setting.limits.deep))
+  frame_end s u st cells h = has_end setting statics s u st cells h.frame
+      (let a = all_small h.keeps.grounded.limits in omega (arith, a))
+
+  -- ---- what is put by
+
+  kept_put : (s : Scope) (u : Under) (st : State) (link place : ℕ) → Kept setting statics s u [] st
+      → Kept setting statics s (put u link place) [] st
+  kept_put s u st link place k = record {
+    class_inside = k.class_inside;
+    variables = k.variables;
+    objects = k.objects;
+    arrays = k.arrays;
+    lives = k.lives;
+    self_is = k.self_is;
+    own_is = k.own_is;
+    self_held = k.self_held;
+    main_extra = k.main_extra;
+    main_unheld = k.main_unheld;
+    fresh = k.fresh;
+    placed = k.placed;
+    grounded = k.grounded;
+    callers_fit = k.callers_fit;
+    callers_held = k.callers_held;
+    moved_fit = tt;
+  }
+
+  kept_unput : (s : Scope) (u : Under) (st : State) (link place : ℕ) → Kept setting statics s (put u link place) [] st
+      → Kept setting statics s u [] st
+  kept_unput s u st link place k = record {
+    class_inside = k.class_inside;
+    variables = k.variables;
+    objects = k.objects;
+    arrays = k.arrays;
+    lives = k.lives;
+    self_is = k.self_is;
+    own_is = k.own_is;
+    self_held = k.self_held;
+    main_extra = k.main_extra;
+    main_unheld = k.main_unheld;
+    fresh = k.fresh;
+    placed = k.placed;
+    grounded = k.grounded;
+    callers_fit = k.callers_fit;
+    callers_held = k.callers_held;
+    moved_fit = tt;
+  }
+
+  words_inside : (s : Scope) (u : Under) (st : State) (cells : List ℕ) (h : Stands setting statics s u [] st cells)
+      → frame_address setting statics u + 2 < length cells
+  words_inside s u st cells h = let l = frame_long setting statics s u [] st cells (reads_of h) in let d =
+      h.frame.depth_is in let i = h.frame.in_depth in omega (arith, l, d, i)
+
+  pub saves : (s : Scope) (u : Under) (st : State) (cells : List ℕ) → Stands setting statics s u [] st cells → IsFresh u
+      → HasWords cells (frame_address setting statics u) 0 0
+  saves s u st cells h f = record {
+    words_in = words_inside s u st cells h;
+    link_word = link_word setting statics s u [] st cells h.frame 0 (slice_index u.put_by 1) 0 (replicate 13 0) f.is
+        (before_long setting statics s u [] st cells (reads_of h));
+    place_word = place_word setting statics s u [] st cells h.frame 0 (slice_index u.put_by 1) 0 (replicate 13 0) f.is
+        (before_long setting statics s u [] st cells (reads_of h));
+  }
+
+  pub puts : (s : Scope) (u : Under) (st : State) (cells : List ℕ) (link place : ℕ)
+      → Stands setting statics s u [] st cells → IsFresh u → link < 2 ^ 32 → place < 2 ^ 32
+      → Stands setting statics s (put u link place) [] st (slice_set
+      (slice_set cells (frame_address setting statics u) link) (frame_address setting statics u + 2) place)
+  puts s u st cells link place h f lw pw = record {
+    frame = put_opens setting statics s u [] st cells h.frame 0 (slice_index u.put_by 1) 0 (replicate 13 0) f.is
+        (before_long setting statics s u [] st cells (reads_of h)) link place;
+    keeps = kept_put s u st link place h.keeps;
+    counts = h.counts;
+    words = set_words (slice_set cells (frame_address setting statics u) link) (frame_address setting statics u + 2)
+        place (set_words cells (frame_address setting statics u) link h.words lw) pw;
+  }
+
+  pub put_words : (s : Scope) (u : Under) (st : State) (cells : List ℕ) (link place : ℕ)
+      → Stands setting statics s (put u link place) [] st cells
+      → HasWords cells (frame_address setting statics u) link place
+  put_words s u st cells link place h = record {
+    words_in = words_inside s (put u link place) st cells h;
+    link_word = link_word setting statics s (put u link place) [] st cells h.frame link (slice_index u.put_by 1) place
+        (replicate 13 0) refl (before_long setting statics s (put u link place) [] st cells (reads_of h));
+    place_word = place_word setting statics s (put u link place) [] st cells h.frame link (slice_index u.put_by 1) place
+        (replicate 13 0) refl (before_long setting statics s (put u link place) [] st cells (reads_of h));
+  }
+
+  pub puts_back : (s : Scope) (u : Under) (st : State) (cells : List ℕ) (link place : ℕ)
+      → Stands setting statics s (put u link place) [] st cells → IsFresh u
+      → Stands setting statics s u [] st (slice_set (slice_set cells (frame_address setting statics u + 2) 0)
+      (frame_address setting statics u) 0)
+  puts_back s u st cells link place h f =
+      let F = frame_address setting statics u in
+      let o : OpenFrame setting statics s (record u { put_by = 0 ∷ slice_index u.put_by 1 ∷ 0 ∷ replicate 13 0 }) [] st
+      (slice_set (slice_set cells F 0) (F + 2) 0) =
+      put_opens setting statics s (put u link place) [] st cells h.frame link (slice_index u.put_by 1) place
+      (replicate 13 0) refl (before_long setting statics s (put u link place) [] st cells (reads_of h)) 0 0 in
+      let c : slice_set (slice_set cells F 0) (F + 2) 0 ≡ slice_set (slice_set cells (F + 2) 0) F 0 =
+      set_apart cells F (F + 2) 0 0 (λ e. omega (arith, e)) in
+      record {
+        frame = subst (OpenFrame setting statics s u [] st) c
+            (subst (λ p. OpenFrame setting statics s (record u { put_by = p }) [] st
+            (slice_set (slice_set cells F 0) (F + 2) 0)) (sym f.is) o);
+        keeps = kept_unput s u st link place h.keeps;
+        counts = h.counts;
+        words = set_words (slice_set cells (F + 2) 0) F 0 (set_words cells (F + 2) 0 h.words (omega arith))
+            (omega arith);
+      }

@@ -1,0 +1,38 @@
+-- A write of a value of the cell's type keeps an open frame that expressions are read from,
+-- whatever its counts.
+use Rattle.std.proofs.Common.{◌≡◌, ℕ, ◌+◌, ◌^◌, ◌<◌, true, List, [], Some, arith}
+use Rattle.std.specs.Prelude.{slice_set}
+use Rattle.class_table.specs.declared.kind.Kind.{Kind}
+use Rattle.roopl_semantics.specs.Store.{Value, State, main_name}
+use Rattle.roopl_semantics.specs.Value.{Cell, read, written}
+use Rattle.roopl_semantics.specs.Laws.{one_if_name}
+use Rattle.roopl_semantics.specs.Execution.{Setting}
+use Rattle.meaning_sound.specs.Sound.{fits, held, cell_kind}
+use Rattle.meaning_sound.proofs.Cells.{held_written}
+use Rattle.refine_form.specs.Form.{Scope}
+use Rattle.refine_form.specs.Frames.{Under, value_word}
+use Rattle.refine_form.specs.Stands.{shape_of, extra, Reads}
+use Rattle.refine_calls.proofs.Bridge.{set_words, typed}
+use Rattle.refine_calls.proofs.MovesFit.{place_of, frame_write}
+use Rattle.refine_calls.proofs.KeptMoves.{kept_unheld}
+
+module _ (setting : Setting) (statics : List ℕ) (s : Scope) (u : Under) (st : State) (cells : List ℕ)
+    (h : Reads setting statics s u [] st cells) (c : Cell) (k : Kind)
+    (has : cell_kind setting.program (shape_of setting.program s) st.store c ≡ Some k) (v : Value) where
+  pub held_after : (m : ℕ) → held m (written st c v) + one_if_name m (read st c) ≡ held m st + one_if_name m v
+  held_after m = held_written setting (extra u []) (shape_of setting.program s) s.class st c k v m
+      (typed setting statics s u [] st cells h) has
+
+  module _ (fit : fits setting.program st.store v k ≡ true) (no_main : one_if_name main_name v ≡ 0) where
+    abbrev pub reads_after : value_word setting statics h.frame.at v < 2 ^ 32
+        → Reads setting statics s u [] (written st c v) (slice_set cells (place_of setting statics h.frame.at u st c)
+        (value_word setting statics h.frame.at v))
+    reads_after small = record {
+      frame = frame_write setting statics s u [] st cells h c k v has;
+      keeps =
+          kept_unheld setting statics s u [] st (typed setting statics s u [] st cells h) h.keeps c k has v [] fit
+          (let a = held_after main_name in let b = h.keeps.main_unheld in omega (arith, a, b, no_main))
+          h.keeps.lives h.keeps.main_extra tt;
+      words = set_words cells (place_of setting statics h.frame.at u st c) (value_word setting statics h.frame.at v)
+          h.words small;
+    }

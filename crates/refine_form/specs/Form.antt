@@ -1,0 +1,208 @@
+-- The form of a law of a piece of a program: what it does wherever it stands in an image, in both
+-- directions. Each crate proves its own pieces against this form, from the laws of their parts, and
+-- knows no other crate's pieces.
+use Rattle.std.specs.Prelude.{◌≡◌, ℕ, suc, bit_xor, ◌<◌, ◌^◌, Bool, true, false, List, [], ◌∷◌}
+use Rattle.rpp_tree.specs.declared.tree.Ident.{Ident}
+use Rattle.rpp_tree.specs.declared.tree.Var.{Var}
+use Rattle.rpp_tree.specs.Tree.{Expression, Statement, Statements, Procedure}
+use Rattle.stmt_inverter.specs.Inverse.{inverse_statement}
+use Rattle.pisa_isa.specs.Machine.{Memory}
+use Rattle.paired_code.specs.declared.part.Symbol.{Symbol}
+use Rattle.paired_code.specs.Machine.{Image}
+use Rattle.paired_code.specs.Layout.{xor}
+use Rattle.paired_code.specs.Pieces.{Will}
+use Rattle.paired_code.specs.Does.{Rates, Told, Fine, Fault, More, Meets, Does}
+use Rattle.roopl_semantics.specs.Value.{evaluated}
+use Rattle.roopl_semantics.specs.Run.{Run, Done, Fault as FaultRun, More as MoreRun, after_cost}
+use Rattle.roopl_semantics.specs.Run.{◌>>=◌, give}
+use Rattle.roopl_semantics.specs.Store.{Value, State}
+use Rattle.roopl_semantics.specs.Execution.{Setting, exec, statement, in_direction, holds}
+
+-- ---- what the source says
+
+-- a run of the source, as pieces are told it
+abbrev pub told : {A : Type 0} → Run A → Told A
+told (Done a c) = Fine a c
+told (FaultRun w c) = Fault w c
+told MoreRun = More
+
+-- a statement with the count of 1 that it makes in a block; its blocks run with fuel n
+abbrev pub one : Setting → ℕ → Statement → State → Run State
+one setting n s st = after_cost 1 (statement setting n (exec setting n) s st)
+
+-- the statement, or its inverse where the piece is run back
+abbrev pub turned : Bool → Statement → Statement
+turned false s = s
+turned true s = inverse_statement s
+
+-- whether an expression is true, with its faults and what it costs
+abbrev pub tested : Setting → Expression → State → Run Bool
+tested setting e st = evaluated setting.program e st >>= λ v. give (holds v)
+
+-- ---- where pieces run
+
+-- what is known of a method when its code is made: its class, and the variables that are open,
+-- innermost first
+pub record Scope : Type 0 where
+  pub class : ℕ
+  pub vars : List Var
+
+-- with one more variable, the innermost
+abbrev pub with_var : Scope → Var → Scope
+with_var s var = record s { vars = var ∷ s.vars }
+
+-- the routines of an image that run methods; other routines may stand beside them
+pub record Routines : Type 0 where
+  pub count : ℕ
+  -- its number among all routines of the image
+  pub number : ℕ → ℕ
+  pub scope : ℕ → Scope
+  pub method : ℕ → Procedure
+  pub body : ℕ → List Symbol
+  -- where it begins in the code; its place is the next one
+  pub top : ℕ → ℕ
+
+-- a value that has moved from a variable into the frame above
+pub record Moved : Type 0 where
+  pub from : Ident
+  pub value : Value
+
+-- the variables with their values
+abbrev pub pairs : List Ident → List Value → List Moved
+pairs [] values = []
+pairs (name ∷ names) [] = []
+pairs (name ∷ names) (v ∷ values) = record { from = name; value = v } ∷ pairs names values
+
+-- The program with its limits, the image, the rates of steps and counts, and how cells stand for an
+-- open frame.
+pub record World : Type 1 where
+  pub setting : Setting
+  pub im : Image
+  pub rates : Rates
+  pub routines : Routines
+  -- what stays while a frame is open: the frames below, its object with its class, its address,
+  -- what is put by in it
+  pub Under : Type 0
+  pub object_of : Under → ℕ
+  pub frame_of : Under → ℕ
+  -- nothing is put by in the frame yet
+  pub IsFresh : Under → Type 0
+  -- the cells are those of this open frame; in the frame above stand these values, moved there from
+  -- it
+  pub opens : Scope → Under → List Moved → State → List ℕ → Type 0
+  -- the same but for counts, which may be off: expressions can be read
+  pub reads : Scope → Under → State → List ℕ → Type 0
+  pub are_read : (s : Scope) (u : Under) (st : State) (cells : List ℕ) → opens s u [] st cells
+      → reads s u st cells
+  -- the word that stands for a value
+  pub word_of : Under → State → Value → ℕ
+
+-- The 32 registers: the link of a call in register 2, the addresses of the present object and of
+-- the open frame in 3 and 4, two more addresses in 5 and 6, a word in 8, a flag in 11, a routine's
+-- place in 12. The rest is 0.
+abbrev pub registers : (link object frame at at' word flag place : ℕ) → List ℕ
+registers link object frame at at' word flag place =
+    0 ∷ 0 ∷ link ∷ object ∷ frame ∷ at ∷ at' ∷ 0 ∷ word ∷ 0 ∷ 0 ∷ flag ∷ place ∷ 0 ∷ 0 ∷ 0
+    ∷ 0 ∷ 0 ∷ 0 ∷ 0 ∷ 0 ∷ 0 ∷ 0 ∷ 0 ∷ 0 ∷ 0 ∷ 0 ∷ 0 ∷ 0 ∷ 0 ∷ 0 ∷ 0 ∷ []
+
+-- between statements: the two addresses stand in their registers, all others are 0
+pub record Open (w : World) (s : Scope) (u : w.Under) (st : State) (m : Memory) : Type 0 where
+  pub regs_are : m.regs ≡ registers 0 (w.object_of u) (w.frame_of u) 0 0 0 0 0
+  pub open_frame : w.opens s u [] st m.cells
+
+-- at the ends of a routine's body: the link, and the place by which it was called
+pub record Entered (w : World) (s : Scope) (u : w.Under) (link place : ℕ) (st : State)
+    (m : Memory) : Type 0 where
+  pub regs_are : m.regs ≡ registers link (w.object_of u) (w.frame_of u) 0 0 0 0 place
+  pub open_frame : w.opens s u [] st m.cells
+
+-- ---- statements, blocks, methods
+
+-- the steps that a body may make beside those of its statements
+abbrev pub body_slack : ℕ
+body_slack = 40
+
+-- a routine's body with fuel k, in both directions, wherever it was called
+abbrev pub RunsBody : World → Scope → Procedure → List Symbol → ℕ → Type 0
+RunsBody w s method p k =
+    (d : Bool) (u : w.Under) (link place : ℕ) → w.IsFresh u → 0 < link → link < 2 ^ 32
+    → place < 2 ^ 32
+    → Does w.im p d (Entered w s u link place) (Entered w s u link place) w.rates k body_slack
+    (λ st. told (exec w.setting k (in_direction d method.body) st))
+
+-- what the routines of the image owe for less fuel than n
+abbrev pub Owes : World → ℕ → Type 0
+Owes w n =
+    (k : ℕ) → k < n → (r : ℕ) → r < w.routines.count
+    → RunsBody w (w.routines.scope r) (w.routines.method r) (w.routines.body r) k
+
+-- The code of a statement. Run along it does what the source says of the statement, run back what
+-- the source says of its inverse: it leaves at the far end with the state's memory, stops at the
+-- fault, or goes on.
+abbrev pub StmtLaw : World → Scope → Statement → List Symbol → Type 0
+StmtLaw w s stmt p =
+    (n : ℕ) → Owes w (suc n) → (d : Bool) (u : w.Under)
+    → Does w.im p d (Open w s u) (Open w s u)
+    w.rates (suc n) 0 (λ st. told (one w.setting n (turned d stmt) st))
+
+-- the code of a block
+abbrev pub BlockLaw : World → Scope → Statements → List Symbol → Type 0
+BlockLaw w s body p =
+    (n : ℕ) → Owes w n → (d : Bool) (u : w.Under)
+    → Does w.im p d (Open w s u) (Open w s u) w.rates n 0
+    (λ st. told (exec w.setting n (in_direction d body) st))
+
+-- the code of a method
+abbrev pub MethodLaw : World → Scope → Procedure → List Symbol → Type 0
+MethodLaw w s method p = (n : ℕ) → Owes w n → RunsBody w s method p n
+
+-- each routine's body has the law of its method
+abbrev pub AllMethods : World → Type 0
+AllMethods w =
+    (r : ℕ) → r < w.routines.count → MethodLaw w (w.routines.scope r) (w.routines.method r)
+    (w.routines.body r)
+
+-- ---- tests and values
+
+-- tests and values make at most 400 steps for a count, and 50 more
+abbrev pub test_rates : World → Rates
+test_rates w = record { counts = w.rates.counts; steps = 400 }
+
+abbrev pub test_slack : ℕ
+test_slack = 50
+
+abbrev pub bit : Bool → ℕ
+bit false = 0
+bit true = 1
+
+-- the memory of an open frame with a flag in register 11
+abbrev pub flagged : (w : World) → w.Under → Bool → List ℕ → Memory
+flagged w u v cells = record {
+  regs = registers 0 (w.object_of u) (w.frame_of u) 0 0 0 (bit v) 0;
+  cells = cells;
+}
+
+-- the code of a test xors the truth of an expression into the flag, in both directions, and changes
+-- nothing else
+abbrev pub TestLaw : World → Scope → Expression → List Symbol → Type 0
+TestLaw w s e p =
+    (n : ℕ) (d : Bool) (u : w.Under) (v : Bool) (st : State) (cells : List ℕ) → w.reads s u st cells
+    → Will w.im p d (flagged w u v cells)
+    (Meets (λ t m. m ≡ flagged w u (xor v t) cells) (test_rates w) n test_slack
+    (told (tested w.setting e st)))
+
+-- the memory of an open frame with a word in register 12, the one of places, which is free there
+abbrev pub holding : (w : World) → w.Under → ℕ → List ℕ → Memory
+holding w u x cells = record {
+  regs = registers 0 (w.object_of u) (w.frame_of u) 0 0 0 0 x;
+  cells = cells;
+}
+
+-- the code of a value xors its word into that register, in both directions, and changes nothing
+-- else
+abbrev pub ValueLaw : World → Scope → Expression → List Symbol → Type 0
+ValueLaw w s e p =
+    (n : ℕ) (d : Bool) (u : w.Under) (x : ℕ) (st : State) (cells : List ℕ) → w.reads s u st cells
+    → Will w.im p d (holding w u x cells)
+    (Meets (λ v m. m ≡ holding w u (bit_xor x (w.word_of u st v)) cells) (test_rates w) n test_slack
+    (told (evaluated w.setting.program e st)))

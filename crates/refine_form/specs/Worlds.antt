@@ -1,0 +1,45 @@
+-- The worlds that contracts speak of, from plain data: a program with its limits, an image with its
+-- static cells, its routines.
+use Rattle.std.specs.Prelude.{◌≡◌, ℕ, ◌+◌, ◌*◌, ◌^◌, List, [], ◌∷◌, length, replicate, slice_index}
+use Rattle.std.specs.Option.{unwrap_or}
+use Rattle.buddy_book.specs.Place.{place}
+use Rattle.paired_code.specs.Machine.{Image}
+use Rattle.paired_code.specs.Does.{Rates}
+use Rattle.roopl_semantics.specs.Execution.{Setting}
+use Rattle.roopl_semantics.specs.Layout.{no_placing}
+use Rattle.refine_frame.specs.Open.{frame_size}
+use Rattle.refine_form.specs.Form.{World, Routines}
+use Rattle.refine_form.specs.Frames.{Under, stack_base, value_word}
+use Rattle.refine_form.specs.Stands.{Reads, Stands}
+
+pub record Place : Type 0 where
+  pub setting : Setting
+  pub statics : List ℕ
+  pub im : Image
+  pub routines : Routines
+
+-- nothing but a caller's object is put by in a frame: the words of the link and of the place are 0
+pub record IsFresh (u : Under) : Type 0 where
+  pub is : u.put_by ≡ 0 ∷ slice_index u.put_by 1 ∷ 0 ∷ replicate 13 0
+
+-- a step stands for no more counts than a whole heap has cells, and a count comes with 1000 steps
+-- at most
+abbrev pub rates_of : Setting → Rates
+rates_of setting = record { counts = 2 ^ setting.limits.heap + 64; steps = 1000 }
+
+abbrev pub world_of : Place → World
+world_of p = record {
+  setting = p.setting;
+  im = p.im;
+  rates = rates_of p.setting;
+  routines = p.routines;
+  Under = Under;
+  object_of = λ u. u.object;
+  frame_of = λ u. stack_base p.setting p.statics + frame_size * length u.callers;
+  IsFresh = IsFresh;
+  opens = Stands p.setting p.statics;
+  reads = λ s u st cells. Reads p.setting p.statics s u [] st cells;
+  are_read = λ s u st cells h. record { frame = h.frame; keeps = h.keeps; words = h.words };
+  word_of = λ u st v. value_word p.setting p.statics
+      (unwrap_or (place p.setting.limits.heap st.log) no_placing) v;
+}

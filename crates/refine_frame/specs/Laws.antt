@@ -1,0 +1,54 @@
+-- The laws of an open frame: what its memory tells of cells, and that the frame of `main` is the
+-- layout.
+use Rattle.std.specs.Prelude.{◌≡◌, ◌≤◌, ℕ, List, [], length, replicate, Some, slice_index}
+use Rattle.std.specs.Prelude.{slice_set}
+use Rattle.class_table.specs.declared.kind.Kind.{Kind}
+use Rattle.class_table.specs.Scope.{Locals}
+use Rattle.buddy_book.specs.Place.{Placing, place}
+use Rattle.roopl_semantics.specs.Store.{Value, State}
+use Rattle.roopl_semantics.specs.Value.{Cell, read, written}
+use Rattle.roopl_semantics.specs.Layout.{word_of, layout}
+use Rattle.pisa_isa.specs.Machine.{State as Machine, reg}
+use Rattle.meaning_sound.specs.Sound.{cell_kind, Typed}
+use Rattle.refine_frame.specs.Open.{Setup, base_of, stack_at, address_of, cell_address, put_by}
+use Rattle.refine_frame.specs.Open.{object_register, frame_register, IsGrounded, Open}
+
+-- with this word at an address
+abbrev pub with_word : Machine → ℕ → ℕ → Machine
+with_word m address word = record m { cells = slice_set m.cells address word }
+
+-- under an open frame the address of a cell that has a type holds the word of what the source
+-- reads, and its write is the write there
+pub record CellsAreWords (u : Setup) (shape : Locals) (at : Placing) (st : State) (below : List ℕ)
+    (m : Machine) : Type 0 where
+  pub reads : (cell : Cell) (k : Kind) → cell_kind u.setting.program shape st.store cell ≡ Some k
+      → slice_index m.cells (cell_address u at.blocks st cell)
+      ≡ word_of (base_of u) at.blocks (read st cell)
+  pub writes : (cell : Cell) (k : Kind) (v : Value)
+      → cell_kind u.setting.program shape st.store cell ≡ Some k
+      → Open u at below (written st cell v)
+      (with_word m (cell_address u at.blocks st cell) (word_of (base_of u) at.blocks v))
+
+abbrev pub OpenCells : Type 0
+OpenCells =
+    (u : Setup) (extra : ℕ → ℕ) (shape : Locals) (class : ℕ) (st : State)
+    (s : Typed u.setting extra shape class st)
+    (below : List ℕ) (m : Machine)
+    → IsGrounded u st.store → Open u s.placed.at below st m
+    → CellsAreWords u shape s.placed.at st below m
+
+-- at depth 1 with no variables and nothing put by, an open frame is the layout with the two
+-- addresses in their registers
+pub record OpenIsLayout (u : Setup) (at : Placing) (st : State) (m : Machine) : Type 0 where
+  pub begins : 1 ≤ u.setting.limits.deep
+      → m.cells ≡ layout u.setting.program u.setting.limits u.statics st.store st.log
+      → length m.regs ≡ 32
+      → reg m object_register ≡ address_of u at.blocks st.self → reg m frame_register ≡ stack_at u
+      → Open u at (replicate put_by 0) st m
+  pub ends : Open u at (replicate put_by 0) st m
+      → m.cells ≡ layout u.setting.program u.setting.limits u.statics st.store st.log
+
+abbrev pub OpenLayout : Type 0
+OpenLayout =
+    (u : Setup) (at : Placing) (st : State) (m : Machine) → st.frame ≡ [] → st.depth ≡ 1
+    → place u.setting.limits.heap st.log ≡ Some at → OpenIsLayout u at st m

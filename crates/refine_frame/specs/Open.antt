@@ -1,0 +1,91 @@
+-- A machine's memory and registers stand for an open frame of the source's execution.
+use Rattle.std.specs.Prelude.{◌≡◌, ◌≤◌, ℕ, ◌+◌, ◌-◌, ◌*◌, ◌^◌, nat_eq, if◌then◌else◌, List, [], ◌∷◌}
+use Rattle.std.specs.Prelude.{◌++◌, length, replicate, Some}
+use Rattle.rpp_words.specs.declared.input.TheConstants.{FRAME_WORDS}
+use Rattle.buddy_book.specs.Place.{Placing, block_of, place}
+use Rattle.roopl_semantics.specs.Store.{OfClass, Binding, Store, State, main_name}
+use Rattle.roopl_semantics.specs.Value.{Cell, Slot, Part}
+use Rattle.roopl_semantics.specs.Execution.{Setting}
+use Rattle.roopl_semantics.specs.Source.{main_fields}
+use Rattle.class_table.specs.Classes.{main_of}
+use Rattle.rpp_words.specs.Limits.{IsLimits}
+use Rattle.roopl_semantics.specs.Layout.{overlaid, word_of, laid}
+use Rattle.pisa_isa.specs.Loaded.{statics_at, heap_base}
+use Rattle.pisa_isa.specs.Machine.{State as Machine, reg}
+use Rattle.code_conventions.specs.declared.memory.TheConstants.{HEADER_WORDS, FIRST_VARIABLE, MOST_VARIABLES}
+use Rattle.meaning_sound.specs.Sound.{head_named}
+
+-- the registers of the present object and of the open frame
+abbrev pub object_register : ℕ
+object_register = 3
+
+abbrev pub frame_register : ℕ
+frame_register = 4
+
+-- the words of a frame, of what is put by at its beginning, and the most variables
+abbrev pub frame_size : ℕ
+frame_size = FRAME_WORDS
+
+abbrev pub put_by : ℕ
+put_by = FIRST_VARIABLE
+
+abbrev pub most_variables : ℕ
+most_variables = MOST_VARIABLES
+
+-- what stays in a run: the program with its limits, and the static cells of its image
+pub record Setup : Type 0 where
+  pub setting : Setting
+  pub statics : List ℕ
+
+abbrev pub base_of : Setup → ℕ
+base_of u = heap_base u.setting.limits.heap (length u.statics)
+
+abbrev pub stack_at : Setup → ℕ
+stack_at u = base_of u + 2 ^ u.setting.limits.heap
+
+-- where an object stands: the main object among the static cells, any other one at its block
+abbrev pub address_of : Setup → List (ℕ × ℕ) → ℕ → ℕ
+address_of u blocks name = if nat_eq name main_name then statics_at else base_of u + block_of blocks
+    name
+
+-- all cells, with these words on the stack and zeros above them
+abbrev pub memory : Setup → Placing → Store → List ℕ → List ℕ
+memory u at store stack =
+    laid u.setting.program u.setting.limits u.statics store at
+    (overlaid (replicate (frame_size * u.setting.limits.deep) 0) 0 stack)
+
+-- the words of the variables, the outermost first
+abbrev pub frame_words : ℕ → List (ℕ × ℕ) → List Binding → List ℕ
+frame_words base blocks [] = []
+frame_words base blocks (b ∷ frame) = frame_words base blocks frame ++ word_of base blocks b.value
+    ∷ []
+
+-- the word of the frame in which a variable stands
+abbrev pub variable_word : State → ℕ → ℕ
+variable_word st index = put_by + (length st.frame - 1 - index)
+
+-- the address of a cell
+abbrev pub cell_address : Setup → List (ℕ × ℕ) → State → Cell → ℕ
+cell_address u blocks st (Slot index) = stack_at u + frame_size * (st.depth - 1) + variable_word st
+    index
+cell_address u blocks st (Part name index) = address_of u blocks name + HEADER_WORDS + index
+
+-- the limits are in range, the static cells have room for the main object, whose class stays
+pub record IsGrounded (u : Setup) (store : Store) : Type 0 where
+  pub limits : IsLimits u.setting.limits
+  pub room : HEADER_WORDS + length (main_fields u.setting.program) ≤ length u.statics
+  pub main : head_named store main_name ≡ Some (OfClass (main_of u.setting.program).class)
+
+-- Memory and the two addresses of an open frame. Below its variables the stack has any words: the
+-- frames below, and what is put by.
+pub record Open (u : Setup) (at : Placing) (below : List ℕ) (st : State) (m : Machine) : Type 0
+  where
+    pub placed : place u.setting.limits.heap st.log ≡ Some at
+    pub cells : m.cells ≡ memory u at st.store (below ++ frame_words (base_of u) at.blocks st.frame)
+    pub level : length below ≡ frame_size * (st.depth - 1) + put_by
+    pub open_calls : 1 ≤ st.depth
+    pub in_depth : st.depth ≤ u.setting.limits.deep
+    pub few : length st.frame ≤ most_variables
+    pub registers : length m.regs ≡ 32
+    pub object_is : reg m object_register ≡ address_of u at.blocks st.self
+    pub frame_is : reg m frame_register ≡ stack_at u + frame_size * (st.depth - 1)

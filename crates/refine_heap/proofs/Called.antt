@@ -1,0 +1,168 @@
+-- Calls of the allocator over the memory that stands for a store.
+use Rattle.std.proofs.Common.{◌≡◌, ◌∙◌, ℕ, ◌+◌, ◌-◌, ◌^◌, ◌<◌, ◌≤◌, Bool, true, false, List, [], ◌∷◌, length, refl, sym}
+use Rattle.std.proofs.Common.{ap, subst, arith, get_or, replicate, Some, None}
+use Rattle.std.specs.List.{All}
+use Rattle.std.proofs.lemmas.List.{length-replicate, get_or-replicate}
+use Rattle.rpp_words.specs.Words.{IsWord}
+use Rattle.rpp_words.specs.declared.input.Limits.{Limits}
+use Rattle.rpp_tree.specs.Tree.{Source}
+use Rattle.pisa_isa.specs.Loaded.{heap_base}
+use Rattle.pisa_isa.specs.Machine.{Memory}
+use Rattle.paired_code.specs.declared.part.Symbol.{Symbol}
+use Rattle.paired_code.specs.declared.part.Symbol.TheVariants.{Enter}
+use Rattle.paired_code.specs.Machine.{Image, with_reg}
+use Rattle.paired_code.specs.Layout.{xor}
+use Rattle.paired_code.specs.Pieces.{Outcome, Done, Will}
+use Rattle.paired_code.proofs.Laws.{will_more}
+use Rattle.buddy_book.specs.Book.{Book, take, give}
+use Rattle.buddy_book.specs.Shown.{TakenBlocks, Shown, order_in, weight, cover}
+use Rattle.buddy_book.specs.Place.{Placing}
+use Rattle.buddy_book.proofs.Orders.{give_gave}
+use Rattle.buddy_book.proofs.Kept.{cover-additive, given_back}
+use Rattle.roopl_semantics.specs.Store.{Store}
+use Rattle.roopl_semantics.specs.Layout.{with_book, heap_words, laid}
+use Rattle.buddy_pisa.specs.Held.{AllZero, HoldsBook, ChangesList}
+use Rattle.buddy_pisa.specs.Promise.{Enters, Asks}
+use Rattle.buddy_pisa.specs.Called.{Took, took, Gave, gave, Lacked, lacked, CallLaw}
+use Rattle.buddy_pisa.proofs.Calling.{calls_law}
+use Rattle.refine_heap.specs.Laid.{StandApart}
+use Rattle.refine_heap.specs.Calls.{LeavesIn, leaves_in, TrapsFull, traps_full, Calls, LaidCallsLaw}
+use Rattle.refine_heap.proofs.Overlays.{FitLists, book_other}
+use Rattle.refine_heap.proofs.Whole.{objects_beside, counted, layout_law, laid_heap}
+use Rattle.refine_heap.proofs.Left.{taken_law, given_law}
+use Rattle.buddy_book.proofs.Table.{taken_weight-without}
+
+-- the book of a placing, and its taken blocks
+abbrev book_of : Limits → List ℕ → Placing → TakenBlocks → Shown
+book_of limits statics placing taken = record {
+  h = limits.heap;
+  base = heap_base limits.heap (length statics);
+  free = placing.book;
+  taken = taken;
+}
+
+module _ (im : Image) (r top : ℕ) (body : List Symbol) (m : Memory) (program : Source) (limits : Limits)
+    (statics : List ℕ) (store : Store) (placing : Placing) (taken : TakenBlocks) (stack : List ℕ) (kind d : Bool)
+    (k : ℕ) (c : Calls im r top body m program limits statics store placing taken stack) (from : 1 ≤ k) where
+  abbrev h : ℕ
+  h = limits.heap
+
+  abbrev base : ℕ
+  base = heap_base h (length statics)
+
+  abbrev before : List ℕ
+  before = laid program limits statics store placing stack
+
+  abbrev book : Shown
+  book = book_of limits statics placing taken
+
+  holds : HoldsBook base h placing.book m.cells
+  holds = subst (λ z. HoldsBook base h placing.book z) (sym c.cells)
+      (layout_law program limits statics store placing taken stack c.placed (subst (All IsWord) c.cells c.words))
+
+  asks : (address : ℕ) → Enters m k address → Asks m book k address
+  asks address e = record { from = from; enters = e; kept = c.placed.kept; holds = holds }
+
+  law : CallLaw im r top body m
+  law = calls_law im r top body m c.routine
+
+  take_ends : (block : ℕ) (later : Book) → take placing.book k ≡ Some (block, later) → (o : Outcome)
+      → Took m book k block later o → LeavesIn (record (with_reg m 13 (base + block))
+      { cells = laid program limits statics store (record { book = later; blocks = placing.blocks }) stack }) h o
+  take_ends block later t o (took cells steps some few held zero changes) =
+      let is = taken_law program limits statics store placing taken stack k block later cells c.placed from t held zero
+      (subst (λ z. ChangesList base h k placing.book z cells) c.cells changes) in
+      subst (λ z. LeavesIn (record (with_reg m 13 (base + block)) { cells = z }) h
+      (Done (record (with_reg m 13 (base + block)) { cells = cells }) steps)) is (leaves_in steps some few)
+
+  laid_takes : (block : ℕ) (later : Book) → xor kind d ≡ false → Enters m k 0
+      → take placing.book k ≡ Some (block, later) → Will im (Enter r kind ∷ []) d m
+      (LeavesIn (record (with_reg m 13 (base + block)) {
+        cells = laid program limits statics store
+            (record { book = later; blocks = placing.blocks }) stack;
+      }) h)
+  laid_takes block later way e t =
+      will_more im (Enter r kind ∷ []) d m (Took m book k block later) _ (λ o w. take_ends block later t o w)
+      (law.takes kind d book k block later way (asks 0 e) t)
+
+  laid_lacks : xor kind d ≡ false → Enters m k 0 → take placing.book k ≡ None
+      → Will im (Enter r kind ∷ []) d m (TrapsFull h)
+  laid_lacks way e t =
+      will_more im (Enter r kind ∷ []) d m (Lacked book) (TrapsFull h) (λ o w. traps o w)
+      (law.lacks kind d book k way (asks 0 e) t)
+    where
+      traps : (o : Outcome) → Lacked book o → TrapsFull h o
+      traps o (lacked steps few) = traps_full steps few
+
+  -- the block that is given back is zero
+  given_zero : (block : ℕ) → order_in taken block ≡ Some k
+      → StandApart program (2 ^ h) base store placing.blocks placing.blocks (give placing.book k block)
+      → AllZero m.cells (base + block) (base + block + 2 ^ k)
+  given_zero block t apart y lo hi =
+      let kept = c.placed.kept in
+      let back = given_back book k block kept t in
+      let fits = back.fits in
+      let gave = give_gave h k block placing.book from back.order_to kept.lists kept.sound back.aligned fits in
+      let count = counted h base placing.book taken kept in
+      let x = y - base in
+      let inside : x < 2 ^ h = omega arith in
+      let w = gave.weights (cover x) (cover-additive x) in
+      let total = kept.balanced (cover x) (cover-additive x) in
+      let without = taken_weight-without (cover x) block k taken t in
+      let one : cover x block (2 ^ k) ≡ 1 = covered x block (2 ^ k) (omega arith) (omega arith) in
+      let none : weight (cover x) 2 placing.book ≡ 0 = omega arith in
+      let zeros : List ℕ = replicate (2 ^ h) 0 in
+      let n : length zeros ≡ 2 ^ h = length-replicate (2 ^ h) 0 in
+      let b = book_other base 2 placing.book zeros (omega arith)
+      (subst (λ z. FitLists z 2 placing.book) (sym n) count.fits) in
+      let o = objects_beside program (2 ^ h) base store placing.blocks placing.blocks (give placing.book k block)
+      (with_book base placing.book zeros) (b.count ∙ n) apart in
+      let word : get_or (heap_words program (2 ^ h) base store placing) x 0 ≡ 0 = o.free x (omega arith)
+      ∙ b.other x none ∙ get_or-replicate (2 ^ h) x 0 0 inside in
+      let there : y ≡ base + x = omega arith in
+      ap (λ z. get_or z y 0) c.cells ∙ ap (λ z. get_or before z 0) there
+      ∙ laid_heap program limits statics store placing stack kept.lists kept.h_to count c.placed.apart c.placed.main
+      x inside ∙ word
+    where
+      covered : (x block s : ℕ) → block ≤ x → x < block + s → cover x block s ≡ 1
+      covered x block s lo hi = omega arith
+
+  give_ends : (block : ℕ) → order_in taken block ≡ Some k
+      → StandApart program (2 ^ h) base store placing.blocks placing.blocks (give placing.book k block) → (o : Outcome)
+      → Gave m book k (give placing.book k (base + block - base)) o
+      → LeavesIn (record (with_reg m 13 0) {
+        cells = laid program limits statics store
+            (record { book = give placing.book k block; blocks = placing.blocks }) stack;
+      }) h o
+  give_ends block t apart o (gave cells steps some few held changes) =
+      let same : base + block - base ≡ block = omega arith in
+      let held2 : HoldsBook base h (give placing.book k block) cells =
+      subst (λ z. HoldsBook base h (give placing.book k z) cells) same held in
+      let changes2 = subst (λ z. ChangesList base h k (give placing.book k block) z cells) c.cells
+      (subst (λ z. ChangesList base h k (give placing.book k z) m.cells cells) same changes) in
+      let is = given_law program limits statics store placing taken stack k block cells c.placed from t apart held2
+      changes2 in
+      subst (λ z. LeavesIn (record (with_reg m 13 0) { cells = z }) h
+      (Done (record (with_reg m 13 0) { cells = cells }) steps)) is (leaves_in steps some few)
+
+  laid_gives : (block : ℕ) → xor kind d ≡ true → Enters m k (base + block) → order_in taken block ≡ Some k
+      → StandApart program (2 ^ h) base store placing.blocks placing.blocks (give placing.book k block)
+      → Will im (Enter r kind ∷ []) d m (LeavesIn (record (with_reg m 13 0) {
+        cells = laid program limits statics store (record
+            { book = give placing.book k block; blocks = placing.blocks }) stack;
+      }) h)
+  laid_gives block way e t apart =
+      will_more im (Enter r kind ∷ []) d m (Gave m book k (give placing.book k (base + block - base))) _
+      (λ o w. give_ends block t apart o w)
+      (law.gives kind d book k (base + block) way (asks (base + block) e)
+      (record { block = block; at = refl; with_order = t }) (given_zero block t apart))
+
+pub laid_calls_law : LaidCallsLaw
+laid_calls_law im r top body m program limits statics store placing taken stack c = record {
+  takes = λ kind d k block later way from e t. laid_takes im r top body m program limits statics store placing taken
+      stack kind d k c from block later way e t;
+  lacks = λ kind d k way from e t. laid_lacks im r top body m program limits statics store placing taken stack kind d k
+      c from way e t;
+  gives = λ kind d k block way from e t apart. laid_gives im r top body m program limits statics store placing taken
+      stack kind d k c from block way e t apart;
+}

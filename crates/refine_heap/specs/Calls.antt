@@ -1,0 +1,74 @@
+-- Calls of the allocator over the memory that stands for a store.
+use Rattle.std.specs.Prelude.{◌≡◌, ◌<◌, ◌≤◌, ℕ, ◌+◌, Bool, true, false, List, [], ◌∷◌, length, Some}
+use Rattle.std.specs.Prelude.{None}
+use Rattle.std.specs.List.{All}
+use Rattle.rpp_words.specs.Words.{IsWord}
+use Rattle.rpp_words.specs.declared.input.Limits.{Limits}
+use Rattle.rpp_tree.specs.Tree.{Source}
+use Rattle.pisa_isa.specs.Loaded.{heap_base}
+use Rattle.pisa_isa.specs.Machine.{Memory}
+use Rattle.paired_code.specs.declared.part.Symbol.{Symbol}
+use Rattle.paired_code.specs.declared.part.Symbol.TheVariants.{Enter}
+use Rattle.paired_code.specs.Machine.{Image, with_reg}
+use Rattle.paired_code.specs.Layout.{xor}
+use Rattle.paired_code.specs.Pieces.{Outcome, Done, Trapped, Will}
+use Rattle.buddy_book.specs.Book.{Book, take, give}
+use Rattle.buddy_book.specs.Shown.{TakenBlocks, order_in}
+use Rattle.buddy_book.specs.Place.{Placing}
+use Rattle.roopl_semantics.specs.Store.{Store}
+use Rattle.buddy_pisa.specs.declared.rows.TheConstants.{BLOCK}
+use Rattle.buddy_pisa.specs.Promise.{Enters, most_steps}
+use Rattle.buddy_pisa.specs.Called.{IsRoutine}
+use Rattle.roopl_semantics.specs.Layout.{laid}
+use Rattle.refine_heap.specs.Laid.{StandsBeside, IsPlaced}
+
+-- the call leaves in this memory, after more steps than the heap's order, and few for it
+pub data LeavesIn (after : Memory) (h : ℕ) : Outcome → Type 0 where
+  leaves_in : (steps : ℕ) → h < steps → steps ≤ most_steps h + 7
+      → LeavesIn after h (Done after steps)
+
+-- it traps for want of a block
+pub data TrapsFull (h : ℕ) : Outcome → Type 0 where
+  traps_full : (steps : ℕ) → steps ≤ most_steps h + 7 → TrapsFull h (Trapped 8 steps)
+
+-- a call of a routine that is the allocator, from a memory that stands for a store
+pub record Calls (im : Image) (r top : ℕ) (body : List Symbol) (m : Memory)
+    (program : Source) (limits : Limits) (statics : List ℕ) (store : Store)
+    (placing : Placing) (taken : TakenBlocks) (stack : List ℕ) : Type 0 where
+  pub routine : IsRoutine im r top body m
+  pub placed : IsPlaced program limits statics store placing taken
+  pub cells : m.cells ≡ laid program limits statics store placing stack
+  pub words : All IsWord m.cells
+
+-- the memory then stands for the same store over the book that was left, and but for BLOCK no
+-- register differs
+pub record LaidCallLaw (im : Image) (r : ℕ) (m : Memory)
+    (program : Source) (limits : Limits) (statics : List ℕ) (store : Store)
+    (placing : Placing) (taken : TakenBlocks) (stack : List ℕ) : Type 0 where
+  pub takes : (kind d : Bool) (k block : ℕ) (after : Book)
+      → xor kind d ≡ false → 1 ≤ k → Enters m k 0 → take placing.book k ≡ Some (block, after)
+      → Will im (Enter r kind ∷ []) d m (LeavesIn
+      (record (with_reg m BLOCK (heap_base limits.heap (length statics) + block)) {
+        cells = laid program limits statics store
+            (record { book = after; blocks = placing.blocks }) stack;
+      }) limits.heap)
+  pub lacks : (kind d : Bool) (k : ℕ)
+      → xor kind d ≡ false → 1 ≤ k → Enters m k 0 → take placing.book k ≡ None
+      → Will im (Enter r kind ∷ []) d m (TrapsFull limits.heap)
+  pub gives : (kind d : Bool) (k block : ℕ)
+      → xor kind d ≡ true → 1 ≤ k → Enters m k (heap_base limits.heap (length statics) + block)
+      → order_in taken block ≡ Some k
+      → StandsBeside program limits statics store placing.blocks (give placing.book k block)
+      → Will im (Enter r kind ∷ []) d m (LeavesIn
+      (record (with_reg m BLOCK 0) {
+        cells = laid program limits statics store
+            (record { book = give placing.book k block; blocks = placing.blocks }) stack;
+      }) limits.heap)
+
+-- so it is with every call
+abbrev pub LaidCallsLaw : Type 0
+LaidCallsLaw = (im : Image) (r top : ℕ) (body : List Symbol) (m : Memory)
+    (program : Source) (limits : Limits) (statics : List ℕ) (store : Store)
+    (placing : Placing) (taken : TakenBlocks) (stack : List ℕ)
+    → Calls im r top body m program limits statics store placing taken stack
+    → LaidCallLaw im r m program limits statics store placing taken stack

@@ -1,0 +1,87 @@
+-- The memory that stands for a store holds the book of its free blocks, before and after the
+-- allocator.
+use Rattle.std.specs.Prelude.{◌≡◌, ◌<◌, ◌≤◌, ℕ, ◌+◌, ◌^◌, List, [], ◌∷◌, length, Some}
+use Rattle.std.specs.List.{All}
+use Rattle.rpp_words.specs.Words.{IsWord}
+use Rattle.rpp_words.specs.declared.input.Limits.{Limits}
+use Rattle.rpp_tree.specs.Tree.{Source}
+use Rattle.pisa_isa.specs.Loaded.{heap_base}
+use Rattle.buddy_book.specs.Book.{Book, take, give}
+use Rattle.buddy_book.specs.Shown.{TakenBlocks, order_in, cover, IsKept, weight}
+use Rattle.buddy_book.specs.Place.{Placing}
+use Rattle.roopl_semantics.specs.Store.{Store, object_at, main_name}
+use Rattle.roopl_semantics.specs.Layout.{object_words, laid}
+use Rattle.buddy_pisa.specs.Held.{AllZero, HoldsBook, ChangesList}
+
+-- how many words an object has
+abbrev pub words_of : Source → ℕ → Store → List (ℕ × ℕ) → ℕ → ℕ
+words_of program base store all name =
+    length (object_words program base all (object_at store name))
+
+-- the words of each object stand in no free block, and within the heap
+abbrev pub StandApart : Source → (size base : ℕ) → Store → (all blocks : List (ℕ × ℕ)) → Book
+    → Type 0
+StandApart program size base store all [] book = Unit {0}
+StandApart program size base store all ((name, block) ∷ rest) book =
+    (block + words_of program base store all name ≤ size)
+    × ((x : ℕ) → block ≤ x → x < block + words_of program base store all name
+    → weight (cover x) 2 book ≡ 0)
+    × StandApart program size base store all rest book
+
+-- the same of the blocks of a run, in the heap of these limits, with a book
+abbrev pub StandsBeside : Source → Limits → List ℕ → Store → List (ℕ × ℕ) → Book → Type 0
+StandsBeside program limits statics store blocks book =
+    let base = heap_base limits.heap (length statics) in
+    StandApart program (2 ^ limits.heap) base store blocks blocks book
+
+-- a placing: its book is kept, its objects stand apart from it, and main's object has room
+pub record IsPlaced (program : Source) (limits : Limits) (statics : List ℕ) (store : Store)
+    (placing : Placing) (taken : TakenBlocks) : Type 0 where
+  pub kept : IsKept (record {
+    h = limits.heap;
+    base = heap_base limits.heap (length statics);
+    free = placing.book;
+    taken = taken;
+  })
+  pub apart : StandsBeside program limits statics store placing.blocks placing.book
+  pub main : words_of program (heap_base limits.heap (length statics)) store placing.blocks
+      main_name
+      ≤ length statics
+
+-- it holds the placing's book
+abbrev pub LayoutLaw : Type 0
+LayoutLaw = (program : Source) (limits : Limits) (statics : List ℕ) (store : Store)
+    (placing : Placing) (taken : TakenBlocks) (stack : List ℕ)
+    → IsPlaced program limits statics store placing taken
+    → All IsWord (laid program limits statics store placing stack)
+    → HoldsBook (heap_base limits.heap (length statics)) limits.heap placing.book
+    (laid program limits statics store placing stack)
+
+-- what a take leaves is the memory over the book that it leaves
+abbrev pub TakenLaw : Type 0
+TakenLaw = (program : Source) (limits : Limits) (statics : List ℕ) (store : Store)
+    (placing : Placing) (taken : TakenBlocks) (stack : List ℕ)
+    (k block : ℕ) (after : Book) (cells : List ℕ)
+    → IsPlaced program limits statics store placing taken
+    → 1 ≤ k → take placing.book k ≡ Some (block, after)
+    → HoldsBook (heap_base limits.heap (length statics)) limits.heap after cells
+    → AllZero cells (heap_base limits.heap (length statics) + block)
+    (heap_base limits.heap (length statics) + block + 2 ^ k)
+    → ChangesList (heap_base limits.heap (length statics)) limits.heap k placing.book
+    (laid program limits statics store placing stack) cells
+    → cells ≡ laid program limits statics store
+    (record { book = after; blocks = placing.blocks }) stack
+
+-- and so it is with a give, where no object's words stand in the block
+abbrev pub GivenLaw : Type 0
+GivenLaw = (program : Source) (limits : Limits) (statics : List ℕ) (store : Store)
+    (placing : Placing) (taken : TakenBlocks) (stack : List ℕ) (k block : ℕ) (cells : List ℕ)
+    → IsPlaced program limits statics store placing taken
+    → 1 ≤ k → order_in taken block ≡ Some k
+    → StandsBeside program limits statics store placing.blocks (give placing.book k block)
+    → HoldsBook (heap_base limits.heap (length statics)) limits.heap (give placing.book k block)
+    cells
+    → ChangesList (heap_base limits.heap (length statics)) limits.heap k (give placing.book k block)
+    (laid program limits statics store placing stack) cells
+    → cells ≡ laid program limits statics store
+    (record { book = give placing.book k block; blocks = placing.blocks }) stack

@@ -1,0 +1,39 @@
+-- The taken blocks have room for the objects.
+use Rattle.std.specs.Prelude.{◌≡◌, ◌≢◌, ◌≤◌, ℕ, ◌^◌, List, [], ◌∷◌, Some, None}
+use Rattle.rpp_tree.specs.Tree.{Source}
+use Rattle.buddy_book.specs.Book.{Book}
+use Rattle.buddy_book.specs.Shown.{TakenBlocks, order_in, with_taken, without_taken, IsKept}
+use Rattle.roopl_semantics.specs.Store.{Store}
+use Rattle.refine_heap.specs.Laid.{words_of, StandApart}
+
+-- each object's block is taken, with an order that has room for its words
+abbrev pub HaveRoom : Source → (base : ℕ) → Store → (all blocks : List (ℕ × ℕ)) → TakenBlocks
+    → Type 0
+HaveRoom program base store all [] taken = Unit {0}
+HaveRoom program base store all ((name, block) ∷ rest) taken =
+    ((k : ℕ) × (order_in taken block ≡ Some k) × (words_of program base store all name ≤ 2 ^ k))
+    × HaveRoom program base store all rest taken
+
+-- no object has this block
+abbrev pub NotAmong : ℕ → List (ℕ × ℕ) → Type 0
+NotAmong block [] = Unit {0}
+NotAmong block ((name, b) ∷ rest) = (b ≢ block) × NotAmong block rest
+
+-- then their words stand apart from the free blocks; they have room after a take too, and after a
+-- give of a block that is no object's
+pub record RoomLaw : Type 0 where
+  pub apart : (program : Source) (h base : ℕ) (store : Store) (all blocks : List (ℕ × ℕ))
+      (book : Book) (taken : TakenBlocks)
+      → IsKept (record { h = h; base = base; free = book; taken = taken })
+      → HaveRoom program base store all blocks taken
+      → StandApart program (2 ^ h) base store all blocks book
+  pub with_one : (program : Source) (base : ℕ) (store : Store) (all blocks : List (ℕ × ℕ))
+      (block k : ℕ) (taken : TakenBlocks)
+      → order_in taken block ≡ None
+      → HaveRoom program base store all blocks taken
+      → HaveRoom program base store all blocks (with_taken block k taken)
+  pub without_one : (program : Source) (base : ℕ) (store : Store) (all blocks : List (ℕ × ℕ))
+      (block : ℕ) (taken : TakenBlocks)
+      → NotAmong block blocks
+      → HaveRoom program base store all blocks taken
+      → HaveRoom program base store all blocks (without_taken block taken)

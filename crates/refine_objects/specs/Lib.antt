@@ -1,0 +1,3 @@
+pub mod CopyLaws
+pub mod OpenLaws
+pub mod MadeLaws

@@ -1,0 +1,33 @@
+-- The code of new objects and arrays, by what it does with words, has its laws over open frames.
+use Rattle.std.specs.Prelude.{ℕ, List}
+use Rattle.rpp_tree.specs.declared.tree.Ident.{Ident}
+use Rattle.rpp_tree.specs.Tree.{Lvalue, Creation, New, Delete}
+use Rattle.paired_code.specs.declared.part.Symbol.{Symbol}
+use Rattle.paired_code.specs.Layout.{mirror_cells}
+use Rattle.object_codegen.specs.Creations.{NewLaw, creation_words}
+use Rattle.refine_form.specs.Form.{Scope, StmtLaw}
+use Rattle.refine_form.specs.Worlds.{Place, world_of}
+use Rattle.refine_calls.specs.Laws.{IsLinked}
+use Rattle.refine_expressions.specs.Typing.{IsPassed, spot_in, free_in}
+
+-- code of a `new` does what the source says of the statement, back what it says of its inverse
+abbrev pub NewsAreTold : Type 0
+NewsAreTold =
+    (place : Place) (routine : ℕ → Ident → ℕ) → IsLinked place routine
+    → (s : Scope) (at : ℕ) (made : Creation) (target : Lvalue)
+    → IsPassed place.setting.program s (New at made target) (creation_words made target)
+    → (p : List Symbol)
+    → NewLaw place.setting.program (spot_in place.setting.program s)
+    (free_in place.setting.program s) made target p
+    → StmtLaw (world_of place) s (New at made target) p
+
+-- and its mirror that of a `delete`, back what the source says of its inverse
+abbrev pub DeletesAreTold : Type 0
+DeletesAreTold =
+    (place : Place) (routine : ℕ → Ident → ℕ) → IsLinked place routine
+    → (s : Scope) (at : ℕ) (made : Creation) (target : Lvalue)
+    → IsPassed place.setting.program s (Delete at made target) (creation_words made target)
+    → (p : List Symbol)
+    → NewLaw place.setting.program (spot_in place.setting.program s)
+    (free_in place.setting.program s) made target p
+    → StmtLaw (world_of place) s (Delete at made target) (mirror_cells p)

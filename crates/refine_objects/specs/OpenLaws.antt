@@ -1,0 +1,90 @@
+-- An open frame before and after an object or array is made, or given back: the cells, and the
+-- relation.
+use Rattle.std.specs.Prelude.{◌≡◌, ℕ, ◌+◌, ◌*◌, ◌^◌, ◌<◌, ◌≤◌, true, false, ◌||◌, nat_lt, is_none}
+use Rattle.std.specs.Prelude.{List, [], ◌∷◌, length, Some}
+use Rattle.class_table.specs.declared.kind.Kind.{Kind}
+use Rattle.class_table.specs.Expressions.{is_int}
+use Rattle.buddy_book.specs.Place.{Taken, Log, count_taken, place}
+use Rattle.roopl_semantics.specs.Store.{Value, Nil, Name, Head, Store, State, object_at}
+use Rattle.roopl_semantics.specs.Value.{Cell, read, written}
+use Rattle.roopl_semantics.specs.Execution.{Setting, new_object, order_of_cells, all_zero, freed}
+use Rattle.roopl_semantics.specs.Laws.{holders_among}
+use Rattle.roopl_semantics.specs.Layout.{head_word}
+use Rattle.meaning_sound.specs.Sound.{head_fits, cell_kinds, cell_kind, AllFit}
+use Rattle.refine_frame.specs.Open.{frame_size, put_by}
+use Rattle.refine_form.specs.Form.{Scope}
+use Rattle.refine_form.specs.Frames.{Under, stack_base}
+use Rattle.refine_form.specs.Stands.{shape_of, HasElements, Stands}
+use Rattle.refine_calls.specs.Laws.{most_statics}
+use Rattle.object_codegen.specs.News.{Takes, filled}
+
+-- the first word behind the variables of the open frame
+abbrev pub behind : Setting → List ℕ → Under → Scope → ℕ
+behind setting statics u s =
+    stack_base setting statics + frame_size * length u.callers + (put_by + length s.vars)
+
+-- the requests with one for what has this head
+abbrev pub asked : Setting → Head → State → Log
+asked setting head st =
+    Taken (2 + count_taken st.log) (order_of_cells (length (cell_kinds setting.program head)))
+    ∷ st.log
+
+-- the state with a new object or array in a cell
+abbrev pub with_new : Setting → Head → List Value → Cell → State → State
+with_new setting head values cell st =
+    written (record st {
+      store = (2 + count_taken st.log, new_object head values) ∷ st.store;
+      log = asked setting head st;
+    }) cell (Name (2 + count_taken st.log))
+
+-- a block of zeros is taken for it, and filled; then the frame is open with it
+pub record IsMade (setting : Setting) (statics : List ℕ) (s : Scope) (u : Under) (st : State)
+    (cells : List ℕ)
+    (cell : Cell) (head : Head) (values : List Value) : Type 0 where
+  pub at : ℕ
+  pub block : ℕ
+  pub taken : List ℕ
+  pub takes : Takes (behind setting statics u s) (length values) at block cells taken
+  pub after : Stands setting statics s u [] (with_new setting head values cell st)
+      (filled at block (head_word setting.program head) taken)
+
+-- so it is with each that has the type of a nil cell, where the heap has a block
+abbrev pub NewsAreOpen : Type 0
+NewsAreOpen =
+    (setting : Setting) (statics : List ℕ) → length statics ≤ most_statics
+    → (s : Scope) (u : Under) (st : State) (cells : List ℕ) → Stands setting statics s u [] st cells
+    → (cell : Cell) (k : Kind) → cell_kind setting.program (shape_of setting.program s) st.store
+    cell ≡ Some k
+    → read st cell ≡ Nil → (head : Head) (values : List Value)
+    → head_fits setting.program k head ≡ true
+    → ((store : Store) → AllFit setting.program store (cell_kinds setting.program head) values)
+    → ((m : ℕ) → holders_among m values ≡ 0) → all_zero values ≡ true → HasElements head
+    → (nat_lt setting.limits.heap (order_of_cells (length (cell_kinds setting.program head)))
+    || is_none (place setting.limits.heap (asked setting head st))) ≡ false
+    → head_word setting.program head < 2 ^ 32
+    → IsMade setting statics s u st cells cell head values
+
+-- the memory is one in which its block was taken and filled; with the block given back the frame is
+-- open without it
+pub record IsGone (setting : Setting) (statics : List ℕ) (s : Scope) (u : Under) (st : State)
+    (cells : List ℕ)
+    (cell : Cell) (n : ℕ) : Type 0 where
+  pub at : ℕ
+  pub block : ℕ
+  pub given : List ℕ
+  pub taken : List ℕ
+  pub was : cells ≡ filled at block (head_word setting.program (object_at st.store n).head) taken
+  pub takes : Takes (behind setting statics u s) (length (object_at st.store n).cells) at block
+      given taken
+  pub after : Stands setting statics s u [] (freed setting cell n st) given
+
+-- so it is with each of count 1 and of zeros that a cell names
+abbrev pub DeletesAreOpen : Type 0
+DeletesAreOpen =
+    (setting : Setting) (statics : List ℕ) → length statics ≤ most_statics
+    → (s : Scope) (u : Under) (st : State) (cells : List ℕ) → Stands setting statics s u [] st cells
+    → (cell : Cell) (k : Kind) → cell_kind setting.program (shape_of setting.program s) st.store
+    cell ≡ Some k
+    → is_int k ≡ false → (n : ℕ) → read st cell ≡ Name n → (object_at st.store n).count ≡ 1
+    → all_zero (object_at st.store n).cells ≡ true
+    → IsGone setting statics s u st cells cell n

@@ -1,0 +1,42 @@
+-- The wrapped run of a program, with two bounds: one for the image's run, and one for its own.
+use Rattle.std.proofs.Common.{◌≡◌, ◌≤◌, ℕ, List, ◌++◌, length}
+use Rattle.rpp_words.specs.declared.input.FieldWord.{FieldWord}
+use Rattle.rpp_words.specs.declared.input.Limits.{Limits}
+use Rattle.rpp_tree.specs.Tree.{Source}
+use Rattle.pisa_isa.specs.declared.cell.Cell.{Cell}
+use Rattle.pisa_isa.specs.declared.machine.Stop.TheVariants.{Finished, Trap, Bound}
+use Rattle.pisa_isa.specs.Image.{Segments}
+use Rattle.pisa_isa.specs.Loaded.{loaded}
+use Rattle.roopl_semantics.specs.Store.{State}
+use Rattle.roopl_semantics.specs.Source.{GivesDone, GivesFault}
+use Rattle.roopl_semantics.specs.Layout.{layout}
+use Rattle.roopl_semantics.specs.StandsFor.{run_of}
+use Rattle.bennett_wrap.specs.Wrapped.{FinishesWith, TrapsWith, values_at, steps_wrapped}
+use Rattle.refine_wrap.specs.Programs.{wrapped_run}
+
+-- the source gives a store, and the wrapped run adds to the first memory what its layout has at the cells
+pub record Adds (program : Source) (image : Segments) (cells : List ℕ) (wrapped : List Cell) (limits : Limits)
+    (input : List FieldWord) (m enough : ℕ) : Type 0 where
+  pub end : State
+  pub gives : GivesDone program limits input end
+  pub finishes : FinishesWith (wrapped_run image cells wrapped limits input enough)
+      (steps_wrapped (run_of image limits input m).spent cells)
+      (loaded image.statics limits input ++ values_at (layout program limits image.statics end.store end.log) cells)
+
+-- the source gives the fault, and the wrapped run traps with no result
+pub record Faults (program : Source) (image : Segments) (cells : List ℕ) (wrapped : List Cell) (limits : Limits)
+    (input : List FieldWord) (m enough w : ℕ) : Type 0 where
+  pub gives : GivesFault program limits input w
+  pub traps : TrapsWith (wrapped_run image cells wrapped limits input enough) w (run_of image limits input m).spent
+      (length (loaded image.statics limits input)) (length cells)
+
+pub record WrapsProgram (program : Source) (image : Segments) (cells : List ℕ) (wrapped : List Cell) (limits : Limits)
+    (input : List FieldWord) : Type 0 where
+  pub adds : (m enough : ℕ) → (run_of image limits input m).why ≡ Finished
+      → steps_wrapped (run_of image limits input m).spent cells ≤ enough
+      → Adds program image cells wrapped limits input m enough
+  pub faults : (m enough w : ℕ) → (run_of image limits input m).why ≡ Trap w
+      → (run_of image limits input m).spent ≤ enough
+      → Faults program image cells wrapped limits input m enough w
+  pub goes_on : (m : ℕ) → (run_of image limits input m).why ≡ Bound
+      → (wrapped_run image cells wrapped limits input m).why ≡ Bound

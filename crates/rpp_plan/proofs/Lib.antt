@@ -1,2 +1,0 @@
-pub mod TwoReads
-pub mod Writes

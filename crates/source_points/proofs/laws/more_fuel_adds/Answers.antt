@@ -1,5 +1,0 @@
-use Rattle.source_points.proofs.Growing.{points_added, points_done, points_fault}
-use Rattle.source_points.proofs.laws.more_fuel_adds.Goals as goal
-
-pub returns : goal.returns
-returns c = record { adds = points_added; done = points_done; fault = points_fault }

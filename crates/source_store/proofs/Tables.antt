@@ -1,0 +1,295 @@
+-- The table of objects as a store.
+use Rattle.std.proofs.Common.{◌≡◌, ℕ, zero, suc, ◌+◌, ◌<◌, ◌≤◌, refl, sym, ap, ◌∙◌, arith, List, [], ◌∷◌, ◌++◌, length}
+use Rattle.std.proofs.Common.{Some, None, eq-eqb, Bool, true, false, if◌then◌else◌, map}
+use Rattle.std.proofs.lemmas.Bool.{eqb-true, eqb-false, ltb-true, ltb-false}
+use Rattle.std.proofs.lemmas.Option.{slice_get_past}
+use Rattle.std.specs.Prelude.{Result, Ok, Err, OnOk, Option, slice_get, slice_set, nat_eq, nat_lt}
+use Rattle.std.specs.Option.{option_map}
+use Rattle.roopl_semantics.specs.Store.{Object, Store, object_named, changed_at, without}
+use Rattle.source_store.specs.declared.object.Object.{Object as Live}
+use Rattle.source_store.specs.ValueView.{object_of}
+use Rattle.source_store.specs.HeapView.{live_in, live_at, listed, listing, store_of, block_in, block_at, SameBlocks}
+
+pub differs : (a b : ℕ) → (a ≡ b → ⊥) → nat_eq a b ≡ false
+differs a b h = by (nat_eq a b) refl
+  where
+    by : (t : Bool) → nat_eq a b ≡ t → nat_eq a b ≡ false
+    by true e = absurd (h (eqb-true a b e))
+    by false e = e
+
+listed_same : (n : ℕ) (x : Option Object) (rest : Store) → object_named rest n ≡ None
+    → object_named (listed n x rest) n ≡ x
+listed_same n None rest h = h
+listed_same n (Some o) rest h = ap (λ t. if t then Some o else object_named rest n) (eq-eqb n n refl)
+
+listed_other : (n name : ℕ) (x : Option Object) (rest : Store) → (n ≡ name → ⊥)
+    → object_named (listed n x rest) name ≡ object_named rest name
+listed_other n name None rest h = refl
+listed_other n name (Some o) rest h = ap (λ t. if t then Some o else object_named rest name) (differs n name h)
+
+listing_out : (n : ℕ) (f : ℕ → Option Object) (name : ℕ) → n ≤ name → object_named (listing n f) name ≡ None
+listing_out zero f name h = refl
+listing_out (suc n) f name h = listed_other n name (f n) (listing n f) (λ e. omega arith)
+    ∙ listing_out n f name (omega arith)
+
+listing_in : (n : ℕ) (f : ℕ → Option Object) (name : ℕ) → name < n → object_named (listing n f) name ≡ f name
+listing_in zero f name h = absurd (omega arith)
+listing_in (suc n) f name h = by (listing_in n f name) (nat_eq n name) refl
+  where
+    by : (name < n → object_named (listing n f) name ≡ f name) → (t : Bool) → nat_eq n name ≡ t
+        → object_named (listing (suc n) f) name ≡ f name
+    by below true e =
+        let same : n ≡ name = eqb-true n name e in
+        ap (λ k. object_named (listing (suc n) f) k) (sym same)
+        ∙ (listed_same n (f n) (listing n f) (listing_out n f n (omega arith)) ∙ ap f same)
+    by below false e =
+        let other : n ≡ name → ⊥ = eqb-false n name e in
+        listed_other n name (f n) (listing n f) other ∙ below (omega (arith, other))
+
+pub object_named_store : (table : List (Option Live)) (name : ℕ)
+    → object_named (store_of table) name ≡ live_at table name
+object_named_store table name = by (nat_lt name (length table)) refl
+  where
+    by : (t : Bool) → nat_lt name (length table) ≡ t → object_named (store_of table) name ≡ live_at table name
+    by true e = listing_in (length table) (live_at table) name (eqb_lt name (length table) e)
+      where
+        eqb_lt : (a b : ℕ) → nat_lt a b ≡ true → a < b
+        eqb_lt a b e = ltb-true a b e
+    by false e =
+        let past : length table ≤ name = ltb-false name (length table) e in
+        listing_out (length table) (live_at table) name past ∙ sym (ap live_in (slice_get_past table name past))
+
+listing_same : {A : Type 0} (n : ℕ) (f g : ℕ → Option A) → ((i : ℕ) → i < n → f i ≡ g i) → listing n f ≡ listing n g
+listing_same zero f g h = refl
+listing_same (suc n) f g h = ap (λ x. listed n x (listing n f)) (h n (omega arith))
+    ∙ ap (λ r. listed n (g n) r) (listing_same n f g (λ i l. h i (omega arith)))
+
+changed_same : (n : ℕ) (x : Option Object) (rest : Store) (change : Object → Object) → changed_at rest n change ≡ rest
+    → changed_at (listed n x rest) n change ≡ listed n (option_map change x) rest
+changed_same n None rest change h = h
+changed_same n (Some o) rest change h = ap (λ t. if t then (n, change o) ∷ rest else (n, o) ∷ changed_at rest n change)
+    (eq-eqb n n refl)
+
+changed_other : (n name : ℕ) (x : Option Object) (rest : Store) (change : Object → Object) → (n ≡ name → ⊥)
+    → changed_at (listed n x rest) name change ≡ listed n x (changed_at rest name change)
+changed_other n name None rest change h = refl
+changed_other n name (Some o) rest change h = ap (λ t. if t then (n, change o) ∷ rest else (n, o)
+    ∷ changed_at rest name change) (differs n name h)
+
+changed_out : (n : ℕ) (f : ℕ → Option Object) (name : ℕ) (change : Object → Object) → n ≤ name
+    → changed_at (listing n f) name change ≡ listing n f
+changed_out zero f name change h = refl
+changed_out (suc n) f name change h = changed_other n name (f n) (listing n f) change (λ e. omega arith)
+    ∙ ap (λ r. listed n (f n) r) (changed_out n f name change (omega arith))
+
+changed_in : (n : ℕ) (f g : ℕ → Option Object) (name : ℕ) (change : Object → Object) → name < n
+    → g name ≡ option_map change (f name) → ((i : ℕ) → (i ≡ name → ⊥) → g i ≡ f i)
+    → changed_at (listing n f) name change ≡ listing n g
+changed_in zero f g name change h here there = absurd (omega arith)
+changed_in (suc n) f g name change h here there = by (λ l. changed_in n f g name change l here there) (nat_eq n name)
+    refl
+  where
+    by : (name < n → changed_at (listing n f) name change ≡ listing n g) → (t : Bool) → nat_eq n name ≡ t
+        → changed_at (listing (suc n) f) name change ≡ listing (suc n) g
+    by below true e =
+        let same : n ≡ name = eqb-true n name e in
+        let rest : listing n f ≡ listing n g = listing_same n f g (λ i l. sym (there i (λ k. omega arith))) in
+        let top : option_map change (f n) ≡ g n = ap (λ k. option_map change (f k)) same
+        ∙ (sym here ∙ ap g (sym same)) in
+        ap (λ k. changed_at (listing (suc n) f) k change) (sym same)
+        ∙ (changed_same n (f n) (listing n f) change (changed_out n f n change (omega arith))
+        ∙ (ap (λ r. listed n (option_map change (f n)) r) rest ∙ ap (λ x. listed n x (listing n g)) top))
+    by below false e =
+        let other : n ≡ name → ⊥ = eqb-false n name e in
+        changed_other n name (f n) (listing n f) change other
+        ∙ (ap (λ r. listed n (f n) r) (below (omega (arith, other)))
+        ∙ ap (λ x. listed n x (listing n g)) (sym (there n other)))
+
+get_set_same : {A : Type 0} (xs : List A) (i : ℕ) (x : A) → i < length xs → slice_get (slice_set xs i x) i ≡ Some x
+get_set_same [] i x h = absurd (omega arith)
+get_set_same (y ∷ xs) zero x h = refl
+get_set_same (y ∷ xs) (suc i) x h = get_set_same xs i x (omega arith)
+
+get_set_other : {A : Type 0} (xs : List A) (i j : ℕ) (x : A) → (j ≡ i → ⊥)
+    → slice_get (slice_set xs i x) j ≡ slice_get xs j
+get_set_other [] i j x h = refl
+get_set_other (y ∷ xs) zero zero x h = absurd (h refl)
+get_set_other (y ∷ xs) zero (suc j) x h = refl
+get_set_other (y ∷ xs) (suc i) zero x h = refl
+get_set_other (y ∷ xs) (suc i) (suc j) x h = get_set_other xs i j x (λ e. h (ap suc e))
+
+pub length_set : {A : Type 0} (xs : List A) (i : ℕ) (x : A) → length (slice_set xs i x) ≡ length xs
+length_set [] i x = refl
+length_set (y ∷ xs) zero x = refl
+length_set (y ∷ xs) (suc i) x = ap suc (length_set xs i x)
+
+pub changed_store : (table : List (Option Live)) (name : ℕ) (old slot : Option Live) (change : Object → Object)
+    → slice_get table name ≡ Some old → live_in (Some slot) ≡ option_map change (live_in (Some old))
+    → name < length table → store_of (slice_set table name slot) ≡ changed_at (store_of table) name change
+changed_store table name old slot change at e h =
+    ap (λ n. listing n (live_at (slice_set table name slot))) (length_set table name slot)
+    ∙ sym (changed_in (length table) (live_at table) (live_at (slice_set table name slot)) name change h
+    (ap live_in (get_set_same table name slot h) ∙ (e ∙ ap (λ o. option_map change (live_in o)) (sym at)))
+    (λ i other. ap live_in (get_set_other table name i slot other)))
+
+pub changed_past : (table : List (Option Live)) (name : ℕ) (change : Object → Object) → length table ≤ name
+    → store_of table ≡ changed_at (store_of table) name change
+changed_past table name change h = sym (changed_out (length table) (live_at table) name change h)
+
+pub set_past : {A : Type 0} (xs : List A) (i : ℕ) (x : A) → length xs ≤ i → slice_set xs i x ≡ xs
+set_past [] i x h = refl
+set_past (y ∷ xs) zero x h = absurd (omega arith)
+set_past (y ∷ xs) (suc i) x h = ap (λ r. y ∷ r) (set_past xs i x (omega arith))
+
+pub map_set : {A B : Type 0} (f : A → B) (xs : List A) (i : ℕ) (x : A)
+    → map f (slice_set xs i x) ≡ slice_set (map f xs) i (f x)
+map_set f [] i x = refl
+map_set f (y ∷ xs) zero x = refl
+map_set f (y ∷ xs) (suc i) x = ap (λ r. f y ∷ r) (map_set f xs i x)
+
+-- ---- the table with a slot changed
+
+pub same_blocks : (table : List (Option Live)) (name : ℕ) (old slot : Option Live) → slice_get table name ≡ Some old
+    → block_in (Some slot) ≡ block_in (Some old) → name < length table → SameBlocks table (slice_set table name slot)
+same_blocks table name old slot at e h = record {
+  length = length_set table name slot;
+  blocks = λ k. by k (nat_eq k name) refl;
+}
+  where
+    by : (k : ℕ) (t : Bool) → nat_eq k name ≡ t → block_at (slice_set table name slot) k ≡ block_at table k
+    by k true q =
+        let same : k ≡ name = eqb-true k name q in
+        ap (block_at (slice_set table name slot)) same ∙ ap block_in (get_set_same table name slot h) ∙ e
+        ∙ ap block_in (sym at) ∙ ap (block_at table) (sym same)
+    by k false q = ap block_in (get_set_other table name k slot (eqb-false k name q))
+
+pub blocks_stay : (table : List (Option Live)) → SameBlocks table table
+blocks_stay table = record { length = refl; blocks = λ k. refl }
+
+-- ---- the table without an object
+
+without_out : (n : ℕ) (f : ℕ → Option Object) (name : ℕ) → n ≤ name → without (listing n f) name ≡ listing n f
+without_out zero f name h = refl
+without_out (suc n) f name h = by (without_out n f name (omega arith)) (f n)
+  where
+    by : without (listing n f) name ≡ listing n f → (x : Option Object)
+        → without (listed n x (listing n f)) name ≡ listed n x (listing n f)
+    by below None = below
+    by below (Some o) = ap (λ t. if t then listing n f else (n, o) ∷ without (listing n f) name)
+        (differs n name (λ e. omega arith)) ∙ ap (λ r. (n, o) ∷ r) below
+
+without_in : (n : ℕ) (f g : ℕ → Option Object) (name : ℕ) → name < n → g name ≡ None
+    → ((i : ℕ) → (i ≡ name → ⊥) → g i ≡ f i) → without (listing n f) name ≡ listing n g
+without_in zero f g name h gone there = absurd (omega arith)
+without_in (suc n) f g name h gone there = by (λ l. without_in n f g name l gone there) (nat_eq n name) refl
+  where
+    first : (x : Option Object) (rest : Store) → without rest n ≡ rest → without (listed n x rest) n ≡ rest
+    first None rest e = e
+    first (Some o) rest e = ap (λ t. if t then rest else (n, o) ∷ without rest n) (eq-eqb n n refl)
+
+    later : (x : Option Object) (rest : Store) → (n ≡ name → ⊥)
+        → without (listed n x rest) name ≡ listed n x (without rest name)
+    later None rest other = refl
+    later (Some o) rest other = ap (λ t. if t then rest else (n, o) ∷ without rest name) (differs n name other)
+
+    by : (name < n → without (listing n f) name ≡ listing n g) → (t : Bool) → nat_eq n name ≡ t
+        → without (listing (suc n) f) name ≡ listing (suc n) g
+    by below true e =
+        let same : n ≡ name = eqb-true n name e in
+        let rest : listing n f ≡ listing n g = listing_same n f g (λ i l. sym (there i (λ k. omega arith))) in
+        ap (without (listing (suc n) f)) (sym same)
+        ∙ first (f n) (listing n f) (without_out n f n (omega arith))
+        ∙ rest
+        ∙ ap (λ x. listed n x (listing n g)) (sym (ap g same ∙ gone))
+    by below false e =
+        let other : n ≡ name → ⊥ = eqb-false n name e in
+        later (f n) (listing n f) other ∙ ap (listed n (f n)) (below (omega (arith, other)))
+        ∙ ap (λ x. listed n x (listing n g)) (sym (there n other))
+
+pub cleared_store : (table : List (Option Live)) (name : ℕ) → name < length table
+    → store_of (slice_set table name None) ≡ without (store_of table) name
+cleared_store table name h =
+    ap (λ n. listing n (live_at (slice_set table name None))) (length_set table name None)
+    ∙ sym (without_in (length table) (live_at table) (live_at (slice_set table name None)) name h
+    (ap live_in (get_set_same table name None h))
+    (λ i other. ap live_in (get_set_other table name i None other)))
+
+pub cleared_block : (table : List (Option Live)) (name : ℕ) → name < length table
+    → block_at (slice_set table name None) name ≡ None
+cleared_block table name h = ap block_in (get_set_same table name None h)
+
+pub other_block : (table : List (Option Live)) (name k : ℕ) → (k ≡ name → ⊥)
+    → block_at (slice_set table name None) k ≡ block_at table k
+other_block table name k other = ap block_in (get_set_other table name k None other)
+
+-- ---- the table with one more object
+
+get_push_same : {A : Type 0} (xs : List A) (x : A) (i : ℕ) → i ≡ length xs → slice_get (xs ++ x ∷ []) i ≡ Some x
+get_push_same [] x zero e = refl
+get_push_same [] x (suc i) e = absurd (omega arith)
+get_push_same (y ∷ xs) x zero e = absurd (omega arith)
+get_push_same (y ∷ xs) x (suc i) e = get_push_same xs x i (omega arith)
+
+get_push_other : {A : Type 0} (xs : List A) (x : A) (i : ℕ) → (i ≡ length xs → ⊥)
+    → slice_get (xs ++ x ∷ []) i ≡ slice_get xs i
+get_push_other [] x zero other = absurd (other refl)
+get_push_other [] x (suc i) other = refl
+get_push_other (y ∷ xs) x zero other = refl
+get_push_other (y ∷ xs) x (suc i) other = get_push_other xs x i (λ e. other (omega arith))
+
+pub pushed_length : {A : Type 0} (xs : List A) (x : A) → length (xs ++ x ∷ []) ≡ suc (length xs)
+pushed_length [] x = refl
+pushed_length (y ∷ xs) x = ap suc (pushed_length xs x)
+
+pub pushed_store : (table : List (Option Live)) (live : Live)
+    → store_of (table ++ Some live ∷ []) ≡ (length table, object_of live) ∷ store_of table
+pushed_store table live =
+    ap (λ n. listing n (live_at (table ++ Some live ∷ []))) (pushed_length table (Some live))
+    ∙ ap (λ x. listed (length table) x (listing (length table) (live_at (table ++ Some live ∷ []))))
+    (ap live_in (get_push_same table (Some live) (length table) refl))
+    ∙ ap (λ r. (length table, object_of live) ∷ r) (listing_same (length table) (live_at (table ++ Some live ∷ []))
+    (live_at table) (λ i h. ap live_in (get_push_other table (Some live) i (λ e. omega arith))))
+
+pub pushed_block : (table : List (Option Live)) (live : Live) (name : ℕ) → name ≡ length table
+    → block_at (table ++ Some live ∷ []) name ≡ block_in (Some (Some live))
+pushed_block table live name e = ap block_in (get_push_same table (Some live) name e)
+
+pub block_before : (table : List (Option Live)) (live : Live) (name : ℕ) → (name ≡ length table → ⊥)
+    → block_at (table ++ Some live ∷ []) name ≡ block_at table name
+block_before table live name other = ap block_in (get_push_other table (Some live) name other)
+
+pub block_past : (table : List (Option Live)) (name : ℕ) → length table ≤ name → block_at table name ≡ None
+block_past table name h = ap block_in (slice_get_past table name h)
+
+pub changed_if : {E : Type 0} (table : List (Option Live)) (name : ℕ) (old slot : Option Live)
+    (change : Object → Object) (r : Result (Unit {0}) E) → slice_get table name ≡ Some old → name < length table
+    → OnOk r (live_in (Some slot) ≡ option_map change (live_in (Some old)))
+    → OnOk r (store_of (slice_set table name slot) ≡ changed_at (store_of table) name change)
+changed_if table name old slot change (Ok u) at h e = changed_store table name old slot change at e h
+changed_if table name old slot change (Err why) at h e = tt
+
+-- ---- how many live
+
+pub listed_few : {A : Type 0} (name : ℕ) (x : Option A) → length (listed name x []) ≤ 1
+listed_few name None = omega arith
+listed_few name (Some a) = omega arith
+
+pub listed_more : {A : Type 0} (name : ℕ) (x : Option A) (rest : List (ℕ × A))
+    → length (listed name x rest) ≡ length (listed name x []) + length rest
+listed_more name None rest = omega arith
+listed_more name (Some a) rest = omega arith
+
+pub listing_few : {A : Type 0} (n : ℕ) (f : ℕ → Option A) → length (listing n f) ≤ n
+listing_few zero f = omega arith
+listing_few (suc n) f = let m = listed_more n (f n) (listing n f) in let l = listed_few n (f n) in let r =
+    listing_few n f in omega arith
+
+pub named_past : (table : List (Option Live)) (name : ℕ) → length table ≤ name
+    → object_named (store_of table) name ≡ None
+named_past table name h = listing_out (length table) (live_at table) name h
+
+pub listing_next : {A : Type 0} (n m : ℕ) (f : ℕ → Option A) → m ≡ n + 1
+    → length (listing m f) ≡ length (listed n (f n) []) + length (listing n f)
+listing_next n zero f e = absurd (omega arith)
+listing_next n (suc k) f e = let same : k ≡ n = omega arith in ap (λ i. length (listed i (f i) (listing i f))) same
+    ∙ listed_more n (f n) (listing n f)

@@ -1,0 +1,15 @@
+use Rattle.std.proofs.Common.{ap, ◌∙◌, List}
+use Rattle.roopl_semantics.specs.Store.{Value, Object}
+use Rattle.source_store.specs.ValueView.{values_of, value_of, head_of}
+use Rattle.source_store.proofs.Tables.{map_set}
+use Rattle.source_store.proofs.changes.put.Goals as goal
+
+pub returns-clause-object : goal.returns-clause-object
+returns-clause-object c =
+    let build : List Value → Object = λ cells. record {
+      head = head_of c.args.object.now.head;
+      count = c.args.object.now.count;
+      cells = cells;
+    } in
+    ap build (ap values_of c.put_value.ensures ∙ map_set value_of c.args.object.now.cells.items c.args.index
+    c.args.value)

@@ -1,5 +1,0 @@
-use Rattle.statement_laws.proofs.Stated.{nothing_is_owed}
-use Rattle.statement_laws.proofs.laws.nothing_is_owed.Goals as goal
-
-pub returns : goal.returns
-returns c = nothing_is_owed

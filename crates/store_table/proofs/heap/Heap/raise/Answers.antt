@@ -1,5 +1,0 @@
-use Rattle.store_table.proofs.Blocks.{heap_stays}
-use Rattle.store_table.proofs.heap.Heap.raise.Goals as goal
-
-pub invariant_of-self : goal.invariant_of-self
-invariant_of-self c = heap_stays _ _ _ _ _ c.raise_at.ensures.blocks c.self.invariant

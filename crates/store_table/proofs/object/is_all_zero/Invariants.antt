@@ -1,7 +1,0 @@
-use Rattle.std.proofs.Common.{◌≡◌, drop}
-use Rattle.roopl_semantics.specs.Execution.{all_zero}
-use Rattle.store_table.specs.ValueView.{values_of}
-use Rattle.store_table.proofs.object.is_all_zero.Given as goal
-
-abbrev pub invariant-loop-cell : goal.invariant-loop-cell
-invariant-loop-cell l = all_zero (values_of l.cells) ≡ all_zero (values_of (drop l.cell-index l.cells))

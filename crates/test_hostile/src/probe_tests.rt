@@ -1,0 +1,197 @@
+// Probes that watch: what `profile` says of them, what `turn` leaves of them, and that no other
+// line tells them.
+ghost use Rattle.std.specs.Prelude.{true, [], ◌∷◌, codes};
+
+use crate::serving::shelf_of;
+use rpp_command::rooplpp;
+use rpp_ports::MemorySink;
+use rpp_probes::{Coverage, DeepestPlace, Probe, Probes, StepTally};
+use rpp_words::NoMemory;
+use std::alloc::{AllocError, Global};
+use std::test::Fail;
+
+const FIRST: &[u8] = b"class P int x method main() x += 5";
+
+const UNTOLD: &str = "forward 0 back 0\nplaces 0\ndeepest none\n";
+
+// The status of a line over the first program as probes watch, its text, and the lines of the
+// probes that are left.
+fn answer_as_watch<P: Probes>(
+    alloc: Global,
+    words: &str,
+    probes: &mut P,
+) -> Result<(u8, Vec<u8>, String), Fail> {
+    let mut owned = Vec::new(alloc);
+    for word in words.split(' ') {
+        owned.push(String::from_str(alloc, word)?)?;
+    }
+    let mut shelf = shelf_of(alloc, &[("F", FIRST)], &[])?;
+    let mut out = MemorySink::new(alloc, Vec::new(alloc));
+    let status = rooplpp(alloc, &owned, &mut shelf, &mut out, probes);
+    let mut left = String::new(alloc);
+    probes.show(&mut left)?;
+    Ok((status, out.bytes().to_vec(alloc)?, left))
+}
+
+// The probes of the program itself, but for the number of steps after which places are told no more.
+fn watching(alloc: Global, limit: u32) -> Result<Vec<Box<dyn Probe>>, Fail> {
+    let mut probes: Vec<Box<dyn Probe>> = Vec::new(alloc);
+    probes.push(Box::new(alloc, StepTally::new())?)?;
+    probes.push(Box::new(alloc, Coverage::new(alloc, limit as u64)?)?)?;
+    probes.push(Box::new(alloc, DeepestPlace::new())?)?;
+    Ok(probes)
+}
+
+// The numbers of a text, in their order.
+fn numbers_of(alloc: Global, text: &[u8]) -> Result<Vec<u64>, AllocError> {
+    let mut numbers: Vec<u64> = Vec::new(alloc);
+    let mut number: u64 = 0;
+    let mut is_open = false;
+    for byte in text {
+        if *byte >= 48 && *byte < 58 {
+            number = number.wrapping_mul(10).wrapping_add((*byte - 48) as u64);
+            is_open = true;
+        } else {
+            if is_open {
+                numbers.push(number)?;
+            }
+            number = 0;
+            is_open = false;
+        }
+    }
+    Ok(numbers)
+}
+
+// The steps forward and back are those of the run, and no more places are met than up to the deepest one.
+#[test]
+fn probes_tell_of_the_whole_run(rt: HostRuntime) -> Result<(), Fail> {
+    let alloc = rt.alloc();
+    let mut probes = watching(alloc, 1_000_000)?;
+    let (code, said, left) = answer_as_watch(alloc, "profile F 1 1 1000000", &mut probes)?;
+    assert_eq!(rt; code, 0);
+    assert!(rt; said.as_slice().starts_with(b"x = 5\nlive 0\nsteps "));
+    assert!(rt; said.as_slice().ends_with(left.as_str().as_bytes()));
+    let told = numbers_of(alloc, said.as_slice())?;
+    assert_eq!(rt; told.len(), 7);
+    assert!(rt; told[3].wrapping_add(told[4]) == told[2]);
+    assert!(rt; told[5] <= told[6].wrapping_add(1));
+
+    // After a finish `turn` tells the steps back, as many as the steps there.
+    let mut probes = watching(alloc, 1_000_000)?;
+    let (code, said, left) = answer_as_watch(alloc, "turn F 1 1 1000000", &mut probes)?;
+    assert_eq!(rt; code, 0);
+    let there = numbers_of(alloc, said.as_slice())?;
+    let back = numbers_of(alloc, left.as_str().as_bytes())?;
+    assert_eq!(rt; there.len(), 7);
+    assert_eq!(rt; back.len(), 4);
+    assert!(rt; there[2] == told[2]);
+    assert!(rt; back[0].wrapping_add(back[1]) == there[3]);
+    Ok(())
+}
+
+// What is printed in front of the numbers that the code decides, and the first line of those probes
+// that are left.
+#[test]
+fn probes_watch(rt: HostRuntime) -> Result<(), Fail> {
+    let alloc = rt.alloc();
+    for (words, status, text, left) in [
+        (
+            "profile F 1 1 1000000",
+            0,
+            "x = 5\nlive 0\nsteps ",
+            "forward ",
+        ),
+        (
+            "profile F 1 1 3",
+            6,
+            "bound\nsteps 3\nforward 3 back 0\nplaces 3\ndeepest 2\n",
+            "forward 3 back 0\nplaces 3\ndeepest 2\n",
+        ),
+        (
+            "profile F 1 1 0",
+            6,
+            "bound\nsteps 0\nforward 0 back 0\nplaces 0\ndeepest none\n",
+            UNTOLD,
+        ),
+        ("turn F 1 1 6", 6, "bound\nsteps 6\n", UNTOLD),
+        ("go F 1 1 1000000", 0, "x = 5\nlive 0\nsteps ", UNTOLD),
+        ("profile F 21 1 5", 8, "refused 35 HeapOrder\n", UNTOLD),
+        ("profile G 1 1 5", 2, "cannot read G: missing\n", UNTOLD),
+        ("profile F 1 1 5 I", 1, "words refused\n", UNTOLD),
+        ("profile F 1 1", 1, "words refused\n", UNTOLD),
+    ] {
+        let mut probes = watching(alloc, 4)?;
+        let (code, said, lines) = answer_as_watch(alloc, words, &mut probes)?;
+        assert_eq!(rt; code, status, "{words}");
+        assert!(rt; said.as_slice().starts_with(text.as_bytes()), "{words}");
+        assert!(rt; lines.as_str().starts_with(left), "{words}");
+    }
+
+    // A probe that ends is not left, and its line comes first.
+    let mut probes = watching(alloc, 4)?;
+    let (_, said, left) = answer_as_watch(alloc, "profile F 1 1 1000000", &mut probes)?;
+    assert_eq!(rt; probes.len(), 2);
+    assert!(rt; said.as_slice().ends_with(left.as_str().as_bytes()));
+    let told = numbers_of(alloc, said.as_slice())?;
+    assert_eq!(rt; told.len(), 7);
+    assert_eq!(rt; told[3], 4);
+    Ok(())
+}
+
+// A caller's own probe: it ends with the first step, whose place it keeps.
+#[derive(Drop)]
+struct FirstStep {
+    place: u32,
+}
+
+impl Probe for FirstStep {
+    ghost watch = { λ p. record { tally = p.place ∷ []; rule = λ tally step. step.place ∷ []; is_end = λ tally. true; shown = λ tally. codes "begun" } };
+
+    fn told(&mut self, pc: u32, _back: bool) -> bool {
+        self.place = pc;
+        false
+    }
+
+    fn line(&self, out: &mut String) -> Result<(), NoMemory> {
+        Ok(out.push_str("begun")?)
+    }
+}
+
+#[test]
+fn a_probe_of_the_callers_own_watches(rt: HostRuntime) -> Result<(), Fail> {
+    let alloc = rt.alloc();
+    let mut probes: Vec<Box<dyn Probe>> = Vec::new(alloc);
+    probes.push(Box::new(alloc, StepTally::new())?)?;
+    probes.push(Box::new(alloc, FirstStep { place: 0 })?)?;
+    let (status, said, left) = answer_as_watch(alloc, "profile F 1 1 1000000", &mut probes)?;
+    assert_eq!(rt; status, 0);
+    assert!(rt; said.as_slice().starts_with(b"x = 5\nlive 0\nsteps "));
+    assert!(rt; said.as_slice().ends_with(left.as_str().as_bytes()));
+    assert!(rt; left.as_str().starts_with("forward "));
+    assert_eq!(rt; probes.len(), 1);
+    Ok(())
+}
+
+// One probe alone: `turn` tells a tally each step back, and a coverage of four steps ends with the
+// fourth one and is not left.
+#[test]
+fn one_probe_alone_watches_the_way_back(rt: HostRuntime) -> Result<(), Fail> {
+    let alloc = rt.alloc();
+    let mut probes: Vec<Box<dyn Probe>> = Vec::new(alloc);
+    probes.push(Box::new(alloc, StepTally::new())?)?;
+    let (status, said, left) = answer_as_watch(alloc, "turn F 1 1 1000000", &mut probes)?;
+    assert_eq!(rt; status, 0);
+    let there = numbers_of(alloc, said.as_slice())?;
+    let back = numbers_of(alloc, left.as_str().as_bytes())?;
+    assert_eq!(rt; there.len(), 7);
+    assert_eq!(rt; back.len(), 2);
+    assert!(rt; back[0].wrapping_add(back[1]) == there[3]);
+    assert_eq!(rt; probes.len(), 1);
+    let mut probes: Vec<Box<dyn Probe>> = Vec::new(alloc);
+    probes.push(Box::new(alloc, Coverage::new(alloc, 4)?)?)?;
+    let (status, _, left) = answer_as_watch(alloc, "turn F 1 1 1000000", &mut probes)?;
+    assert_eq!(rt; status, 0);
+    assert_eq!(rt; left.as_str(), "");
+    assert_eq!(rt; probes.len(), 0);
+    Ok(())
+}
