@@ -1,0 +1,17 @@
+"""`rpp lsp`: the language server, over standard input and output, as editors start it.
+
+It judges each open text by the program's `check`, and answers what an editor asks: what a name or a statement is, where
+it is declared and used, what can stand at a place, an outline, folds, a layout, and the edits of a rename."""
+import sys
+from typing import List
+
+from .language_server import Server
+from .options import Parser
+from .protocol import Inbox, Outbox
+
+
+def main(words: List[str]) -> int:
+    parser = Parser(prog='rpp lsp', description=__doc__.split(':', 1)[1].strip())
+    parser.add_argument('--stdio', action='store_true', help='what it does anyway: some editors name it')
+    parser.parse_args(words)
+    return Server(Inbox(sys.stdin.fileno()), Outbox(sys.stdout.buffer)).serve()

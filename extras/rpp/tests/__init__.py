@@ -1,0 +1,1 @@
+"""The tests of the companion, over the built program: .ci/companion runs them."""

@@ -1,0 +1,244 @@
+"""`rpp debug`: scripts over sources and images, and the prompt on a terminal. Expected lines are worked out by hand."""
+import os
+import pty
+import re
+import select
+import subprocess
+import sys
+import time
+
+from .base import COMMAND, EXAMPLES, SUMS, Case
+
+TWICE = '''class P
+  int x
+  int y
+method main()
+  local int v = 1
+    call grow(v)
+    y ^= v
+    uncall grow(v)
+  delocal int v = 1
+method grow(int n)
+  n += 2
+  local int k = 3
+    n += k
+  delocal int k = 3
+'''
+ENDLESS = '''class P int x int y method main()
+from x = 0 do
+  x += 1
+loop skip
+until x = 0
+'''
+BOXES = '''class P
+  Box[] boxes
+  int sum
+method main()
+  new Box[2] boxes
+  new Box boxes[1]
+  call boxes[1]::put()
+class Box
+  int held
+method put()
+  held += 7
+  call more()
+method more()
+  held += 1
+'''
+
+
+class Scripts(Case):
+    def debug(self, text, *commands, words=()):
+        """The lines that a session prints, without its prompts."""
+        source = self.write('a.rpp', text)
+        given = [word for command in commands for word in ('-c', command)]
+        done = self.rpp('debug', source, *words, *given)
+        self.assertEqual(done.stderr, '')
+        return done.stdout
+
+    def heads(self, printed):
+        """Position, line and column, and body of each stop."""
+        return re.findall(r'^\[(\d+)\] (?:a\.rpp:(\d+):(\d+) in (.*)|the end)$', printed, re.M)
+
+    def test_moves_both_ways(self):
+        printed = self.debug(TWICE, 'step', 'step', 'step', 'next', 'finish',
+                             'back', 'leave-back', 'step 2', 'step 99', 'previous')
+        self.assertEqual(self.heads(printed), [
+            ('0', '5', '3', 'P.main'), ('1', '6', '5', 'P.main'), ('2', '11', '3', 'P.grow, depth 2'),
+            ('3', '12', '3', 'P.grow, depth 2'), ('4', '13', '5', 'P.grow, depth 2'), ('5', '7', '5', 'P.main'),
+            ('4', '13', '5', 'P.grow, depth 2'), ('1', '6', '5', 'P.main'), ('3', '12', '3', 'P.grow, depth 2'),
+            ('10', '', '', ''), ('6', '8', '5', 'P.main')])
+        self.assertIn('this is the end of the run\n', printed)
+
+    def test_next_goes_over_a_call_and_an_uncalled_body_is_told(self):
+        printed = self.debug(TWICE, 'step', 'next', 'next', 'step', 'where', 'step', 'step', 'step', 'back 99')
+        self.assertEqual(self.heads(printed), [
+            ('0', '5', '3', 'P.main'), ('1', '6', '5', 'P.main'), ('5', '7', '5', 'P.main'), ('6', '8', '5', 'P.main'),
+            ('7', '12', '3', 'P.grow, depth 2, uncalled'), ('8', '13', '5', 'P.grow, depth 2, uncalled'),
+            ('9', '11', '3', 'P.grow, depth 2, uncalled'), ('10', '', '', ''), ('0', '5', '3', 'P.main')])
+        self.assertIn('   2  P.grow of #1, uncalled at a.rpp:12:3\n   1  P.main of #1 at a.rpp:8:5\n', printed)
+        self.assertIn('  v: 1 -> 6\n', printed)
+        self.assertIn('  k = 3 begins\n', printed)
+        self.assertIn('this is the start\n', printed)
+
+    def test_breakpoints_both_ways(self):
+        printed = self.debug(TWICE, 'break 13', 'break 10', 'continue', 'c', 'c', 'c', 'c',
+                             'rc', 'rc', 'clear 1', 'rc', 'rc', 'until 8')
+        self.assertEqual([head[:2] for head in self.heads(printed)], [
+            ('0', '5'), ('2', '11'), ('4', '13'), ('8', '13'), ('9', '11'), ('10', ''), ('9', '11'), ('8', '13'), ('2', '11'),
+            ('0', '5'), ('6', '8')])
+        self.assertIn('breakpoint 1 at line 13: n += k\n', printed)
+        self.assertIn('no statement begins at line 10; the next one with a statement is 11\n', printed)
+
+    def test_watches_both_ways(self):
+        printed = self.debug(TWICE, 'watch y', 'watch back y', 'step 3', 'watch n',
+                             'watch n', 'back', 'watch back n', 'watch zz')
+        self.assertEqual([head[0] for head in self.heads(printed)], ['0', '6', '5', '8', '9', '10', '9', '8'])
+        self.assertIn('changed: y: 0 -> 6\n', printed)
+        self.assertIn('this statement changes y: 0 -> 6\n', printed)
+        self.assertIn('changed: n: 6 -> 3\n', printed)
+        self.assertIn('the call in which n stands has ended\n', printed)
+        self.assertIn('there is no zz here\n', printed)
+
+    def test_objects_and_calls_on_elements(self):
+        printed = self.debug(BOXES, 'break 14', 'c', 'where', 'print', 'print #3',
+                             'print boxes[0]', 'back 3', 'objects', 'print boxes[1]')
+        self.assertIn('   3  Box.more of #3 at a.rpp:14:3\n   2  Box.put of #3 at a.rpp:12:3\n'
+                      '   1  P.main of #1 at a.rpp:7:3\n', printed)
+        self.assertIn('(rpp) print\nheld = 7\n', printed)
+        self.assertIn('#3 Box count 1\n  held = 7\n', printed)
+        self.assertIn('there is no boxes[0] here\n', printed)
+
+    def test_a_path_into_objects(self):
+        printed = self.debug(BOXES, 'step 99', 'print boxes[1].held', 'print boxes', 'p sum')
+        self.assertIn('boxes[1].held = 8\n', printed)
+        self.assertIn('boxes = #2\n#2 Box[2] count 1\n  [0] = nil\n  [1] = #3\n', printed)
+        self.assertIn('sum = 0\n', printed)
+
+    def test_a_fault_names_both_statements(self):
+        done = self.rpp('debug', SUMS, 'a=4', 'b=8', '-c', 'continue', '-c', 'history 2', '-c', 'list 2')
+        self.assertIn('[4] sums.rpp:12:5 in Sums.main\n', done.stdout)
+        self.assertIn('fault 3 Delocal: the run goes no further, and stops within this statement:\nsums.rpp:8:3\n', done.stdout)
+        self.assertIn('[2] sums.rpp:10:5 total += sum\n[3] sums.rpp:11:5 a -= b\n', done.stdout)
+
+    def test_commands_that_are_none(self):
+        source = self.write('a.rpp', TWICE)
+        done = self.rpp('debug', source, stdin='jump\nstep x\nbreak 99\nclear 4\nquit\nstep\n')
+        self.assertEqual(done.returncode, 1)
+        self.assertIn('there is no command jump; `help` names them all\n', done.stdout)
+        self.assertIn('a number is needed here, not x\n', done.stdout)
+        self.assertIn('no statement begins at line 99 or below\n', done.stdout)
+        self.assertIn('there is no breakpoint 4\n', done.stdout)
+        self.assertNotIn('(rpp) step\n', done.stdout)
+
+    def test_what_is_refused(self):
+        done = self.rpp('debug', self.write('a.rpp', 'class P int x method main() x += x'))
+        self.assertEqual(done.returncode, 3)
+        self.assertIn('1:29: refused 16 SelfUpdate\n', done.stdout)
+        done = self.rpp('debug', SUMS, '--depth', '9000')
+        self.assertEqual((done.returncode, done.stdout.split(':')[0]), (8, '--depth 9000'))
+
+
+class Images(Case):
+    def test_an_image_both_ways(self):
+        counter = os.path.join(EXAMPLES, 'counter.rpp')
+        image = os.path.join(self.folder, 'c.img')
+        self.program.call('compile', counter, image)
+        given = ['watch count', 'print', 'continue', 'back 99', 'until 0']
+        done = self.rpp('debug', image, '--source', counter, *[word for line in given for word in ('-c', line)])
+        self.assertEqual((done.returncode, done.stderr), (0, ''))
+        self.assertIn('changed: 0 -> 3\n', done.stdout)
+        self.assertIn('counter.rpp:7:3\n', done.stdout)
+        self.assertIn('count = 3\nbefore = 0\n', done.stdout)
+        self.assertIn('end finished\n', done.stdout)
+        self.assertIn('[0] pc 0 br 0 dir 1  START  start\n', done.stdout)
+
+    def test_the_session_of_the_pages(self):
+        image = os.path.join(self.folder, 's.img')
+        self.program.call('asm', os.path.join(EXAMPLES, 'subroutine.pisa'), image)
+        given = ['step 10', 'back 10', 'regs', 'back 1', 'until 4', 'break 3', 'rc', 'step 5']
+        done = self.rpp('debug', image, *[word for line in given for word in ('-c', line)])
+        heads = re.findall(r'^\[(\d+)\] pc (\d+) br (-?\d+) dir (-?1)  (?:.*?)(?:  (start|end .*))?$', done.stdout, re.M)
+        # README.md has these positions, from the program's own scripts.
+        self.assertEqual(heads, [('0', '0', '0', '1', ''), ('10', '6', '-4', '-1', ''), ('0', '0', '0', '1', ''),
+                                 ('0', '0', '0', '1', 'start'), ('25', '4', '0', '1', ''), ('24', '3', '-3', '1', ''),
+                                 ('25', '4', '0', '1', 'end finished')])
+
+    def test_no_image(self):
+        done = self.rpp('debug', self.write('no.img', 'RPPI nothing'))
+        self.assertEqual(done.returncode, 4)
+        self.assertIn('refused 33 ImageField', done.stdout)
+
+
+class Terminal(Case):
+    def begin(self, *words):
+        """Begins `rpp` with these words on a terminal of its own."""
+        self.leader, follower = pty.openpty()
+        self.session = subprocess.Popen([sys.executable, COMMAND, *words], stdin=follower, stdout=follower,
+                                        stderr=follower, start_new_session=True, preexec_fn=self.own_terminal(follower),
+                                        env=dict(os.environ, HOME=self.folder, TERM='dumb'))
+        os.close(follower)
+        self.read = ''
+        self.addCleanup(self.end)
+
+    @staticmethod
+    def own_terminal(follower):
+        """Makes the terminal the session's own, so that ^C reaches it."""
+        def take():
+            import fcntl
+            import termios
+            fcntl.ioctl(follower, termios.TIOCSCTTY, 0)
+        return take
+
+    def end(self):
+        if self.session.poll() is None:
+            self.session.kill()
+        self.session.wait()
+        os.close(self.leader)
+
+    def wait_for(self, wanted, seconds=30):
+        """Reads on until the text has come; what was read before it is passed over."""
+        end = time.monotonic() + seconds
+        while wanted not in self.read:
+            self.assertLess(time.monotonic(), end, f'{wanted!r} did not come: {self.read!r}')
+            if select.select([self.leader], [], [], 0.2)[0]:
+                try:
+                    self.read += os.read(self.leader, 65536).decode()
+                except OSError:
+                    self.assertIn(wanted, self.read, 'the session ended')
+        self.read = self.read.split(wanted, 1)[1]
+
+    def type(self, text):
+        os.write(self.leader, text.encode())
+
+    def test_the_prompt_stays_after_an_interrupt(self):
+        self.begin('debug', self.write('endless.rpp', ENDLESS))
+        self.wait_for('[0] endless.rpp:2:1 in P.main')
+        self.wait_for('(rpp) ')
+        self.type('step\n')
+        self.wait_for('[1] endless.rpp:3:3')
+        self.type('\n')
+        self.wait_for('[2] endless.rpp:4:6')
+        self.wait_for('(rpp) ')
+        self.type('watch y\n')
+        time.sleep(1.5)
+        self.type('\x03')
+        self.wait_for('stopped by ^C')
+        self.wait_for('(rpp) ')
+        self.type('continue\n')
+        time.sleep(1.5)
+        self.type('\x03')
+        self.wait_for('stopped by ^C')
+        self.wait_for('(rpp) ')
+        self.type('back 99\n')
+        self.wait_for('this is the start')
+        self.wait_for('(rpp) ')
+        self.type('quit\n')
+        self.assertEqual(self.session.wait(timeout=20), 0)
+
+    def test_a_run_is_ended_with_what_is_known(self):
+        self.begin('run', self.write('endless.rpp', ENDLESS), '--steps', str(10 ** 17))
+        self.wait_for('100,000,000 steps, and it goes on')
+        self.type('\x03')
+        self.wait_for('steps it had not ended')
+        self.assertEqual(self.session.wait(timeout=20), 130)
