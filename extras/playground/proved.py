@@ -66,10 +66,10 @@ def keep_module(kit, top, name, module):
     with contextlib.redirect_stdout(sys.stderr):
         crate = library.Crate(folder, top, {}, ())
         held = library.lock([*crate.below(), crate])
-    missing = [it.name for it in crate.below() if not it.is_built()]
+    missing = [it.name for it in crate.below() if not os.path.isfile(f'{it.rlib}/format')]
     if missing or not os.path.isfile(proved):
-        which = f'{len(missing)} libraries, {missing[0]} the first,' if missing else proved
-        raise NotProved(f'.ci/run has not proved and built these sources: {which} missing or old')
+        which = f'{len(missing)} libraries, {missing[0]} the first, are missing' if missing else f'{proved} is missing'
+        raise NotProved(f'.ci/run has not proved and built these sources: {which}')
     with tempfile.TemporaryDirectory() as at:
         keeping_toolchain(kit, f'{at}/toolchain', f'{at}/kept')
         build(library, crate, f'{at}/toolchain', f'{at}/{name}')
