@@ -32,7 +32,7 @@ use Rattle.pisa_isa.proofs.Flips.{length-flipped}
 use Rattle.pisa_isa.proofs.Meeting.{met}
 use Rattle.pisa_isa.proofs.Ends.{Stands, start_stands, finished_at, is_start-inverse_op, is_finish-inverse_op}
 use Rattle.pisa_isa.proofs.Ends.{stops_at_finish}
-use Rattle.paired_code.specs.Cells.{bra}
+use Rattle.code_conventions.specs.Cells.{bra}
 use Rattle.paired_code.specs.Layout.{between}
 use Rattle.bennett_wrap.specs.Copying.{count_at}
 use Rattle.bennett_wrap.specs.Wrapped.{copied_at, entered_at, finish_of, wrapped_code, begun_on, HasRoom, with_zeros}

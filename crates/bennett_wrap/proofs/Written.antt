@@ -20,7 +20,8 @@ use Rattle.pisa_isa.specs.Image.{Segments, IsImage, first_seal_refusal}
 use Rattle.pisa_isa.specs.Flipped.{flipped}
 use Rattle.pisa_isa.proofs.Sealed.{accepted_by_seal}
 use Rattle.pisa_isa.proofs.Flips.{length-flipped}
-use Rattle.paired_code.specs.Cells.{start, finish, bra}
+use Rattle.code_conventions.specs.Cells.{bra}
+use Rattle.paired_code.specs.Cells.{start, finish}
 use Rattle.paired_code.specs.Machine.{is_single}
 use Rattle.paired_code.specs.Layout.{between}
 use Rattle.paired_code.specs.Link.{linked, link_code, link_size}

@@ -11,7 +11,7 @@ use Rattle.pisa_isa.specs.Image.{is_start, is_finish}
 use Rattle.pisa_isa.specs.Runs.{End, run, started, zero_registers}
 use Rattle.pisa_isa.specs.Ends.{MeetsEndsOnce}
 use Rattle.pisa_isa.specs.Flipped.{flipped}
-use Rattle.paired_code.specs.Cells.{bra}
+use Rattle.code_conventions.specs.Cells.{bra}
 use Rattle.paired_code.specs.Layout.{between}
 use Rattle.bennett_wrap.specs.Copying.{copy_cells, count_at}
 

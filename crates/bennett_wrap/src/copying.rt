@@ -1,17 +1,30 @@
 // The copy code, as an image of its own.
 ghost use Rattle.std.specs.Prelude.{◌≡◌, ◌≤◌, ◌++◌, ◌+◌, ◌*◌, ◌∷◌, [], length, map, All, IfOk, OnOk};
 ghost use Rattle.rpp_words.specs.Words.{negated};
-ghost use Rattle.paired_code.specs.Cells.{add, addi, start, finish};
+ghost use Rattle.paired_code.specs.Cells.{start, finish};
 ghost use Rattle.paired_code.specs.Code.{unmarked};
-ghost use Rattle.bennett_wrap.specs.Copying.{exch, xor, sub, find_cells, copy_one, copies, ending_cells, copy_cells, own, IsPlain};
+ghost use Rattle.bennett_wrap.specs.Copying.{find_cells, copy_one, copies, ending_cells, copy_cells, own, IsPlain};
 
+use code_conventions::cells::{add, addi, exch, sub, xor};
 use paired_code::{Piece, empty, link, plain, seq};
-use pisa_isa::{Cell, Image, Op};
+use pisa_isa::{Cell, Image};
 use rpp_words::{NoMemory, wrap_sub};
 use std::alloc::Global;
 
 /// The data cell that holds the number of a program's cells.
 const COUNT_AT: u32 = 4;
+
+/// The address of a cell that is read.
+pub const AT: u8 = 1;
+
+/// Its word.
+pub const WORD: u8 = 2;
+
+/// The address of the cell behind the program's own that the word goes into.
+pub const BEHIND: u8 = 3;
+
+/// The word of that cell.
+pub const COPY: u8 = 4;
 
 /// START, the copy code and FINISH.
 pub(crate) fn copy_image(alloc: Global, cells: &[u32]) -> Result<Image, NoMemory>
@@ -52,11 +65,11 @@ fn copy_row(alloc: Global, cells: &[u32]) -> Result<Vec<Cell>, NoMemory>
 fn put_find(row: &mut Vec<Cell>) -> Result<(), NoMemory>
     ensures { OnOk result (row.new.items ≡ row.old.items ++ find_cells) }
 {
-    row.push(addi(1, COUNT_AT))?;
-    row.push(exch(2, 1))?;
-    row.push(add(3, 2))?;
-    row.push(exch(2, 1))?;
-    row.push(addi(1, wrap_sub(0, COUNT_AT)))?;
+    row.push(addi(AT, COUNT_AT))?;
+    row.push(exch(WORD, AT))?;
+    row.push(add(BEHIND, WORD))?;
+    row.push(exch(WORD, AT))?;
+    row.push(addi(AT, wrap_sub(0, COUNT_AT)))?;
     Ok(())
 }
 
@@ -72,73 +85,25 @@ fn put_copies(row: &mut Vec<Cell>, cells: &[u32]) -> Result<(), NoMemory>
 fn put_copy(row: &mut Vec<Cell>, cell: u32) -> Result<(), NoMemory>
     ensures { OnOk result (row.new.items ≡ row.old.items ++ copy_one cell) }
 {
-    row.push(addi(1, cell))?;
-    row.push(exch(2, 1))?;
-    row.push(exch(4, 3))?;
-    row.push(xor(4, 2))?;
-    row.push(exch(4, 3))?;
-    row.push(exch(2, 1))?;
-    row.push(addi(1, wrap_sub(0, cell)))?;
-    row.push(addi(3, 1))?;
+    row.push(addi(AT, cell))?;
+    row.push(exch(WORD, AT))?;
+    row.push(exch(COPY, BEHIND))?;
+    row.push(xor(COPY, WORD))?;
+    row.push(exch(COPY, BEHIND))?;
+    row.push(exch(WORD, AT))?;
+    row.push(addi(AT, wrap_sub(0, cell)))?;
+    row.push(addi(BEHIND, 1))?;
     Ok(())
 }
 
 fn put_ending(row: &mut Vec<Cell>, count: u32) -> Result<(), NoMemory>
     ensures { OnOk result (row.new.items ≡ row.old.items ++ ending_cells count) }
 {
-    row.push(addi(3, wrap_sub(0, count)))?;
-    row.push(addi(1, COUNT_AT))?;
-    row.push(exch(2, 1))?;
-    row.push(sub(3, 2))?;
-    row.push(exch(2, 1))?;
-    row.push(addi(1, wrap_sub(0, COUNT_AT)))?;
+    row.push(addi(BEHIND, wrap_sub(0, count)))?;
+    row.push(addi(AT, COUNT_AT))?;
+    row.push(exch(WORD, AT))?;
+    row.push(sub(BEHIND, WORD))?;
+    row.push(exch(WORD, AT))?;
+    row.push(addi(AT, wrap_sub(0, COUNT_AT)))?;
     Ok(())
-}
-
-fn addi(reg: u8, word: u32) -> Cell
-    ensures { result ≡ addi reg word }
-{
-    Cell {
-        op: Op::Addi,
-        a: reg,
-        b: 0,
-        c: 0,
-        imm: word,
-    }
-}
-
-fn exch(to: u8, at: u8) -> Cell
-    ensures { result ≡ exch to at }
-{
-    two_registers(Op::Exch, to, at)
-}
-
-fn xor(to: u8, from: u8) -> Cell
-    ensures { result ≡ xor to from }
-{
-    two_registers(Op::Xor, to, from)
-}
-
-fn add(to: u8, from: u8) -> Cell
-    ensures { result ≡ add to from }
-{
-    two_registers(Op::Add, to, from)
-}
-
-fn sub(to: u8, from: u8) -> Cell
-    ensures { result ≡ sub to from }
-{
-    two_registers(Op::Sub, to, from)
-}
-
-fn two_registers(op: Op, a: u8, b: u8) -> Cell
-    ensures { result ≡ record { op = op; a = a; b = b; c = 0; imm = 0 } }
-{
-    Cell {
-        op,
-        a,
-        b,
-        c: 0,
-        imm: 0,
-    }
 }

@@ -1,12 +1,13 @@
 // Wraps an image.
 ghost use Rattle.std.specs.Prelude.{◌≡◌, ◌≤◌, ◌<◌, ◌+◌, ◌-◌, ◌*◌, ◌^◌, ◌++◌, length, map, take, drop, count_by, position, IfOk, OnOk};
 ghost use Rattle.pisa_isa.specs.Image.{is_start, is_finish, IsImage};
-ghost use Rattle.paired_code.specs.Cells.{bra};
+ghost use Rattle.code_conventions.specs.Cells.{bra};
 ghost use Rattle.paired_code.specs.Layout.{between};
 ghost use Rattle.bennett_wrap.specs.Copying.{copy_cells};
 ghost use Rattle.bennett_wrap.specs.Wrapped.{left_by, entered_by, finish_of, inner, joined, wrapped_code, Wrapped};
 
 use crate::copying::copy_image;
+use code_conventions::cells::with_word;
 use image_inverter::flip;
 use pisa_isa::{Cell, Image, Op};
 use rpp_words::NoMemory;
@@ -138,13 +139,7 @@ fn put_inner(all: &mut Vec<Cell>, code: &[Cell]) -> Result<(), NoMemory>
 fn bra(from: u32, to: u32) -> Cell
     ensures { result ≡ bra (between from to) }
 {
-    Cell {
-        op: Op::Bra,
-        a: 0,
-        b: 0,
-        c: 0,
-        imm: offset(from, to),
-    }
+    with_word(Op::Bra, 0, offset(from, to))
 }
 
 fn offset(from: u32, to: u32) -> u32

@@ -17,7 +17,7 @@ use Rattle.rpp_tree.specs.Parts.{list_tokens}
 use Rattle.class_table.specs.Overrides.{parameters_of}
 use Rattle.class_table.specs.Program.{IsAccepted}
 use Rattle.class_table.specs.Refusal.{wrong_arity}
-use Rattle.class_table.specs.Scope.{Setting, Locals}
+use Rattle.class_table.specs.Scope.{Typing, Locals}
 use Rattle.class_table.specs.Statements.{passed, required, each_passes, each_passes_after, argument_known, argument_new}
 use Rattle.class_table.specs.Statements.{arguments_fit, plain_receiver, receiver_class, slot_rules, call_rules}
 use Rattle.class_table.specs.Table.{slot_in, dispatch_in}
@@ -35,7 +35,8 @@ use Rattle.expr_uncompute.specs.Sizes.{swap_size}
 use Rattle.expr_uncompute.proofs.Bounds.{words_most, place_words_most}
 use Rattle.refine_expressions.specs.Typing.{typing_in}
 use Rattle.statement_codegen.specs.Codes.{scope_of, with_variable}
-use Rattle.statement_codegen.specs.Laws.{IfLaw, FromLaw, LocalLaw, SkipLaw, CallLaw, ElementLaw}
+use Rattle.branch_codegen.specs.Laws.{IfLaw, FromLaw}
+use Rattle.statement_codegen.specs.Laws.{LocalLaw, SkipLaw, CallLaw, ElementLaw}
 use Rattle.statement_codegen.proofs.Stands.{update_stands, swap_stands}
 use Rattle.block_codegen.specs.Pieces.{StatementStands, InnerPiece, BlockPiece}
 use Rattle.block_codegen.proofs.Pieces.{tokens_are, place_tokens_are, plain_inner, if_inner, from_inner, local_inner}
@@ -81,7 +82,7 @@ local_room v x at var value body end_var last is h = few_words value last
 
 -- ---- a call has few arguments
 
-few_of : (program : Source) → IsAccepted program → (typing : Setting) → typing.program ≡ program
+few_of : (program : Source) → IsAccepted program → (typing : Typing) → typing.program ≡ program
     → (shape : Locals) (at : ℕ) (receiver : Option Lvalue) (method : Ident) (args : List Ident) (class : ℕ)
     (slot : Option ℕ)
     → slot_rules typing shape at receiver method args class slot ≡ passed → length args ≤ 32
@@ -174,7 +175,7 @@ pub call_arm : {E : Type 0} (v : Visible) (x : Statement) (at : ℕ) (back : Boo
     (name : Option Ident) (method : Ident) (args : List Ident) (r : Result Code E)
     → x ≡ Call at back receiver method args → option_map Whole name ≡ receiver → StatementStands v x
     → IfOk r (λ p. CallLaw v back name method args p.cells) → IfOk r (λ p. p.marks ≡ [])
-    → IfOk r (λ p. length p.cells ≤ 30 * length args + 161) → IfOk r (λ p. InnerPiece v x p)
+    → IfOk r (λ p. length p.cells ≤ 22 * length args + 105) → IfOk r (λ p. InnerPiece v x p)
 call_arm v x at back receiver name method args (Err e) is same h law none size = tt
 call_arm v x at back receiver name method args (Ok p) is same h law none size =
     let e : x ≡ Call at back (option_map Whole name) method args = is
@@ -188,7 +189,7 @@ pub element_arm : {E : Type 0} (v : Visible) (at : ℕ) (back : Bool) (element :
     (index : Expression) (method : Ident) (args : List Ident) (r : Result Code E) → element ≡ Item array index
     → StatementStands v (Call at back (Some element) method args)
     → IfOk r (λ p. ElementLaw v at back element method args p.cells) → IfOk r (λ p. p.marks ≡ [])
-    → IfOk r (λ p. length p.cells ≤ 160 * (2 + place_tokens element) + 30 * length args + 297)
+    → IfOk r (λ p. length p.cells ≤ 160 * (2 + place_tokens element) + 22 * length args + 241)
     → IfOk r (λ p. InnerPiece v (Call at back (Some element) method args) p)
 element_arm v at back element array index method args (Err e) is h law none size = tt
 element_arm v at back element array index method args (Ok p) is h law none size =
@@ -210,7 +211,7 @@ pub whole_arm : {E : Type 0} (v : Visible) (at : ℕ) (back : Bool) (receiver : 
     (args : List Ident) (r : Result Code E) → receiver ≡ Whole name
     → StatementStands v (Call at back (Some receiver) method args)
     → IfOk r (λ p. CallLaw v back (Some name) method args p.cells) → IfOk r (λ p. p.marks ≡ [])
-    → IfOk r (λ p. length p.cells ≤ 30 * length args + 161)
+    → IfOk r (λ p. length p.cells ≤ 22 * length args + 105)
     → IfOk r (λ p. InnerPiece v (Call at back (Some receiver) method args) p)
 whole_arm v at back receiver name method args r is h law none size =
     call_arm v (Call at back (Some receiver) method args) at back (Some receiver) (Some name) method args r refl

@@ -21,7 +21,8 @@ use Rattle.refine_form.proofs.Stated.{nothing_is_a_block, blocks_are_rows}
 use Rattle.code_scope.specs.Visible.{Visible, known_in}
 use Rattle.expr_uncompute.specs.Steps.{tokens, place_tokens}
 use Rattle.statement_codegen.specs.Codes.{scope_of, with_variable, IsStatementCode, IsBlockCode, IsAllowed}
-use Rattle.statement_codegen.specs.Laws.{IfLaw, FromLaw, LocalLaw, ConstructLaw}
+use Rattle.branch_codegen.specs.Laws.{IfLaw, FromLaw}
+use Rattle.statement_codegen.specs.Laws.{LocalLaw, ConstructLaw}
 use Rattle.statement_codegen.proofs.Stands.{if_stands, from_stands, local_stands}
 use Rattle.block_codegen.specs.Rows.{row_before, inner_rows, block_rows}
 use Rattle.block_codegen.specs.Ranges.{IsRange, MarksOf}

@@ -11,7 +11,7 @@ use Rattle.rpp_tree.specs.Tree.{Delete, Copy, Uncopy, Call, Skip, Then}
 use Rattle.rpp_tree.specs.Places.{statement_place}
 use Rattle.rpp_tree.specs.Views.{source_of}
 use Rattle.rpp_tree.specs.Parts.{expression_places, var_places, statement_places, block_places}
-use Rattle.class_table.specs.Scope.{Setting, Locals}
+use Rattle.class_table.specs.Scope.{Typing, Locals}
 use Rattle.class_table.specs.Statements.{test_rules, local_rules, construct_rules, with_local, with_object}
 use Rattle.class_table.specs.Statements.{check_statement, check_statements}
 use Rattle.class_table.proofs.PassedRules.{both_passed}
@@ -55,7 +55,7 @@ second_of_two before one two after all = right IsPlace (before ++ one) two
 -- ---- the parts
 
 module _ (v : Visible) where
-  abbrev typing : Setting
+  abbrev typing : Typing
   typing = typing_in (source_of v.program) (scope_of v)
 
   abbrev shape : Locals

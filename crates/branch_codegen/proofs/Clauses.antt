@@ -2,7 +2,7 @@
 use Rattle.std.proofs.Common.{◌≡◌, ℕ, suc, ◌+◌, ◌≤◌, List, [], ◌∷◌, ◌++◌, length, refl, ap, arith, append_assoc}
 use Rattle.std.proofs.Common.{length-append}
 use Rattle.paired_code.specs.declared.part.Symbol.{Symbol}
-use Rattle.paired_code.specs.Cells.{bra}
+use Rattle.code_conventions.specs.Cells.{bra}
 use Rattle.paired_code.specs.declared.part.Symbol.TheVariants.{Own}
 use Rattle.paired_code.specs.Layout.{between, fork, check_cells, branch_cells, loop_cells, mirror_cells}
 use Rattle.paired_code.specs.Rows.{line, within}

@@ -1,17 +1,17 @@
 -- The code of conditionals and of loops, from the codes of their tests and parts.
 use Rattle.std.specs.Prelude.{List, [], ◌∷◌, ◌++◌}
-use Rattle.pisa_isa.specs.declared.cell.Op.TheVariants.{Xori}
 use Rattle.pisa_isa.specs.declared.cell.Cell.{Cell}
 use Rattle.paired_code.specs.declared.part.Symbol.{Symbol}
 use Rattle.paired_code.specs.Layout.{check_cells, loop_cells}
 use Rattle.paired_code.specs.Does.{if_cells}
 use Rattle.paired_code.specs.Rows.{within}
+use Rattle.code_conventions.specs.Cells.{xori}
 use Rattle.code_conventions.specs.declared.faults.TheConstants.{LOOP}
 use Rattle.code_conventions.specs.declared.registers.TheConstants.{FLAG}
 
 -- the flag becomes 1 where it was 0, and 0 where it was 1
 abbrev pub flips : Cell
-flips = record { op = Xori; a = FLAG; b = 0; c = 0; imm = 1 }
+flips = xori FLAG 1
 
 -- the flag, 1 outside, is 0 in a part
 abbrev pub part_code : List Symbol → List Symbol

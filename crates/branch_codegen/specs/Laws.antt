@@ -1,9 +1,14 @@
--- What the code of a conditional and of a loop does, from what its tests and parts do.
-use Rattle.std.specs.Prelude.{ℕ, List}
+-- What the code of a conditional and of a loop does, from what its tests and parts do; and what the
+-- code that is made from the tests does, in every scope of the names that it was made for.
+use Rattle.std.specs.Prelude.{◌≡◌, ℕ, List}
 use Rattle.rpp_tree.specs.Tree.{Expression, Statements, If, From}
+use Rattle.class_table.specs.declared.kind.Kind.TheVariants as kind
 use Rattle.paired_code.specs.declared.part.Symbol.{Symbol}
+use Rattle.code_scope.specs.Visible.{Known}
 use Rattle.refine_form.specs.Form.{Scope, TestLaw, BlockLaw, StmtLaw}
 use Rattle.refine_form.specs.Worlds.{Place, world_of}
+use Rattle.refine_expressions.specs.Typing.{known_of, IsTyped}
+use Rattle.refine_expressions.specs.Laws.{IsLaidOut}
 
 -- A conditional, wherever the tests and parts do what theirs are to do. Along, the test after is to
 -- agree with the one before, or it stops with fault 1; back it is the inverse statement, where the
@@ -22,5 +27,27 @@ pub record FromCode (e p q x all : List Symbol) : Type 0 where
   pub law : (place : Place) (s : Scope) (at : ℕ) (entry exit : Expression)
       (first again : Statements)
       → TestLaw (world_of place) s entry e → TestLaw (world_of place) s exit x
+      → BlockLaw (world_of place) s first p → BlockLaw (world_of place) s again q
+      → StmtLaw (world_of place) s (From at entry first again exit) all
+
+-- ---- in a scope
+
+-- a conditional
+pub record IfLaw (known : Known) (test after : Expression) (p q all : List Symbol) : Type 0 where
+  pub law : (place : Place) → IsLaidOut place → (s : Scope)
+      → known_of place.setting.program s ≡ known
+      → (at : ℕ) (taken other : Statements)
+      → IsTyped place.setting.program s test kind.Int
+      → IsTyped place.setting.program s after kind.Int
+      → BlockLaw (world_of place) s taken p → BlockLaw (world_of place) s other q
+      → StmtLaw (world_of place) s (If at test taken other after) all
+
+-- a loop
+pub record FromLaw (known : Known) (entry exit : Expression) (p q all : List Symbol) : Type 0 where
+  pub law : (place : Place) → IsLaidOut place → (s : Scope)
+      → known_of place.setting.program s ≡ known
+      → (at : ℕ) (first again : Statements)
+      → IsTyped place.setting.program s entry kind.Int
+      → IsTyped place.setting.program s exit kind.Int
       → BlockLaw (world_of place) s first p → BlockLaw (world_of place) s again q
       → StmtLaw (world_of place) s (From at entry first again exit) all

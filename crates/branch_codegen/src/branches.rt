@@ -7,10 +7,10 @@ ghost use Rattle.refine_form.specs.Held.{Holds, HoldsBoth};
 ghost use Rattle.branch_codegen.specs.Branches.{flips, part_code, if_code, check, turn_code, from_code};
 ghost use Rattle.branch_codegen.specs.Laws.{IfCode, FromCode};
 
+use code_conventions::cells::xori;
 use code_conventions::faults::{FI, LOOP};
 use code_conventions::registers::FLAG;
 use paired_code::{Piece, branch_if, check_zero, plain, seq, turn_while};
-use pisa_isa::{Cell, Op};
 use refine_form::around;
 use rpp_words::NoMemory;
 use std::alloc::Global;
@@ -58,14 +58,7 @@ pub fn repetition(
 fn flip_piece(alloc: Global) -> Result<Piece, NoMemory>
     ensures code { IfOk result (λ p. p ≡ unmarked (line (flips ∷ []))) }
 {
-    let cell = Cell {
-        op: Op::Xori,
-        a: FLAG,
-        b: 0,
-        c: 0,
-        imm: 1,
-    };
-    plain(alloc, cell)
+    plain(alloc, xori(FLAG, 1))
 }
 
 fn part_piece(alloc: Global, part: Piece) -> Result<Piece, NoMemory>

@@ -141,8 +141,8 @@ mod tests {
         }
     }
 
-    /// An upper half that comes back behind its lower half merges with it; a lower half that comes back behind its upper half
-    /// does not.
+    /// An upper half that comes back behind its lower half merges with it; a lower half that comes back
+    /// behind its upper half does not.
     #[test]
     fn either_half_comes_back_first(rt: HostRuntime) -> Result<(), Fail> {
         let mut book = Book::new(rt.alloc(), 2, 40)?;

@@ -3,7 +3,8 @@ use Rattle.std.proofs.Common.{List, [], ◌∷◌, refl}
 use Rattle.pisa_isa.specs.declared.cell.Cell.{Cell}
 use Rattle.paired_code.specs.Closed.{Shape, Nothing, One, Then, Turned, Loop, Check, IsMade, HasShape}
 use Rattle.paired_code.proofs.Undone.{AllPlain}
-use Rattle.buddy_pisa.specs.declared.rows.TheConstants.{FLAG, ZERO, HEAP_FULL}
+use Rattle.code_conventions.specs.declared.faults.TheConstants.{HEAP_FULL}
+use Rattle.buddy_pisa.specs.declared.rows.TheConstants.{FLAG, ZERO}
 use Rattle.buddy_pisa.specs.Rows.{limits_row, over_row, order_row, bottom_row, first_row, some_row, up_row, above_row}
 use Rattle.buddy_pisa.specs.Rows.{take_row, merge_row, apart_row, half_row, allocator_cells}
 use Rattle.buddy_pisa.proofs.Flags.{plain_limits, plain_over, plain_order, plain_bottom, plain_first, plain_some}

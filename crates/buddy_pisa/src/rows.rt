@@ -1,15 +1,16 @@
 // The registers of the allocator, and its rows: instructions that are run one after the other.
 
+use code_conventions::registers;
 use pisa_isa::Op;
 
 // An instruction: its row of the machine's table, its registers a, b and c, and its word.
 pub type Instruction = (Op, u8, u8, u8, u32);
 
 /// The register of the order that is asked for: 1 or more.
-pub const ORDER: u8 = 12;
+pub const ORDER: u8 = registers::VALUE;
 
 /// The register of the block's address, 0 where none is taken.
-pub const BLOCK: u8 = 13;
+pub const BLOCK: u8 = registers::BLOCK;
 
 // The flag of both loops: 1 before and after each.
 pub const FLAG: u8 = 16;
@@ -46,9 +47,6 @@ pub const TOP: u8 = 26;
 
 // The heap's base.
 pub const BASE: u8 = 27;
-
-// The fault where the heap has no block.
-pub const HEAP_FULL: u32 = 8;
 
 // TOP becomes the word of cell 1, and BASE that of cell 2.
 pub const LIMITS_ROW: [Instruction; 9] = [

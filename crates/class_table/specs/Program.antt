@@ -6,7 +6,7 @@ use Rattle.rpp_tree.specs.Limits.{IsWithinLimits}
 use Rattle.class_table.specs.Members.{has_field}
 use Rattle.class_table.specs.Table.{Table, table_of, HasClassTable}
 use Rattle.class_table.specs.Refusal.{redeclared}
-use Rattle.class_table.specs.Scope.{Setting, Locals}
+use Rattle.class_table.specs.Scope.{Typing, Locals}
 use Rattle.class_table.specs.Statements.{Verdict, passed, required, in_turn, each_passes}
 use Rattle.class_table.specs.Statements.{each_passes_after, with_local, check_statements}
 
@@ -14,17 +14,17 @@ use Rattle.class_table.specs.Statements.{each_passes_after, with_local, check_st
 abbrev pub parameter_new : List Var → Var → Verdict
 parameter_new before var = required (not (has_field before var.name.text)) (redeclared var.name.at)
 
-abbrev pub with_parameters : Setting → Locals → List Var → Locals
+abbrev pub with_parameters : Typing → Locals → List Var → Locals
 with_parameters setting locals [] = locals
 with_parameters setting locals (var ∷ vars) =
     with_parameters setting (with_local setting locals var) vars
 
-abbrev pub check_method : Setting → Procedure → Verdict
+abbrev pub check_method : Typing → Procedure → Verdict
 check_method setting method =
     in_turn (each_passes_after parameter_new [] method.params)
     (check_statements setting (with_parameters setting [] method.params) method.body)
 
-abbrev pub setting_in : Source → Table → ℕ → Setting
+abbrev pub setting_in : Source → Table → ℕ → Typing
 setting_in program table class = record { program = program; table = table; class = class }
 
 abbrev pub check_class : Source → Table → ℕ → ClassText → Verdict

@@ -11,7 +11,7 @@ use Rattle.class_table.specs.declared.kind.Kind.{Kind}
 use Rattle.class_table.specs.declared.kind.Kind.TheVariants as kind
 
 -- the program and its table, and the class of the method in which a statement stands
-pub record Setting : Type 0 where
+pub record Typing : Type 0 where
   pub program : Source
   pub table : Table
   pub class : ℕ
@@ -58,6 +58,6 @@ abbrev pub field_kind : Table → ℕ → List ℕ → Option Kind
 field_kind table class name = option_map (kind_at table class) (field_in table class name)
 
 -- the innermost parameter or local of the name, else the field
-abbrev pub kind_in : Setting → Locals → List ℕ → Option Kind
+abbrev pub kind_in : Typing → Locals → List ℕ → Option Kind
 kind_in setting locals name =
     option_or (local_kind locals name) (field_kind setting.table setting.class name)

@@ -19,7 +19,7 @@ use Rattle.class_table.specs.Refusal.{same_argument, field_argument, wrong_arity
 use Rattle.class_table.specs.Refusal.{local_in_own_expression, not_class_type}
 use Rattle.class_table.specs.declared.kind.Kind.{Kind}
 use Rattle.class_table.specs.declared.kind.Kind.TheVariants as kind
-use Rattle.class_table.specs.Scope.{Setting, Locals, kind_of, local_kind, kind_in, class_kind}
+use Rattle.class_table.specs.Scope.{Typing, Locals, kind_of, local_kind, kind_in, class_kind}
 use Rattle.class_table.specs.Expressions.{and_then, is_int, type_of, place_type, occurs}
 use Rattle.class_table.specs.Expressions.{occurs_in_index, first_token}
 
@@ -77,7 +77,7 @@ abbrev pub occurs_in_own_index : Lvalue → Bool
 occurs_in_own_index place = occurs_in_index (place_name place).text place
 
 -- update: the parts; both int; the variable stands nowhere else
-abbrev pub update_rules : Setting → Locals → ℕ → Lvalue → Expression → Verdict
+abbrev pub update_rules : Typing → Locals → ℕ → Lvalue → Expression → Verdict
 update_rules setting locals at place value =
     and_then (place_type setting locals place) (λ p. and_then (type_of setting locals value) (λ v.
     in_turn (required (is_int p && is_int v) (type_differs at))
@@ -88,7 +88,7 @@ update_rules setting locals at place value =
 abbrev pub in_either_index : List ℕ → Lvalue → Lvalue → Bool
 in_either_index name left right = occurs_in_index name left || occurs_in_index name right
 
-abbrev pub swap_rules : Setting → Locals → ℕ → Lvalue → Lvalue → Verdict
+abbrev pub swap_rules : Typing → Locals → ℕ → Lvalue → Lvalue → Verdict
 swap_rules setting locals at left right =
     and_then (place_type setting locals left) (λ l. and_then (place_type setting locals right) (λ r.
     in_turn (required (same_kind l r) (type_differs at))
@@ -96,7 +96,7 @@ swap_rules setting locals at left right =
     || in_either_index (place_name right).text left right)) (self_update at))))
 
 -- conditionals and loops: both expressions; each is int
-abbrev pub test_rules : Setting → Locals → Expression → Expression → Verdict
+abbrev pub test_rules : Typing → Locals → Expression → Expression → Verdict
 test_rules setting locals first last =
     and_then (type_of setting locals first) (λ f. and_then (type_of setting locals last) (λ l.
     in_turn (required (is_int f) (type_differs (first_token first)))
@@ -117,7 +117,7 @@ is_nil_word _ = false
 
 -- local: the type; a new name; the closing words; the name in its own expressions; the parts; what
 -- they may be
-abbrev pub local_rules : Setting → Locals → ℕ → Var → Expression → Var → Expression → Verdict
+abbrev pub local_rules : Typing → Locals → ℕ → Var → Expression → Var → Expression → Verdict
 local_rules setting locals at var value end_var end_value =
     in_turn (type_known setting.table var.kind)
     (in_turn (required (is_none (local_kind locals var.name.text)) (redeclared var.name.at))
@@ -134,7 +134,7 @@ made_known table (Object class) = class_known table class
 made_known table (Ints length) = passed
 made_known table (Objects class length) = class_known table class
 
-abbrev pub length_is_int : Setting → Locals → Creation → Result Bool Refusal
+abbrev pub length_is_int : Typing → Locals → Creation → Result Bool Refusal
 length_is_int setting locals (Object class) = Ok true
 length_is_int setting locals (Ints length) = and_then (type_of setting locals length)
     (λ l. Ok (is_int l))
@@ -166,7 +166,7 @@ takes table (Objects class length) place = takes_objects_of (class_of table clas
 
 -- new and delete: the class; place then length; an int length and a place that takes it; the
 -- variable nowhere else
-abbrev pub make_rules : Setting → Locals → ℕ → Creation → Lvalue → Verdict
+abbrev pub make_rules : Typing → Locals → ℕ → Creation → Lvalue → Verdict
 make_rules setting locals at made place =
     in_turn (made_known setting.table made)
     (and_then (place_type setting locals place) (λ p. and_then (length_is_int setting locals made)
@@ -176,7 +176,7 @@ make_rules setting locals at made place =
     (self_update at)))))
 
 -- construct: the class; a new name; the closing name
-abbrev pub construct_rules : Setting → Locals → Ident → Ident → Ident → Verdict
+abbrev pub construct_rules : Typing → Locals → Ident → Ident → Ident → Verdict
 construct_rules setting locals class name end =
     in_turn (class_known setting.table class)
     (in_turn (required (is_none (local_kind locals name.text)) (redeclared name.at))
@@ -204,7 +204,7 @@ same_plain (Item name index) other = false
 
 -- copy and uncopy: the class; the parts; a class or array type; fitting types; two variables; the
 -- second in no index
-abbrev pub copy_rules : Setting → Locals → ℕ → VarType → Lvalue → Lvalue → Verdict
+abbrev pub copy_rules : Typing → Locals → ℕ → VarType → Lvalue → Lvalue → Verdict
 copy_rules setting locals at written source target =
     in_turn (type_known setting.table written)
     (and_then (place_type setting locals source)
@@ -215,7 +215,7 @@ copy_rules setting locals at written source target =
     (required (not (in_either_index (place_name target).text source target)) (self_update at)))))))
 
 -- a call's arguments
-abbrev pub argument_known : Setting → Locals → Bool → ℕ → Ident → Verdict
+abbrev pub argument_known : Typing → Locals → Bool → ℕ → Ident → Verdict
 argument_known setting locals own at argument =
     in_turn (required (is_some (kind_in setting locals argument.text)) (unknown_name argument.at))
     (required (not own || is_some (local_kind locals argument.text)) (field_argument at))
@@ -225,12 +225,12 @@ argument_new before argument =
     required (not (list_any (λ other. bytes_eq other.text argument.text) before))
     (same_argument argument.at)
 
-abbrev pub argument_fits : Setting → Locals → Var → Ident → Verdict
+abbrev pub argument_fits : Typing → Locals → Var → Ident → Verdict
 argument_fits setting locals parameter argument =
     required (same_kind (kind_of setting.table parameter.kind)
     (unwrap_or (kind_in setting locals argument.text) kind.Nil)) (type_differs argument.at)
 
-abbrev pub arguments_fit : Setting → Locals → List Var → List Ident → Verdict
+abbrev pub arguments_fit : Typing → Locals → List Var → List Ident → Verdict
 arguments_fit setting locals [] arguments = passed
 arguments_fit setting locals (parameter ∷ parameters) [] = passed
 arguments_fit setting locals (parameter ∷ parameters) (argument ∷ arguments) =
@@ -248,7 +248,7 @@ abbrev pub place_class : ℕ → Lvalue → ℕ → Result ℕ Refusal
 place_class at place class = if occurs_in_own_index place then Err (self_update at) else Ok class
 
 -- the class of a receiver, or of the present object
-abbrev pub receiver_class : Setting → Locals → Option Lvalue → Result ℕ Refusal
+abbrev pub receiver_class : Typing → Locals → Option Lvalue → Result ℕ Refusal
 receiver_class setting locals None = Ok setting.class
 receiver_class setting locals (Some place) =
     and_then (place_type setting locals place)
@@ -262,7 +262,7 @@ plain_receiver (Some (Whole name)) = name ∷ []
 plain_receiver (Some (Item name index)) = []
 
 -- the method; each argument; no argument twice; as many as parameters; of their types
-abbrev pub slot_rules : Setting → Locals → ℕ → Option Lvalue → Ident → List Ident → ℕ → Option ℕ
+abbrev pub slot_rules : Typing → Locals → ℕ → Option Lvalue → Ident → List Ident → ℕ → Option ℕ
     → Verdict
 slot_rules setting locals at receiver method arguments class None = Err (unknown_name method.at)
 slot_rules setting locals at receiver method arguments class (Some slot) =
@@ -273,23 +273,23 @@ slot_rules setting locals at receiver method arguments class (Some slot) =
     (arguments_fit setting locals parameters arguments)))
 
 -- call and uncall: the receiver, and then the rules of its class's method
-abbrev pub call_rules : Setting → Locals → ℕ → Option Lvalue → Ident → List Ident → Verdict
+abbrev pub call_rules : Typing → Locals → ℕ → Option Lvalue → Ident → List Ident → Verdict
 call_rules setting locals at receiver method arguments =
     and_then (receiver_class setting locals receiver) (λ class.
     slot_rules setting locals at receiver method arguments class
     (slot_in setting.table class method.text))
 
-abbrev pub with_local : Setting → Locals → Var → Locals
+abbrev pub with_local : Typing → Locals → Var → Locals
 with_local setting locals var =
     record { name = var.name.text; kind = kind_of setting.table var.kind } ∷ locals
 
-abbrev pub with_object : Setting → Locals → Ident → Ident → Locals
+abbrev pub with_object : Typing → Locals → Ident → Ident → Locals
 with_object setting locals class name =
     record { name = name.text; kind = class_kind (class_of setting.table class.text) } ∷ locals
 
 -- a statement's own rules, and then those of the statements inside it
 abbrev mutual
-  pub check_statement : Setting → Locals → Statement → Verdict
+  pub check_statement : Typing → Locals → Statement → Verdict
   check_statement setting locals (Update at op place value) =
       update_rules setting locals at place value
   check_statement setting locals (Swap at left right) = swap_rules setting locals at left right
@@ -315,7 +315,7 @@ abbrev mutual
       copy_rules setting locals at written source target
   check_statement setting locals (Skip at) = passed
 
-  pub check_statements : Setting → Locals → Statements → Verdict
+  pub check_statements : Typing → Locals → Statements → Verdict
   check_statements setting locals End = passed
   check_statements setting locals (Then first rest) =
       in_turn (check_statement setting locals first) (check_statements setting locals rest)

@@ -56,6 +56,10 @@ bad_command_line line = codes "refused 39 BadCommand at " ++ (decimal line ++ li
 abbrev pub steps_line : ℕ → List ℕ
 steps_line steps = codes "steps " ++ (decimal steps ++ line_end)
 
+-- what is printed of a run that the bound ended
+abbrev pub bound_lines : (steps : ℕ) → List ℕ
+bound_lines steps = codes "bound" ++ (line_end ++ steps_line steps)
+
 -- what was done with so many code cells
 abbrev pub cells_line : (what : List ℕ) → List Cell → List ℕ
 cells_line what code = what ++ (codes " " ++ (decimal (length code)

@@ -14,6 +14,7 @@ pub use reading::{
     read_images, read_input_file,
 };
 pub use texts::{
-    asm_line, bad_command_line, fault_line, image_line, load_line, refuse_source, with_steps,
+    asm_line, bad_command_line, fault_line, image_line, load_line, refuse_source, report_bound,
+    report_fault, with_steps,
 };
 pub use writing::{cells_line, write_as};

@@ -2,7 +2,7 @@
 ghost use Rattle.std.specs.Prelude.{◌≡◌, IfOk, string_bytes, ◌<◌, ◌++◌, Ok};
 ghost use Rattle.command_plan.specs.Plans.{planned, prints};
 ghost use Rattle.command_plan.specs.Refusals.{refused as refusal, refused_line as line_of_refusal, refusal_name as name_of_refusal};
-ghost use Rattle.command_plan.specs.Texts.{load_line as line_of_load, bad_command_line as line_of_bad_command, steps_line, asm_line as line_of_asm, image_line as line_of_image};
+ghost use Rattle.command_plan.specs.Texts.{load_line as line_of_load, bad_command_line as line_of_bad_command, steps_line, bound_lines, asm_line as line_of_asm, image_line as line_of_image};
 ghost use Rattle.pisa_scripts.specs.Stops.{fault_line as line_of_fault};
 
 use crate::plan::{Plan, Verdict};
@@ -100,6 +100,22 @@ pub fn fault_line(alloc: Global, code: u32) -> Result<String, AllocError>
     let mut line = String::new(alloc);
     add_stop(&mut line, Stop::Trap(code))?;
     Ok(line)
+}
+
+/// The plan of a run that stopped with a fault.
+pub fn report_fault(alloc: Global, code: u32, spent: u64) -> Result<Plan, AllocError>
+    ensures { IfOk result (λ plan. planned plan
+        ≡ prints Verdict.Trapped (line_of_fault code ++ steps_line spent)) }
+{
+    let text = with_steps(fault_line(alloc, code)?, spent)?;
+    Ok(Plan::prints(Verdict::Trapped, text))
+}
+
+/// The plan of a run that the bound ended.
+pub fn report_bound(alloc: Global, bound: u64) -> Result<Plan, AllocError>
+    ensures { IfOk result (λ plan. planned plan ≡ prints Verdict.Bound (bound_lines bound)) }
+{
+    Ok(Plan::prints(Verdict::Bound, format!(in alloc; "bound\nsteps {bound}\n")?))
 }
 
 /// What is printed where an assembly text is refused.

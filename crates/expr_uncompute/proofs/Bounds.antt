@@ -43,14 +43,14 @@ operator_most op.Equal = omega arith
 operator_most op.NotEqual = omega arith
 operator_most _ = omega arith
 
-operand_most : (e : Expression) → operand_steps e ≤ 7
+operand_most : (e : Expression) → operand_steps e ≤ 5
 operand_most (Number at word) = omega arith
 operand_most (Null at) = omega arith
 operand_most (Variable name) = omega arith
 operand_most (Element name index) = omega arith
 operand_most (Binary at o left right) = omega arith
 
-open_most : (e : Expression) → open_steps e ≤ 37
+open_most : (e : Expression) → open_steps e ≤ 33
 open_most (Number at word) = omega arith
 open_most (Null at) = omega arith
 open_most (Variable name) = omega arith
@@ -91,7 +91,7 @@ pub place_less : (target : Lvalue) → place_steps target ≤ 81 * index_nodes t
 place_less (Whole name) = omega arith
 place_less (Item name index) = let a = operand_most index in let b = prepare_most index in omega arith
 
-compare_is : (e : Expression) → compare_steps e ≡ 30 * length (elements e)
+compare_is : (e : Expression) → compare_steps e ≡ 24 * length (elements e)
 compare_is (Number at word) = refl
 compare_is (Null at) = refl
 compare_is (Variable name) = refl
@@ -101,13 +101,13 @@ compare_is (Binary at op left right) =
     let b = compare_is right in
     omega (arith, length-append (elements left) (elements right))
 
-index_compare_is : (target : Lvalue) → compare_steps (index_of target) ≡ 30 * length (index_elements target)
+index_compare_is : (target : Lvalue) → compare_steps (index_of target) ≡ 24 * length (index_elements target)
 index_compare_is (Whole name) = refl
 index_compare_is (Item name index) = compare_is index
 
 -- what an update compares, by what the source counts
 apart_is : (target : Lvalue) (e : Expression) → apart_steps target (index_of target) e
-    ≡ 30 * read_cost (own_element target) (index_elements target ++ elements e)
+    ≡ 24 * read_cost (own_element target) (index_elements target ++ elements e)
 apart_is (Whole name) e = refl
 apart_is (Item name index) e =
     let a = compare_is index in
@@ -115,7 +115,7 @@ apart_is (Item name index) e =
     omega (arith, length-append (elements index) (elements e))
 
 -- and what a swap compares: twice so much where both places are elements
-both_apart_most : (left right : Lvalue) → both_apart_steps left right ≤ 60 * read_cost
+both_apart_most : (left right : Lvalue) → both_apart_steps left right ≤ 48 * read_cost
     (own_element left ++ own_element right) (index_elements left ++ index_elements right)
 both_apart_most (Whole name) (Whole other) = omega arith
 both_apart_most (Whole name) (Item other index) =
@@ -218,10 +218,10 @@ length_around w mid = omega (
 )
 
 module _ (spot : List ℕ → Spot) (free : ℕ) where
-  copy_cells : (s : Spot) (into : ℕ) → length (Code.copy_cells s into) ≡ 7
+  copy_cells : (s : Spot) (into : ℕ) → length (Code.copy_cells s into) ≡ 5
   copy_cells s into = length_around (Code.reach_cells s) (Code.xor into Code.content ∷ [])
 
-  operand_cells : (e : Expression) (i into : ℕ) → length (Code.operand_cells spot free e i into) ≤ 7
+  operand_cells : (e : Expression) (i into : ℕ) → length (Code.operand_cells spot free e i into) ≤ 5
   operand_cells (Number at word) i into = omega arith
   operand_cells (Null at) i into = omega arith
   operand_cells (Variable name) i into = let h = copy_cells (spot name.text) into in omega arith
@@ -252,7 +252,7 @@ module _ (spot : List ℕ → Spot) (free : ℕ) where
   index_cells : length Code.index_check ≡ 13
   index_cells = refl
 
-  checked_cells : (name : List ℕ) (index : Expression) (i : ℕ) → length (Code.checked_cells spot free name index i) ≤ 36
+  checked_cells : (name : List ℕ) (index : Expression) (i : ℕ) → length (Code.checked_cells spot free name index i) ≤ 32
   checked_cells name index i =
       let a = operand_cells index i Code.left_operand in
       let c = copy_cells (spot name) Code.right_operand in
@@ -267,11 +267,11 @@ module _ (spot : List ℕ → Spot) (free : ℕ) where
         index_cells,
       )
 
-  -- an element has at most 39 cells open, an operator 19, a leaf 3
+  -- an element has at most 35 cells open, an operator 15, a leaf 2
   abbrev open_bound : Expression → ℕ
-  open_bound (Element name index) = 39
-  open_bound (Binary at o left right) = 19
-  open_bound _ = 3
+  open_bound (Element name index) = 35
+  open_bound (Binary at o left right) = 15
+  open_bound _ = 2
 
   open_cells : (e : Expression) (i : ℕ) → length (Code.open_cells spot free e i) ≤ open_bound e
   open_cells (Number at word) i = omega arith
@@ -292,7 +292,7 @@ module _ (spot : List ℕ → Spot) (free : ℕ) where
       let r = Code.operand_cells spot free right (i + 1 + Code.words left) Code.right_operand in
       omega (arith, length-append p (r ++ Code.operator_cells o), length-append r (Code.operator_cells o))
 
-  store_cells : (s : Spot) (r : ℕ) → length (Code.store_cells s r) ≡ 7
+  store_cells : (s : Spot) (r : ℕ) → length (Code.store_cells s r) ≡ 5
   store_cells s r = length_around (Code.reach_cells s) (Code.xor Code.content r ∷ [])
 
   prepare_cells : (e : Expression) (i : ℕ) → length (Code.prepare_cells spot free e i) + 16 ≤ 29 * tokens e
@@ -414,8 +414,8 @@ module _ (spot : List ℕ → Spot) (free : ℕ) where
         length-append (Code.checked_cells spot free name.text index i) Code.point_cells,
       )
 
-  -- two arrays compared, 31 cells: an element has three tokens and those of its index
-  compare_length : (x y : Spot) → length (Code.compare_cells x y) ≡ 31
+  -- two arrays compared, 25 cells: an element has three tokens and those of its index
+  compare_length : (x y : Spot) → length (Code.compare_cells x y) ≡ 25
   compare_length x y =
       let w = Code.copy_cells x Code.left_operand in
       let r = Code.reach_cells y ++ Code.sltx Code.outcome Code.left_operand Code.content

@@ -18,7 +18,7 @@ use Rattle.expr_uncompute.proofs.Goes.{Goes, Traps, nothing, goes_cons, goes_seq
 use Rattle.expr_uncompute.proofs.Goes.{goes_xor_to, goes_check, traps_check, traps_mid, traps_then, traps_first}
 use Rattle.expr_uncompute.proofs.Goes.{traps_more}
 use Rattle.expr_uncompute.proofs.Numbers.{Agree, AllWords}
-use Rattle.expr_uncompute.proofs.Reading.{reach_goes, copy_goes, left_takes}
+use Rattle.expr_uncompute.proofs.Reading.{moved, reach_goes, copy_goes, left_takes}
 use Rattle.expr_uncompute.proofs.Scratch.{keeping, mem}
 
 one_is_not : ◌≡◌ {A = ℕ} 1 0 → ⊥
@@ -82,10 +82,9 @@ module _ (spot : List ℕ → Spot) (b : Bases) (low : ℕ) where
     compare_row : (x y : Spot) (t : Bool) → address_of b x < length zs → address_of b y < length zs
         → nat_eq (slice_index zs (address_of b x)) (slice_index zs (address_of b y)) ≡ t
         → Goes (copy_cells x left_operand ++ (reach_cells y ++ sltx outcome left_operand content
-        ∷ sltx outcome content left_operand ∷ xori outcome 1 ∷ [])) 13 (mem b f (keeping v p q) zs)
-        (mem b f (record (keeping v p q) {
+        ∷ sltx outcome content left_operand ∷ xori outcome 1 ∷ [])) 10 (mem b f (keeping v p q) zs)
+        (mem (moved b y) f (record (keeping v p q) {
           a = slice_index zs (address_of b x);
-          address = address_of b y;
           content = slice_index zs (address_of b y);
           outcome = truth_word t;
         })
@@ -93,8 +92,8 @@ module _ (spot : List ℕ → Spot) (b : Bases) (low : ℕ) where
     compare_row x y t h k e =
         let u : ℕ = slice_index zs (address_of b x) in
         let w : ℕ = slice_index zs (address_of b y) in
-        let put : ℕ → Memory = λ z. mem b f (record (keeping v p q)
-        { a = u; address = address_of b y; content = w; outcome = z }) (slice_set zs (address_of b y) 0) in
+        let put : ℕ → Memory = λ z. mem (moved b y) f (record (keeping v p q)
+        { a = u; content = w; outcome = z }) (slice_set zs (address_of b y) 0) in
         goes_seq (copy_goes b zs x h small refl (left_takes b f (keeping v p q) u))
         (goes_seq (reach_goes b f (record (keeping v p q) { a = u }) zs y k small)
         (goes_cons (goes_set _ put (word_of_truth (is_less u w)) refl (omega arith) (λ z. refl) (λ z. refl))
@@ -105,13 +104,13 @@ module _ (spot : List ℕ → Spot) (b : Bases) (low : ℕ) where
 
     compare_goes : (x y : Spot) → address_of b x < length zs → address_of b y < length zs
         → nat_eq (slice_index zs (address_of b x)) (slice_index zs (address_of b y)) ≡ false
-        → Goes (compare_cells x y) 30 (mem b f (keeping v p q) zs) (mem b f (keeping v p q) zs)
+        → Goes (compare_cells x y) 24 (mem b f (keeping v p q) zs) (mem b f (keeping v p q) zs)
     compare_goes x y h k e = goes_around (compare_row x y false h k e) (goes_check outcome 16 _ refl)
         (compare_row x y false h k e)
 
     compare_traps : (x y : Spot) → address_of b x < length zs → address_of b y < length zs
         → nat_eq (slice_index zs (address_of b x)) (slice_index zs (address_of b y)) ≡ true
-        → Traps (compare_cells x y) 17 16 (mem b f (keeping v p q) zs)
+        → Traps (compare_cells x y) 14 16 (mem b f (keeping v p q) zs)
     compare_traps x y h k e = traps_mid (compare_row x y true h k e) (traps_check outcome 16 _ one_is_not)
 
     -- ---- all elements that an expression reads
@@ -137,7 +136,7 @@ module _ (spot : List ℕ → Spot) (b : Bases) (low : ℕ) where
           → (t || reads_array spot b zs (slice_index zs (address_of b x)) rest) ≡ true
           → (reads_array spot b zs (slice_index zs (address_of b x)) rest ≡ true
           → Traps (compare_all spot x rest) (compare_steps rest) 16 (mem b f (keeping v p q) zs))
-          → Traps (compare_cells x y ++ compare_all spot x rest) (30 + compare_steps rest) 16
+          → Traps (compare_cells x y ++ compare_all spot x rest) (24 + compare_steps rest) 16
           (mem b f (keeping v p q) zs)
       element_by y rest k true e h r = traps_more (omega arith)
           (traps_first (compare_all spot x rest) (compare_traps x y there k e))

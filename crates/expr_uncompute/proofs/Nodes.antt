@@ -80,7 +80,7 @@ module _ (spot : List ℕ → Spot) (free : ℕ) (b : Bases) where
         → number spot b zs (Binary at o left right) ≡ Ok v → slice_index zs (home spot free b i) ≡ 0
         → Goes (around (open_cells spot free (Binary at o left right) i)
         (store_cells (Frame (free + i)) (operator_result o)))
-        (around_steps (open_steps (Binary at o left right)) 7) (mem b f (keeping m p q) zs)
+        (around_steps (open_steps (Binary at o left right)) 5) (mem b f (keeping m p q) zs)
         (mem b f (keeping m p q) (slice_set zs (home spot free b i) v))
     binary_node at o left right s r k e z =
         let whole : Expression = Binary at o left right in
@@ -107,7 +107,7 @@ module _ (spot : List ℕ → Spot) (free : ℕ) (b : Bases) where
         → Room spot free b (Element name index) i zs → Parted spot free b zs (Element name index) i
         → number spot b zs (Element name index) ≡ Ok v → slice_index zs (home spot free b i) ≡ 0
         → Goes (around (open_cells spot free (Element name index) i) (store_cells (Frame (free + i)) item))
-        (around_steps (open_steps (Element name index)) 7) (mem b f (keeping m p q) zs)
+        (around_steps (open_steps (Element name index)) 5) (mem b f (keeping m p q) zs)
         (mem b f (keeping m p q) (slice_set zs (home spot free b i) v))
     element_node name index s r k e z =
         let whole : Expression = Element name index in

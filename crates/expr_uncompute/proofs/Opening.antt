@@ -15,7 +15,7 @@ use Rattle.expr_uncompute.proofs.Goes.{traps_then, traps_more}
 use Rattle.expr_uncompute.proofs.Scratch.{Scratch, keeping, mem}
 use Rattle.expr_uncompute.proofs.Operators.{operands, operated_scratch, operator_goes, operator_gives, operator_has}
 use Rattle.expr_uncompute.proofs.Reading.{HasResult, in_content, in_item, Takes, left_takes, right_takes, copy_goes}
-use Rattle.expr_uncompute.proofs.Reading.{reach_goes}
+use Rattle.expr_uncompute.proofs.Reading.{moved, reach_goes}
 use Rattle.expr_uncompute.proofs.Checks.{nil_goes, nil_traps, index_goes, index_traps, point_goes}
 use Rattle.expr_uncompute.proofs.Numbers.{AllWords, number_word}
 use Rattle.expr_uncompute.proofs.Stored.{home, Reads}
@@ -33,14 +33,14 @@ module _ (spot : List ℕ → Spot) (free : ℕ) (b : Bases) where
 
   pub operand_goes : {into v : ℕ} {f f' : ℕ → ℕ} {s s' : Scratch} (e : Expression) (i : ℕ) (zs : List ℕ)
       → Sees spot b low zs e → Room e i zs → Reads spot free b zs e i v → Takes b into v f f' s s'
-      → Goes (operand_cells spot free e i into) (operand_steps e) (mem b f (record s { address = 0; content = 0 }) zs)
-      (mem b f' (record s' { address = 0; content = 0 }) zs)
+      → Goes (operand_cells spot free e i into) (operand_steps e) (mem b f (record s { content = 0 }) zs)
+      (mem b f' (record s' { content = 0 }) zs)
   operand_goes {into = into} {v = v} {f = f} {f' = f'} {s = s} {s' = s'} (Number at word) i zs h k r t =
       subst (λ w. Goes (Rattle.expr_uncompute.specs.Code.xori into w ∷ []) 1
-      (mem b f (record s { address = 0; content = 0 }) zs) (mem b f' (record s' { address = 0; content = 0 }) zs))
+      (mem b f (record s { content = 0 }) zs) (mem b f' (record s' { content = 0 }) zs))
       (sym r) (t.by_number (subst (λ z. z < 2 ^ 32) r h) zs)
   operand_goes {f = f} {s = s} (Null at) i zs h k r t = goes_to refl refl (t.by_nothing (sym r) zs)
-      (nothing (mem b f (record s { address = 0; content = 0 }) zs))
+      (nothing (mem b f (record s { content = 0 }) zs))
   operand_goes (Variable name) i zs h k r t = let l = k.fits in
       copy_goes b zs (spot name.text) (omega arith) k.small r t
   operand_goes (Element name index) i zs h k r t = let l = k.fits in
@@ -63,7 +63,7 @@ module _ (spot : List ℕ → Spot) (free : ℕ) (b : Bases) where
         (mem b f (operands m p q x 0) zs)
     index_there = operand_goes index i zs sees room reads (left_takes b f (keeping m p q) x)
 
-    array_there : Goes (Rattle.expr_uncompute.specs.Code.copy_cells (spot name) right_operand) 7
+    array_there : Goes (Rattle.expr_uncompute.specs.Code.copy_cells (spot name) right_operand) 5
         (mem b f (operands m p q x 0) zs) (mem b f (operands m p q x (word_of spot b zs name)) zs)
     array_there = let l = room.fits in copy_goes b zs (spot name) (omega arith) room.small refl
         (right_takes b f (operands m p q x 0) (word_of spot b zs name))
@@ -118,7 +118,12 @@ module _ (spot : List ℕ → Spot) (free : ℕ) (b : Bases) where
   abbrev pub element_place : List ℕ → List ℕ → Expression → ℕ
   element_place zs name index = word_of spot b zs name + given (number spot b zs index) + 2
 
-  -- the cells while a node is open
+  -- the bases while a node is open
+  abbrev pub based : Expression → Bases
+  based (Variable name) = moved b (spot name.text)
+  based _ = b
+
+  -- the cells
   abbrev pub emptied : Expression → List ℕ → List ℕ
   emptied (Variable name) zs = slice_set zs (address_of b (spot name.text)) 0
   emptied (Element name index) zs = slice_set zs (element_place zs name.text index) 0
@@ -129,10 +134,7 @@ module _ (spot : List ℕ → Spot) (free : ℕ) (b : Bases) where
     abbrev pub opened : List ℕ → Expression → Scratch
     opened zs (Number at word) = record (keeping m p q) { content = word }
     opened zs (Null at) = keeping m p q
-    opened zs (Variable name) = record (keeping m p q) {
-      address = address_of b (spot name.text);
-      content = word_of spot b zs name.text;
-    }
+    opened zs (Variable name) = record (keeping m p q) { content = word_of spot b zs name.text }
     opened zs (Element name index) =
         record (operands m p q (given (number spot b zs index)) (element_place zs name.text index))
         { item = slice_index zs (element_place zs name.text index) }
@@ -147,7 +149,7 @@ module _ (spot : List ℕ → Spot) (free : ℕ) (b : Bases) where
       pub open_goes : (e : Expression) (i v : ℕ) (zs : List ℕ) → AllWords zs → Sees spot b low zs e → Room e i zs
           → Parted zs e i → number spot b zs e ≡ Ok v
           → Goes (open_cells spot free e i) (open_steps e) (mem b f (keeping m p q) zs)
-          (mem b f (opened zs e) (emptied e zs))
+          (mem (based e) f (opened zs e) (emptied e zs))
       open_goes (Number at word) i v zs w s r k e = goes_set _
           (λ z. mem b f (record (keeping m p q) { content = z }) zs) word refl s (λ z. refl) (λ z. refl)
       open_goes (Null at) i v zs w s r k e = nothing _
@@ -194,7 +196,7 @@ module _ (spot : List ℕ → Spot) (free : ℕ) (b : Bases) where
       result_has (Binary at o left right) = operator_has o
 
       pub open_gives : (e : Expression) (v : ℕ) (zs zs' : List ℕ) → number spot b zs e ≡ Ok v
-          → reg (mem b f (opened zs e) zs') (result_of e) ≡ v
+          → reg (mem (based e) f (opened zs e) zs') (result_of e) ≡ v
       open_gives (Number at word) v zs zs' e = ok_is e
       open_gives (Null at) v zs zs' e = ok_is e
       open_gives (Variable name) v zs zs' e = ok_is e

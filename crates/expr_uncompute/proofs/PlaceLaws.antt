@@ -21,7 +21,7 @@ use Rattle.expr_uncompute.proofs.Operators.{operands}
 use Rattle.expr_uncompute.proofs.Results.{amount_goes}
 use Rattle.expr_uncompute.proofs.Numbers.{Agree, AllWords, number_same, sees_same}
 use Rattle.expr_uncompute.proofs.Stored.{home, stored, parted, Reads, stored_length, stored_below, stored_reads}
-use Rattle.expr_uncompute.proofs.Opening.{Room, emptied, opened, open_goes, open_gives, result_has, checked_goes}
+use Rattle.expr_uncompute.proofs.Opening.{Room, based, emptied, opened, open_goes, open_gives, result_has, checked_goes}
 use Rattle.expr_uncompute.proofs.Opening.{checked_nil, checked_past, pointed_goes}
 use Rattle.expr_uncompute.proofs.Prepare.{Fit, stored_words, parts_done, parted_sees, parted_number, parted_room}
 use Rattle.expr_uncompute.proofs.Prepare.{parts_goes, prepare_goes, prepare_traps, node_fault, fault_then}
@@ -226,15 +226,17 @@ module _ (spot : List ℕ → Spot) (free : ℕ) (b : Bases) where
         let zs1 : List ℕ = parted spot free b e i zs in
         let d = parts_done spot free b e i zs fit in
         let there : (m : ℕ) → Goes (open_cells spot free e i) (open_steps e) (mem b f (keeping m p q) zs1)
-        (mem b f (opened spot free b m p q zs1 e) (emptied spot free b e zs1)) =
+        (mem (based spot free b e) f (opened spot free b m p q zs1 e) (emptied spot free b e zs1)) =
         λ m. open_goes spot free b m p q f e i v zs1 d.all (parted_sees spot free b e i zs fit)
         (parted_room spot free b e i zs fit) d.parts (parted_number spot free b e i zs fit ∙ n) in
         let gives = open_gives spot free b 0 p q f e v zs1 (emptied spot free b e zs1)
         (parted_number spot free b e i zs fit ∙ n) in
-        let sink = amount_goes b (result_of e) (result_has spot free b 0 p q f e) f (opened spot free b 0 p q zs1 e)
+        let sink = amount_goes (based spot free b e) (result_of e) (result_has spot free b 0 p q f e) f
+        (opened spot free b 0 p q zs1 e)
         (emptied spot free b e zs1) v gives in
-        let kept = goes_to refl (ap (λ s. mem b f s (emptied spot free b e zs1)) (no_amount p q zs1 e))
-        (ap (λ s. mem b f s (emptied spot free b e zs1)) (an_amount p q v zs1 e)) sink in
+        let kept = goes_to refl (ap (λ s. mem (based spot free b e) f s (emptied spot free b e zs1))
+        (no_amount p q zs1 e))
+        (ap (λ s. mem (based spot free b e) f s (emptied spot free b e zs1)) (an_amount p q v zs1 e)) sink in
         goes_seq (parts_goes spot free b 0 p q f e i v zs fit n) (goes_around (there 0) kept (there v))
 
     pub fetch_traps : (c : ℕ) → number spot b zs e ≡ Err c

@@ -5,7 +5,7 @@ use Rattle.std.proofs.lemmas.List.{get_or-set_same, set-set}
 use Rattle.pisa_isa.specs.Machine.{Memory}
 use Rattle.refine_form.specs.declared.spot.Spot.{Spot}
 use Rattle.refine_form.specs.declared.spot.Spot.TheVariants.{Field, Frame}
-use Rattle.expr_uncompute.specs.Code.{address, content, left_operand, right_operand, item, outcome, truth, xor, xori}
+use Rattle.expr_uncompute.specs.Code.{content, left_operand, right_operand, item, outcome, truth, xor, xori}
 use Rattle.expr_uncompute.specs.Code.{base_of, reach_cells, copy_cells, store_cells}
 use Rattle.code_scope.specs.Visible.{offset_of}
 use Rattle.expr_uncompute.specs.Number.{Bases, address_of}
@@ -21,88 +21,88 @@ pub data HasResult : ℕ → Type 0 where
   in_truth : HasResult truth
 
 module _ (b : Bases) where
-  -- the address of a spot in its register, and its word
-  point_goes : (f : ℕ → ℕ) (s : Scratch) (cells : List ℕ) (sp : Spot) → address_of b sp < 2 ^ 32
-      → Goes (xor address (base_of sp) ∷ Rattle.expr_uncompute.specs.Code.addi address (offset_of sp) ∷ []) 2
-      (mem b f (record s { address = 0 }) cells) (mem b f (record s { address = address_of b sp }) cells)
-  point_goes f s cells (Field i) h =
-      let put : ℕ → Memory = λ z. mem b f (record s { address = z }) cells in
-      goes_cons (goes_set _ put b.object refl (omega arith) (λ z. refl) (λ z. refl))
-      (goes_addi _ put b.object (2 + i) h refl (omega arith) (λ z. refl) (λ z. refl))
-  point_goes f s cells (Frame i) h =
-      let put : ℕ → Memory = λ z. mem b f (record s { address = z }) cells in
-      goes_cons (goes_set _ put b.frame refl (omega arith) (λ z. refl) (λ z. refl))
-      (goes_addi _ put b.frame i h refl (omega arith) (λ z. refl) (λ z. refl))
+  -- the bases while the word of a spot is out: its own stands at the word
+  abbrev pub moved : Spot → Bases
+  moved (Field i) = record b { object = address_of b (Field i) }
+  moved (Frame i) = record b { frame = address_of b (Frame i) }
 
   pub reach_goes : (f : ℕ → ℕ) (s : Scratch) (cells : List ℕ) (sp : Spot) → address_of b sp < length cells
       → length cells ≤ 2 ^ 31
-      → Goes (reach_cells sp) 3 (mem b f (record s { address = 0; content = 0 }) cells)
-      (mem b f (record s { address = address_of b sp; content = slice_index cells (address_of b sp) })
+      → Goes (reach_cells sp) 2 (mem b f (record s { content = 0 }) cells)
+      (mem (moved sp) f (record s { content = slice_index cells (address_of b sp) })
       (slice_set cells (address_of b sp) 0))
-  reach_goes f s cells sp h k =
-      goes_seq (point_goes f (record s { content = 0 }) cells sp (omega arith))
-      (goes_exch _ (λ z zs. mem b f (record s { address = address_of b sp; content = z }) zs) (address_of b sp) 0
-      cells h refl (omega arith) (λ z zs. refl) (λ z zs. refl))
+  reach_goes f s cells (Field i) h k =
+      let a : ℕ = address_of b (Field i) in
+      goes_cons (goes_addi _ (λ z. mem (record b { object = z }) f (record s { content = 0 }) cells) b.object (2 + i)
+      (omega arith) refl (omega arith) (λ z. refl) (λ z. refl))
+      (goes_exch _ (λ z zs. mem (record b { object = a }) f (record s { content = z }) zs) a 0 cells h refl
+      (omega arith) (λ z zs. refl) (λ z zs. refl))
+  reach_goes f s cells (Frame i) h k =
+      let a : ℕ = address_of b (Frame i) in
+      goes_cons (goes_addi _ (λ z. mem (record b { frame = z }) f (record s { content = 0 }) cells) b.frame i
+      (omega arith) refl (omega arith) (λ z. refl) (λ z. refl))
+      (goes_exch _ (λ z zs. mem (record b { frame = a }) f (record s { content = z }) zs) a 0 cells h refl
+      (omega arith) (λ z zs. refl) (λ z zs. refl))
 
   -- a register that takes a word: from `content`, as a number, or 0 as nothing
   pub record Takes (into v : ℕ) (f f' : ℕ → ℕ) (s s' : Scratch) : Type 0 where
-    pub by_content : (a : ℕ) (zs : List ℕ) → Goes (xor into content ∷ []) 1
-        (mem b f (record s { address = a; content = v }) zs) (mem b f' (record s' { address = a; content = v }) zs)
+    pub by_content : (c : Bases) (zs : List ℕ) → Goes (xor into content ∷ []) 1
+        (mem c f (record s { content = v }) zs) (mem c f' (record s' { content = v }) zs)
     pub by_number : v < 2 ^ 32 → (zs : List ℕ) → Goes (xori into v ∷ []) 1
-        (mem b f (record s { address = 0; content = 0 }) zs) (mem b f' (record s' { address = 0; content = 0 }) zs)
-    pub by_nothing : v ≡ 0 → (zs : List ℕ) → mem b f (record s { address = 0; content = 0 }) zs
-        ≡ mem b f' (record s' { address = 0; content = 0 }) zs
+        (mem b f (record s { content = 0 }) zs) (mem b f' (record s' { content = 0 }) zs)
+    pub by_nothing : v ≡ 0 → (zs : List ℕ) → mem b f (record s { content = 0 }) zs
+        ≡ mem b f' (record s' { content = 0 }) zs
 
   pub left_takes : (f : ℕ → ℕ) (s : Scratch) (v : ℕ) → Takes left_operand v f f (record s { a = 0 })
       (record s { a = v })
   left_takes f s v = record {
-    by_content = λ a zs. goes_set _ (λ z. mem b f (record s { address = a; content = v; a = z }) zs) v refl
+    by_content = λ c zs. goes_set _ (λ z. mem c f (record s { content = v; a = z }) zs) v refl
         (omega arith) (λ z. refl) (λ z. refl);
-    by_number = λ h zs. goes_set _ (λ z. mem b f (record s { address = 0; content = 0; a = z }) zs) v refl h (λ z. refl)
+    by_number = λ h zs. goes_set _ (λ z. mem b f (record s { content = 0; a = z }) zs) v refl h (λ z. refl)
         (λ z. refl);
-    by_nothing = λ e zs. ap (λ z. mem b f (record s { address = 0; content = 0; a = z }) zs) (sym e);
+    by_nothing = λ e zs. ap (λ z. mem b f (record s { content = 0; a = z }) zs) (sym e);
   }
 
   pub right_takes : (f : ℕ → ℕ) (s : Scratch) (v : ℕ) → Takes right_operand v f f (record s { b = 0 })
       (record s { b = v })
   right_takes f s v = record {
-    by_content = λ a zs. goes_set _ (λ z. mem b f (record s { address = a; content = v; b = z }) zs) v refl
+    by_content = λ c zs. goes_set _ (λ z. mem c f (record s { content = v; b = z }) zs) v refl
         (omega arith) (λ z. refl) (λ z. refl);
-    by_number = λ h zs. goes_set _ (λ z. mem b f (record s { address = 0; content = 0; b = z }) zs) v refl h (λ z. refl)
+    by_number = λ h zs. goes_set _ (λ z. mem b f (record s { content = 0; b = z }) zs) v refl h (λ z. refl)
         (λ z. refl);
-    by_nothing = λ e zs. ap (λ z. mem b f (record s { address = 0; content = 0; b = z }) zs) (sym e);
+    by_nothing = λ e zs. ap (λ z. mem b f (record s { content = 0; b = z }) zs) (sym e);
   }
 
   -- a word of memory copied
   pub copy_goes : {into v : ℕ} {f f' : ℕ → ℕ} {s s' : Scratch} (cells : List ℕ) (sp : Spot)
       → address_of b sp < length cells → length cells ≤ 2 ^ 31 → slice_index cells (address_of b sp) ≡ v
       → Takes into v f f' s s'
-      → Goes (copy_cells sp into) 7 (mem b f (record s { address = 0; content = 0 }) cells)
-      (mem b f' (record s' { address = 0; content = 0 }) cells)
+      → Goes (copy_cells sp into) 5 (mem b f (record s { content = 0 }) cells)
+      (mem b f' (record s' { content = 0 }) cells)
   copy_goes {into = into} {v = v} {f = f} {f' = f'} {s = s} {s' = s'} cells sp h k e t =
-      let a : ℕ = address_of b sp in
-      let there : (g : ℕ → ℕ) (r : Scratch) → Goes (reach_cells sp) 3
-      (mem b g (record r { address = 0; content = 0 }) cells)
-      (mem b g (record r { address = address_of b sp; content = v }) (slice_set cells (address_of b sp) 0)) =
-      λ g r. goes_to refl refl (ap (λ z. mem b g (record r { address = address_of b sp; content = z })
-      (slice_set cells (address_of b sp) 0)) e) (reach_goes g r cells sp h k) in
-      goes_around (there f s) (t.by_content (address_of b sp) (slice_set cells (address_of b sp) 0)) (there f' s')
+      let emptied : List ℕ = slice_set cells (address_of b sp) 0 in
+      let there : (g : ℕ → ℕ) (r : Scratch) → Goes (reach_cells sp) 2
+      (mem b g (record r { content = 0 }) cells)
+      (mem (moved sp) g (record r { content = v }) (slice_set cells (address_of b sp) 0)) =
+      λ g r. goes_to refl refl (ap (λ z. mem (moved sp) g (record r { content = z }) emptied) e)
+      (reach_goes g r cells sp h k) in
+      goes_around (there f s) (t.by_content (moved sp) emptied) (there f' s')
 
   -- a register xored into a word of memory that is 0
   pub store_goes : (r v : ℕ) (f : ℕ → ℕ) (s : Scratch) (cells : List ℕ) (sp : Spot) → address_of b sp < length cells
       → length cells ≤ 2 ^ 31 → slice_index cells (address_of b sp) ≡ 0
-      → ((a : ℕ) (zs : List ℕ) → Goes (xor content r ∷ []) 1 (mem b f (record s { address = a; content = 0 }) zs)
-      (mem b f (record s { address = a; content = v }) zs))
-      → Goes (store_cells sp r) 7 (mem b f (record s { address = 0; content = 0 }) cells)
-      (mem b f (record s { address = 0; content = 0 }) (slice_set cells (address_of b sp) v))
+      → ((c : Bases) (zs : List ℕ) → Goes (xor content r ∷ []) 1 (mem c f (record s { content = 0 }) zs)
+      (mem c f (record s { content = v }) zs))
+      → Goes (store_cells sp r) 5 (mem b f (record s { content = 0 }) cells)
+      (mem b f (record s { content = 0 }) (slice_set cells (address_of b sp) v))
   store_goes r v f s cells sp h k e sink =
       let a : ℕ = address_of b sp in
-      let first = goes_to refl refl (ap (λ z. mem b f (record s { address = a; content = z }) (slice_set cells a 0)) e)
+      let first = goes_to refl refl (ap (λ z. mem (moved sp) f (record s { content = z }) (slice_set cells a 0)) e)
       (reach_goes f s cells sp h k) in
       let h' : a < length (slice_set cells a v) = rw (length-set cells a v) h in
       let k' : length (slice_set cells a v) ≤ 2 ^ 31 = rw (length-set cells a v) k in
-      let last = goes_to refl refl (ap (λ z. mem b f (record s { address = a; content = z })
+      let last = goes_to refl refl (ap (λ z. mem (moved sp) f (record s { content = z })
       (slice_set (slice_set cells a v) a 0)) (get_or-set_same cells a v 0 h)
-      ∙ ap (λ z. mem b f (record s { address = a; content = v }) z) (set-set cells a v 0))
+      ∙ ap (λ z. mem (moved sp) f (record s { content = v }) z) (set-set cells a v 0))
       (reach_goes f s (slice_set cells a v) sp h' k') in
-      goes_around first (sink a (slice_set cells a 0)) last
+      goes_around first (sink (moved sp) (slice_set cells a 0)) last

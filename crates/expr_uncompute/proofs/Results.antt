@@ -108,25 +108,25 @@ module _ (b : Bases) where
 
   -- into the word that is open
   pub content_goes : (r : ℕ) → r ≢ content → HasResult r → (f : ℕ → ℕ) (s : Scratch) (v : ℕ)
-      → ((zs : List ℕ) → reg (mem b f s zs) r ≡ v) → (a : ℕ) (zs : List ℕ)
-      → Goes (xor content r ∷ []) 1 (mem b f (record s { address = a; content = 0 }) zs)
-      (mem b f (record s { address = a; content = v }) zs)
-  content_goes r n in_content f s v e a zs = absurd (n refl)
-  content_goes r n in_outcome f s v e a zs = goes_to refl refl
-      (ap (λ z. mem b f (record s { address = a; content = z }) zs) (e zs))
-      (goes_set _ (λ z. mem b f (record s { address = a; content = z }) zs) s.outcome refl (omega arith) (λ z. refl)
+      → ((zs : List ℕ) → reg (mem b f s zs) r ≡ v) → (c : Bases) (zs : List ℕ)
+      → Goes (xor content r ∷ []) 1 (mem c f (record s { content = 0 }) zs)
+      (mem c f (record s { content = v }) zs)
+  content_goes r n in_content f s v e c zs = absurd (n refl)
+  content_goes r n in_outcome f s v e c zs = goes_to refl refl
+      (ap (λ z. mem c f (record s { content = z }) zs) (e zs))
+      (goes_set _ (λ z. mem c f (record s { content = z }) zs) s.outcome refl (omega arith) (λ z. refl)
       (λ z. refl))
-  content_goes r n in_left f s v e a zs = goes_to refl refl
-      (ap (λ z. mem b f (record s { address = a; content = z }) zs) (e zs))
-      (goes_set _ (λ z. mem b f (record s { address = a; content = z }) zs) s.a refl (omega arith) (λ z. refl)
+  content_goes r n in_left f s v e c zs = goes_to refl refl
+      (ap (λ z. mem c f (record s { content = z }) zs) (e zs))
+      (goes_set _ (λ z. mem c f (record s { content = z }) zs) s.a refl (omega arith) (λ z. refl)
       (λ z. refl))
-  content_goes r n in_item f s v e a zs = goes_to refl refl
-      (ap (λ z. mem b f (record s { address = a; content = z }) zs) (e zs))
-      (goes_set _ (λ z. mem b f (record s { address = a; content = z }) zs) s.item refl (omega arith) (λ z. refl)
+  content_goes r n in_item f s v e c zs = goes_to refl refl
+      (ap (λ z. mem c f (record s { content = z }) zs) (e zs))
+      (goes_set _ (λ z. mem c f (record s { content = z }) zs) s.item refl (omega arith) (λ z. refl)
       (λ z. refl))
-  content_goes r n in_truth f s v e a zs = goes_to refl refl
-      (ap (λ z. mem b f (record s { address = a; content = z }) zs) (e zs))
-      (goes_set _ (λ z. mem b f (record s { address = a; content = z }) zs) s.truth refl (omega arith) (λ z. refl)
+  content_goes r n in_truth f s v e c zs = goes_to refl refl
+      (ap (λ z. mem c f (record s { content = z }) zs) (e zs))
+      (goes_set _ (λ z. mem c f (record s { content = z }) zs) s.truth refl (omega arith) (λ z. refl)
       (λ z. refl))
 
   -- and its truth

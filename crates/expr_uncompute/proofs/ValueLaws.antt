@@ -21,7 +21,7 @@ use Rattle.expr_uncompute.proofs.Results.{IsTarget, at0, at1, at11, at12, at13, 
 use Rattle.expr_uncompute.proofs.Results.{at29, at30, at31, written, into_goes, truth_goes}
 use Rattle.expr_uncompute.proofs.Numbers.{number_word}
 use Rattle.expr_uncompute.proofs.Stored.{parted}
-use Rattle.expr_uncompute.proofs.Opening.{emptied, opened, open_goes, open_gives, result_has}
+use Rattle.expr_uncompute.proofs.Opening.{based, emptied, opened, open_goes, open_gives, result_has}
 use Rattle.expr_uncompute.proofs.Prepare.{Fit, parts_done, parted_sees, parted_number, parted_room, parts_goes}
 use Rattle.expr_uncompute.proofs.Prepare.{NodeFault, early, late, node_fault}
 
@@ -68,7 +68,7 @@ module _ (spot : List ℕ → Spot) (free : ℕ) (b : Bases) where
     -- the node opened, with its parts prepared
     open_there : (f : ℕ → ℕ) (v : ℕ) → number spot b zs e ≡ Ok v
         → Goes (open_cells spot free e i) (open_steps e) (mem b f (keeping m p q) (parted spot free b e i zs))
-        (mem b f (opened spot free b m p q (parted spot free b e i zs) e)
+        (mem (based spot free b e) f (opened spot free b m p q (parted spot free b e i zs) e)
         (emptied spot free b e (parted spot free b e i zs)))
     open_there f v n =
         let d = parts_done spot free b e i zs fit in
@@ -76,7 +76,8 @@ module _ (spot : List ℕ → Spot) (free : ℕ) (b : Bases) where
         (parted_room spot free b e i zs fit) d.parts (parted_number spot free b e i zs fit ∙ n)
 
     gives : (f : ℕ → ℕ) (v : ℕ) → number spot b zs e ≡ Ok v → (zs' : List ℕ)
-        → reg (mem b f (opened spot free b m p q (parted spot free b e i zs) e) zs') (result_of e) ≡ v
+        → reg (mem (based spot free b e) f (opened spot free b m p q (parted spot free b e i zs) e) zs') (result_of e)
+        ≡ v
     gives f v n zs' = open_gives spot free b m p q f e v whole_parts zs' (parted_number spot free b e i zs fit ∙ n)
 
     -- xored into a register that code of expressions does not use
@@ -88,7 +89,8 @@ module _ (spot : List ℕ → Spot) (free : ℕ) (b : Bases) where
           (around (open_cells spot free e i) (xor into (result_of e) ∷ []))) (value_steps e)
           (mem b f (keeping m p q) zs) (mem b (written f into (bit_xor (f into) v)) (keeping m p q) zs)
       value_into =
-          let sink = into_goes b f (opened spot free b m p q whole_parts e) (emptied spot free b e whole_parts)
+          let sink = into_goes (based spot free b e) f (opened spot free b m p q whole_parts e)
+          (emptied spot free b e whole_parts)
           (result_of e) v (result_has spot free b m p q f e) (gives f v n (emptied spot free b e whole_parts)) into
           t in
           goes_around (parts_goes spot free b m p q f e i v zs fit n)
@@ -103,13 +105,15 @@ module _ (spot : List ℕ → Spot) (free : ℕ) (b : Bases) where
       with_truth = record (opened spot free b m p q whole_parts e) { truth = told }
 
       truth_there : (g : ℕ → ℕ) → Goes (open_cells spot free e i ++ truth_cells truth (result_of e)) (open_steps e + 2)
-          (mem b g (keeping m p q) whole_parts) (mem b g with_truth (emptied spot free b e whole_parts))
+          (mem b g (keeping m p q) whole_parts) (mem (based spot free b e) g with_truth
+          (emptied spot free b e whole_parts))
       truth_there g =
           let s : Scratch = opened spot free b m p q whole_parts e in
           let vw = number_word spot b low zs fit.all e fit.sees v n in
-          let k = truth_goes b (result_of e) (result_apart e) (result_has spot free b m p q g e) g s
+          let k = truth_goes (based spot free b e) (result_of e) (result_apart e) (result_has spot free b m p q g e) g s
           (emptied spot free b e whole_parts) v vw (gives g v n (emptied spot free b e whole_parts)) in
-          goes_seq (open_there g v n) (goes_to refl (ap (λ z. mem b g z (emptied spot free b e whole_parts))
+          goes_seq (open_there g v n) (goes_to refl (ap (λ z. mem (based spot free b e) g z
+          (emptied spot free b e whole_parts))
           (no_truth e)) refl k)
         where
           no_truth : (e : Expression) → record (opened spot free b m p q whole_parts e) { truth = 0 }
@@ -126,7 +130,8 @@ module _ (spot : List ℕ → Spot) (free : ℕ) (b : Bases) where
           (keeping m p q) zs)
       test_into =
           let g : ℕ → ℕ = written f into (bit_xor (f into) told) in
-          let sink = into_goes b f with_truth (emptied spot free b e whole_parts) truth told in_truth refl into t in
+          let sink = into_goes (based spot free b e) f with_truth (emptied spot free b e whole_parts) truth told
+          in_truth refl into t in
           goes_around (parts_goes spot free b m p q f e i v zs fit n) (goes_around (truth_there f) sink (truth_there g))
           (parts_goes spot free b m p q g e i v zs fit n)
 

@@ -28,10 +28,7 @@ object = 3
 abbrev pub frame : ℕ
 frame = 4
 
--- the address of a word that is read, and the word
-abbrev pub address : ℕ
-address = 5
-
+-- the word that is read
 abbrev pub content : ℕ
 content = 6
 
@@ -134,9 +131,9 @@ abbrev pub base_of : Spot → ℕ
 base_of (Field i) = object
 base_of (Frame i) = frame
 
--- the address of a spot in `address`, and its word in `content`
+-- the base goes to a spot, whose word is then in `content`
 abbrev pub reach_cells : Spot → List Symbol
-reach_cells s = xor address (base_of s) ∷ addi address (offset_of s) ∷ exch content address ∷ []
+reach_cells s = addi (base_of s) (offset_of s) ∷ exch content (base_of s) ∷ []
 
 abbrev pub copy_cells : Spot → ℕ → List Symbol
 copy_cells s into = around (reach_cells s) (xor into content ∷ [])

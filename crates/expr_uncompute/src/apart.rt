@@ -8,7 +8,9 @@ ghost use Rattle.code_scope.specs.Visible.{offset_of, spot_of as spot_of_name, k
 ghost use Rattle.expr_uncompute.specs.Number.{read_of, index_of};
 
 use crate::cells::{enclosed, sltx, xori};
-use crate::rows::{CONTENT, LEFT, OUTCOME, copy, reached};
+use crate::rows::{LEFT, copy, reached};
+use code_conventions::faults::SHARED_ARRAY;
+use code_conventions::registers::{CONTENT, OUTCOME};
 use code_scope::{Names, spot_of};
 use paired_code::{Piece, check_zero, empty, seq};
 use refine_form::Spot;
@@ -40,7 +42,7 @@ fn compare(alloc: Global, x: Spot, y: Spot) -> Result<Piece, NoMemory>
     let test = same_row(alloc)?;
     let rest = seq(other, test)?;
     let outer = seq(array, rest)?;
-    let stop = check_zero(alloc, OUTCOME, 16)?;
+    let stop = check_zero(alloc, OUTCOME, SHARED_ARRAY)?;
     enclosed(alloc, outer, stop)
 }
 

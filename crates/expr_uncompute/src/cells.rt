@@ -3,6 +3,7 @@ ghost use Rattle.std.specs.Prelude.{◌≡◌, ◌≢◌, ◌<◌, [], ◌∷◌
 ghost use Rattle.paired_code.specs.Code.{unmarked};
 ghost use Rattle.expr_uncompute.specs.Code.{two as two_of, three as three_of, with_word as with_word_of, around};
 
+use code_conventions::cells;
 use paired_code::{Piece, mirror, plain, seq};
 use pisa_isa::{Cell, Op};
 use rpp_words::NoMemory;
@@ -15,14 +16,7 @@ pub fn exch(alloc: Global, d: u8, s: u8) -> Result<Piece, NoMemory>
     requires apart { d ≢ s }
     ensures { IfOk result (λ p. p ≡ unmarked (two_of Op.Exch d s ∷ [])) }
 {
-    let cell = Cell {
-        op: Op::Exch,
-        a: d,
-        b: s,
-        c: 0,
-        imm: 0,
-    };
-    plain(alloc, cell)
+    plain(alloc, cells::exch(d, s))
 }
 
 pub fn xor(alloc: Global, d: u8, s: u8) -> Result<Piece, NoMemory>
@@ -31,14 +25,7 @@ pub fn xor(alloc: Global, d: u8, s: u8) -> Result<Piece, NoMemory>
     requires apart { d ≢ s }
     ensures { IfOk result (λ p. p ≡ unmarked (two_of Op.Xor d s ∷ [])) }
 {
-    let cell = Cell {
-        op: Op::Xor,
-        a: d,
-        b: s,
-        c: 0,
-        imm: 0,
-    };
-    plain(alloc, cell)
+    plain(alloc, cells::xor(d, s))
 }
 
 pub fn add(alloc: Global, d: u8, s: u8) -> Result<Piece, NoMemory>
@@ -47,14 +34,7 @@ pub fn add(alloc: Global, d: u8, s: u8) -> Result<Piece, NoMemory>
     requires apart { d ≢ s }
     ensures { IfOk result (λ p. p ≡ unmarked (two_of Op.Add d s ∷ [])) }
 {
-    let cell = Cell {
-        op: Op::Add,
-        a: d,
-        b: s,
-        c: 0,
-        imm: 0,
-    };
-    plain(alloc, cell)
+    plain(alloc, cells::add(d, s))
 }
 
 pub fn sub(alloc: Global, d: u8, s: u8) -> Result<Piece, NoMemory>
@@ -63,42 +43,21 @@ pub fn sub(alloc: Global, d: u8, s: u8) -> Result<Piece, NoMemory>
     requires apart { d ≢ s }
     ensures { IfOk result (λ p. p ≡ unmarked (two_of Op.Sub d s ∷ [])) }
 {
-    let cell = Cell {
-        op: Op::Sub,
-        a: d,
-        b: s,
-        c: 0,
-        imm: 0,
-    };
-    plain(alloc, cell)
+    plain(alloc, cells::sub(d, s))
 }
 
 pub fn addi(alloc: Global, d: u8, word: u32) -> Result<Piece, NoMemory>
     requires { d < 32 }
     ensures { IfOk result (λ p. p ≡ unmarked (with_word_of Op.Addi d word ∷ [])) }
 {
-    let cell = Cell {
-        op: Op::Addi,
-        a: d,
-        b: 0,
-        c: 0,
-        imm: word,
-    };
-    plain(alloc, cell)
+    plain(alloc, cells::addi(d, word))
 }
 
 pub fn xori(alloc: Global, d: u8, word: u32) -> Result<Piece, NoMemory>
     requires { d < 32 }
     ensures { IfOk result (λ p. p ≡ unmarked (with_word_of Op.Xori d word ∷ [])) }
 {
-    let cell = Cell {
-        op: Op::Xori,
-        a: d,
-        b: 0,
-        c: 0,
-        imm: word,
-    };
-    plain(alloc, cell)
+    plain(alloc, cells::xori(d, word))
 }
 
 pub fn andx(alloc: Global, d: u8, s: u8, t: u8) -> Result<Piece, NoMemory>
@@ -145,14 +104,7 @@ pub fn sltx(alloc: Global, d: u8, s: u8, t: u8) -> Result<Piece, NoMemory>
     requires apart_t { d ≢ t }
     ensures { IfOk result (λ p. p ≡ unmarked (three_of Op.Sltx d s t ∷ [])) }
 {
-    let cell = Cell {
-        op: Op::Sltx,
-        a: d,
-        b: s,
-        c: t,
-        imm: 0,
-    };
-    plain(alloc, cell)
+    plain(alloc, cells::sltx(d, s, t))
 }
 
 /// A piece between another and its mirror.

@@ -11,7 +11,7 @@ ghost use Rattle.code_scope.specs.Visible.{spot_of as spot_of_name, free_of, kno
 use crate::apart::both_apart;
 use crate::cells::{add, enclosed, exch, sub, xor};
 use crate::found::{AMOUNT, OTHER_PLACE, PLACE, both_places, found_value};
-use crate::rows::CONTENT;
+use code_conventions::registers::CONTENT;
 use code_scope::Names;
 use paired_code::{Piece, seq};
 use rpp_tree::tree::{Expr, Place, UpdateOp};

@@ -5,29 +5,19 @@ ghost use Rattle.expr_uncompute.specs.Code.{sltx as sltx_cell, xori as xori_cell
 ghost use Rattle.code_scope.specs.Visible.{offset_of};
 
 use crate::cells::{add, addi, andx, enclosed, exch, orx, sltx, sub, xor, xori};
+use code_conventions::faults::{INDEX, NIL};
+use code_conventions::memory::HEADER_WORDS;
+use code_conventions::registers::{CONTENT, FRAME, NOUGHT, OBJECT, OUTCOME};
 use paired_code::{Piece, check_zero, empty, seq};
 use refine_form::Spot;
 use rpp_tree::tree::BinOp;
 use rpp_words::NoMemory;
 use std::alloc::Global;
 
-/// The register that holds the address of the present object.
-pub const OBJECT: u8 = 3;
-/// The register that holds the address of the open frame.
-pub const FRAME: u8 = 4;
-/// The address of a word that is read.
-pub const ADDRESS: u8 = 5;
-/// The word.
-pub const CONTENT: u8 = 6;
-
-const NOUGHT: u8 = 7;
-
 const LEFT_TRUTH: u8 = 8;
 
 const RIGHT_TRUTH: u8 = 9;
 
-/// What an operator gives.
-pub const OUTCOME: u8 = 10;
 /// The left operand, or an index.
 pub const LEFT: u8 = 16;
 /// The right operand, or an array.
@@ -50,22 +40,20 @@ pub fn offset(spot: Spot) -> u32
     ensures { result ≡ offset_of spot }
 {
     match spot {
-        Spot::Field(number) => number + 2,
+        Spot::Field(number) => number + HEADER_WORDS,
         Spot::Frame(word) => word,
     }
 }
 
-/// The word of a spot in `CONTENT`.
+/// The base goes to a spot, whose word is then in `CONTENT`.
 pub fn reached(alloc: Global, spot: Spot) -> Result<Piece, NoMemory>
     requires { offset_of spot < 2 ^ 32 }
     ensures { IfOk result (λ p. p ≡ unmarked (reach_cells spot)) }
 {
     let from = base(spot);
-    let first = xor(alloc, ADDRESS, from)?;
-    let second = addi(alloc, ADDRESS, offset(spot))?;
-    let third = exch(alloc, CONTENT, ADDRESS)?;
-    let front = seq(first, second)?;
-    seq(front, third)
+    let there = addi(alloc, from, offset(spot))?;
+    let word = exch(alloc, CONTENT, from)?;
+    seq(there, word)
 }
 
 /// The word of a spot xored into a register.
@@ -199,7 +187,7 @@ pub fn nil_check(alloc: Global) -> Result<Piece, NoMemory>
     ensures { IfOk result (λ p. p ≡ unmarked nil_cells) }
 {
     let outer = nil_row(alloc)?;
-    let middle = check_zero(alloc, OUTCOME, 5)?;
+    let middle = check_zero(alloc, OUTCOME, NIL)?;
     enclosed(alloc, outer, middle)
 }
 
@@ -219,7 +207,7 @@ pub fn index_check(alloc: Global) -> Result<Piece, NoMemory>
     ensures { IfOk result (λ p. p ≡ unmarked index_cells) }
 {
     let row = index_row(alloc)?;
-    let check = check_zero(alloc, OUTCOME, 9)?;
+    let check = check_zero(alloc, OUTCOME, INDEX)?;
     let middle = enclosed(alloc, row, check)?;
     let outer = exch(alloc, CONTENT, RIGHT)?;
     enclosed(alloc, outer, middle)
@@ -230,6 +218,6 @@ pub fn point(alloc: Global) -> Result<Piece, NoMemory>
     ensures { IfOk result (λ p. p ≡ unmarked point_cells) }
 {
     let first = add(alloc, RIGHT, LEFT)?;
-    let second = addi(alloc, RIGHT, 2)?;
+    let second = addi(alloc, RIGHT, HEADER_WORDS)?;
     seq(first, second)
 }

@@ -10,9 +10,10 @@ ghost use Rattle.code_scope.specs.Visible.{spot_of as spot_of_name, free_of, kno
 
 use crate::cells::{enclosed, exch, xor, xori};
 use crate::rows::{
-    CONTENT, LEFT, RIGHT, copy, index_check, nil_check, operator, operator_register, point,
-    reached, store, truth,
+    LEFT, RIGHT, copy, index_check, nil_check, operator, operator_register, point, reached, store,
+    truth,
 };
+use code_conventions::registers::CONTENT;
 use code_scope::{Names, free_word, spot_of};
 use paired_code::{Piece, empty, seq};
 use refine_form::Spot;

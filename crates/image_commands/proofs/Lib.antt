@@ -1,2 +1,1 @@
-pub mod NoteNames
 pub mod ImageTargets

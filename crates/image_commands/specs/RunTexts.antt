@@ -1,13 +1,12 @@
 -- What is printed of a run of an image.
 use Rattle.std.specs.Prelude.{ℕ, ◌-◌, ℤ, pos, int_le, int_lt, nat_lt, Bool, ◌&&◌, if◌then◌else◌}
-use Rattle.std.specs.Prelude.{List, [], ◌∷◌, ◌++◌, None, Some, codes, slice_get}
+use Rattle.std.specs.Prelude.{List, [], ◌∷◌, ◌++◌, None, Some, codes}
 use Rattle.std.specs.declared.option.Option.{Option}
-use Rattle.std.specs.Option.{unwrap_or}
 use Rattle.std.specs.Fmt.{decimal, signed_decimal}
-use Rattle.std.specs.Str.{IsAscii}
 use Rattle.rpp_words.specs.Texts.{line_end}
 use Rattle.pisa_isa.specs.declared.notes.Mark.{Mark}
 use Rattle.pisa_isa.specs.declared.notes.FieldName.{FieldName}
+use Rattle.pisa_isa.specs.Machine.{word_at}
 use Rattle.pisa_isa.specs.Notes.{NoteLists}
 use Rattle.pisa_isa.specs.Runs.{End}
 use Rattle.pisa_scripts.specs.Stops.{stop_line}
@@ -43,14 +42,11 @@ from_line (Some m) = codes "from " ++ (decimal m.at ++ line_end)
 -- a name with the word in its cell, 0 behind the memory
 abbrev pub name_line : (cells : List ℕ) → FieldName → List ℕ
 name_line cells n =
-    n.text ++ (codes " = " ++ (word_shown (unwrap_or (slice_get cells n.cell) 0) ++ line_end))
+    n.text ++ (codes " = " ++ (word_shown (word_at cells n.cell) ++ line_end))
 
 abbrev pub name_lines : (cells : List ℕ) → List FieldName → List ℕ
 name_lines cells [] = []
 name_lines cells (n ∷ names) = name_line cells n ++ name_lines cells names
-
-abbrev pub HasAsciiText : FieldName → Type 0
-HasAsciiText n = IsAscii n.text
 
 -- the place, the branch register and the direction
 abbrev pub place_lines : (pc : ℤ) (br : ℕ) (back : Bool) → List ℕ

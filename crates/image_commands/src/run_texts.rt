@@ -1,12 +1,11 @@
 // What is printed of a run of an image.
 ghost use Rattle.std.specs.Prelude.{◌≡◌, ◌++◌, None, All, IfOk, OnOk, string_bytes};
 ghost use Rattle.std.specs.Str.{IsAscii};
-ghost use Rattle.std.specs.Option.{unwrap_or};
-ghost use Rattle.std.specs.Prelude.{slice_get};
-ghost use Rattle.image_commands.specs.RunTexts.{holds_place, narrower as narrower_of, narrowed as narrowed_of, narrowest as narrowest_of, width as width_of, from_line, name_line, name_lines, HasAsciiText, place_lines, end_lines as lines_of_end};
+ghost use Rattle.pisa_isa.specs.Notes.{HasAsciiText};
+ghost use Rattle.image_commands.specs.RunTexts.{holds_place, narrower as narrower_of, narrowed as narrowed_of, narrowest as narrowest_of, width as width_of, from_line, name_line, name_lines, place_lines, end_lines as lines_of_end};
 
 use pisa_isa::{Core, FieldName, Mark, Notes};
-use pisa_machine::{Machine, RunEnd};
+use pisa_machine::{Machine, RunEnd, word_at};
 use pisa_scripts::{add_registers, add_stop, direction};
 use std::alloc::{AllocError, Global};
 
@@ -122,7 +121,7 @@ fn add_name(text: &mut String, machine: &Machine, name: &FieldName) -> Result<()
         ≡ string_bytes text.old ++ name_line machine.now.state.cells name.now) }
 {
     add_text(text, name.text.bytes())?;
-    let value = word_at(machine, name.cell).cast_signed();
+    let value = word_at(machine, u64::from(name.cell)).cast_signed();
     write!(text, " = {value}\n")
 }
 
@@ -134,14 +133,4 @@ fn add_text(text: &mut String, bytes: &[u8]) -> Result<(), AllocError>
         text.push(char::from(*byte))?;
     }
     Ok(())
-}
-
-// The word in a data cell, 0 behind the memory.
-fn word_at(machine: &Machine, at: u32) -> u32
-    ensures { result ≡ unwrap_or (slice_get machine.now.state.cells at) 0 }
-{
-    match machine.cell(at) {
-        Some(word) => word,
-        None => 0,
-    }
 }

@@ -1,6 +1,7 @@
 // `run IMG H D STEPS [STATE SAVE]`: runs an image.
 ghost use Rattle.std.specs.Prelude.{◌≡◌, ◌<◌, ◌^◌, ◌∷◌, Ok, All, option_map, IfOk};
 ghost use Rattle.pisa_isa.specs.Runs.{run as run_of_code};
+ghost use Rattle.pisa_isa.specs.Notes.{HasAsciiText};
 ghost use Rattle.pisa_image.specs.Reading.{image_at};
 ghost use Rattle.pisa_loader.specs.Limiting.{limits_refusal};
 ghost use Rattle.pisa_loader.specs.States.{Gives};
@@ -9,7 +10,6 @@ ghost use Rattle.command_plan.specs.declared.reading.TheConstants.{MOST_IMAGE};
 ghost use Rattle.command_plan.specs.Files.{state_of_names, save_of_names, OnlyReads, image_file, state_files};
 ghost use Rattle.command_plan.specs.Plans.{planned, written, GivesPlan};
 ghost use Rattle.image_commands.specs.ImagePlans.{first_of, saved as saved_state, ran as ran_plan, verdict_of as verdict_of_stop, IsRunPlan, IsSizedPlan, IsRanPlan, RunsFile};
-ghost use Rattle.image_commands.specs.RunTexts.{HasAsciiText};
 
 use crate::run_texts::end_lines;
 use command_plan::{

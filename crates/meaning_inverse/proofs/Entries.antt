@@ -12,7 +12,7 @@ use Rattle.class_table.specs.Table.{table_of, class_of as class_in, slot_in, dis
 use Rattle.class_table.specs.Overrides.{same_type, parameters_of}
 use Rattle.class_table.specs.Classes.{method_named}
 use Rattle.class_table.specs.Refusal.{type_differs, redeclared, self_update, local_in_own_expression, unknown_name}
-use Rattle.class_table.specs.Scope.{Setting as Typing, Local as ALocal, Locals, kind_of, class_kind, kind_in}
+use Rattle.class_table.specs.Scope.{Typing, Local as ALocal, Locals, kind_of, class_kind, kind_in}
 use Rattle.class_table.specs.Expressions.{and_then, type_of, place_type, occurs}
 use Rattle.class_table.specs.Statements.{passed, Verdict, required, in_turn, type_known, class_known, same_kind}
 use Rattle.class_table.specs.Statements.{in_either_index, swap_rules, call_rules, receiver_class, receiver_kind}

@@ -11,7 +11,7 @@ use Rattle.class_table.specs.declared.kind.Kind.{Kind}
 use Rattle.class_table.specs.declared.kind.Kind.TheVariants as kind
 use Rattle.class_table.specs.Table.{table_of}
 use Rattle.class_table.specs.Refusal.{type_differs, self_update, unknown_name, same_argument}
-use Rattle.class_table.specs.Scope.{Setting as Typing, Locals, kind_in}
+use Rattle.class_table.specs.Scope.{Typing, Locals, kind_in}
 use Rattle.class_table.specs.Expressions.{is_int, element_kind, type_of, place_type, occurs, occurs_in_index}
 use Rattle.rpp_tree.specs.Places.{place_name}
 use Rattle.class_table.specs.Statements.{passed, required, same_kind, same_plain, occurs_in_own_index, in_either_index}

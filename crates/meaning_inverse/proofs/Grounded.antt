@@ -10,7 +10,7 @@ use Rattle.class_table.specs.declared.kind.Kind.{Kind}
 use Rattle.class_table.specs.declared.kind.Kind.TheVariants as kind
 use Rattle.class_table.specs.Table.{table_of}
 use Rattle.class_table.specs.Classes.{method_named}
-use Rattle.class_table.specs.Scope.{Setting as Typing, Locals}
+use Rattle.class_table.specs.Scope.{Typing, Locals}
 use Rattle.class_table.specs.Expressions.{is_int, type_of, place_type}
 use Rattle.class_table.specs.Statements.{in_turn, test_rules, check_statements}
 use Rattle.class_table.specs.Program.{setting_in}

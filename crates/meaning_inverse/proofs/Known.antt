@@ -7,7 +7,7 @@ use Rattle.rpp_tree.specs.Tree.{Source}
 use Rattle.class_table.specs.declared.kind.Kind.{Kind}
 use Rattle.class_table.specs.declared.kind.Kind.TheVariants as kind
 use Rattle.class_table.specs.Table.{Table, table_of}
-use Rattle.class_table.specs.Scope.{Setting as Typing, Locals}
+use Rattle.class_table.specs.Scope.{Typing, Locals}
 use Rattle.class_table.specs.Refusal.{type_differs, refused_operator}
 use Rattle.class_table.specs.Expressions.{is_int, element_of as element_type, index_is_int, variable_type, type_of}
 use Rattle.class_table.specs.Expressions.{place_type, is_comparison, is_refused, compares, operands_fit, operator_type}

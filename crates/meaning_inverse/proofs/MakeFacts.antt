@@ -8,7 +8,7 @@ use Rattle.class_table.specs.declared.kind.Kind.{Kind}
 use Rattle.class_table.specs.declared.kind.Kind.TheVariants as kind
 use Rattle.class_table.specs.Table.{table_of, class_of}
 use Rattle.class_table.specs.Classes.{class_fields}
-use Rattle.class_table.specs.Scope.{Setting as Typing}
+use Rattle.class_table.specs.Scope.{Typing}
 use Rattle.class_table.specs.Expressions.{and_then, is_int, element_kind as elements_of, type_of, occurs}
 use Rattle.rpp_tree.specs.Places.{place_name}
 use Rattle.class_table.specs.Statements.{is_int_array, takes_objects_of}

@@ -10,7 +10,7 @@ use Rattle.rpp_tree.specs.Tree.{Expression, Lvalue, Whole, Item, Creation, Sourc
 use Rattle.class_table.specs.declared.kind.Kind.{Kind}
 use Rattle.class_table.specs.Table.{table_of, class_of}
 use Rattle.class_table.specs.Refusal.{type_differs, self_update}
-use Rattle.class_table.specs.Scope.{Setting as Typing, Locals, kind_in, kind_of, array_kind}
+use Rattle.class_table.specs.Scope.{Typing, Locals, kind_in, kind_of, array_kind}
 use Rattle.class_table.specs.Expressions.{is_int, element_kind, type_of, place_type, occurs}
 use Rattle.rpp_tree.specs.Places.{place_name}
 use Rattle.class_table.specs.Statements.{passed, required, occurs_in_own_index, occurs_in_length, make_rules}

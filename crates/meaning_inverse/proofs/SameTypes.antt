@@ -6,7 +6,7 @@ use Rattle.std.specs.Option.{is_none}
 use Rattle.rpp_tree.specs.declared.tree.Ident.{Ident}
 use Rattle.rpp_tree.specs.Tree.{Lvalue, Statement, Statements, Update, Swap, If, From, Construct, Local, New, Delete}
 use Rattle.rpp_tree.specs.Tree.{Copy, Uncopy, Call, Skip, End, Then, Procedure, ClassText, Source}
-use Rattle.class_table.specs.Scope.{Setting, Locals}
+use Rattle.class_table.specs.Scope.{Typing, Locals}
 use Rattle.class_table.specs.Refusal.{wrong_arity}
 use Rattle.class_table.specs.Table.{Table, table_of, slot_in, dispatch_in}
 use Rattle.class_table.specs.Expressions.{and_then}
@@ -24,10 +24,10 @@ use Rattle.meaning_inverse.proofs.SameLimits.{within_limits}
 use Rattle.meaning_inverse.proofs.Turned.{turned_inverse, checks_turned}
 
 module _ (program : Source) (table : Table) (class : ℕ) where
-  abbrev here : Setting
+  abbrev here : Typing
   here = record { program = program; table = table; class = class }
 
-  abbrev there : Setting
+  abbrev there : Typing
   there = record { program = inverse_program program; table = table; class = class }
 
   slots_same : (locals : Locals) (at : ℕ) (receiver : Option Lvalue) (method : Ident) (args : List Ident) (own : ℕ)

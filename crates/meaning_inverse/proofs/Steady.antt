@@ -4,7 +4,7 @@ use Rattle.std.proofs.Common.{unwrap_or, Ok, Err, Result, nat_lt, slice_get, ifâ
 use Rattle.std.specs.Str.{bytes_eq}
 use Rattle.rpp_tree.specs.Tree.{Expression, Number, Null, Variable, Element, Binary, Lvalue, Whole, Item, Source}
 use Rattle.class_table.specs.declared.kind.Kind.{Kind}
-use Rattle.class_table.specs.Scope.{Setting as Typing, Locals, kind_in}
+use Rattle.class_table.specs.Scope.{Typing, Locals, kind_in}
 use Rattle.class_table.specs.Refusal.{unknown_name, not_an_array}
 use Rattle.class_table.specs.Expressions.{element_kind, element_of as element_type, variable_type, type_of, occurs}
 use Rattle.rpp_tree.specs.declared.tree.Ident.{Ident}

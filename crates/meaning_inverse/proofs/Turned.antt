@@ -3,7 +3,7 @@
 use Rattle.std.proofs.Common.{◌≡◌, refl, sym, ap, ◌∙◌, true, false, Bool, not}
 use Rattle.rpp_tree.specs.Tree.{Statement, Statements, Update, Swap, If, From, Construct, Local, New, Delete, Copy}
 use Rattle.rpp_tree.specs.Tree.{Uncopy, Call, Skip, End, Then, joined}
-use Rattle.class_table.specs.Scope.{Setting, Locals}
+use Rattle.class_table.specs.Scope.{Typing, Locals}
 use Rattle.class_table.specs.Statements.{in_turn, test_rules, local_rules, construct_rules, with_local, with_object}
 use Rattle.class_table.specs.Statements.{check_statement, check_statements}
 use Rattle.stmt_inverter.specs.Inverse.{inverse_statement_as, inverse_as, inverse}
@@ -98,7 +98,7 @@ mutual
 
 -- ---- the rules do not see the direction of a call
 
-module _ (setting : Setting) where
+module _ (setting : Typing) where
   mutual
     statement_checks_turned : (locals : Locals) (s : Statement)
         → check_statement setting locals (turned_statement s) ≡ check_statement setting locals s

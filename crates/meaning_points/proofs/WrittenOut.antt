@@ -1,18 +1,21 @@
 -- Statements that mean others run as these, and pass their points.
-use Rattle.std.proofs.Common.{◌≡◌, ℕ, zero, suc, ◌+◌, refl, ap, ◌∙◌, sym, Bool, true, not, List, [], ◌∷◌, ◌++◌, map, Some}
+use Rattle.std.proofs.Common.{◌≡◌, ℕ, zero, suc, ◌+◌, refl, ap, ◌∙◌, sym, Bool, true, not, List, [], ◌∷◌, ◌++◌, map}
+use Rattle.std.proofs.Common.{Some}
 use Rattle.std.proofs.lemmas.List.{map-id, map-append}
 use Rattle.rpp_tree.specs.declared.tree.Ident.{Ident}
 use Rattle.rpp_tree.specs.declared.tree.Var.{Var}
 use Rattle.rpp_tree.specs.declared.tree.VarType.{VarType}
 use Rattle.rpp_tree.specs.declared.tree.VarType.TheVariants as kind
-use Rattle.rpp_tree.specs.Tree.{Expression, Null, Whole, Item, Object as AnObject, Statement, Statements, Swap, Construct}
+use Rattle.rpp_tree.specs.Tree.{Expression, Null, Whole, Item, Object as AnObject, Statement, Statements, Swap}
+use Rattle.rpp_tree.specs.Tree.{Construct}
 use Rattle.rpp_tree.specs.Tree.{Local, New, Delete, Call, End, Then, joined}
 use Rattle.stmt_inverter.specs.Inverse.{inverse_statement, inverse}
 use Rattle.stmt_inverter.proofs.Inverses.{inverse-joined}
 use Rattle.roopl_semantics.specs.Run.{Run, Done, Fault, More, ◌>>=◌, after_cost, give, fault_if}
 use Rattle.roopl_semantics.specs.Store.{State, same_value}
 use Rattle.roopl_semantics.specs.Value.{Slot, read, evaluated}
-use Rattle.roopl_semantics.specs.Execution.{Setting, opened, closed, delocal_fault, constructed, element_name, element_call, statement, exec}
+use Rattle.roopl_semantics.specs.Execution.{Setting, opened, closed, delocal_fault, constructed, element_name}
+use Rattle.roopl_semantics.specs.Execution.{element_call, statement, exec}
 use Rattle.meaning_points.specs.Points.{Point, behind, begins, inner_points, points}
 use Rattle.meaning_points.specs.WrittenOut.{Spots, all_at, name_at, construct_written, call_written, DoesAs}
 use Rattle.meaning_points.specs.WrittenOut.{HasPointsOf, placeless, HasMovedPointsOf}
@@ -223,8 +226,8 @@ pub call_does : (at : ℕ) (class : VarType) (back : Bool) (name : Ident) (index
     → DoesAs (Call at back (Some (Item name index)) method args)
     (call_written spots class back name index method args)
 call_does at class back name index method args spots =
-    does_so placeless _ _ (λ setting. call_same placeless setting at spots (λ word params st. refl) class back name index
-    method args)
+    does_so placeless _ _ (λ setting.
+    call_same placeless setting at spots (λ word params st. refl) class back name index method args)
 
 pub call_points : (at : ℕ) (class : VarType) (back : Bool) (name : Ident) (index : Expression) (method : Ident)
     (args : List Ident)

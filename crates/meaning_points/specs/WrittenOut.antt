@@ -5,7 +5,8 @@ use Rattle.rpp_tree.specs.declared.tree.Var.{Var}
 use Rattle.rpp_tree.specs.declared.tree.VarType.{VarType}
 use Rattle.rpp_tree.specs.declared.tree.VarType.TheVariants as kind
 use Rattle.rpp_tree.specs.Tree.{Expression, Null, Whole, Item, Object as AnObject, Statement}
-use Rattle.rpp_tree.specs.Tree.{Statements, Swap, Construct, Local, New, Delete, Call, End, Then, joined}
+use Rattle.rpp_tree.specs.Tree.{Statements, Swap, Construct, Local, New, Delete, Call, End, Then}
+use Rattle.rpp_tree.specs.Tree.{joined}
 use Rattle.stmt_inverter.specs.Inverse.{inverse_statement, inverse}
 use Rattle.roopl_semantics.specs.Store.{State}
 use Rattle.roopl_semantics.specs.Execution.{Setting, exec}

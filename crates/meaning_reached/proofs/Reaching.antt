@@ -9,7 +9,7 @@ use Rattle.class_table.specs.declared.kind.Kind.{Kind}
 use Rattle.class_table.specs.declared.kind.Kind.TheVariants as kind
 use Rattle.class_table.specs.Table.{table_of, class_of, slot_in}
 use Rattle.class_table.specs.Refusal.{type_differs, self_update}
-use Rattle.class_table.specs.Scope.{Setting as Typing, Local as ALocal, Locals, kind_of, class_kind}
+use Rattle.class_table.specs.Scope.{Typing, Local as ALocal, Locals, kind_of, class_kind}
 use Rattle.class_table.specs.Expressions.{and_then, occurs, place_type}
 use Rattle.class_table.specs.Statements.{Verdict, passed, required, in_turn, receiver_kind, place_class, same_kind}
 use Rattle.class_table.specs.Statements.{in_either_index, swap_rules, class_known, construct_rules, call_rules}

@@ -6,7 +6,7 @@ use Rattle.rpp_tree.specs.Tree.{Lvalue, Whole, Item, Source}
 use Rattle.class_table.specs.declared.kind.Kind.{Kind}
 use Rattle.class_table.specs.declared.kind.Kind.TheVariants as kind
 use Rattle.class_table.specs.Table.{table_of}
-use Rattle.class_table.specs.Scope.{Setting as Typing, Locals, kind_in}
+use Rattle.class_table.specs.Scope.{Typing, Locals, kind_in}
 use Rattle.class_table.specs.Expressions.{element_kind, element_of as element_type, index_is_int, variable_type}
 use Rattle.class_table.specs.Expressions.{type_of, place_type, first_token}
 use Rattle.class_table.specs.Program.{setting_in}

@@ -18,7 +18,7 @@ use Rattle.class_table.specs.Classes.{class_fields, class_number, method_named}
 use Rattle.class_table.specs.Overrides.{parameters_of}
 use Rattle.class_table.specs.Table.{table_of, dispatch_in}
 use Rattle.class_table.specs.Refusal.{type_differs, unknown_name}
-use Rattle.class_table.specs.Scope.{Setting as Typing, Local, Locals, kind_in}
+use Rattle.class_table.specs.Scope.{Typing, Local, Locals, kind_in}
 use Rattle.class_table.specs.Expressions.{is_int, type_of, place_type}
 use Rattle.class_table.specs.Statements.{passed, required, same_kind, update_rules, swap_rules, make_rules, copy_rules}
 use Rattle.class_table.specs.Statements.{call_rules, check_statements}

@@ -6,7 +6,7 @@ use Rattle.rpp_tree.specs.Tree.{Expression, Lvalue, Statements, Update, Swap, If
 use Rattle.class_table.specs.declared.kind.Kind.TheVariants as kind
 use Rattle.class_table.specs.Table.{table_of}
 use Rattle.class_table.specs.Refusal.{type_differs}
-use Rattle.class_table.specs.Scope.{Setting as Typing, Locals}
+use Rattle.class_table.specs.Scope.{Typing, Locals}
 use Rattle.class_table.specs.Expressions.{is_int, type_of, place_type}
 use Rattle.class_table.specs.Statements.{passed, required, same_kind, update_rules, swap_rules, check_statements}
 use Rattle.class_table.specs.Program.{setting_in}

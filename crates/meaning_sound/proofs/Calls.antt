@@ -19,7 +19,7 @@ use Rattle.class_table.specs.Overrides.{parameters_of}
 use Rattle.class_table.specs.Classes.{class_fields, method_named}
 use Rattle.class_table.specs.Table.{table_of, slot_in, dispatch_in}
 use Rattle.class_table.specs.Refusal.{unknown_name, type_differs, same_argument, wrong_arity, self_update}
-use Rattle.class_table.specs.Scope.{Setting as Typing, Locals, kind_of, kind_in}
+use Rattle.class_table.specs.Scope.{Typing, Locals, kind_of, kind_in}
 use Rattle.class_table.specs.Expressions.{place_type}
 use Rattle.class_table.specs.Statements.{passed, required, each_passes, each_passes_after, occurs_in_own_index}
 use Rattle.class_table.specs.Statements.{argument_known, argument_new, argument_fits, arguments_fit, receiver_kind}

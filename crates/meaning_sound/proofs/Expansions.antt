@@ -14,7 +14,7 @@ use Rattle.class_table.specs.declared.kind.Kind.TheVariants as kind
 use Rattle.class_table.specs.Overrides.{parameters_of}
 use Rattle.class_table.specs.Table.{Table, table_of, class_of, slot_in, dispatch_in, inherits_in}
 use Rattle.class_table.specs.Refusal.{unknown_name, type_differs, self_update, same_argument, wrong_arity}
-use Rattle.class_table.specs.Scope.{Setting as Typing, Local, Locals, local_kind, kind_of, field_kind, class_kind}
+use Rattle.class_table.specs.Scope.{Typing, Local, Locals, local_kind, kind_of, field_kind, class_kind}
 use Rattle.class_table.specs.Expressions.{and_then, occurs, type_of, place_type}
 use Rattle.class_table.specs.Statements.{Verdict, receiver_kind, place_class, passed, required, in_turn, each_passes}
 use Rattle.class_table.specs.Statements.{each_passes_after, same_kind, in_either_index, swap_rules, class_known}

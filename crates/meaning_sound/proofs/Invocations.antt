@@ -14,7 +14,7 @@ use Rattle.class_table.specs.Members.{has_field, field_name}
 use Rattle.class_table.specs.Names.{has_name}
 use Rattle.class_table.specs.Refusal.{redeclared}
 use Rattle.class_table.specs.Table.{table_of}
-use Rattle.class_table.specs.Scope.{Setting as Typing, Local, Locals, local_kind, kind_of}
+use Rattle.class_table.specs.Scope.{Typing, Local, Locals, local_kind, kind_of}
 use Rattle.class_table.specs.Statements.{passed, each_passes_after, with_local as with_local_type, check_statements}
 use Rattle.class_table.specs.Program.{setting_in, parameter_new, with_parameters}
 use Rattle.roopl_semantics.specs.Store.{Value, OfClass, Store, State, main_name}

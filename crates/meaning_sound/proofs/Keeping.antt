@@ -3,7 +3,7 @@ use Rattle.std.proofs.Common.{◌≡◌, ℕ, zero, suc, ◌<◌, length, Some, 
 use Rattle.rpp_tree.specs.Tree.{Object as AnObject, Ints, Objects, Whole, Item, Statement, Statements, Update, Swap, If}
 use Rattle.rpp_tree.specs.Tree.{From, Construct, Local, New, Delete, Copy, Uncopy, Call, Skip, End, Then}
 use Rattle.class_table.specs.Table.{table_of}
-use Rattle.class_table.specs.Scope.{Setting as Typing, Locals, kind_of}
+use Rattle.class_table.specs.Scope.{Typing, Locals, kind_of}
 use Rattle.class_table.specs.Statements.{passed, in_turn, test_rules, local_rules, construct_rules, with_local}
 use Rattle.class_table.specs.Statements.{with_object, check_statement, check_statements}
 use Rattle.class_table.specs.Program.{setting_in}

@@ -14,7 +14,7 @@ use Rattle.class_table.specs.declared.kind.Kind.TheVariants as kind
 use Rattle.class_table.specs.Overrides.{is_type_int}
 use Rattle.class_table.specs.Table.{Table, table_of, class_of}
 use Rattle.class_table.specs.Refusal.{unknown_name, type_differs, redeclared, local_in_own_expression}
-use Rattle.class_table.specs.Scope.{Setting as Typing, Local, Locals, local_kind, kind_in, field_kind, kind_of}
+use Rattle.class_table.specs.Scope.{Typing, Local, Locals, local_kind, kind_in, field_kind, kind_of}
 use Rattle.class_table.specs.Scope.{class_kind, array_kind}
 use Rattle.class_table.specs.Expressions.{and_then, is_int, occurs, type_of, variable_type, element_of, index_is_int}
 use Rattle.class_table.specs.Expressions.{operator_type, first_token}

@@ -20,7 +20,7 @@ use Rattle.class_table.specs.Rules.{class_names, name_of as class_name}
 use Rattle.class_table.specs.Classes.{class_fields, class_number, inherits}
 use Rattle.class_table.specs.Table.{Table, table_of, class_of, inherits_in}
 use Rattle.class_table.specs.Refusal.{type_differs}
-use Rattle.class_table.specs.Scope.{Setting as Typing, Locals, kind_of, class_kind, array_kind}
+use Rattle.class_table.specs.Scope.{Typing, Locals, kind_of, class_kind, array_kind}
 use Rattle.class_table.specs.Expressions.{is_int, element_kind, place_type}
 use Rattle.class_table.specs.Statements.{passed, required, is_class, is_int_array, takes_object, takes_object_of}
 use Rattle.class_table.specs.Statements.{takes_objects_of, takes, made_known, length_is_int, make_rules, type_known}

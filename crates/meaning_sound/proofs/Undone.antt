@@ -10,7 +10,7 @@ use Rattle.rpp_tree.specs.Tree.{Delete, Copy, Uncopy, Call, Skip, End, Then, joi
 use Rattle.class_table.specs.declared.kind.Kind.{Kind}
 use Rattle.class_table.specs.Overrides.{is_type_int, same_type}
 use Rattle.class_table.specs.Refusal.{type_differs, redeclared, local_in_own_expression}
-use Rattle.class_table.specs.Scope.{Setting, Locals, local_kind, kind_of}
+use Rattle.class_table.specs.Scope.{Typing, Locals, local_kind, kind_of}
 use Rattle.class_table.specs.Expressions.{is_int, type_of, occurs, first_token}
 use Rattle.class_table.specs.Statements.{passed, required, in_turn, test_rules, type_known, is_nil_word, local_rules}
 use Rattle.class_table.specs.Statements.{construct_rules, with_local, with_object, check_statement, check_statements}
@@ -35,7 +35,7 @@ and_turned false false = refl
 
 -- ---- blocks one behind the other
 
-pub check_joined : (setting : Setting) (locals : Locals) (a b : Statements) → check_statements setting locals a ≡ passed
+pub check_joined : (setting : Typing) (locals : Locals) (a b : Statements) → check_statements setting locals a ≡ passed
     → check_statements setting locals b ≡ passed → check_statements setting locals (joined a b) ≡ passed
 check_joined setting locals End b h k = k
 check_joined setting locals (Then first rest) b h k =
@@ -49,7 +49,7 @@ plain_joined (Then first rest) b h k = (h.0, plain_joined rest b h.1 k)
 
 -- ---- the rules of tests and locals, turned
 
-test_turned : (setting : Setting) (locals : Locals) (first last : Expression)
+test_turned : (setting : Typing) (locals : Locals) (first last : Expression)
     → test_rules setting locals first last ≡ passed → test_rules setting locals last first ≡ passed
 test_turned setting locals first last h =
     let f = handed_on (type_of setting locals first) _ tt h in
@@ -61,12 +61,12 @@ test_turned setting locals first last h =
     (in_turn_passes (required (is_int l.value) (type_differs (first_token last)))
     (required (is_int f.value) (type_differs (first_token first))) both.1 both.0))
 
-record LocalTurned (setting : Setting) (locals : Locals) (at : ℕ) (var : Var) (value : Expression) (end_var : Var)
+record LocalTurned (setting : Typing) (locals : Locals) (at : ℕ) (var : Var) (value : Expression) (end_var : Var)
     (end_value : Expression) : Type 0 where
   pub rules : local_rules setting locals at end_var end_value var value ≡ passed
   pub same : with_local setting locals var ≡ with_local setting locals end_var
 
-local_turned : (setting : Setting) (locals : Locals) (at : ℕ) (var : Var) (value : Expression) (end_var : Var)
+local_turned : (setting : Typing) (locals : Locals) (at : ℕ) (var : Var) (value : Expression) (end_var : Var)
     (end_value : Expression) → local_rules setting locals at var value end_var end_value ≡ passed
     → LocalTurned setting locals at var value end_var end_value
 local_turned setting locals at var value end_var end_value h =
@@ -112,7 +112,7 @@ local_turned setting locals at var value end_var end_value h =
 -- ---- statements and blocks
 
 mutual
-  statement_undone : (setting : Setting) (locals : Locals) (s : Statement) → check_statement setting locals s ≡ passed
+  statement_undone : (setting : Typing) (locals : Locals) (s : Statement) → check_statement setting locals s ≡ passed
       → check_statement setting locals (inverse_statement_as true s) ≡ passed
   statement_undone setting locals (Update at op target value) h = h
   statement_undone setting locals (Swap at left right) h = h
@@ -151,7 +151,7 @@ mutual
   statement_undone setting locals (Call at back receiver method args) h = h
   statement_undone setting locals (Skip at) h = h
 
-  block_undone : (setting : Setting) (locals : Locals) (body : Statements)
+  block_undone : (setting : Typing) (locals : Locals) (body : Statements)
       → check_statements setting locals body ≡ passed → check_statements setting locals (inverse_as true body) ≡ passed
   block_undone setting locals End h = h
   block_undone setting locals (Then first rest) h =
@@ -161,7 +161,7 @@ mutual
       (in_turn_passes (check_statement setting locals (inverse_statement_as true first)) passed
       (statement_undone setting locals first a.0) refl)
 
-pub inverse_checks : (setting : Setting) (locals : Locals) (body : Statements)
+pub inverse_checks : (setting : Typing) (locals : Locals) (body : Statements)
     → check_statements setting locals body ≡ passed → check_statements setting locals (inverse body) ≡ passed
 inverse_checks setting locals body h = block_undone setting locals body h
 

@@ -18,7 +18,7 @@ use Rattle.class_table.specs.declared.kind.Kind.{Kind}
 use Rattle.class_table.specs.declared.kind.Kind.TheVariants as kind
 use Rattle.class_table.specs.Table.{table_of}
 use Rattle.class_table.specs.Refusal.{type_differs, refused_operator}
-use Rattle.class_table.specs.Scope.{Setting as Typing, Locals, kind_in}
+use Rattle.class_table.specs.Scope.{Typing, Locals, kind_in}
 use Rattle.class_table.specs.Expressions.{and_then, is_int, element_kind, element_of as element_type, index_is_int}
 use Rattle.class_table.specs.Expressions.{variable_type, type_of, place_type, is_comparison, is_refused, operands_fit}
 use Rattle.class_table.specs.Expressions.{operator_type, first_token}

@@ -1,22 +1,24 @@
--- Address code: it finds the place of a variable, or of a word of the frame above, and takes it
--- away again.
-use Rattle.std.proofs.Common.{◌≡◌, ℕ, ◌+◌, ◌^◌, ◌<◌, true, false, List, [], ◌∷◌, refl, ap, arith}
+-- A base goes to the place of a variable, or to a word of the frame above, and back.
+use Rattle.std.proofs.Common.{◌≡◌, ℕ, ◌+◌, ◌^◌, ◌<◌, Bool, true, false, List, [], ◌∷◌, length, refl, ap, arith}
+use Rattle.std.specs.Prelude.{slice_index, slice_set}
 use Rattle.rpp_words.specs.Words.{sum_of, difference_of, negated}
 use Rattle.pisa_isa.specs.Machine.{Memory}
 use Rattle.paired_code.specs.Machine.{Image}
 use Rattle.paired_code.specs.Pieces.{Done, Will}
-use Rattle.refine_form.specs.Form.{registers}
-use Rattle.method_calls.specs.CallCode.{spot_row, above_row, add, addi}
+use Rattle.paired_code.specs.Rows.{line}
+use Rattle.code_conventions.specs.Cells.{add, exch, addi}
 use Rattle.refine_form.specs.declared.spot.Spot.{Spot}
 use Rattle.refine_form.specs.declared.spot.Spot.TheVariants.{Field, Frame}
+use Rattle.refine_form.specs.Form.{registers}
+use Rattle.refine_form.proofs.Rows.{here, next, will_row}
+use Rattle.method_calls.specs.CallCode.{base_of, reach_row, above_row, word_row}
 use Rattle.method_calls.specs.Facts.{address}
-use Rattle.refine_form.proofs.Rows.{Ran, here, next, will_row}
-use Rattle.paired_code.specs.Rows.{line}
+use Rattle.method_calls.proofs.Exchanges.{exchanges}
 
 abbrev pub mk : (link object frame at at' word flag place : ℕ) → List ℕ → Memory
 mk l o f a b c g p cs = record { regs = registers l o f a b c g p; cells = cs }
 
-sum_is : (x y z : ℕ) → x + y ≡ z → z < 2 ^ 32 → sum_of x y ≡ z
+pub sum_is : (x y z : ℕ) → x + y ≡ z → z < 2 ^ 32 → sum_of x y ≡ z
 sum_is x y z e h = omega arith
 
 pub difference_is : (x y z : ℕ) → x ≡ z + y → x < 2 ^ 32 → difference_of x y ≡ z
@@ -25,61 +27,94 @@ difference_is x y z e h = omega arith
 pub less_is : (x i z : ℕ) → x ≡ z + i → x < 2 ^ 32 → sum_of x (negated i) ≡ z
 less_is x i z e h = omega arith
 
-module _ (l o f b c g p : ℕ) (cs : List ℕ) where
-  at5 : ℕ → Memory
-  at5 v = mk l o f v b c g p cs
+-- ---- a spot
 
-  pub finds_spot : (sp : Spot) → address o f sp < 2 ^ 32
-      → Ran false (spot_row sp) 2 (mk l o f 0 b c g p cs) (mk l o f (address o f sp) b c g p cs)
-  finds_spot (Field i) h =
-      next refl (omega arith) (ap (λ v. Done (mk l o f v b c g p cs) 1) (sum_is 0 o o (omega arith) (omega arith)))
-      (next refl (omega arith) (ap (λ v. Done (mk l o f v b c g p cs) 1) (sum_is o (2 + i) (o + (2 + i)) refl h)) here)
-  finds_spot (Frame j) h =
-      next refl (omega arith) (ap (λ v. Done (mk l o f v b c g p cs) 1) (sum_is 0 f f (omega arith) (omega arith)))
-      (next refl (omega arith) (ap (λ v. Done (mk l o f v b c g p cs) 1) (sum_is f j (f + j) refl h)) here)
+-- the two bases where that of a spot stands at it
+abbrev pub object_at : ℕ → ℕ → Spot → ℕ
+object_at o f (Field i) = address o f (Field i)
+object_at o f (Frame j) = o
 
-  abbrev pub spot_back : Spot → List package.Rattle.pisa_isa.specs.declared.cell.Cell.Cell
-  spot_back (Field i) = addi 5 (2 + i) ∷ add 5 3 ∷ []
-  spot_back (Frame j) = addi 5 j ∷ add 5 4 ∷ []
+abbrev pub frame_at : ℕ → ℕ → Spot → ℕ
+frame_at o f (Field i) = f
+frame_at o f (Frame j) = address o f (Frame j)
 
-  leaves_row : (sp : Spot) → address o f sp < 2 ^ 32 → Ran true (spot_back sp) 2 (mk l o f (address o f sp) b c g p cs)
-      (mk l o f 0 b c g p cs)
-  leaves_row (Field i) h =
-      next refl (omega arith) (ap (λ v. Done (mk l o f v b c g p cs) 1) (less_is (o + (2 + i)) (2 + i) o refl h))
-      (next refl (omega arith) (ap (λ v. Done (mk l o f v b c g p cs) 1)
-      (difference_is o o 0 (omega arith) (omega arith))) here)
-  leaves_row (Frame j) h =
-      next refl (omega arith) (ap (λ v. Done (mk l o f v b c g p cs) 1) (less_is (f + j) j f refl h))
-      (next refl (omega arith) (ap (λ v. Done (mk l o f v b c g p cs) 1)
-      (difference_is f f 0 (omega arith) (omega arith))) here)
+module _ (o f : ℕ) (sp : Spot) where
+  abbrev pub at_spot : (content word flag : ℕ) → List ℕ → Memory
+  at_spot b c g cs = mk 0 (object_at o f sp) (frame_at o f sp) 0 b c g 0 cs
 
-  pub will_find_spot : (im : Image) (sp : Spot) → address o f sp < 2 ^ 32
-      → Will im (line (spot_row sp)) false (mk l o f 0 b c g p cs)
-      (λ out. out ≡ Done (mk l o f (address o f sp) b c g p cs) 2)
-  will_find_spot im sp h = will_row im false (spot_row sp) 2 _ _ (finds_spot sp h)
+module _ (im : Image) (o f b c g : ℕ) (cs : List ℕ) where
+  pub will_reach : (sp : Spot) → address o f sp < 2 ^ 32
+      → Will im (line (reach_row sp)) false (mk 0 o f 0 b c g 0 cs) (λ out. out ≡ Done (at_spot o f sp b c g cs) 1)
+  will_reach (Field i) h =
+      will_row im false (addi 3 (2 + i) ∷ []) 1 _ _ (next refl (omega arith)
+      (ap (λ v. Done (mk 0 v f 0 b c g 0 cs) 1) (sum_is o (2 + i) (o + (2 + i)) refl h)) here)
+  will_reach (Frame j) h =
+      will_row im false (addi 4 j ∷ []) 1 _ _ (next refl (omega arith)
+      (ap (λ v. Done (mk 0 o v 0 b c g 0 cs) 1) (sum_is f j (f + j) refl h)) here)
 
-  pub will_leave_spot : (im : Image) (sp : Spot) → address o f sp < 2 ^ 32
-      → Will im (line (spot_row sp)) true (mk l o f (address o f sp) b c g p cs)
-      (λ out. out ≡ Done (mk l o f 0 b c g p cs) 2)
-  will_leave_spot im (Field i) h = will_row im true (spot_back (Field i)) 2 _ _ (leaves_row (Field i) h)
-  will_leave_spot im (Frame j) h = will_row im true (spot_back (Frame j)) 2 _ _ (leaves_row (Frame j) h)
+  pub will_leave : (sp : Spot) → address o f sp < 2 ^ 32
+      → Will im (line (reach_row sp)) true (at_spot o f sp b c g cs) (λ out. out ≡ Done (mk 0 o f 0 b c g 0 cs) 1)
+  will_leave (Field i) h =
+      will_row im true (addi 3 (2 + i) ∷ []) 1 _ _ (next refl (omega arith)
+      (ap (λ v. Done (mk 0 v f 0 b c g 0 cs) 1) (less_is (o + (2 + i)) (2 + i) o refl h)) here)
+  will_leave (Frame j) h =
+      will_row im true (addi 4 j ∷ []) 1 _ _ (next refl (omega arith)
+      (ap (λ v. Done (mk 0 o v 0 b c g 0 cs) 1) (less_is (f + j) j f refl h)) here)
 
-module _ (l o f a c g p : ℕ) (cs : List ℕ) where
-  pub will_find_above : (im : Image) (word : ℕ) → f + (512 + word) < 2 ^ 32
-      → Will im (line (above_row word)) false (mk l o f a 0 c g p cs)
-      (λ out. out ≡ Done (mk l o f a (f + (512 + word)) c g p cs) 2)
-  will_find_above im word h =
-      will_row im false (above_row word) 2 _ _
-      (next refl (omega arith) (ap (λ v. Done (mk l o f a v c g p cs) 1) (sum_is 0 f f (omega arith) (omega arith)))
-      (next refl (omega arith) (ap (λ v. Done (mk l o f a v c g p cs) 1)
-      (sum_is f (512 + word) (f + (512 + word)) refl h)) here))
+  -- MOVED changes places with the word of the spot
+  pub swaps_moved : (d : Bool) (sp : Spot) → address o f sp < length cs
+      → Will im (line (exch 8 (base_of sp) ∷ [])) d (at_spot o f sp b c g cs) (λ out. out ≡ Done
+      (at_spot o f sp b (slice_index cs (address o f sp)) g (slice_set cs (address o f sp) c)) 1)
+  swaps_moved false (Field i) h = will_row im false (exch 8 3 ∷ []) 1 _ _ (next refl (omega arith)
+      (exchanges false 8 3 (at_spot o f (Field i) b c g cs) h) here)
+  swaps_moved false (Frame j) h = will_row im false (exch 8 4 ∷ []) 1 _ _ (next refl (omega arith)
+      (exchanges false 8 4 (at_spot o f (Frame j) b c g cs) h) here)
+  swaps_moved true (Field i) h = will_row im true (exch 8 3 ∷ []) 1 _ _ (next refl (omega arith)
+      (exchanges true 8 3 (at_spot o f (Field i) b c g cs) h) here)
+  swaps_moved true (Frame j) h = will_row im true (exch 8 4 ∷ []) 1 _ _ (next refl (omega arith)
+      (exchanges true 8 4 (at_spot o f (Frame j) b c g cs) h) here)
 
-  pub will_leave_above : (im : Image) (word : ℕ) → f + (512 + word) < 2 ^ 32
-      → Will im (line (above_row word)) true (mk l o f a (f + (512 + word)) c g p cs)
-      (λ out. out ≡ Done (mk l o f a 0 c g p cs) 2)
-  will_leave_above im word h =
-      will_row im true (addi 6 (512 + word) ∷ add 6 4 ∷ []) 2 _ _
-      (next refl (omega arith) (ap (λ v. Done (mk l o f a v c g p cs) 1)
-      (less_is (f + (512 + word)) (512 + word) f refl h))
-      (next refl (omega arith) (ap (λ v. Done (mk l o f a v c g p cs) 1)
-      (difference_is f f 0 (omega arith) (omega arith))) here))
+  -- and so does CONTENT
+  pub swaps_content : (d : Bool) (sp : Spot) → address o f sp < length cs
+      → Will im (line (exch 6 (base_of sp) ∷ [])) d (at_spot o f sp b c g cs) (λ out. out ≡ Done
+      (at_spot o f sp (slice_index cs (address o f sp)) c g (slice_set cs (address o f sp) b)) 1)
+  swaps_content false (Field i) h = will_row im false (exch 6 3 ∷ []) 1 _ _ (next refl (omega arith)
+      (exchanges false 6 3 (at_spot o f (Field i) b c g cs) h) here)
+  swaps_content false (Frame j) h = will_row im false (exch 6 4 ∷ []) 1 _ _ (next refl (omega arith)
+      (exchanges false 6 4 (at_spot o f (Frame j) b c g cs) h) here)
+  swaps_content true (Field i) h = will_row im true (exch 6 3 ∷ []) 1 _ _ (next refl (omega arith)
+      (exchanges true 6 3 (at_spot o f (Field i) b c g cs) h) here)
+  swaps_content true (Frame j) h = will_row im true (exch 6 4 ∷ []) 1 _ _ (next refl (omega arith)
+      (exchanges true 6 4 (at_spot o f (Frame j) b c g cs) h) here)
+
+-- ---- a word of the frame above
+
+module _ (im : Image) (o f c : ℕ) (cs : List ℕ) (word : ℕ) (h : f + (512 + word) < 2 ^ 32) where
+  pub will_raise : Will im (line (above_row word)) false (mk 0 o f 0 0 c 0 0 cs)
+      (λ out. out ≡ Done (mk 0 o (f + (512 + word)) 0 0 c 0 0 cs) 1)
+  will_raise = will_row im false (above_row word) 1 _ _ (next refl (omega (arith, h))
+      (ap (λ v. Done (mk 0 o v 0 0 c 0 0 cs) 1) (sum_is f (512 + word) (f + (512 + word)) refl h)) here)
+
+  pub will_lower : Will im (line (above_row word)) true (mk 0 o (f + (512 + word)) 0 0 c 0 0 cs)
+      (λ out. out ≡ Done (mk 0 o f 0 0 c 0 0 cs) 1)
+  will_lower = will_row im true (above_row word) 1 _ _ (next refl (omega (arith, h))
+      (ap (λ v. Done (mk 0 o v 0 0 c 0 0 cs) 1) (less_is (f + (512 + word)) (512 + word) f refl h)) here)
+
+-- ---- a word of the frame
+
+module _ (im : Image) (o f p : ℕ) (cs : List ℕ) (j : ℕ) (h : f + j < 2 ^ 32) where
+  pub will_find_word : Will im (line (word_row j)) false (mk 0 o f 0 0 0 0 p cs)
+      (λ out. out ≡ Done (mk 0 o f (f + j) 0 0 0 p cs) 2)
+  will_find_word =
+      will_row im false (word_row j) 2 _ _
+      (next refl (omega arith) (ap (λ v. Done (mk 0 o f v 0 0 0 p cs) 1)
+      (sum_is 0 f f (omega arith) (omega (arith, h))))
+      (next refl (omega (arith, h)) (ap (λ v. Done (mk 0 o f v 0 0 0 p cs) 1) (sum_is f j (f + j) refl h)) here))
+
+  pub will_leave_word : Will im (line (word_row j)) true (mk 0 o f (f + j) 0 0 0 p cs)
+      (λ out. out ≡ Done (mk 0 o f 0 0 0 0 p cs) 2)
+  will_leave_word =
+      will_row im true (addi 5 j ∷ add 5 4 ∷ []) 2 _ _
+      (next refl (omega (arith, h)) (ap (λ v. Done (mk 0 o f v 0 0 0 p cs) 1) (less_is (f + j) j f refl h))
+      (next refl (omega arith) (ap (λ v. Done (mk 0 o f v 0 0 0 p cs) 1)
+      (difference_is f f 0 (omega arith) (omega (arith, h)))) here))

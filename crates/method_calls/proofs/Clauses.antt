@@ -21,10 +21,11 @@ use Rattle.refine_form.specs.Cells.{around}
 use Rattle.refine_form.specs.Form.{World, Scope, StmtLaw, told}
 use Rattle.refine_form.specs.Stands.{spot_in}
 use Rattle.refine_form.specs.Worlds.{world_of, rates_of}
-use Rattle.method_calls.specs.CallCode.{addi, fetch_row, depth_code, moves_code, move_code, moves_of, last_cells}
+use Rattle.code_conventions.specs.Cells.{exch, addi}
+use Rattle.method_calls.specs.CallCode.{fetch_row, depth_code, moves_code, move_code, moves_of, last_cells}
 use Rattle.method_calls.specs.CallCode.{behind_of, checked_of, front_on_of, call_code, call_on_code, own_cells}
 use Rattle.method_calls.specs.CallCode.{nil_code, take_code, onto_code, method_code, main_code, main_cells, local_open}
-use Rattle.method_calls.specs.CallCode.{local_code, save_row, spot_row, exch}
+use Rattle.method_calls.specs.CallCode.{local_code, save_row, word_row}
 use Rattle.method_calls.specs.Facts.{Known, FrameFacts}
 use Rattle.method_calls.specs.Names.{known_of, receivers_of, slot_of}
 use Rattle.method_calls.specs.Laws.{LocalCode, OwnCallCode, CallOnCode, MethodCode, MainCode, AreVariables, quiet}
@@ -139,28 +140,29 @@ around_length w mid =
     (length-append w (mid ++ mirror_cells w)) (length-append mid (mirror_cells w)
     ∙ ap (λ n. length mid + n) (length_mirror w))
 
-move_length : (spot : Spot) (j : ℕ) → length (move_code spot j) ≡ 15
+move_length : (spot : Spot) (j : ℕ) → length (move_code spot j) ≡ 11
+unfolding move_code
 move_length (Field i) j = refl
 move_length (Frame i) j = refl
 
-sum_moves : (n k m : ℕ) → m ≡ n + 15 → n ≡ 15 * k → m ≡ 15 * suc k
+sum_moves : (n k m : ℕ) → m ≡ n + 11 → n ≡ 11 * k → m ≡ 11 * suc k
 sum_moves n k m h g = omega arith
 
-moves_length : (spots : List Spot) → length (moves_of spots) ≡ 15 * length spots
+moves_length : (spots : List Spot) → length (moves_of spots) ≡ 11 * length spots
 moves_length [] = refl
 moves_length (spot ∷ spots) = sum_moves (length (moves_of spots)) (length spots) (length (moves_of (spot ∷ spots)))
     (length-append (moves_of spots) (move_code spot (length spots))
     ∙ ap (λ n. length (moves_of spots) + n) (move_length spot (length spots))) (moves_length spots)
 
-last_length : (slot : ℕ) → length (last_cells slot) ≡ 14
+last_length : (slot : ℕ) → length (last_cells slot) ≡ 12
 unfolding last_cells
 last_length slot = refl
 
-sum_own : (k n1 n2 n3 n4 : ℕ) → n1 ≡ 23 + n2 → n2 ≡ n3 + 14 → n3 ≡ 15 * k → n4 ≡ 2 * n1 + 7 → n4 ≡ 30 * k + 81
+sum_own : (k n1 n2 n3 n4 : ℕ) → n1 ≡ 13 + n2 → n2 ≡ n3 + 12 → n3 ≡ 11 * k → n4 ≡ 2 * n1 + 7 → n4 ≡ 22 * k + 57
 sum_own k n1 n2 n3 n4 a b c d = omega arith
 
 pub own_length : (back : Bool) (slot : ℕ) (spots : List Spot)
-    → length (own_cells back slot spots) ≡ 30 * length spots + 81
+    → length (own_cells back slot spots) ≡ 22 * length spots + 57
 unfolding own_cells
 own_length back slot spots =
     let front = depth_code ++ (moves_of spots ++ last_cells slot) in
@@ -171,20 +173,20 @@ own_length back slot spots =
     (moves_length spots)
     (around_length front (enter_at_cells 12 back))
 
-behind_length : (spot : Spot) (slot : ℕ) → length (behind_of spot slot) ≡ 31
+behind_length : (spot : Spot) (slot : ℕ) → length (behind_of spot slot) ≡ 25
 unfolding last_cells behind_of
 behind_length (Field i) slot = refl
 behind_length (Frame i) slot = refl
 
-nil_length : (spot : Spot) → length (nil_code spot) ≡ 23
+nil_length : (spot : Spot) → length (nil_code spot) ≡ 11
 nil_length (Field i) = refl
 nil_length (Frame i) = refl
 
-sum_checked : (k n1 n2 n3 : ℕ) → n1 ≡ 23 + n2 → n2 ≡ n3 + 31 → n3 ≡ 15 * k → n1 ≡ 15 * k + 54
+sum_checked : (k n1 n2 n3 : ℕ) → n1 ≡ 13 + n2 → n2 ≡ n3 + 25 → n3 ≡ 11 * k → n1 ≡ 11 * k + 38
 sum_checked k n1 n2 n3 a b c = omega arith
 
 checked_length : (spot : Spot) (slot : ℕ) (spots : List Spot)
-    → length (checked_of spot slot spots) ≡ 15 * length spots + 54
+    → length (checked_of spot slot spots) ≡ 11 * length spots + 38
 unfolding checked_of
 checked_length spot slot spots =
     sum_checked (length spots) (length (depth_code ++ (moves_of spots ++ behind_of spot slot)))
@@ -194,17 +196,17 @@ checked_length spot slot spots =
     ∙ ap (λ n. length (moves_of spots) + n) (behind_length spot slot)) (moves_length spots)
 
 front_length : (spot : Spot) (slot : ℕ) (spots : List Spot)
-    → length (front_on_of spot slot spots) ≡ 23 + (15 * length spots + 54)
+    → length (front_on_of spot slot spots) ≡ 11 + (11 * length spots + 38)
 unfolding front_on_of
 front_length spot slot spots = length-append (nil_code spot) (checked_of spot slot spots)
     ∙ ap (λ n. n + length (checked_of spot slot spots)) (nil_length spot)
-    ∙ ap (λ n. 23 + n) (checked_length spot slot spots)
+    ∙ ap (λ n. 11 + n) (checked_length spot slot spots)
 
-sum_on : (k n1 n4 : ℕ) → n1 ≡ 23 + (15 * k + 54) → n4 ≡ 2 * n1 + 7 → n4 ≡ 30 * k + 161
+sum_on : (k n1 n4 : ℕ) → n1 ≡ 11 + (11 * k + 38) → n4 ≡ 2 * n1 + 7 → n4 ≡ 22 * k + 105
 sum_on k n1 n4 a d = omega arith
 
 pub on_length : (back : Bool) (spot : Spot) (slot : ℕ) (spots : List Spot)
-    → length (around (front_on_of spot slot spots) (enter_at_cells 12 back)) ≡ 30 * length spots + 161
+    → length (around (front_on_of spot slot spots) (enter_at_cells 12 back)) ≡ 22 * length spots + 105
 on_length back spot slot spots =
     sum_on (length spots) (length (front_on_of spot slot spots))
     (length (around (front_on_of spot slot spots) (enter_at_cells 12 back))) (front_length spot slot spots)
@@ -225,7 +227,7 @@ sum_open v n k h g = omega arith
 
 open_length : (word : ℕ) (v : List Symbol) → length (local_open word v) ≡ length v + 10
 open_length word v =
-    let store = around (line (spot_row (Frame word))) (line (exch 12 5 ∷ [])) in
+    let store = around (line (word_row word)) (line (exch 12 5 ∷ [])) in
     sum_open (length v) (length (local_open word v)) (length (v ++ store))
     (length-append (check_cells 12 3) (v ++ store)) (length-append v store)
 

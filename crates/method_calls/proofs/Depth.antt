@@ -1,6 +1,7 @@
 -- The check of the depth, the place of a method, and what a body puts by.
-use Rattle.std.proofs.Common.{◌≡◌, ℕ, ◌+◌, ◌-◌, ◌^◌, ◌<◌, ◌≤◌, Bool, true, false, List, [], ◌∷◌, length, refl, sym, ap}
-use Rattle.std.proofs.Common.{◌∙◌, arith}
+use Rattle.std.proofs.Common.{◌≡◌, ℕ, ◌+◌, ◌-◌, ◌^◌, ◌<◌, ◌≤◌, Bool, true, false, List, [], ◌∷◌, ◌++◌, length, refl}
+use Rattle.std.proofs.Common.{sym}
+use Rattle.std.proofs.Common.{ap, ◌∙◌, arith}
 use Rattle.std.specs.Prelude.{not, nat_lt, slice_index, slice_set, bit_xor, int_lt, pos, if◌then◌else◌}
 use Rattle.std.proofs.lemmas.List.{get_or-set_same, get_or-set_other, set-get_or}
 use Rattle.std.proofs.Math.ListN.{length-set}
@@ -11,19 +12,17 @@ use Rattle.pisa_isa.specs.declared.cell.Cell.{Cell}
 use Rattle.pisa_isa.specs.Machine.{Memory}
 use Rattle.paired_code.specs.Machine.{Image}
 use Rattle.paired_code.specs.Layout.{check_cells}
-use Rattle.paired_code.specs.Pieces.{Done, Trapped, Will}
-use Rattle.paired_code.proofs.Laws.{will_of}
+use Rattle.paired_code.specs.Pieces.{Done, Trapped, Will, after}
+use Rattle.paired_code.proofs.Laws.{will_of, will_more}
 use Rattle.paired_code.proofs.Call.{set_set}
 use Rattle.paired_code.proofs.Small.{runs_check_zero, runs_check_other}
-use Rattle.method_calls.specs.CallCode.{add, sub, addi, xori, sltx, exch, depth_row, depth_code, fetch_row, save_row}
+use Rattle.code_conventions.specs.Cells.{add, sub, exch, addi, xori, sltx}
+use Rattle.method_calls.specs.CallCode.{end_row, fits_row, depth_code, fetch_row, save_row}
 use Rattle.refine_form.proofs.Rows.{Ran, here, next, will_row}
-use Rattle.method_calls.proofs.Addresses.{mk, difference_is, less_is}
-use Rattle.refine_form.proofs.Rules.{will_in, will_in_trap}
+use Rattle.method_calls.proofs.Addresses.{mk, sum_is, difference_is, less_is}
+use Rattle.refine_form.proofs.Rules.{will_in, will_in_trap, will_two, will_two_back}
 use Rattle.paired_code.specs.Rows.{line}
 use Rattle.method_calls.proofs.Exchanges.{exchanges}
-
-pub sum_is : (x y z : ℕ) → x + y ≡ z → z < 2 ^ 32 → sum_of x y ≡ z
-sum_is x y z e h = omega arith
 
 more_is : (x i z : ℕ) → x + i ≡ z → i < 2 ^ 32 → z < 2 ^ 32 → sum_of x (negated (negated i)) ≡ z
 more_is x i z e h k = omega arith
@@ -42,8 +41,17 @@ signed_small v h = by (nat_lt v (2 ^ 31)) (grind (arith, nat_tests))
     by true e = refl
     by false e = absurd (cc)
 
+small_words : (u v : ℕ) → u < 2 ^ 31 → v < 2 ^ 31 → is_less u v ≡ nat_lt u v
+small_words u v g h = ap (λ z. int_lt z (signed v)) (signed_small u g) ∙ ap (int_lt (pos u)) (signed_small v h)
+
+pub below : (u v : ℕ) → u < v → v < 2 ^ 31 → is_less u v ≡ true
+below u v p h = small_words u v (omega arith) h ∙ grind (arith, nat_tests)
+
+not_below : (u v : ℕ) → u ≡ v → v < 2 ^ 31 → is_less u v ≡ false
+not_below u v p h = small_words u v (omega arith) h ∙ grind (arith, nat_tests)
+
 pub above_zero : (v : ℕ) → 0 < v → v < 2 ^ 31 → is_less 0 v ≡ true
-above_zero v p h = ap (int_lt (pos 0)) (signed_small v h) ∙ grind (arith, nat_tests)
+above_zero v p h = below 0 v p h
 
 -- ---- the depth
 
@@ -52,96 +60,96 @@ module _ (im : Image) (ob fr : ℕ) (cs : List ℕ) (inside : 4 < length cs) (sm
   abbrev end : ℕ
   end = slice_index cs 4
 
-  abbrev left : ℕ
-  left = end - fr - 512
+  -- the last frame that fits begins before it
+  abbrev last : ℕ
+  last = end - 512
 
   abbrev gone : List ℕ
   gone = slice_set cs 4 0
 
-  abbrev depth_mem : ℕ → ℕ → ℕ → ℕ → List ℕ → Memory
-  depth_mem a b c g l = mk 0 ob fr a b c g 0 l
+  abbrev depth_mem : ℕ → ℕ → ℕ → List ℕ → Memory
+  depth_mem a b g l = mk 0 ob fr a b 0 g 0 l
 
-  -- what the line leaves in the flag
-  finds_depth : (t : Bool) (x y : ℕ) → is_less 0 left ≡ t → bit_xor 0 (word_of t) ≡ x → bit_xor x 1 ≡ y
-      → Ran false depth_row 9 (depth_mem 0 0 0 0 cs) (depth_mem 0 0 left y cs)
-  finds_depth t x y e ex ey =
-      let l1 : 4 < length gone = omega (arith, length-set cs 4 0) in
-      next refl (omega arith) refl
-      (next refl (omega arith) (exchanges false 6 5 (depth_mem 4 0 0 0 cs) inside)
-      (next refl (omega arith) (ap (λ v. Done (depth_mem 4 end v 0 gone) 1)
-      (sum_is 0 end end (omega arith) (omega (arith, small))))
-      (next refl (omega arith) (exchanges false 6 5 (depth_mem 4 end end 0 gone) l1
-      ∙ ap (λ v. Done (depth_mem 4 v end 0 (slice_set gone 4 end)) 1) (emptied cs 4 inside)
-      ∙ ap (λ l. Done (depth_mem 4 0 end 0 l) 1) (filled cs 4))
+  last_is : end ≡ last + 512
+  last_is = omega (arith, fits)
+
+  finds_end : Will im (line end_row) false (depth_mem 0 0 0 cs) (λ o. o ≡ Done (depth_mem 4 last 0 gone) 3)
+  finds_end =
+      will_row im false end_row 3 _ _
       (next refl (omega arith) refl
-      (next refl (omega arith) (ap (λ v. Done (depth_mem 0 0 v 0 cs) 1)
-      (difference_is end fr (end - fr) (omega arith) (omega (arith, small))))
-      (next refl (omega arith) (ap (λ v. Done (depth_mem 0 0 v 0 cs) 1)
-      (less_is (end - fr) 512 left (omega arith) (omega (arith, small))))
-      (next refl (omega arith) (ap (λ b. Done (depth_mem 0 0 left (bit_xor 0 (word_of b)) cs) 1) e
-      ∙ ap (λ v. Done (depth_mem 0 0 left v cs) 1) ex)
-      (next refl (omega arith) (ap (λ v. Done (depth_mem 0 0 left v cs) 1) ey) here))))))))
+      (next refl (omega arith) (exchanges false 6 5 (depth_mem 4 0 0 cs) inside)
+      (next refl (omega arith) (ap (λ v. Done (depth_mem 4 v 0 gone) 1)
+      (less_is end 512 last last_is (omega (arith, small)))) here)))
 
-  abbrev depth_back : List Cell
-  depth_back = xori 11 1 ∷ sltx 11 7 8 ∷ addi 8 (negated 512) ∷ sub 8 4 ∷ addi 5 (negated 4) ∷ exch 6 5 ∷ add 8 6
-      ∷ exch 6 5 ∷ addi 5 4 ∷ []
+  leaves_end : Will im (line end_row) true (depth_mem 4 last 0 gone) (λ o. o ≡ Done (depth_mem 0 0 0 cs) 3)
+  leaves_end =
+      let l1 : 4 < length gone = omega (arith, length-set cs 4 0, inside) in
+      will_row im true (addi 6 (negated 512) ∷ exch 6 5 ∷ addi 5 4 ∷ []) 3 _ _
+      (next refl (omega arith) (ap (λ v. Done (depth_mem 4 v 0 gone) 1)
+      (sum_is last 512 end (omega (arith, last_is)) (omega (arith, small))))
+      (next refl (omega arith) (exchanges true 6 5 (depth_mem 4 end 0 gone) l1
+      ∙ ap (λ v. Done (depth_mem 4 v 0 (slice_set gone 4 end)) 1) (emptied cs 4 inside)
+      ∙ ap (λ l. Done (depth_mem 4 0 0 l) 1) (filled cs 4))
+      (next refl (omega arith) refl here)))
 
-  leaves_depth : (t : Bool) (x y : ℕ) → is_less 0 left ≡ t → bit_xor y 1 ≡ x → bit_xor x (word_of t) ≡ 0
-      → Ran true depth_back 9 (depth_mem 0 0 left y cs) (depth_mem 0 0 0 0 cs)
-  leaves_depth t x y e ex ey =
-      let l1 : 4 < length gone = omega (arith, length-set cs 4 0) in
-      next refl (omega arith) (ap (λ v. Done (depth_mem 0 0 left v cs) 1) ex)
-      (next refl (omega arith) (ap (λ b. Done (depth_mem 0 0 left (bit_xor x (word_of b)) cs) 1) e
-      ∙ ap (λ v. Done (depth_mem 0 0 left v cs) 1) ey)
-      (next refl (omega arith) (ap (λ v. Done (depth_mem 0 0 v 0 cs) 1)
-      (sum_is left 512 (end - fr) (omega arith) (omega (arith, small))))
-      (next refl (omega arith) (ap (λ v. Done (depth_mem 0 0 v 0 cs) 1)
-      (sum_is (end - fr) fr end (omega arith) (omega (arith, small))))
+  -- what the two cells leave in the flag
+  flags : (t : Bool) (x y : ℕ) → is_less fr last ≡ t → bit_xor 0 (word_of t) ≡ x → bit_xor x 1 ≡ y
+      → Will im (line fits_row) false (depth_mem 4 last 0 gone) (λ o. o ≡ Done (depth_mem 4 last y gone) 2)
+  flags t x y e ex ey =
+      will_row im false fits_row 2 _ _
+      (next refl (omega arith) (ap (λ b. Done (depth_mem 4 last (bit_xor 0 (word_of b)) gone) 1) e
+      ∙ ap (λ v. Done (depth_mem 4 last v gone) 1) ex)
+      (next refl (omega arith) (ap (λ v. Done (depth_mem 4 last v gone) 1) ey) here))
+
+  unflags : is_less fr last ≡ true
+      → Will im (line fits_row) true (depth_mem 4 last 0 gone) (λ o. o ≡ Done (depth_mem 4 last 0 gone) 2)
+  unflags e =
+      will_row im true (xori 11 1 ∷ sltx 11 4 6 ∷ []) 2 _ _
       (next refl (omega arith) refl
-      (next refl (omega arith) (exchanges true 6 5 (depth_mem 4 0 end 0 cs) inside)
-      (next refl (omega arith) (ap (λ v. Done (depth_mem 4 end v 0 gone) 1)
-      (difference_is end end 0 (omega arith) (omega (arith, small))))
-      (next refl (omega arith) (exchanges true 6 5 (depth_mem 4 end 0 0 gone) l1
-      ∙ ap (λ v. Done (depth_mem 4 v 0 0 (slice_set gone 4 end)) 1) (emptied cs 4 inside)
-      ∙ ap (λ l. Done (depth_mem 4 0 0 0 l) 1) (filled cs 4))
-      (next refl (omega arith) refl here))))))))
+      (next refl (omega arith) (ap (λ b. Done (depth_mem 4 last (bit_xor 1 (word_of b)) gone) 1) e) here))
+
+  -- the flag is 0 behind the test, and before it where it is run back
+  passes : (d : Bool) → is_less fr last ≡ true → Will im (line fits_row ++ check_cells 11 14) d
+      (depth_mem 4 last 0 gone) (λ o. o ≡ Done (depth_mem 4 last 0 gone) 6)
+  passes false e =
+      will_two im (line fits_row) (check_cells 11 14) _ _ 2 _ (flags true 1 0 e refl refl)
+      (will_of im _ false _ _ _ (runs_check_zero im false 11 14 (depth_mem 4 last 0 gone) refl) refl)
+  passes true e =
+      will_two_back im (line fits_row) (check_cells 11 14) _ _ 4 _
+      (will_of im _ true _ _ _ (runs_check_zero im true 11 14 (depth_mem 4 last 0 gone) refl) refl)
+      (will_more im _ true _ _ _ (λ o q. ap (after 4) q) (unflags e))
 
   -- where one more call may be open, nothing happens
-  pub depth_passes : (d : Bool) → fr + 512 < end → Will im depth_code d (depth_mem 0 0 0 0 cs)
-      (λ o. o ≡ Done (depth_mem 0 0 0 0 cs) 22)
+  pub depth_passes : (d : Bool) → fr + 512 < end → Will im depth_code d (depth_mem 0 0 0 cs)
+      (λ o. o ≡ Done (depth_mem 0 0 0 cs) 12)
   depth_passes d h =
-      let t : is_less 0 left ≡ true = above_zero left (omega arith) (omega (arith, small)) in
-      will_in im d (line depth_row) (check_cells 11 14) _ _ _ _ 9 4 9
-      (will_row im false depth_row 9 _ _ (finds_depth true 1 0 t refl refl))
-      (will_of im _ d _ _ _ (runs_check_zero im d 11 14 (depth_mem 0 0 left 0 cs) refl) refl)
-      (will_row im true depth_back 9 _ _ (leaves_depth true 1 0 t refl refl))
+      let t : is_less fr last ≡ true = below fr last (omega (arith, last_is)) (omega (arith, small)) in
+      will_in im d (line end_row) (line fits_row ++ check_cells 11 14) _ _ _ _ 3 6 3 finds_end (passes d t) leaves_end
 
   -- else it traps
-  pub depth_traps : (d : Bool) → fr + 512 ≡ end → Will im depth_code d (depth_mem 0 0 0 0 cs)
-      (λ o. (k : ℕ) × (k ≤ 13) × (o ≡ Trapped 14 k))
-  depth_traps d h =
-      let z : left ≡ 0 = omega arith in
-      let t : is_less 0 left ≡ false = ap (is_less 0) z in
-      let c = runs_check_other im d 11 14 (depth_mem 0 0 left 1 cs) (λ e. let q : 1 ≡ 0 = e in omega arith) in
-      will_in_trap im d (line depth_row) (check_cells 11 14) _ _ 9 14 4
-      (will_row im false depth_row 9 _ _ (finds_depth false 0 1 t refl refl))
-      (will_of im _ d _ _ _ c.2 (c.0, c.1, refl))
+  pub depth_traps : fr + 512 ≡ end → Will im depth_code false (depth_mem 0 0 0 cs)
+      (λ o. (k : ℕ) × (k ≤ 9) × (o ≡ Trapped 14 k))
+  depth_traps h =
+      let t : is_less fr last ≡ false = not_below fr last (omega (arith, last_is)) (omega (arith, small)) in
+      let c = runs_check_other im false 11 14 (depth_mem 4 last 1 gone) (λ e. let q : 1 ≡ 0 = e in omega arith) in
+      will_in_trap im false (line end_row) (line fits_row ++ check_cells 11 14) _ _ 3 14 6 finds_end
+      (will_two im (line fits_row) (check_cells 11 14) _ _ 2 _ (flags false 0 1 t refl refl)
+      (will_of im _ false _ _ _ c.2 (2 + c.0, (let l = c.1 in omega arith), refl)))
 
 -- ---- the place of a method
 
 module _ (im : Image) (ob fr slot place : ℕ) (cs : List ℕ) (inside : ob < length cs)
     (small : slice_index cs ob < 2 ^ 23) (slot_small : slot < 2 ^ 20)
     (entry_in : slice_index cs ob + (1 + slot) < length cs)
-    (entry : slice_index cs (slice_index cs ob + (1 + slot)) ≡ place) (place_small : place < 2 ^ 32)
-    (object_small : ob < 2 ^ 23) where
+    (entry : slice_index cs (slice_index cs ob + (1 + slot)) ≡ place) (place_small : place < 2 ^ 32) where
   abbrev table : ℕ
   table = slice_index cs ob
 
   abbrev at_entry : ℕ
   at_entry = slice_index cs ob + (1 + slot)
 
-  abbrev fetch_mem : ℕ → ℕ → ℕ → ℕ → List ℕ → Memory
-  fetch_mem a b c p l = mk 0 ob fr a b c 0 p l
+  abbrev fetch_mem : ℕ → ℕ → ℕ → List ℕ → Memory
+  fetch_mem b c p l = mk 0 ob fr 0 b c 0 p l
 
   abbrev no_table : List ℕ
   no_table = slice_set cs ob 0
@@ -149,89 +157,80 @@ module _ (im : Image) (ob fr slot place : ℕ) (cs : List ℕ) (inside : ob < le
   abbrev no_entry : List ℕ
   no_entry = slice_set cs at_entry 0
 
-  -- take the table's address out, and put it in again
+  -- the table's address goes out, is copied, and goes in again
   out_in : ob < length no_table
   out_in = omega (arith, length-set cs ob 0, inside)
 
   entry_out : at_entry < length no_entry
   entry_out = omega (arith, length-set cs at_entry 0, entry_in)
 
-  table_back : (d : Bool) (c p : ℕ) → package.Rattle.paired_code.specs.Laws.outcome_of d (exch 6 5)
-      (fetch_mem ob table c p no_table) ≡ Done (fetch_mem ob 0 c p cs) 1
-  table_back d c p = exchanges d 6 5 (fetch_mem ob table c p no_table) out_in
-      ∙ ap (λ v. Done (fetch_mem ob v c p (slice_set no_table ob table)) 1) (emptied cs ob inside)
-      ∙ ap (λ l. Done (fetch_mem ob 0 c p l) 1) (filled cs ob)
+  table_back : (d : Bool) (c p : ℕ) → package.Rattle.paired_code.specs.Laws.outcome_of d (exch 6 3)
+      (fetch_mem table c p no_table) ≡ Done (fetch_mem 0 c p cs) 1
+  table_back d c p = exchanges d 6 3 (fetch_mem table c p no_table) out_in
+      ∙ ap (λ v. Done (fetch_mem v c p (slice_set no_table ob table)) 1) (emptied cs ob inside)
+      ∙ ap (λ l. Done (fetch_mem 0 c p l) 1) (filled cs ob)
 
   entry_back : (d : Bool) (p : ℕ) → package.Rattle.paired_code.specs.Laws.outcome_of d (exch 6 8)
-      (fetch_mem ob place at_entry p no_entry) ≡ Done (fetch_mem ob 0 at_entry p cs) 1
+      (fetch_mem place at_entry p no_entry) ≡ Done (fetch_mem 0 at_entry p cs) 1
   entry_back d p =
-      exchanges d 6 8 (fetch_mem ob place at_entry p no_entry) entry_out
-      ∙ ap (λ v. Done (fetch_mem ob v at_entry p (slice_set no_entry at_entry place)) 1)
-      (emptied cs at_entry entry_in)
-      ∙ ap (λ v. Done (fetch_mem ob 0 at_entry p (slice_set no_entry at_entry v)) 1) (sym entry)
-      ∙ ap (λ l. Done (fetch_mem ob 0 at_entry p l) 1) (filled cs at_entry)
+      exchanges d 6 8 (fetch_mem place at_entry p no_entry) entry_out
+      ∙ ap (λ v. Done (fetch_mem v at_entry p (slice_set no_entry at_entry place)) 1) (emptied cs at_entry entry_in)
+      ∙ ap (λ v. Done (fetch_mem 0 at_entry p (slice_set no_entry at_entry v)) 1) (sym entry)
+      ∙ ap (λ l. Done (fetch_mem 0 at_entry p l) 1) (filled cs at_entry)
 
-  fetches : Ran false (fetch_row slot) 13 (fetch_mem 0 0 0 0 cs) (fetch_mem 0 0 0 place cs)
+  fetches : Ran false (fetch_row slot) 11 (fetch_mem 0 0 0 cs) (fetch_mem 0 0 place cs)
   fetches =
-      next refl (omega arith) (ap (λ v. Done (fetch_mem v 0 0 0 cs) 1)
-      (sum_is 0 ob ob (omega arith) (omega (arith, object_small))))
-      (next refl (omega arith) (exchanges false 6 5 (fetch_mem ob 0 0 0 cs) inside)
-      (next refl (omega arith) (ap (λ v. Done (fetch_mem ob table v 0 no_table) 1)
+      next refl (omega arith) (exchanges false 6 3 (fetch_mem 0 0 0 cs) inside)
+      (next refl (omega arith) (ap (λ v. Done (fetch_mem table v 0 no_table) 1)
       (sum_is 0 table table (omega arith) (omega (arith, small))))
       (next refl (omega arith) (table_back false table 0)
-      (next refl (omega (arith, slot_small)) (ap (λ v. Done (fetch_mem ob 0 v 0 cs) 1)
+      (next refl (omega (arith, slot_small)) (ap (λ v. Done (fetch_mem 0 v 0 cs) 1)
       (sum_is table (1 + slot) at_entry refl (omega (arith, small, slot_small))))
-      (next refl (omega arith) (exchanges false 6 8 (fetch_mem ob 0 at_entry 0 cs) entry_in
-      ∙ ap (λ v. Done (fetch_mem ob v at_entry 0 no_entry) 1) entry)
-      (next refl (omega arith) (ap (λ v. Done (fetch_mem ob place at_entry v no_entry) 1)
+      (next refl (omega arith) (exchanges false 6 8 (fetch_mem 0 at_entry 0 cs) entry_in
+      ∙ ap (λ v. Done (fetch_mem v at_entry 0 no_entry) 1) entry)
+      (next refl (omega arith) (ap (λ v. Done (fetch_mem place at_entry v no_entry) 1)
       (sum_is 0 place place (omega arith) (omega (arith, place_small))))
       (next refl (omega arith) (entry_back false place)
-      (next refl (omega arith) (ap (λ v. Done (fetch_mem ob 0 v place cs) 1)
+      (next refl (omega arith) (ap (λ v. Done (fetch_mem 0 v place cs) 1)
       (less_is at_entry (1 + slot) table refl (omega (arith, small, slot_small))))
-      (next refl (omega arith) (exchanges false 6 5 (fetch_mem ob 0 table place cs) inside)
-      (next refl (omega arith) (ap (λ v. Done (fetch_mem ob table v place no_table) 1)
+      (next refl (omega arith) (exchanges false 6 3 (fetch_mem 0 table place cs) inside)
+      (next refl (omega arith) (ap (λ v. Done (fetch_mem table v place no_table) 1)
       (difference_is table table 0 (omega arith) (omega (arith, small))))
-      (next refl (omega arith) (table_back false 0 place)
-      (next refl (omega arith) (ap (λ v. Done (fetch_mem v 0 0 place cs) 1)
-      (difference_is ob ob 0 (omega arith) (omega (arith, object_small)))) here))))))))))))
+      (next refl (omega arith) (table_back false 0 place) here))))))))))
 
   abbrev pub fetch_back : List Cell
   fetch_back =
-      sub 5 3 ∷ exch 6 5 ∷ sub 8 6 ∷ exch 6 5 ∷ addi 8 (negated (1 + slot))
+      exch 6 3 ∷ sub 8 6 ∷ exch 6 3 ∷ addi 8 (negated (1 + slot))
       ∷ exch 6 8 ∷ add 12 6 ∷ exch 6 8 ∷ addi 8 (1 + slot)
-      ∷ exch 6 5 ∷ add 8 6 ∷ exch 6 5 ∷ add 5 3 ∷ []
+      ∷ exch 6 3 ∷ add 8 6 ∷ exch 6 3 ∷ []
 
-  unfetches : Ran true fetch_back 13 (fetch_mem 0 0 0 place cs) (fetch_mem 0 0 0 0 cs)
+  unfetches : Ran true fetch_back 11 (fetch_mem 0 0 place cs) (fetch_mem 0 0 0 cs)
   unfetches =
-      next refl (omega arith) (ap (λ v. Done (fetch_mem v 0 0 place cs) 1)
-      (sum_is 0 ob ob (omega arith) (omega (arith, object_small))))
-      (next refl (omega arith) (exchanges true 6 5 (fetch_mem ob 0 0 place cs) inside)
-      (next refl (omega arith) (ap (λ v. Done (fetch_mem ob table v place no_table) 1)
+      next refl (omega arith) (exchanges true 6 3 (fetch_mem 0 0 place cs) inside)
+      (next refl (omega arith) (ap (λ v. Done (fetch_mem table v place no_table) 1)
       (sum_is 0 table table (omega arith) (omega (arith, small))))
       (next refl (omega arith) (table_back true table place)
-      (next refl (omega arith) (ap (λ v. Done (fetch_mem ob 0 v place cs) 1)
+      (next refl (omega arith) (ap (λ v. Done (fetch_mem 0 v place cs) 1)
       (more_is table (1 + slot) at_entry refl (omega (arith, slot_small)) (omega (arith, small, slot_small))))
-      (next refl (omega arith) (exchanges true 6 8 (fetch_mem ob 0 at_entry place cs) entry_in
-      ∙ ap (λ v. Done (fetch_mem ob v at_entry place no_entry) 1) entry)
-      (next refl (omega arith) (ap (λ v. Done (fetch_mem ob place at_entry v no_entry) 1)
+      (next refl (omega arith) (exchanges true 6 8 (fetch_mem 0 at_entry place cs) entry_in
+      ∙ ap (λ v. Done (fetch_mem v at_entry place no_entry) 1) entry)
+      (next refl (omega arith) (ap (λ v. Done (fetch_mem place at_entry v no_entry) 1)
       (difference_is place place 0 (omega arith) (omega (arith, place_small))))
       (next refl (omega arith) (entry_back true 0)
-      (next refl (omega (arith, slot_small)) (ap (λ v. Done (fetch_mem ob 0 v 0 cs) 1)
+      (next refl (omega (arith, slot_small)) (ap (λ v. Done (fetch_mem 0 v 0 cs) 1)
       (less_is at_entry (1 + slot) table refl (omega (arith, small, slot_small))))
-      (next refl (omega arith) (exchanges true 6 5 (fetch_mem ob 0 table 0 cs) inside)
-      (next refl (omega arith) (ap (λ v. Done (fetch_mem ob table v 0 no_table) 1)
+      (next refl (omega arith) (exchanges true 6 3 (fetch_mem 0 table 0 cs) inside)
+      (next refl (omega arith) (ap (λ v. Done (fetch_mem table v 0 no_table) 1)
       (difference_is table table 0 (omega arith) (omega (arith, small))))
-      (next refl (omega arith) (table_back true 0 0)
-      (next refl (omega arith) (ap (λ v. Done (fetch_mem v 0 0 0 cs) 1)
-      (difference_is ob ob 0 (omega arith) (omega (arith, object_small)))) here))))))))))))
+      (next refl (omega arith) (table_back true 0 0) here))))))))))
 
-  pub will_fetch : Will im (line (fetch_row slot)) false (fetch_mem 0 0 0 0 cs)
-      (λ o. o ≡ Done (fetch_mem 0 0 0 place cs) 13)
-  will_fetch = will_row im false (fetch_row slot) 13 _ _ fetches
+  pub will_fetch : Will im (line (fetch_row slot)) false (fetch_mem 0 0 0 cs)
+      (λ o. o ≡ Done (fetch_mem 0 0 place cs) 11)
+  will_fetch = will_row im false (fetch_row slot) 11 _ _ fetches
 
-  pub will_unfetch : Will im (line (fetch_row slot)) true (fetch_mem 0 0 0 place cs)
-      (λ o. o ≡ Done (fetch_mem 0 0 0 0 cs) 13)
-  will_unfetch = will_row im true fetch_back 13 _ _ unfetches
+  pub will_unfetch : Will im (line (fetch_row slot)) true (fetch_mem 0 0 place cs)
+      (λ o. o ≡ Done (fetch_mem 0 0 0 cs) 11)
+  will_unfetch = will_row im true fetch_back 11 _ _ unfetches
 
 -- ---- what a body puts by
 

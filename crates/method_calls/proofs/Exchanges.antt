@@ -5,7 +5,7 @@ use Rattle.std.proofs.lemmas.Bool.Decides.{nat_tests}
 use Rattle.pisa_isa.specs.Machine.{Memory}
 use Rattle.paired_code.specs.Pieces.{Outcome, Done, Bad}
 use Rattle.paired_code.specs.Laws.{outcome_of}
-use Rattle.method_calls.specs.CallCode.{exch}
+use Rattle.code_conventions.specs.Cells.{exch}
 
 by_cell : (b : Bool) (o : Outcome) (x : ℕ) → b ≡ true → (if b then o else Bad x 0) ≡ o
 by_cell true o x e = refl

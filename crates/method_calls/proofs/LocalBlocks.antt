@@ -24,14 +24,14 @@ use Rattle.roopl_semantics.specs.Execution.{exec, statement, opened, closed, wit
 use Rattle.roopl_semantics.specs.Execution.{element_call, element_name}
 use Rattle.refine_form.specs.Form.{World, Scope, Moved, Open, holding, Owes, StmtLaw, BlockLaw, ValueLaw, with_var}
 use Rattle.refine_form.specs.Form.{told, one, turned}
-use Rattle.method_calls.specs.CallCode.{exch, spot_row, local_open, local_code}
-use Rattle.refine_form.specs.declared.spot.Spot.TheVariants.{Frame}
+use Rattle.code_conventions.specs.Cells.{exch}
+use Rattle.method_calls.specs.CallCode.{word_row, local_open, local_code}
 use Rattle.method_calls.specs.Facts.{LocalFacts, new_word}
 use Rattle.refine_form.proofs.Told.{told_after, told_bind, same_then}
 use Rattle.refine_form.proofs.Rules.{meets_rate, meets_told, meets_less, meets_then, meets_later, Late, late}
 use Rattle.refine_form.proofs.Rules.{late_then, late_counts, as_known, will_in, will_two, will_two_back}
 use Rattle.refine_form.proofs.Rows.{here, next, will_row}
-use Rattle.method_calls.proofs.Addresses.{mk, will_find_spot, will_leave_spot}
+use Rattle.method_calls.proofs.Addresses.{mk, will_find_word, will_leave_word}
 use Rattle.paired_code.specs.Rows.{line}
 use Rattle.refine_form.specs.Cells.{around}
 use Rattle.method_calls.proofs.Exchanges.{exchanges}
@@ -39,23 +39,25 @@ use Rattle.method_calls.proofs.Exchanges.{exchanges}
 -- ---- a word changes places with a word of the frame
 
 module _ (im : Image) (ob fr j : ℕ) (cs : List ℕ) (inside : fr + j < length cs) (small : fr + j < 2 ^ 32) where
-  pub stores : (d : Bool) (x y : ℕ) → slice_index cs (fr + j) ≡ y
-      → Will im (around (line (spot_row (Frame j))) (line (exch 12 5 ∷ []))) d (mk 0 ob fr 0 0 0 0 x cs)
-      (λ o. o ≡ Done (mk 0 ob fr 0 0 0 0 y (slice_set cs (fr + j) x)) 5)
-  stores false x y e =
-      will_in im false (line (spot_row (Frame j))) (line (exch 12 5 ∷ [])) _ _ _ _ 2 1 2
-      (will_find_spot 0 ob fr 0 0 0 x cs im (Frame j) small)
-      (will_row im false (exch 12 5 ∷ []) 1 _ _ (next refl (omega arith)
+  swaps : (d : Bool) (x y : ℕ) → slice_index cs (fr + j) ≡ y
+      → Will im (line (exch 12 5 ∷ [])) d (mk 0 ob fr (fr + j) 0 0 0 x cs)
+      (λ o. o ≡ Done (mk 0 ob fr (fr + j) 0 0 0 y (slice_set cs (fr + j) x)) 1)
+  swaps false x y e =
+      will_row im false (exch 12 5 ∷ []) 1 _ _ (next refl (omega arith)
       (exchanges false 12 5 (mk 0 ob fr (fr + j) 0 0 0 x cs) inside
-      ∙ ap (λ v. Done (mk 0 ob fr (fr + j) 0 0 0 v (slice_set cs (fr + j) x)) 1) e) here))
-      (will_leave_spot 0 ob fr 0 0 0 y (slice_set cs (fr + j) x) im (Frame j) small)
-  stores true x y e =
-      will_in im true (line (spot_row (Frame j))) (line (exch 12 5 ∷ [])) _ _ _ _ 2 1 2
-      (will_find_spot 0 ob fr 0 0 0 x cs im (Frame j) small)
-      (will_row im true (exch 12 5 ∷ []) 1 _ _ (next refl (omega arith)
+      ∙ ap (λ v. Done (mk 0 ob fr (fr + j) 0 0 0 v (slice_set cs (fr + j) x)) 1) e) here)
+  swaps true x y e =
+      will_row im true (exch 12 5 ∷ []) 1 _ _ (next refl (omega arith)
       (exchanges true 12 5 (mk 0 ob fr (fr + j) 0 0 0 x cs) inside
-      ∙ ap (λ v. Done (mk 0 ob fr (fr + j) 0 0 0 v (slice_set cs (fr + j) x)) 1) e) here))
-      (will_leave_spot 0 ob fr 0 0 0 y (slice_set cs (fr + j) x) im (Frame j) small)
+      ∙ ap (λ v. Done (mk 0 ob fr (fr + j) 0 0 0 v (slice_set cs (fr + j) x)) 1) e) here)
+
+  pub stores : (d : Bool) (x y : ℕ) → slice_index cs (fr + j) ≡ y
+      → Will im (around (line (word_row j)) (line (exch 12 5 ∷ []))) d (mk 0 ob fr 0 0 0 0 x cs)
+      (λ o. o ≡ Done (mk 0 ob fr 0 0 0 0 y (slice_set cs (fr + j) x)) 5)
+  stores d x y e =
+      will_in im d (line (word_row j)) (line (exch 12 5 ∷ [])) _ _ _ _ 2 1 2
+      (will_find_word im ob fr x cs j small) (swaps d x y e)
+      (will_leave_word im ob fr y (slice_set cs (fr + j) x) j small)
 
 module _ (w : World) (IsInit : Scope → Var → Expression → Type 0) (f : LocalFacts w IsInit)
     (thousand : w.rates.steps ≡ 1000) (s : Scope) (u : w.Under) (var : Var) (e : Expression) (p : List Symbol)
@@ -70,7 +72,7 @@ module _ (w : World) (IsInit : Scope → Var → Expression → Type 0) (f : Loc
   j = new_word s
 
   abbrev store_code : List Symbol
-  store_code = around (line (spot_row (Frame j))) (line (exch 12 5 ∷ []))
+  store_code = around (line (word_row j)) (line (exch 12 5 ∷ []))
 
   near : (vals : List Moved) (s' : Scope) (st : State) (cs : List ℕ) → w.opens s' u vals st cs → fr + j < 2 ^ 32
   near vals s' st cs h = let a = f.frame_small s' u vals st cs h in let b = f.few_vars s var e is in omega arith

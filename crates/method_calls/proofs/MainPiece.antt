@@ -26,11 +26,12 @@ use Rattle.refine_form.proofs.Told.{alone}
 use Rattle.refine_form.proofs.Rules.{as_known, wraps, meets_told, meets_slack}
 use Rattle.refine_form.proofs.Rows.{here, next, will_row}
 use Rattle.refine_form.proofs.Blocks.{all_owe}
-use Rattle.method_calls.specs.CallCode.{add, addi, exch, main_row, main_code}
+use Rattle.code_conventions.specs.Cells.{add, exch, addi}
+use Rattle.method_calls.specs.CallCode.{main_row, main_code}
 use Rattle.method_calls.specs.Facts.{Known, FrameFacts, MainFacts}
 use Rattle.method_calls.proofs.Exchanges.{exchanges}
-use Rattle.method_calls.proofs.Addresses.{mk, difference_is}
-use Rattle.method_calls.proofs.Depth.{filled, emptied, sum_is}
+use Rattle.method_calls.proofs.Addresses.{mk, sum_is, difference_is}
+use Rattle.method_calls.proofs.Depth.{filled, emptied}
 
 module _ (im : Image) (fr : ℕ) (cs : List ℕ) (inside : 3 < length cs) (base : slice_index cs 3 ≡ fr)
     (small : fr < 2 ^ 23) where

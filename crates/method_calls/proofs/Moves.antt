@@ -7,28 +7,24 @@ use Rattle.std.proofs.Math.ListN.{length-set}
 use Rattle.rpp_tree.specs.declared.tree.Ident.{Ident}
 use Rattle.pisa_isa.specs.Machine.{Memory}
 use Rattle.paired_code.specs.Machine.{Image}
-use Rattle.paired_code.specs.Layout.{check_cells}
 use Rattle.paired_code.specs.Pieces.{Outcome, Done, Trapped, Will, after}
 use Rattle.paired_code.specs.Does.{Fault, Meets, fine, faults}
 use Rattle.paired_code.proofs.Laws.{Next, will_of, will_more, will_seq_back}
-use Rattle.paired_code.proofs.Small.{runs_check_zero, runs_check_other, runs_empty}
+use Rattle.paired_code.proofs.Small.{runs_empty}
 use Rattle.roopl_semantics.specs.Run.{◌>>=◌, fault_if}
 use Rattle.roopl_semantics.specs.Store.{Value, State, is_zero}
 use Rattle.roopl_semantics.specs.Value.{Cell, read, written}
 use Rattle.roopl_semantics.specs.Execution.{moved_back, touched_fault}
 use Rattle.refine_form.specs.Form.{World, Scope, Moved, pairs, registers, told}
-use Rattle.method_calls.specs.CallCode.{exch, spot_row, above_row, first_word, move_code, moves_code}
+use Rattle.method_calls.specs.CallCode.{first_word, take_code, put_code, move_code, moves_code}
 use Rattle.refine_form.specs.declared.spot.Spot.{Spot}
 use Rattle.refine_form.specs.declared.spot.Spot.TheVariants.{Field, Frame}
 use Rattle.method_calls.specs.Facts.{address, IsNear, MovesBack, Known, FrameFacts, out_from, vals_from}
 use Rattle.refine_form.proofs.Told.{told_after, plus_none}
-use Rattle.refine_form.proofs.Rules.{will_two, will_two_back, will_in, will_in_trap, meets_told, meets_slack}
+use Rattle.refine_form.proofs.Rules.{will_two, will_two_back, meets_told, meets_slack}
 use Rattle.refine_form.proofs.Rules.{meets_later}
-use Rattle.refine_form.proofs.Rows.{here, next, will_row}
-use Rattle.method_calls.proofs.Addresses.{mk, will_find_spot, will_leave_spot, will_find_above, will_leave_above}
-use Rattle.paired_code.specs.Rows.{line}
-use Rattle.refine_form.specs.Cells.{around}
-use Rattle.method_calls.proofs.Exchanges.{exchanges}
+use Rattle.method_calls.proofs.Addresses.{mk}
+use Rattle.method_calls.proofs.ReceiverParts.{takes, gives_back, finds_touched, puts}
 
 -- the memory between statements
 abbrev pub plain : (w : World) → w.Under → List ℕ → Memory
@@ -48,76 +44,49 @@ module _ (im : Image) (ob fr : ℕ) (sp : Spot) (j : ℕ) (cs : List ℕ) where
   up_cells = slice_set (slice_set cs at 0) up (slice_index cs at)
 
   pub moves_up : at < 2 ^ 32 → up < 2 ^ 32 → at < length cs → up < length cs → at ≢ up → slice_index cs up ≡ 0
-      → Will im (move_code sp j) false (mk 0 ob fr 0 0 0 0 0 cs) (λ o. o ≡ Done (mk 0 ob fr 0 0 0 0 0 up_cells) 14)
+      → Will im (move_code sp j) false (mk 0 ob fr 0 0 0 0 0 cs) (λ o. o ≡ Done (mk 0 ob fr 0 0 0 0 0 up_cells) 10)
+  unfolding move_code
   moves_up ha hu la lu ne z =
       let cs1 = slice_set cs at 0 in
       let e : slice_index cs1 up ≡ 0 = get_or-set_other cs at up 0 0 (λ q. ne (sym q)) ∙ z in
       let l1 : up < length cs1 = omega (arith, length-set cs at 0) in
-      let mid : Will im (check_cells 8 15 ++ line (exch 8 5 ∷ exch 8 6 ∷ [])) false (mk 0 ob fr at up 0 0 0 cs)
-      (λ o. o ≡ Done (mk 0 ob fr at up 0 0 0 up_cells) 6) =
-      will_two im (check_cells 8 15) _ _ _ 4 _ (will_of im _ false _ _ _
-      (runs_check_zero im false 8 15 (mk 0 ob fr at up 0 0 0 cs) refl) refl)
-      (will_more im _ false _ _ _ (λ o q. ap (after 4) q) (will_row im false (exch 8 5 ∷ exch 8 6 ∷ []) 2
-      (mk 0 ob fr at up 0 0 0 cs) (mk 0 ob fr at up 0 0 0 up_cells)
-      (next refl (omega arith) (exchanges false 8 5 (mk 0 ob fr at up 0 0 0 cs) la)
-      (next refl (omega arith) (exchanges false 8 6 (mk 0 ob fr at up (slice_index cs at) 0 0 cs1) l1
-      ∙ ap (λ v. Done (mk 0 ob fr at up v 0 0 up_cells) 1) e) here)))) in
-      will_in im false (line (spot_row sp)) (around (line (above_row (first_word + j)))
-      (check_cells 8 15 ++ line (exch 8 5 ∷ exch 8 6 ∷ []))) _ _ _ _ 2 10 2
-      (will_find_spot 0 ob fr 0 0 0 0 cs im sp ha)
-      (will_in im false (line (above_row (first_word + j))) (check_cells 8 15 ++ line (exch 8 5 ∷ exch 8 6 ∷ [])) _ _ _
-      _ 2 6 2 (will_find_above 0 ob fr at 0 0 0 cs im (first_word + j) hu) mid
-      (will_leave_above 0 ob fr at 0 0 0 up_cells im (first_word + j) hu))
-      (will_leave_spot 0 ob fr 0 0 0 0 up_cells im sp ha)
+      will_two im (take_code sp) (put_code (first_word + j)) _ (mk 0 ob fr 0 0 (slice_index cs at) 0 0 cs1) 7 _
+      (takes im ob fr sp cs la ha)
+      (will_more im _ false _ _ _ (λ o q. ap (after 7) q)
+      (puts im ob fr (first_word + j) cs1 l1 hu false (slice_index cs at) 0 e))
 
   -- back
   abbrev back_cells : List ℕ
   back_cells = slice_set (slice_set cs up 0) at (slice_index cs up)
 
-  two_back : at < length cs → up < length cs → at ≢ up → Will im (line (exch 8 5 ∷ exch 8 6 ∷ [])) true
-      (mk 0 ob fr at up 0 0 0 cs) (λ o. o ≡ Done (mk 0 ob fr at up (slice_index cs at) 0 0 back_cells) 2)
-  two_back la lu ne =
+  abbrev lowered : Memory
+  lowered = mk 0 ob fr 0 0 (slice_index cs up) 0 0 (slice_set cs up 0)
+
+  lowers : up < 2 ^ 32 → up < length cs
+      → Will im (put_code (first_word + j)) true (mk 0 ob fr 0 0 0 0 0 cs) (λ o. o ≡ Done lowered 3)
+  lowers hu lu = puts im ob fr (first_word + j) cs lu hu true 0 (slice_index cs up) refl
+
+  pub moves_down : at < 2 ^ 32 → up < 2 ^ 32 → at < length cs → up < length cs → at ≢ up → slice_index cs at ≡ 0
+      → Will im (move_code sp j) true (mk 0 ob fr 0 0 0 0 0 cs) (λ o. o ≡ Done (mk 0 ob fr 0 0 0 0 0 back_cells) 10)
+  unfolding move_code
+  moves_down ha hu la lu ne z =
       let cs1 = slice_set cs up 0 in
       let e : slice_index cs1 at ≡ slice_index cs at = get_or-set_other cs up at 0 0 ne in
       let l1 : at < length cs1 = omega (arith, length-set cs up 0) in
-      will_row im true (exch 8 6 ∷ exch 8 5 ∷ []) 2 (mk 0 ob fr at up 0 0 0 cs)
-      (mk 0 ob fr at up (slice_index cs at) 0 0 back_cells)
-      (next refl (omega arith) (exchanges true 8 6 (mk 0 ob fr at up 0 0 0 cs) lu)
-      (next refl (omega arith) (exchanges true 8 5 (mk 0 ob fr at up (slice_index cs up) 0 0 cs1) l1
-      ∙ ap (λ v. Done (mk 0 ob fr at up v 0 0 back_cells) 1) e) here))
-
-  pub moves_down : at < 2 ^ 32 → up < 2 ^ 32 → at < length cs → up < length cs → at ≢ up → slice_index cs at ≡ 0
-      → Will im (move_code sp j) true (mk 0 ob fr 0 0 0 0 0 cs) (λ o. o ≡ Done (mk 0 ob fr 0 0 0 0 0 back_cells) 14)
-  moves_down ha hu la lu ne z =
-      let mid : Will im (check_cells 8 15 ++ line (exch 8 5 ∷ exch 8 6 ∷ [])) true (mk 0 ob fr at up 0 0 0 cs)
-      (λ o. o ≡ Done (mk 0 ob fr at up 0 0 0 back_cells) 6) =
-      will_two_back im (check_cells 8 15) (line (exch 8 5 ∷ exch 8 6 ∷ [])) _ (mk 0 ob fr at up 0 0 0 back_cells) 2 _
-      (will_more im _ true _ _ _ (λ o q. q ∙ ap (λ v. Done (mk 0 ob fr at up v 0 0 back_cells) 2) z)
-      (two_back la lu ne))
-      (will_of im _ true _ _ _ (runs_check_zero im true 8 15 (mk 0 ob fr at up 0 0 0 back_cells) refl) refl) in
-      will_in im true (line (spot_row sp)) (around (line (above_row (first_word + j)))
-      (check_cells 8 15 ++ line (exch 8 5 ∷ exch 8 6 ∷ []))) _ _ _ _ 2 10 2
-      (will_find_spot 0 ob fr 0 0 0 0 cs im sp ha)
-      (will_in im true (line (above_row (first_word + j))) (check_cells 8 15 ++ line (exch 8 5 ∷ exch 8 6 ∷ [])) _ _ _ _
-      2 6 2 (will_find_above 0 ob fr at 0 0 0 cs im (first_word + j) hu) mid
-      (will_leave_above 0 ob fr at 0 0 0 back_cells im (first_word + j) hu))
-      (will_leave_spot 0 ob fr 0 0 0 0 back_cells im sp ha)
+      will_two_back im (take_code sp) (put_code (first_word + j)) _ lowered 3 _ (lowers hu lu)
+      (will_more im _ true _ _ _ (λ o q. ap (after 3) q)
+      (gives_back im ob fr sp cs1 l1 ha (slice_index cs up) (e ∙ z)))
 
   pub traps_down : at < 2 ^ 32 → up < 2 ^ 32 → at < length cs → up < length cs → at ≢ up → slice_index cs at ≢ 0
-      → Will im (move_code sp j) true (mk 0 ob fr 0 0 0 0 0 cs) (λ o. (k : ℕ) × (k ≤ 14) × (o ≡ Trapped 15 k))
+      → Will im (move_code sp j) true (mk 0 ob fr 0 0 0 0 0 cs) (λ o. (k : ℕ) × (k ≤ 10) × (o ≡ Trapped 15 k))
+  unfolding move_code
   traps_down ha hu la lu ne nz =
-      let after_two = mk 0 ob fr at up (slice_index cs at) 0 0 back_cells in
-      let c = runs_check_other im true 8 15 after_two nz in
-      let mid : Will im (check_cells 8 15 ++ line (exch 8 5 ∷ exch 8 6 ∷ [])) true (mk 0 ob fr at up 0 0 0 cs)
-      (λ o. (k : ℕ) × (k ≤ 6) × (o ≡ Trapped 15 k)) =
-      will_two_back im (check_cells 8 15) (line (exch 8 5 ∷ exch 8 6 ∷ [])) _ after_two 2 _ (two_back la lu ne)
-      (will_of im _ true _ _ _ c.2 (2 + c.0, (let h = c.1 in omega arith), refl)) in
-      will_more im _ true _ _ _ (λ o t. (t.0, (let h = t.1 in omega arith), t.2))
-      (will_in_trap im true (line (spot_row sp)) (around (line (above_row (first_word + j)))
-      (check_cells 8 15 ++ line (exch 8 5 ∷ exch 8 6 ∷ []))) _ _ 2 15 8
-      (will_find_spot 0 ob fr 0 0 0 0 cs im sp ha)
-      (will_in_trap im true (line (above_row (first_word + j))) (check_cells 8 15 ++ line (exch 8 5 ∷ exch 8 6 ∷ [])) _
-      _ 2 15 6 (will_find_above 0 ob fr at 0 0 0 cs im (first_word + j) hu) mid))
+      let cs1 = slice_set cs up 0 in
+      let e : slice_index cs1 at ≡ slice_index cs at = get_or-set_other cs up at 0 0 ne in
+      let l1 : at < length cs1 = omega (arith, length-set cs up 0) in
+      will_two_back im (take_code sp) (put_code (first_word + j)) _ lowered 3 _ (lowers hu lu)
+      (will_more im _ true _ _ _ (λ o t. (3 + t.0, (let h = t.1 in omega arith), ap (after 3) t.2))
+      (finds_touched im ob fr sp cs1 l1 ha (slice_index cs up) (λ q. nz (sym e ∙ q))))
 
 -- ---- all values
 
@@ -153,7 +122,7 @@ module _ (w : World) (knows : Known w) (f : FrameFacts w knows) (s : Scope) (u :
     pub cells : List ℕ
     pub up : w.opens s u (pairs names (vals_from (cells_of names) st)) (out_from (cells_of names) st) cells
     pub goes : Will w.im (moves_code (knows.spot s) names) false (plain w u cs)
-        (λ o. o ≡ Done (plain w u cells) (14 * length names))
+        (λ o. o ≡ Done (plain w u cells) (10 * length names))
 
   pub all_up : (names : List Ident) → AllVariables names → length names ≤ 32 → full ≡ false → (st : State) (cs : List ℕ)
       → w.opens s u [] st cs → AllUp names st cs
@@ -178,18 +147,18 @@ module _ (w : World) (knows : Known w) (f : FrameFacts w knows) (s : Scope) (u :
           let at = address (w.object_of u) (w.frame_of u) sp in
           let up = w.frame_of u + (512 + (first_word + length vals)) in
           let cs2 = slice_set (slice_set before.cells at 0) up (slice_index before.cells at) in
-          let z : 14 * length names + 14 ≡ 14 * suc (length names) = omega arith in
+          let z : 10 * length names + 10 ≡ 10 * suc (length names) = omega arith in
           let step : Will w.im (move_code sp (length names)) false (plain w u before.cells)
-          (λ o. o ≡ Done (plain w u cs2) 14) =
-          subst (λ k. Will w.im (move_code sp k) false (plain w u before.cells) (λ o. o ≡ Done (plain w u cs2) 14)) n
+          (λ o. o ≡ Done (plain w u cs2) 10) =
+          subst (λ k. Will w.im (move_code sp k) false (plain w u before.cells) (λ o. o ≡ Done (plain w u cs2) 10)) n
           (moves_up w.im (w.object_of u) (w.frame_of u) sp (length vals) before.cells
           (spot_in sp (f.near s name is) os fs) (omega (arith, fs, n)) m.at_in m.up_in m.apart m.empty) in
           record {
             cells = cs2;
             up = m.moved;
             goes = will_two w.im (moves_code (knows.spot s) names) (move_code sp (length names)) (plain w u cs)
-                (plain w u before.cells) (14 * length names) _ before.goes
-                (will_more w.im _ false _ _ _ (λ o q. ap (after (14 * length names)) q ∙ ap (Done (plain w u cs2)) z)
+                (plain w u before.cells) (10 * length names) _ before.goes
+                (will_more w.im _ false _ _ _ (λ o q. ap (after (10 * length names)) q ∙ ap (Done (plain w u cs2)) z)
                 step);
           }
 
@@ -225,11 +194,11 @@ module _ (w : World) (knows : Known w) (f : FrameFacts w knows) (s : Scope) (u :
         omega (arith, q, same, l)
 
     abbrev Q : Outcome → Type 0
-    Q o = Meets Back w.rates n (14 * suc (length names)) (told (moved_back (c ∷ cells_of names) (v ∷ vals) st)) o
+    Q o = Meets Back w.rates n (10 * suc (length names)) (told (moved_back (c ∷ cells_of names) (v ∷ vals) st)) o
 
     back_step : ((cs' : List ℕ) → w.opens s u (pairs names vals) (written st c v) cs'
         → Will w.im (moves_code (knows.spot s) names) true (plain w u cs')
-        (Meets Back w.rates n (14 * length names) (told (moved_back (cells_of names) vals (written st c v)))))
+        (Meets Back w.rates n (10 * length names) (told (moved_back (cells_of names) vals (written st c v)))))
         → (z : Bool) → is_zero (read st c) ≡ z → Will w.im (moves_code (knows.spot s) names
         ++ move_code (knows.spot s name) (length names)) true (plain w u cs) Q
     back_step rest true z =
@@ -239,21 +208,21 @@ module _ (w : World) (knows : Known w) (f : FrameFacts w knows) (s : Scope) (u :
         ∙ told_after 0 (moved_back (cells_of names) vals (written st c v))
         ∙ plus_none (told (moved_back (cells_of names) vals (written st c v))) in
         let first : Will w.im (move_code (knows.spot s name) (length names)) true (plain w u cs)
-        (λ o. o ≡ Done (plain w u cs2) 14) =
-        subst (λ k. Will w.im (move_code (knows.spot s name) k) true (plain w u cs) (λ o. o ≡ Done (plain w u cs2) 14))
+        (λ o. o ≡ Done (plain w u cs2) 10) =
+        subst (λ k. Will w.im (move_code (knows.spot s name) k) true (plain w u cs) (λ o. o ≡ Done (plain w u cs2) 10))
         same
         (moves_down w.im (w.object_of u) (w.frame_of u) (knows.spot s name) (length (pairs names vals)) cs near high
         m.at_in m.up_in m.apart (m.untouched z)) in
         will_two_back w.im (moves_code (knows.spot s) names) (move_code (knows.spot s name) (length names))
-        (plain w u cs) (plain w u cs2) 14 Q first
+        (plain w u cs) (plain w u cs2) 10 Q first
         (will_more w.im _ true _ _ _ (λ o q. meets_told _ _ (sym said)
-        (meets_slack (14 * suc (length names)) (omega arith) (meets_later 14 q))) (rest cs2 (m.back z)))
+        (meets_slack (10 * suc (length names)) (omega arith) (meets_later 10 q))) (rest cs2 (m.back z)))
     back_step rest false z =
         let said : told (moved_back (c ∷ cells_of names) (v ∷ vals) st) ≡ Fault 15 0 =
         ap (λ b. told (fault_if touched_fault (not b) >>= λ t. moved_back (cells_of names) vals (written st c v))) z
         in
         let first = subst (λ k. Will w.im (move_code (knows.spot s name) k) true (plain w u cs)
-        (λ o. (k : ℕ) × (k ≤ 14) × (o ≡ Trapped 15 k))) same
+        (λ o. (k : ℕ) × (k ≤ 10) × (o ≡ Trapped 15 k))) same
         (traps_down w.im (w.object_of u) (w.frame_of u) (knows.spot s name) (length (pairs names vals)) cs near high
         m.at_in m.up_in m.apart (m.touched z)) in
         will_seq_back w.im (moves_code (knows.spot s) names) (move_code (knows.spot s name) (length names)) _ Q
@@ -263,7 +232,7 @@ module _ (w : World) (knows : Known w) (f : FrameFacts w knows) (s : Scope) (u :
   pub all_back : (n : ℕ) (names : List Ident) → AllVariables names → (vals : List Value) (st : State) (cs : List ℕ)
       → length vals ≡ length names → length names ≤ 32 → w.opens s u (pairs names vals) st cs
       → Will w.im (moves_code (knows.spot s) names) true (plain w u cs)
-      (Meets Back w.rates n (14 * length names) (told (moved_back (cells_of names) vals st)))
+      (Meets Back w.rates n (10 * length names) (told (moved_back (cells_of names) vals st)))
   all_back n [] all [] st cs e l h = will_of w.im [] true _ _ _ (runs_empty w.im true (plain w u cs))
       (fine (record { regs_are = refl; open_frame = h }) (omega arith) (omega arith))
   all_back n [] all (v ∷ vals) st cs e l h = absurd (omega (arith, e))

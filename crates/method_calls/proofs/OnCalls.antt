@@ -20,7 +20,8 @@ use Rattle.roopl_semantics.specs.Value.{Cell, read, written, cell_named, own_cla
 use Rattle.roopl_semantics.specs.Execution.{Setting, exec, in_direction, invoked, moved_out, moved_back, bound}
 use Rattle.roopl_semantics.specs.Execution.{cells_named, class_of, is_too_deep, too_deep_fault, touched_fault}
 use Rattle.refine_form.specs.Form.{World, Scope, pairs, Open, Owes, StmtLaw, registers, told, one, turned}
-use Rattle.method_calls.specs.CallCode.{addi, depth_code, moves_code, fetch_row, nil_code, take_code, onto_code}
+use Rattle.code_conventions.specs.Cells.{addi}
+use Rattle.method_calls.specs.CallCode.{depth_code, moves_code, fetch_row, nil_code, take_code, onto_code}
 use Rattle.method_calls.specs.CallCode.{front_on_code, call_on_code}
 use Rattle.method_calls.specs.Facts.{Known, FrameFacts, Receivers, ReceiverFacts, HasPlace, GoesOn, ComesBack, address}
 use Rattle.method_calls.specs.Facts.{out_from, vals_from}
@@ -280,27 +281,27 @@ module _ (w : World) (knows : Known w) (f : FrameFacts w knows) (on : Receivers 
 
     fetched : (cs2 : List ℕ) → HasPlace cs2 (w.object_of deep) slot place
         → Will w.im (line (fetch_row slot)) false (mk 0 (w.object_of deep) (fr + 512) 0 0 0 0 0 cs2)
-        (λ o. o ≡ Done (mk 0 (w.object_of deep) (fr + 512) 0 0 0 0 place cs2) 13)
+        (λ o. o ≡ Done (mk 0 (w.object_of deep) (fr + 512) 0 0 0 0 place cs2) 11)
     fetched cs2 p = will_fetch w.im (w.object_of deep) (fr + 512) slot place cs2 p.object_in p.small
-        (g.slot_small s x name args is) p.entry_in p.entry place_small rw_small
+        (g.slot_small s x name args is) p.entry_in p.entry place_small
 
     unfetched : (cs2 : List ℕ) → HasPlace cs2 (w.object_of deep) slot place
         → Will w.im (line (fetch_row slot)) true (mk 0 (w.object_of deep) (fr + 512) 0 0 0 0 place cs2)
-        (λ o. o ≡ Done (mk 0 (w.object_of deep) (fr + 512) 0 0 0 0 0 cs2) 13)
+        (λ o. o ≡ Done (mk 0 (w.object_of deep) (fr + 512) 0 0 0 0 0 cs2) 11)
     unfetched cs2 p = will_unfetch w.im (w.object_of deep) (fr + 512) slot place cs2 p.object_in p.small
-        (g.slot_small s x name args is) p.entry_in p.entry place_small rw_small
+        (g.slot_small s x name args is) p.entry_in p.entry place_small
 
     front_in : Will w.im (front_on_code (knows.spot s) x slot args) false (mk 0 ob fr 0 0 0 0 0 cs)
         (λ o. o ≡ Done (mk 0 (w.object_of deep) (fr + 512) 0 0 0 0 place in_cells)
-        (22 + (22 + (14 * length args + (9 + (7 + 14))))))
+        (10 + (12 + (10 * length args + (7 + (5 + 12))))))
     front_in =
         let e = f.has_end s u st cs h in
         let cs1 = moved.cells in
         let gone = slice_set cs1 at 0 in
         let word = w.object_of deep in
         let take : Will w.im (take_code sp) false (mk 0 ob fr 0 0 0 0 0 cs1)
-        (λ o. o ≡ Done (mk 0 ob fr 0 0 word 0 0 gone) 9) =
-        will_more w.im _ false _ _ _ (λ o q. q ∙ ap (λ v. Done (mk 0 ob fr 0 0 v 0 0 gone) 9) goes.word_is)
+        (λ o. o ≡ Done (mk 0 ob fr 0 0 word 0 0 gone) 7) =
+        will_more w.im _ false _ _ _ (λ o q. q ∙ ap (λ v. Done (mk 0 ob fr 0 0 v 0 0 gone) 7) goes.word_is)
         (takes w.im ob fr sp cs1 goes.at_in low) in
         let empty : slice_index gone up ≡ 0 = get_or-set_other cs1 at up 0 0 (λ q. goes.apart (sym q)) ∙ goes.empty in
         let onto = turns_to w.im ob fr word gone (let l = goes.up_in in omega (arith, length-set cs1 at 0))
@@ -311,16 +312,16 @@ module _ (w : World) (knows : Known w) (f : FrameFacts w knows) (on : Receivers 
         (ap (λ v. Done (mk 0 word v 0 0 0 0 0 in_cells) 1)
         (let z : package.Rattle.rpp_words.specs.Words.sum_of fr 512
         ≡ fr + 512 = (let t = frame_small in omega arith) in z)) here) in
-        will_two w.im (nil_code sp) _ _ _ 22 _ (nil_passes w.im ob fr sp cs (g.at_in s u st cs x name args h is) low
+        will_two w.im (nil_code sp) _ _ _ 10 _ (nil_passes w.im ob fr sp cs (g.at_in s u st cs x name args h is) low
         (g.word_small s u st cs x name args h is) false (g.name_word s u st cs x name args h is there))
-        (will_two w.im depth_code _ _ _ 22 _ (depth_passes w.im ob fr cs e.cell_in e.small (end_fits st cs h false room)
+        (will_two w.im depth_code _ _ _ 12 _ (depth_passes w.im ob fr cs e.cell_in e.small (end_fits st cs h false room)
         false (e.room room))
-        (will_two w.im (moves_code (knows.spot s) args) _ _ _ (14 * length args) _ moved.goes
-        (will_two w.im (take_code sp) _ _ _ 9 _ take
-        (will_two w.im onto_code _ _ _ 7 _ onto
+        (will_two w.im (moves_code (knows.spot s) args) _ _ _ (10 * length args) _ moved.goes
+        (will_two w.im (take_code sp) _ _ _ 7 _ take
+        (will_two w.im onto_code _ _ _ 5 _ onto
         (will_two w.im (line (addi 4 512 ∷ [])) (line (fetch_row slot)) _ _ 1 _ raise
         (will_more w.im (line (fetch_row slot)) false _ _ _
-        (λ o q. ap (λ o. after 22 (after 22 (after (14 * length args) (after 9 (after 7 (after 1 o)))))) q)
+        (λ o q. ap (λ o. after 10 (after 12 (after (10 * length args) (after 7 (after 5 (after 1 o)))))) q)
         (fetched in_cells has_place)))))))
 
     -- what the source says when the body has ended
@@ -361,7 +362,7 @@ module _ (w : World) (knows : Known w) (f : FrameFacts w knows) (on : Receivers 
 
       -- the place, the frame and OBJECT
       lowered : Will w.im (onto_code ++ last_row) true m0 (λ q. q
-          ≡ Done (mk 0 ob fr 0 0 (w.object_of deep) 0 0 (out_cells cs2)) 21)
+          ≡ Done (mk 0 ob fr 0 0 (w.object_of deep) 0 0 (out_cells cs2)) 17)
       lowered =
           let word = w.object_of deep in
           let p = g.place_on s u caller end cs2 x name args n_of o is suits in
@@ -370,16 +371,16 @@ module _ (w : World) (knows : Known w) (f : FrameFacts w knows) (on : Receivers 
           will_row w.im true (addi 4 512 ∷ []) 1 _ _ (next refl (omega arith)
           (ap (λ v. Done (mk 0 word v 0 0 0 0 0 cs2) 1) (less_is (fr + 512) 512 fr refl
           (let t = frame_small in omega arith))) here) in
-          let both : Will w.im last_row true m0 (λ q. q ≡ Done (mk 0 word fr 0 0 0 0 0 cs2) 14) =
-          will_two_back w.im (line (addi 4 512 ∷ [])) (line (fetch_row slot)) _ _ 13 _ (unfetched cs2 p)
-          (will_more w.im _ true _ _ _ (λ o q. ap (after 13) q) down) in
-          will_two_back w.im onto_code last_row m0 (mk 0 word fr 0 0 0 0 0 cs2) 14 _ both
-          (will_more w.im _ true _ _ _ (λ o q. ap (after 14) q)
+          let both : Will w.im last_row true m0 (λ q. q ≡ Done (mk 0 word fr 0 0 0 0 0 cs2) 12) =
+          will_two_back w.im (line (addi 4 512 ∷ [])) (line (fetch_row slot)) _ _ 11 _ (unfetched cs2 p)
+          (will_more w.im _ true _ _ _ (λ o q. ap (after 11) q) down) in
+          will_two_back w.im onto_code last_row m0 (mk 0 word fr 0 0 0 0 0 cs2) 12 _ both
+          (will_more w.im _ true _ _ _ (λ o q. ap (after 12) q)
           (turns_from w.im ob fr word cs2 comes.up_in (let t = object_small in omega arith) frame_small
           (let t = rw_small in omega arith) comes.saved))
 
       abbrev Moved : Outcome → Type 0
-      Moved q = Meets Home w.rates n (30 + 14 * length args) (moves_home end) q
+      Moved q = Meets Home w.rates n (24 + 10 * length args) (moves_home end) q
 
       arguments : (b : Bool) → is_zero (read (home end) c) ≡ b
           → Will w.im (moves_code (knows.spot s) args ++ (take_code sp ++ (onto_code ++ last_row))) true m0 Moved
@@ -393,17 +394,17 @@ module _ (w : World) (knows : Known w) (f : FrameFacts w knows) (on : Receivers 
           ∙ told_after 0 (moved_back cells (values end) home1)
           ∙ plus_none (told (moved_back cells (values end) home1)) in
           let taken : Will w.im (take_code sp ++ (onto_code ++ last_row)) true m0
-          (λ q. q ≡ Done (mk 0 ob fr 0 0 0 0 0 cs3) 30) =
-          will_two_back w.im (take_code sp) (onto_code ++ last_row) m0 (mk 0 ob fr 0 0 word 0 0 (out_cells cs2)) 21 _
+          (λ q. q ≡ Done (mk 0 ob fr 0 0 0 0 0 cs3) 24) =
+          will_two_back w.im (take_code sp) (onto_code ++ last_row) m0 (mk 0 ob fr 0 0 word 0 0 (out_cells cs2)) 17 _
           lowered
-          (will_more w.im _ true _ _ _ (λ o q. ap (after 21) q)
+          (will_more w.im _ true _ _ _ (λ o q. ap (after 17) q)
           (gives_back w.im ob fr sp (out_cells cs2) still_in low word (same_word ∙ comes.untouched z))) in
           let many = g.as_many_on s u caller end cs2 x name args n_of o is suits in
           let there_again = g.is_there s u (pairs args (values end)) (home end) (Name n_of) cs3 x name args opens1 is in
           will_two_back w.im (moves_code (knows.spot s) args) (take_code sp ++ (onto_code ++ last_row)) m0
-          (mk 0 ob fr 0 0 0 0 0 cs3) 30 Moved taken
+          (mk 0 ob fr 0 0 0 0 0 cs3) 24 Moved taken
           (will_more w.im _ true _ _ _ (λ o q. meets_told _ _ (sym said)
-          (meets_later 30 (meets_as (λ a m k e i. record
+          (meets_later 24 (meets_as (λ a m k e i. record
           { opened_again = i; receiver = stays cells (values end) home1 a k c not_arg e ∙ there_again })
           q)))
           (all_back w knows f s u n args vars (values end) home1 cs3 many few opens1))
@@ -415,10 +416,10 @@ module _ (w : World) (knows : Known w) (f : FrameFacts w knows) (on : Receivers 
           let found = finds_touched w.im ob fr sp (out_cells cs2) still_in low word
           (λ e. comes.touched z (sym same_word ∙ e)) in
           let taken : Will w.im (take_code sp ++ (onto_code ++ last_row)) true m0
-          (λ q. (k : ℕ) × (k ≤ 30) × (q ≡ Trapped 15 k)) =
-          will_two_back w.im (take_code sp) (onto_code ++ last_row) m0 (mk 0 ob fr 0 0 word 0 0 (out_cells cs2)) 21 _
+          (λ q. (k : ℕ) × (k ≤ 24) × (q ≡ Trapped 15 k)) =
+          will_two_back w.im (take_code sp) (onto_code ++ last_row) m0 (mk 0 ob fr 0 0 word 0 0 (out_cells cs2)) 17 _
           lowered
-          (will_more w.im _ true _ _ _ (λ o t. (21 + t.0, (let l = t.1 in omega arith), ap (after 21) t.2)) found) in
+          (will_more w.im _ true _ _ _ (λ o t. (17 + t.0, (let l = t.1 in omega arith), ap (after 17) t.2)) found) in
           let W : Memory → ℕ → Type 0 = λ m1 k. Will w.im (moves_code (knows.spot s) args) true m1
           (λ o. Moved (after k o)) in
           will_seq_back w.im (moves_code (knows.spot s) args) (take_code sp ++ (onto_code ++ last_row)) m0 Moved
@@ -426,19 +427,19 @@ module _ (w : World) (knows : Known w) (f : FrameFacts w knows) (on : Receivers 
           (meets_told (Fault 15 0) _ (sym said) (faults (let l = t.1 in omega arith)))) taken)
 
       front_back : Will w.im (front_on_code (knows.spot s) x slot args) true m0
-          (Meets (Open w s u) w.rates n (30 + 14 * length args + 22 + 22) (moves_home end))
+          (Meets (Open w s u) w.rates n (24 + 10 * length args + 12 + 10) (moves_home end))
       front_back =
           let rest1 = moves_code (knows.spot s) args ++ (take_code sp ++ (onto_code ++ last_row)) in
-          let inner = then_quiet w.im true Home Home w.rates n 22 (30 + 14 * length args) rest1 depth_code m0
+          let inner = then_quiet w.im true Home Home w.rates n 12 (24 + 10 * length args) rest1 depth_code m0
           (moves_home end) (arguments (is_zero (read (home end) c)) refl) (λ a m i. deep_ok a m i) in
-          then_quiet w.im true Home (Open w s u) w.rates n 22 (30 + 14 * length args + 22) (depth_code ++ rest1)
+          then_quiet w.im true Home (Open w s u) w.rates n 10 (24 + 10 * length args + 12) (depth_code ++ rest1)
           (nil_code sp) m0 (moves_home end) inner (λ a m i. nil_ok a m i)
         where
-          deep_ok : (a : State) (m : Memory) → Home a m → Will w.im depth_code true m (Quiet (Home a) 22)
+          deep_ok : (a : State) (m : Memory) → Home a m → Will w.im depth_code true m (Quiet (Home a) 12)
           deep_ok a m i =
               let e = f.has_end s u a m.cells i.opened_again.open_frame in
-              subst (λ z. Will w.im depth_code true z (Quiet (Home a) 22)) (sym (as_known m _ i.opened_again.regs_are))
-              (will_more w.im depth_code true _ _ _ (λ o q. subst (Quiet (Home a) 22) (sym q)
+              subst (λ z. Will w.im depth_code true z (Quiet (Home a) 12)) (sym (as_known m _ i.opened_again.regs_are))
+              (will_more w.im depth_code true _ _ _ (λ o q. subst (Quiet (Home a) 12) (sym q)
               (quiet (record {
                 opened_again = record {
                   regs_are = refl;
@@ -449,13 +450,13 @@ module _ (w : World) (knows : Known w) (f : FrameFacts w knows) (on : Receivers 
               (depth_passes w.im ob fr m.cells e.cell_in e.small
               (end_fits a m.cells i.opened_again.open_frame false room) true (e.room room)))
 
-          nil_ok : (a : State) (m : Memory) → Home a m → Will w.im (nil_code sp) true m (Quiet (Open w s u a) 22)
+          nil_ok : (a : State) (m : Memory) → Home a m → Will w.im (nil_code sp) true m (Quiet (Open w s u a) 10)
           nil_ok a m i =
               let oa = i.opened_again.open_frame in
               let pos = g.name_word s u a m.cells x name args oa is (ap is_nil i.receiver) in
-              subst (λ z. Will w.im (nil_code sp) true z (Quiet (Open w s u a) 22))
+              subst (λ z. Will w.im (nil_code sp) true z (Quiet (Open w s u a) 10))
               (sym (as_known m _ i.opened_again.regs_are))
-              (will_more w.im (nil_code sp) true _ _ _ (λ o q. subst (Quiet (Open w s u a) 22) (sym q)
+              (will_more w.im (nil_code sp) true _ _ _ (λ o q. subst (Quiet (Open w s u a) 10) (sym q)
               (quiet (record { regs_are = refl; open_frame = oa }) (omega arith)))
               (nil_passes w.im ob fr sp m.cells (g.at_in s u a m.cells x name args oa is) low
               (g.word_small s u a m.cells x name args oa is) true pos))
@@ -474,16 +475,16 @@ module _ (w : World) (knows : Known w) (f : FrameFacts w knows) (on : Receivers 
         subst (λ y. Will w.im (enter_at_cells 12 kind) d (mk 0 (w.object_of deep) y 0 0 0 0 place in_cells)
         (Meets (InCall w (w.routines.scope r) deep place) w.rates n 55 t)) nf body in
         wraps_spent w.im d (front_on_code (knows.spot s) x slot args) (enter_at_cells 12 kind) _ _
-        (InCall w (w.routines.scope r) deep place) (Open w s u) w.rates n 55 (30 + 14 * length args + 22 + 22)
-        (22 + (22 + (14 * length args + (9 + (7 + 14))))) (1 + length args) 0 t moves_home
+        (InCall w (w.routines.scope r) deep place) (Open w s u) w.rates n 55 (24 + 10 * length args + 12 + 10)
+        (10 + (12 + (10 * length args + (7 + (5 + 12))))) (1 + length args) 0 t moves_home
         f.counts (omega arith) (enough w.rates.steps (length args) f.thousand few) front_in mid (λ a m2 k e i.
         let known = as_known m2 _ (i.regs_are ∙ ap (λ y. registers 0 (w.object_of deep) y 0 0 0 0 place) nf) in
         subst (λ z. Will w.im (front_on_code (knows.spot s) x slot args) true z
-        (Meets (Open w s u) w.rates (n - k) (30 + 14 * length args + 22 + 22) (moves_home a))) (sym known)
+        (Meets (Open w s u) w.rates (n - k) (24 + 10 * length args + 12 + 10) (moves_home a))) (sym known)
         (front_back (n - k) a m2.cells i.open_frame))
       where
-        enough : (steps k : ℕ) → steps ≡ 1000 → k ≤ 32 → 22 + (22 + (14 * k + (9 + (7 + 14)))) +
-            (55 + (30 + 14 * k + 22 + 22)) ≤ steps * (1 + k) + 0
+        enough : (steps k : ℕ) → steps ≡ 1000 → k ≤ 32 → 10 + (12 + (10 * k + (7 + (5 + 12)))) +
+            (55 + (24 + 10 * k + 12 + 10)) ≤ steps * (1 + k) + 0
         enough steps k e few = let z : steps * (1 + k) ≡ 1000 * (1 + k) = ap (λ y. y * (1 + k)) e in omega (arith, z)
 
   -- a trap before anything has moved
@@ -516,20 +517,20 @@ module _ (w : World) (knows : Known w) (f : FrameFacts w knows) (on : Receivers 
       (Meets (Open w s u) w.rates (suc n) 0 (Fault 5 (1 + length args)))
   on_nil n kind d z =
       early n 5 kind d (will_more w.im _ false _ _ _ (λ o q. (q.0, (let l = q.1 in omega arith), q.2))
-      (trap_first (nil_code sp) _ _ 5 13 (nil_traps w.im ob fr sp cs (g.at_in s u st cs x name args h is) low
-      (g.word_small s u st cs x name args h is) false (g.nil_word s u st cs x name args h is z))))
+      (trap_first (nil_code sp) _ _ 5 8 (nil_traps w.im ob fr sp cs (g.at_in s u st cs x name args h is) low
+      (g.word_small s u st cs x name args h is) (g.nil_word s u st cs x name args h is z))))
 
   too_deep : (n : ℕ) (kind d : Bool) → is_nil (read st c) ≡ false → is_full ≡ true
       → Will w.im (call_on_code (knows.spot s) kind x slot args) d (mk 0 ob fr 0 0 0 0 0 cs)
       (Meets (Open w s u) w.rates (suc n) 0 (Fault 14 (1 + length args)))
   too_deep n kind d there e =
       let he = f.has_end s u st cs h in
-      early n 14 kind d (will_two w.im (nil_code sp) _ _ _ 22 _
+      early n 14 kind d (will_two w.im (nil_code sp) _ _ _ 10 _
       (nil_passes w.im ob fr sp cs (g.at_in s u st cs x name args h is) low
       (g.word_small s u st cs x name args h is) false (g.name_word s u st cs x name args h is there))
-      (will_more w.im _ false _ _ _ (λ o q. (22 + q.0, (let l = q.1 in omega arith), ap (after 22) q.2))
-      (trap_first depth_code _ _ 14 13 (depth_traps w.im ob fr cs he.cell_in he.small (end_fits st cs h true e)
-      false (he.at_end e)))))
+      (will_more w.im _ false _ _ _ (λ o q. (10 + q.0, (let l = q.1 in omega arith), ap (after 10) q.2))
+      (trap_first depth_code _ _ 14 9 (depth_traps w.im ob fr cs he.cell_in he.small (end_fits st cs h true e)
+      (he.at_end e)))))
 
 -- ---- the law
 

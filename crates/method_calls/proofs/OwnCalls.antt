@@ -20,7 +20,8 @@ use Rattle.roopl_semantics.specs.Execution.{Setting, exec, in_direction, invoked
 use Rattle.roopl_semantics.specs.Execution.{cells_named, is_too_deep, too_deep_fault}
 use Rattle.refine_form.specs.Form.{World, Scope, pairs, Open, Entered, Owes, StmtLaw, RunsBody, registers, told, one}
 use Rattle.refine_form.specs.Form.{turned}
-use Rattle.method_calls.specs.CallCode.{addi, depth_code, moves_code, fetch_row, front_code, call_code}
+use Rattle.code_conventions.specs.Cells.{addi}
+use Rattle.method_calls.specs.CallCode.{depth_code, moves_code, fetch_row, front_code, call_code}
 use Rattle.method_calls.specs.Facts.{Known, FrameFacts, HasPlace, out_from, vals_from}
 use Rattle.refine_form.proofs.Told.{told_after, told_bind, plus_none, plus_plus}
 use Rattle.refine_form.proofs.Rules.{wraps_spent, will_around, meets_told, meets_slack, meets_less, meets_later}
@@ -226,7 +227,7 @@ module _ (w : World) (knows : Known w) (f : FrameFacts w knows) (s : Scope) (nam
     has_place = f.has_place s u caller callee moved.cells name args entered is
 
     front_in : Will w.im (front_code (knows.spot s) slot args) false (mk 0 ob fr 0 0 0 0 0 cs)
-        (λ o. o ≡ Done (mk 0 ob (fr + 512) 0 0 0 0 place moved.cells) (22 + (14 * length args + 14)))
+        (λ o. o ≡ Done (mk 0 ob (fr + 512) 0 0 0 0 place moved.cells) (12 + (10 * length args + 12)))
     front_in =
         let e = f.has_end s u st cs h in
         let p = has_place in
@@ -237,14 +238,14 @@ module _ (w : World) (knows : Known w) (f : FrameFacts w knows) (s : Scope) (nam
         (let z : package.Rattle.rpp_words.specs.Words.sum_of fr 512
         ≡ fr + 512 = (let t = frame_small in omega arith) in z)) here) in
         let fetched = will_fetch w.im ob (fr + 512) slot place moved.cells p.object_in p.small
-        (f.slot_small s name args is) p.entry_in p.entry place_small object_small in
-        will_two w.im depth_code (moves_code (knows.spot s) args ++ line (addi 4 512 ∷ fetch_row slot)) _ _ 22 _
+        (f.slot_small s name args is) p.entry_in p.entry place_small in
+        will_two w.im depth_code (moves_code (knows.spot s) args ++ line (addi 4 512 ∷ fetch_row slot)) _ _ 12 _
         (depth_passes w.im ob fr cs e.cell_in e.small (end_fits st cs h false room) false (e.room room))
-        (will_two w.im (moves_code (knows.spot s) args) (line (addi 4 512 ∷ fetch_row slot)) _ _ (14 * length args) _
+        (will_two w.im (moves_code (knows.spot s) args) (line (addi 4 512 ∷ fetch_row slot)) _ _ (10 * length args) _
         moved.goes
         (will_two w.im (line (addi 4 512 ∷ [])) (line (fetch_row slot)) _ _ 1 _ up
         (will_more w.im (line (fetch_row slot)) false _ _ _
-        (λ o q. ap (λ o. after 22 (after (14 * length args) (after 1 o))) q) fetched)))
+        (λ o q. ap (λ o. after 12 (after (10 * length args) (after 1 o))) q) fetched)))
 
     -- what the source says when the body has ended
     abbrev moves_home : State → Told State
@@ -253,42 +254,42 @@ module _ (w : World) (knows : Known w) (f : FrameFacts w knows) (s : Scope) (nam
 
     front_back : (n : ℕ) (end : State) (cs2 : List ℕ) → w.opens (w.routines.scope r) deep [] end cs2
         → Will w.im (front_code (knows.spot s) slot args) true (mk 0 ob (fr + 512) 0 0 0 0 place cs2)
-        (Meets (Open w s u) w.rates n (14 + (14 * length args + 22)) (moves_home end))
+        (Meets (Open w s u) w.rates n (12 + (10 * length args + 12)) (moves_home end))
     front_back n end cs2 g =
         let p = f.has_place s u caller end cs2 name args g is in
         let left = f.leaves s u caller end cs2 name args (pairs args vals) moved.cells moved.up g is in
         let as_many = f.as_many s u caller end cs2 name args g is in
         let unfetched = will_unfetch w.im ob (fr + 512) slot place cs2 p.object_in p.small (f.slot_small s name args is)
-        p.entry_in p.entry place_small object_small in
+        p.entry_in p.entry place_small in
         let down : Will w.im (line (addi 4 512 ∷ [])) true (mk 0 ob (fr + 512) 0 0 0 0 0 cs2)
         (λ o. o ≡ Done (mk 0 ob fr 0 0 0 0 0 cs2) 1) =
         will_row w.im true (addi 4 512 ∷ []) 1 _ _ (next refl (omega arith)
         (ap (λ v. Done (mk 0 ob v 0 0 0 0 0 cs2) 1) (less_is (fr + 512) 512 fr refl
         (let t = frame_small in omega arith))) here) in
         let both : Will w.im (line (addi 4 512 ∷ fetch_row slot)) true (mk 0 ob (fr + 512) 0 0 0 0 place cs2)
-        (λ o. o ≡ Done (mk 0 ob fr 0 0 0 0 0 cs2) 14) =
-        will_two_back w.im (line (addi 4 512 ∷ [])) (line (fetch_row slot)) _ _ 13 _ unfetched
-        (will_more w.im _ true _ _ _ (λ o q. ap (after 13) q) down) in
+        (λ o. o ≡ Done (mk 0 ob fr 0 0 0 0 0 cs2) 12) =
+        will_two_back w.im (line (addi 4 512 ∷ [])) (line (fetch_row slot)) _ _ 11 _ unfetched
+        (will_more w.im _ true _ _ _ (λ o q. ap (after 11) q) down) in
         let values = map (λ binding. binding.value) end.frame in
         let home = record caller { store = end.store; log = end.log } in
         let inner : Will w.im (moves_code (knows.spot s) args ++ line (addi 4 512 ∷ fetch_row slot)) true
-        (mk 0 ob (fr + 512) 0 0 0 0 place cs2) (Meets (Open w s u) w.rates n (14 + 14 * length args)
+        (mk 0 ob (fr + 512) 0 0 0 0 place cs2) (Meets (Open w s u) w.rates n (12 + 10 * length args)
         (moves_home end)) =
-        will_two_back w.im (moves_code (knows.spot s) args) (line (addi 4 512 ∷ fetch_row slot)) _ _ 14 _ both
-        (will_more w.im _ true _ _ _ (λ o q. meets_later 14 q)
+        will_two_back w.im (moves_code (knows.spot s) args) (line (addi 4 512 ∷ fetch_row slot)) _ _ 12 _ both
+        (will_more w.im _ true _ _ _ (λ o q. meets_later 12 q)
         (all_back w knows f s u n args vars values home cs2 as_many few left)) in
-        let all = then_quiet w.im true (Open w s u) (Open w s u) w.rates n 22 (14 + 14 * length args)
+        let all = then_quiet w.im true (Open w s u) (Open w s u) w.rates n 12 (12 + 10 * length args)
         (moves_code (knows.spot s) args ++ line (addi 4 512 ∷ fetch_row slot)) depth_code
         (mk 0 ob (fr + 512) 0 0 0 0 place cs2) (moves_home end) inner (λ a m i. checked a m i) in
         will_more w.im (front_code (knows.spot s) slot args) true _ _ _
-        (λ o q. meets_slack (14 + (14 * length args + 22)) (omega arith) q) all
+        (λ o q. meets_slack (12 + (10 * length args + 12)) (omega arith) q) all
       where
-        checked : (a : State) (m : Memory) → Open w s u a m → Will w.im depth_code true m (Quiet (Open w s u a) 22)
+        checked : (a : State) (m : Memory) → Open w s u a m → Will w.im depth_code true m (Quiet (Open w s u a) 12)
         checked a m i =
             let e = f.has_end s u a m.cells i.open_frame in
             let known = as_known m _ i.regs_are in
-            subst (λ z. Will w.im depth_code true z (Quiet (Open w s u a) 22)) (sym known)
-            (will_more w.im depth_code true _ _ _ (λ o q. subst (Quiet (Open w s u a) 22) (sym q)
+            subst (λ z. Will w.im depth_code true z (Quiet (Open w s u a) 12)) (sym known)
+            (will_more w.im depth_code true _ _ _ (λ o q. subst (Quiet (Open w s u a) 12) (sym q)
             (quiet (record { regs_are = refl; open_frame = i.open_frame }) (omega arith)))
             (depth_passes w.im ob fr m.cells e.cell_in e.small (end_fits a m.cells i.open_frame false room) true
             (e.room room)))
@@ -311,16 +312,16 @@ module _ (w : World) (knows : Known w) (f : FrameFacts w knows) (s : Scope) (nam
         (subst (λ x. Will w.im (enter_at_cells 12 kind) d (mk 0 (w.object_of deep) x 0 0 0 0 place moved.cells)
         (Meets (InCall w (w.routines.scope r) deep place) w.rates n 55 t)) nf body) in
         wraps_spent w.im d (front_code (knows.spot s) slot args) (enter_at_cells 12 kind) _ _
-        (InCall w (w.routines.scope r) deep place) (Open w s u) w.rates n 55 (14 + (14 * length args + 22))
-        (22 + (14 * length args + 14)) (1 + length args) 0 t moves_home
+        (InCall w (w.routines.scope r) deep place) (Open w s u) w.rates n 55 (12 + (10 * length args + 12))
+        (12 + (10 * length args + 12)) (1 + length args) 0 t moves_home
         f.counts (omega arith) (enough w.rates.steps (length args) f.thousand few) front_in mid (λ a m2 c e i.
         let known = as_known m2 _ (i.regs_are ∙ ap (λ o. registers 0 o (w.frame_of deep) 0 0 0 0 place) so
         ∙ ap (λ x. registers 0 ob x 0 0 0 0 place) nf) in
         subst (λ z. Will w.im (front_code (knows.spot s) slot args) true z
-        (Meets (Open w s u) w.rates (n - c) (14 + (14 * length args + 22)) (moves_home a))) (sym known)
+        (Meets (Open w s u) w.rates (n - c) (12 + (10 * length args + 12)) (moves_home a))) (sym known)
         (front_back (n - c) a m2.cells i.open_frame))
       where
-        enough : (steps k : ℕ) → steps ≡ 1000 → k ≤ 32 → 22 + (14 * k + 14) + (55 + (14 + (14 * k + 22))) ≤ steps *
+        enough : (steps k : ℕ) → steps ≡ 1000 → k ≤ 32 → 12 + (10 * k + 12) + (55 + (12 + (10 * k + 12))) ≤ steps *
             (1 + k) + 0
         enough steps k e few = let z : steps * (1 + k) ≡ 1000 * (1 + k) = ap (λ x. x * (1 + k)) e in omega (arith, z)
 
@@ -333,17 +334,17 @@ module _ (w : World) (knows : Known w) (f : FrameFacts w knows) (s : Scope) (nam
       let W : Memory → ℕ → Type 0 = λ m1 k1. Will w.im (enter_at_cells 12 kind) d m1
       (Next (λ m2 k2. Will w.im (front_code (knows.spot s) slot args) true m2 (λ o. Q (after k1 (after k2 o))))
       (λ o. Q (after k1 o))) in
-      let trap : (o : Outcome) → (k : ℕ) × (k ≤ 13) × (o ≡ Trapped 14 k)
+      let trap : (o : Outcome) → (k : ℕ) × (k ≤ 9) × (o ≡ Trapped 14 k)
       → Next W Q o = λ o t. subst (Next W Q) (sym t.2) (faults
       (few_steps w.rates.steps (length args) t.0 f.thousand t.1)) in
       let first : Will w.im (front_code (knows.spot s) slot args) false (mk 0 ob fr 0 0 0 0 0 cs) (Next W Q) =
       will_seq w.im depth_code (moves_code (knows.spot s) args ++ line (addi 4 512 ∷ fetch_row slot)) _ (Next W Q)
       (will_more w.im depth_code false _ _ _ (λ o t. subst (Next _ (Next W Q)) (sym t.2)
       (trap (Trapped 14 t.0) (t.0, t.1, refl))) (depth_traps w.im ob fr cs he.cell_in he.small
-      (end_fits st cs h true e) false (he.at_end e))) in
+      (end_fits st cs h true e) (he.at_end e))) in
       will_around w.im d (front_code (knows.spot s) slot args) (enter_at_cells 12 kind) _ Q first
     where
-      few_steps : (steps k j : ℕ) → steps ≡ 1000 → j ≤ 13 → j ≤ steps * (1 + k) + 0
+      few_steps : (steps k j : ℕ) → steps ≡ 1000 → j ≤ 9 → j ≤ steps * (1 + k) + 0
       few_steps steps k j e l = let z : steps * (1 + k) ≡ 1000 * (1 + k) = ap (λ x. x * (1 + k)) e in omega (arith, z)
 
 -- ---- the law

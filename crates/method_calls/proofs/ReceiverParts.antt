@@ -1,26 +1,28 @@
--- The parts of a call on the object of a variable.
+-- The parts of a call that change places: the words of arguments and of the receiver, and OBJECT.
 use Rattle.std.proofs.Common.{◌≡◌, ◌≢◌, ℕ, ◌+◌, ◌^◌, ◌<◌, ◌≤◌, Bool, true, false, List, [], ◌∷◌, ◌++◌, length, refl, ap}
 use Rattle.std.proofs.Common.{◌∙◌, arith}
 use Rattle.std.specs.Prelude.{slice_index, slice_set, bit_xor}
 use Rattle.std.proofs.Math.ListN.{length-set}
 use Rattle.rpp_words.specs.Words.{is_less}
+use Rattle.pisa_isa.specs.Machine.{Memory}
 use Rattle.pisa_isa.specs.Table.{word_of}
 use Rattle.paired_code.specs.Machine.{Image}
 use Rattle.paired_code.specs.Layout.{check_cells}
 use Rattle.paired_code.specs.Pieces.{Done, Trapped, Will, after}
+use Rattle.paired_code.specs.Rows.{line}
 use Rattle.paired_code.proofs.Laws.{will_of, will_more}
 use Rattle.paired_code.proofs.Small.{runs_check_zero, runs_check_other}
-use Rattle.method_calls.specs.CallCode.{add, sub, xori, sltx, exch, spot_row, above_row, peek_code, nil_code, take_code}
-use Rattle.method_calls.specs.CallCode.{onto_code}
-use Rattle.refine_form.specs.declared.spot.Spot.{Spot}
-use Rattle.method_calls.specs.Facts.{address}
-use Rattle.refine_form.proofs.Rows.{here, next, will_row}
-use Rattle.method_calls.proofs.Addresses.{mk, difference_is, will_find_spot, will_leave_spot, will_find_above}
-use Rattle.method_calls.proofs.Addresses.{will_leave_above}
-use Rattle.method_calls.proofs.Depth.{filled, emptied, sum_is, above_zero}
-use Rattle.refine_form.proofs.Rules.{will_in, will_in_trap, will_two, will_two_back}
-use Rattle.paired_code.specs.Rows.{line}
+use Rattle.code_conventions.specs.Cells.{add, sub, exch, xori, sltx}
 use Rattle.refine_form.specs.Cells.{around}
+use Rattle.refine_form.specs.declared.spot.Spot.{Spot}
+use Rattle.refine_form.proofs.Rows.{here, next, will_row}
+use Rattle.refine_form.proofs.Rules.{will_in, will_in_trap, will_two, will_two_back}
+use Rattle.method_calls.specs.CallCode.{base_of, reach_row, above_row, take_code, put_code, peek_row, nil_row, nil_code}
+use Rattle.method_calls.specs.CallCode.{onto_code}
+use Rattle.method_calls.specs.Facts.{address}
+use Rattle.method_calls.proofs.Addresses.{mk, sum_is, difference_is, at_spot, will_reach, will_leave, swaps_moved}
+use Rattle.method_calls.proofs.Addresses.{swaps_content, will_raise, will_lower}
+use Rattle.method_calls.proofs.Depth.{filled, emptied, above_zero}
 use Rattle.method_calls.proofs.Exchanges.{exchanges}
 
 module _ (im : Image) (ob fr : ℕ) (sp : Spot) (cs : List ℕ) (inside : address ob fr sp < length cs)
@@ -34,118 +36,129 @@ module _ (im : Image) (ob fr : ℕ) (sp : Spot) (cs : List ℕ) (inside : addres
   abbrev gone : List ℕ
   gone = slice_set cs at 0
 
+  -- the base stands at the spot
+  abbrev on_spot : (content moved flag : ℕ) → List ℕ → Memory
+  on_spot b c g l = at_spot ob fr sp b c g l
+
   still_in : at < length gone
   still_in = omega (arith, length-set cs at 0, inside)
 
   -- ---- not nil
 
   module _ (small : word < 2 ^ 31) where
-    refills : (d : Bool) (c : ℕ) → package.Rattle.paired_code.specs.Laws.outcome_of d (exch 6 5)
-        (mk 0 ob fr at word c 0 0 gone) ≡ Done (mk 0 ob fr at 0 c 0 0 cs) 1
-    refills d c = exchanges d 6 5 (mk 0 ob fr at word c 0 0 gone) still_in
-        ∙ ap (λ v. Done (mk 0 ob fr at v c 0 0 (slice_set gone at word)) 1) (emptied cs at inside)
-        ∙ ap (λ l. Done (mk 0 ob fr at 0 c 0 0 l) 1) (filled cs at)
-
-    peeks : Will im (peek_code sp) false (mk 0 ob fr 0 0 0 0 0 cs) (λ o. o ≡ Done (mk 0 ob fr 0 0 word 0 0 cs) 7)
+    peeks : Will im (line (peek_row sp)) false (mk 0 ob fr 0 0 0 0 0 cs) (λ o. o ≡ Done (on_spot word 0 0 gone) 2)
     peeks =
-        will_in im false (line (spot_row sp)) (line (exch 6 5 ∷ add 8 6 ∷ exch 6 5 ∷ [])) _ _ _ _ 2 3 2
-        (will_find_spot 0 ob fr 0 0 0 0 cs im sp low)
-        (will_row im false (exch 6 5 ∷ add 8 6 ∷ exch 6 5 ∷ []) 3 _ _
-        (next refl (omega arith) (exchanges false 6 5 (mk 0 ob fr at 0 0 0 0 cs) inside)
-        (next refl (omega arith) (ap (λ v. Done (mk 0 ob fr at word v 0 0 gone) 1)
-        (sum_is 0 word word (omega arith) (omega (arith, small))))
-        (next refl (omega arith) (refills false word) here))))
-        (will_leave_spot 0 ob fr 0 word 0 0 cs im sp low)
+        will_two im (line (reach_row sp)) (line (exch 6 (base_of sp) ∷ [])) _ (on_spot 0 0 0 cs) 1 _
+        (will_reach im ob fr 0 0 0 cs sp low)
+        (will_more im _ false _ _ _ (λ o q. ap (after 1) q) (swaps_content im ob fr 0 0 0 cs false sp inside))
 
-    unpeeks : Will im (peek_code sp) true (mk 0 ob fr 0 0 word 0 0 cs) (λ o. o ≡ Done (mk 0 ob fr 0 0 0 0 0 cs) 7)
+    unpeeks : Will im (line (peek_row sp)) true (on_spot word 0 0 gone) (λ o. o ≡ Done (mk 0 ob fr 0 0 0 0 0 cs) 2)
     unpeeks =
-        will_in im true (line (spot_row sp)) (line (exch 6 5 ∷ add 8 6 ∷ exch 6 5 ∷ [])) _ _ _ _ 2 3 2
-        (will_find_spot 0 ob fr 0 word 0 0 cs im sp low)
-        (will_row im true (exch 6 5 ∷ add 8 6 ∷ exch 6 5 ∷ []) 3 _ _
-        (next refl (omega arith) (exchanges true 6 5 (mk 0 ob fr at 0 word 0 0 cs) inside)
-        (next refl (omega arith) (ap (λ v. Done (mk 0 ob fr at word v 0 0 gone) 1)
-        (difference_is word word 0 (omega arith) (omega (arith, small))))
-        (next refl (omega arith) (refills true 0) here))))
-        (will_leave_spot 0 ob fr 0 0 0 0 cs im sp low)
+        will_two_back im (line (reach_row sp)) (line (exch 6 (base_of sp) ∷ [])) _ (on_spot 0 0 0 cs) 1 _
+        (will_more im _ true _ _ _ (λ o q. q ∙ ap (λ v. Done (on_spot v 0 0 (slice_set gone at word)) 1)
+        (emptied cs at inside) ∙ ap (λ l. Done (on_spot 0 0 0 l) 1) (filled cs at))
+        (swaps_content im ob fr word 0 0 gone true sp still_in))
+        (will_more im _ true _ _ _ (λ o q. ap (after 1) q) (will_leave im ob fr 0 0 0 cs sp low))
 
     -- what the two cells leave in the flag
     flags : (t : Bool) (x y : ℕ) → is_less 0 word ≡ t → bit_xor 0 (word_of t) ≡ x → bit_xor x 1 ≡ y
-        → Will im (line (sltx 11 7 8 ∷ xori 11 1 ∷ [])) false (mk 0 ob fr 0 0 word 0 0 cs)
-        (λ o. o ≡ Done (mk 0 ob fr 0 0 word y 0 cs) 2)
+        → Will im (line nil_row) false (on_spot word 0 0 gone) (λ o. o ≡ Done (on_spot word 0 y gone) 2)
     flags t x y e ex ey =
-        will_row im false (sltx 11 7 8 ∷ xori 11 1 ∷ []) 2 _ _
-        (next refl (omega arith) (ap (λ b. Done (mk 0 ob fr 0 0 word (bit_xor 0 (word_of b)) 0 cs) 1) e
-        ∙ ap (λ v. Done (mk 0 ob fr 0 0 word v 0 cs) 1) ex)
-        (next refl (omega arith) (ap (λ v. Done (mk 0 ob fr 0 0 word v 0 cs) 1) ey) here))
+        will_row im false nil_row 2 _ _
+        (next refl (omega arith) (ap (λ b. Done (on_spot word 0 (bit_xor 0 (word_of b)) gone) 1) e
+        ∙ ap (λ v. Done (on_spot word 0 v gone) 1) ex)
+        (next refl (omega arith) (ap (λ v. Done (on_spot word 0 v gone) 1) ey) here))
 
-    unflags : (t : Bool) (x y : ℕ) → is_less 0 word ≡ t → bit_xor y 1 ≡ x → bit_xor x (word_of t) ≡ 0
-        → Will im (line (sltx 11 7 8 ∷ xori 11 1 ∷ [])) true (mk 0 ob fr 0 0 word y 0 cs)
-        (λ o. o ≡ Done (mk 0 ob fr 0 0 word 0 0 cs) 2)
-    unflags t x y e ex ey =
-        will_row im true (xori 11 1 ∷ sltx 11 7 8 ∷ []) 2 _ _
-        (next refl (omega arith) (ap (λ v. Done (mk 0 ob fr 0 0 word v 0 cs) 1) ex)
-        (next refl (omega arith) (ap (λ b. Done (mk 0 ob fr 0 0 word (bit_xor x (word_of b)) 0 cs) 1) e
-        ∙ ap (λ v. Done (mk 0 ob fr 0 0 word v 0 cs) 1) ey) here))
+    unflags : is_less 0 word ≡ true
+        → Will im (line nil_row) true (on_spot word 0 0 gone) (λ o. o ≡ Done (on_spot word 0 0 gone) 2)
+    unflags e =
+        will_row im true (xori 11 1 ∷ sltx 11 7 6 ∷ []) 2 _ _
+        (next refl (omega arith) refl
+        (next refl (omega arith) (ap (λ b. Done (on_spot word 0 (bit_xor 1 (word_of b)) gone) 1) e) here))
+
+    -- the flag is 0 behind the test, and before it where it is run back
+    passes : (d : Bool) → is_less 0 word ≡ true → Will im (line nil_row ++ check_cells 11 5) d
+        (on_spot word 0 0 gone) (λ o. o ≡ Done (on_spot word 0 0 gone) 6)
+    passes false e =
+        will_two im (line nil_row) (check_cells 11 5) _ _ 2 _ (flags true 1 0 e refl refl)
+        (will_of im _ false _ _ _ (runs_check_zero im false 11 5 (on_spot word 0 0 gone) refl) refl)
+    passes true e =
+        will_two_back im (line nil_row) (check_cells 11 5) _ _ 4 _
+        (will_of im _ true _ _ _ (runs_check_zero im true 11 5 (on_spot word 0 0 gone) refl) refl)
+        (will_more im _ true _ _ _ (λ o q. ap (after 4) q) (unflags e))
 
     pub nil_passes : (d : Bool) → 0 < word → Will im (nil_code sp) d (mk 0 ob fr 0 0 0 0 0 cs)
-        (λ o. o ≡ Done (mk 0 ob fr 0 0 0 0 0 cs) 22)
+        (λ o. o ≡ Done (mk 0 ob fr 0 0 0 0 0 cs) 10)
     nil_passes d pos =
-        let t = above_zero word pos small in
-        will_in im d (peek_code sp) (around (line (sltx 11 7 8 ∷ xori 11 1 ∷ [])) (check_cells 11 5)) _ _ _ _ 7 8 7
-        peeks
-        (will_in im d (line (sltx 11 7 8 ∷ xori 11 1 ∷ [])) (check_cells 11 5) _ _ _ _ 2 4 2
-        (flags true 1 0 t refl refl) (will_of im _ d _ _ _
-        (runs_check_zero im d 11 5 (mk 0 ob fr 0 0 word 0 0 cs) refl) refl) (unflags true 1 0 t refl refl))
-        unpeeks
+        will_in im d (line (peek_row sp)) (line nil_row ++ check_cells 11 5) _ _ _ _ 2 6 2 peeks
+        (passes d (above_zero word pos small)) unpeeks
 
-    pub nil_traps : (d : Bool) → word ≡ 0 → Will im (nil_code sp) d (mk 0 ob fr 0 0 0 0 0 cs)
-        (λ o. (k : ℕ) × (k ≤ 13) × (o ≡ Trapped 5 k))
-    nil_traps d z =
+    pub nil_traps : word ≡ 0 → Will im (nil_code sp) false (mk 0 ob fr 0 0 0 0 0 cs)
+        (λ o. (k : ℕ) × (k ≤ 8) × (o ≡ Trapped 5 k))
+    nil_traps z =
         let t : is_less 0 word ≡ false = ap (is_less 0) z in
-        let c = runs_check_other im d 11 5 (mk 0 ob fr 0 0 word 1 0 cs) (λ e. let q : 1 ≡ 0 = e in omega arith) in
-        will_more im _ d _ _ _ (λ o t. (t.0, (let h = t.1 in omega arith), t.2))
-        (will_in_trap im d (peek_code sp) (around (line (sltx 11 7 8 ∷ xori 11 1 ∷ [])) (check_cells 11 5)) _ _ 7 5 6
-        peeks
-        (will_in_trap im d (line (sltx 11 7 8 ∷ xori 11 1 ∷ [])) (check_cells 11 5) _ _ 2 5 4
-        (flags false 0 1 t refl refl) (will_of im _ d _ _ _ c.2 (c.0, c.1, refl))))
+        let c = runs_check_other im false 11 5 (on_spot word 0 1 gone) (λ e. let q : 1 ≡ 0 = e in omega arith) in
+        will_in_trap im false (line (peek_row sp)) (line nil_row ++ check_cells 11 5) _ _ 2 5 6 peeks
+        (will_two im (line nil_row) (check_cells 11 5) _ _ 2 _ (flags false 0 1 t refl refl)
+        (will_of im _ false _ _ _ c.2 (2 + c.0, (let l = c.1 in omega arith), refl)))
 
-  -- ---- the receiver's word
+  -- ---- a word that leaves its cell
 
-  pub takes : Will im (take_code sp) false (mk 0 ob fr 0 0 0 0 0 cs) (λ o. o ≡ Done (mk 0 ob fr 0 0 word 0 0 gone) 9)
+  pub takes : Will im (take_code sp) false (mk 0 ob fr 0 0 0 0 0 cs) (λ o. o ≡ Done (mk 0 ob fr 0 0 word 0 0 gone) 7)
   takes =
-      will_in im false (line (spot_row sp)) (check_cells 8 15 ++ line (exch 8 5 ∷ [])) _ _ _ _ 2 5 2
-      (will_find_spot 0 ob fr 0 0 0 0 cs im sp low)
-      (will_two im (check_cells 8 15) (line (exch 8 5 ∷ [])) _ _ 4 _
-      (will_of im _ false _ _ _ (runs_check_zero im false 8 15 (mk 0 ob fr at 0 0 0 0 cs) refl) refl)
-      (will_more im _ false _ _ _ (λ o q. ap (after 4) q) (will_row im false (exch 8 5 ∷ []) 1 _ _
-      (next refl (omega arith) (exchanges false 8 5 (mk 0 ob fr at 0 0 0 0 cs) inside) here))))
-      (will_leave_spot 0 ob fr 0 word 0 0 gone im sp low)
-
-  puts : (x : ℕ) → Will im (line (exch 8 5 ∷ [])) true (mk 0 ob fr at 0 x 0 0 cs)
-      (λ o. o ≡ Done (mk 0 ob fr at 0 word 0 0 (slice_set cs at x)) 1)
-  puts x = will_row im true (exch 8 5 ∷ []) 1 _ _ (next refl (omega arith)
-      (exchanges true 8 5 (mk 0 ob fr at 0 x 0 0 cs) inside) here)
+      will_in im false (line (reach_row sp)) (check_cells 8 15 ++ line (exch 8 (base_of sp) ∷ [])) _ _ _ _ 1 5 1
+      (will_reach im ob fr 0 0 0 cs sp low)
+      (will_two im (check_cells 8 15) (line (exch 8 (base_of sp) ∷ [])) _ _ 4 _
+      (will_of im _ false _ _ _ (runs_check_zero im false 8 15 (on_spot 0 0 0 cs) refl) refl)
+      (will_more im _ false _ _ _ (λ o q. ap (after 4) q) (swaps_moved im ob fr 0 0 0 cs false sp inside)))
+      (will_leave im ob fr 0 word 0 gone sp low)
 
   pub gives_back : (x : ℕ) → word ≡ 0 → Will im (take_code sp) true (mk 0 ob fr 0 0 x 0 0 cs)
-      (λ o. o ≡ Done (mk 0 ob fr 0 0 0 0 0 (slice_set cs at x)) 9)
+      (λ o. o ≡ Done (mk 0 ob fr 0 0 0 0 0 (slice_set cs at x)) 7)
   gives_back x z =
-      will_in im true (line (spot_row sp)) (check_cells 8 15 ++ line (exch 8 5 ∷ [])) _ _ _ _ 2 5 2
-      (will_find_spot 0 ob fr 0 x 0 0 cs im sp low)
-      (will_two_back im (check_cells 8 15) (line (exch 8 5 ∷ [])) _ (mk 0 ob fr at 0 0 0 0 (slice_set cs at x)) 1 _
-      (will_more im _ true _ _ _ (λ o q. q ∙ ap (λ v. Done (mk 0 ob fr at 0 v 0 0 (slice_set cs at x)) 1) z)
-      (puts x))
-      (will_of im _ true _ _ _ (runs_check_zero im true 8 15 (mk 0 ob fr at 0 0 0 0 (slice_set cs at x)) refl) refl))
-      (will_leave_spot 0 ob fr 0 0 0 0 (slice_set cs at x) im sp low)
+      will_in im true (line (reach_row sp)) (check_cells 8 15 ++ line (exch 8 (base_of sp) ∷ [])) _ _ _ _ 1 5 1
+      (will_reach im ob fr 0 x 0 cs sp low)
+      (will_two_back im (check_cells 8 15) (line (exch 8 (base_of sp) ∷ [])) _ (on_spot 0 0 0 (slice_set cs at x)) 1 _
+      (will_more im _ true _ _ _ (λ o q. q ∙ ap (λ v. Done (on_spot 0 v 0 (slice_set cs at x)) 1) z)
+      (swaps_moved im ob fr 0 x 0 cs true sp inside))
+      (will_of im _ true _ _ _ (runs_check_zero im true 8 15 (on_spot 0 0 0 (slice_set cs at x)) refl) refl))
+      (will_leave im ob fr 0 0 0 (slice_set cs at x) sp low)
 
   pub finds_touched : (x : ℕ) → word ≢ 0 → Will im (take_code sp) true (mk 0 ob fr 0 0 x 0 0 cs)
-      (λ o. (k : ℕ) × (k ≤ 9) × (o ≡ Trapped 15 k))
+      (λ o. (k : ℕ) × (k ≤ 6) × (o ≡ Trapped 15 k))
   finds_touched x nz =
-      let c = runs_check_other im true 8 15 (mk 0 ob fr at 0 word 0 0 (slice_set cs at x)) nz in
-      will_more im _ true _ _ _ (λ o t. (t.0, (let h = t.1 in omega arith), t.2))
-      (will_in_trap im true (line (spot_row sp)) (check_cells 8 15 ++ line (exch 8 5 ∷ [])) _ _ 2 15 5
-      (will_find_spot 0 ob fr 0 x 0 0 cs im sp low)
-      (will_two_back im (check_cells 8 15) (line (exch 8 5 ∷ [])) _ (mk 0 ob fr at 0 word 0 0 (slice_set cs at x)) 1 _
-      (puts x) (will_of im _ true _ _ _ c.2 (1 + c.0, (let h = c.1 in omega arith), refl))))
+      let c = runs_check_other im true 8 15 (on_spot 0 word 0 (slice_set cs at x)) nz in
+      will_in_trap im true (line (reach_row sp)) (check_cells 8 15 ++ line (exch 8 (base_of sp) ∷ [])) _ _ 1 15 5
+      (will_reach im ob fr 0 x 0 cs sp low)
+      (will_two_back im (check_cells 8 15) (line (exch 8 (base_of sp) ∷ [])) _
+      (on_spot 0 word 0 (slice_set cs at x)) 1 _ (swaps_moved im ob fr 0 x 0 cs true sp inside)
+      (will_of im _ true _ _ _ c.2 (1 + c.0, (let h = c.1 in omega arith), refl)))
+
+-- ---- a word of the frame above
+
+module _ (im : Image) (ob fr w : ℕ) (cs : List ℕ) (inside : fr + (512 + w) < length cs)
+    (low : fr + (512 + w) < 2 ^ 32) where
+  abbrev above : ℕ
+  above = fr + (512 + w)
+
+  swaps_above : (d : Bool) (x y : ℕ) → slice_index cs above ≡ y
+      → Will im (line (exch 8 4 ∷ [])) d (mk 0 ob above 0 0 x 0 0 cs)
+      (λ o. o ≡ Done (mk 0 ob above 0 0 y 0 0 (slice_set cs above x)) 1)
+  swaps_above false x y e =
+      will_row im false (exch 8 4 ∷ []) 1 _ _ (next refl (omega arith)
+      (exchanges false 8 4 (mk 0 ob above 0 0 x 0 0 cs) inside
+      ∙ ap (λ v. Done (mk 0 ob above 0 0 v 0 0 (slice_set cs above x)) 1) e) here)
+  swaps_above true x y e =
+      will_row im true (exch 8 4 ∷ []) 1 _ _ (next refl (omega arith)
+      (exchanges true 8 4 (mk 0 ob above 0 0 x 0 0 cs) inside
+      ∙ ap (λ v. Done (mk 0 ob above 0 0 v 0 0 (slice_set cs above x)) 1) e) here)
+
+  pub puts : (d : Bool) (x y : ℕ) → slice_index cs above ≡ y
+      → Will im (put_code w) d (mk 0 ob fr 0 0 x 0 0 cs)
+      (λ o. o ≡ Done (mk 0 ob fr 0 0 y 0 0 (slice_set cs above x)) 3)
+  puts d x y e =
+      will_in im d (line (above_row w)) (line (exch 8 4 ∷ [])) _ _ _ _ 1 1 1
+      (will_raise im ob fr x cs w low) (swaps_above d x y e) (will_lower im ob fr y (slice_set cs above x) w low)
 
 -- ---- OBJECT
 
@@ -154,36 +167,39 @@ module _ (im : Image) (ob fr recv : ℕ) (cs : List ℕ) (inside : fr + (512 + 1
   abbrev up : ℕ
   up = fr + (512 + 1)
 
+  up_low : up < 2 ^ 32
+  up_low = omega (arith, small_fr)
+
   pub turns_to : slice_index cs up ≡ 0 → Will im onto_code false (mk 0 ob fr 0 0 recv 0 0 cs)
-      (λ o. o ≡ Done (mk 0 recv fr 0 0 0 0 0 (slice_set cs up ob)) 7)
+      (λ o. o ≡ Done (mk 0 recv fr 0 0 0 0 0 (slice_set cs up ob)) 5)
   turns_to z =
       let cs1 = slice_set cs up ob in
-      will_two im (around (line (above_row 1)) (line (exch 3 6 ∷ []))) (line (add 3 8 ∷ sub 8 3 ∷ [])) _
-      (mk 0 0 fr 0 0 recv 0 0 cs1) 5 _
-      (will_in im false (line (above_row 1)) (line (exch 3 6 ∷ [])) _ _ _ _ 2 1 2
-      (will_find_above 0 ob fr 0 recv 0 0 cs im 1 (omega (arith, small_fr)))
-      (will_row im false (exch 3 6 ∷ []) 1 _ _ (next refl (omega arith)
-      (exchanges false 3 6 (mk 0 ob fr 0 up recv 0 0 cs) inside
-      ∙ ap (λ v. Done (mk 0 v fr 0 up recv 0 0 cs1) 1) z) here))
-      (will_leave_above 0 0 fr 0 recv 0 0 cs1 im 1 (omega (arith, small_fr))))
-      (will_more im _ false _ _ _ (λ o q. ap (after 5) q) (will_row im false (add 3 8 ∷ sub 8 3 ∷ []) 2 _ _
+      will_two im (around (line (above_row 1)) (line (exch 3 4 ∷ []))) (line (add 3 8 ∷ sub 8 3 ∷ [])) _
+      (mk 0 0 fr 0 0 recv 0 0 cs1) 3 _
+      (will_in im false (line (above_row 1)) (line (exch 3 4 ∷ [])) _ _ _ _ 1 1 1
+      (will_raise im ob fr recv cs 1 up_low)
+      (will_row im false (exch 3 4 ∷ []) 1 _ _ (next refl (omega arith)
+      (exchanges false 3 4 (mk 0 ob up 0 0 recv 0 0 cs) inside
+      ∙ ap (λ v. Done (mk 0 v up 0 0 recv 0 0 cs1) 1) z) here))
+      (will_lower im 0 fr recv cs1 1 up_low))
+      (will_more im _ false _ _ _ (λ o q. ap (after 3) q) (will_row im false (add 3 8 ∷ sub 8 3 ∷ []) 2 _ _
       (next refl (omega arith) (ap (λ v. Done (mk 0 v fr 0 0 recv 0 0 cs1) 1) (sum_is 0 recv recv (omega arith) small))
       (next refl (omega arith) (ap (λ v. Done (mk 0 recv fr 0 0 v 0 0 cs1) 1)
       (difference_is recv recv 0 (omega arith) small)) here))))
 
   pub turns_from : slice_index cs up ≡ ob → Will im onto_code true (mk 0 recv fr 0 0 0 0 0 cs)
-      (λ o. o ≡ Done (mk 0 ob fr 0 0 recv 0 0 (slice_set cs up 0)) 7)
+      (λ o. o ≡ Done (mk 0 ob fr 0 0 recv 0 0 (slice_set cs up 0)) 5)
   turns_from z =
       let cs1 = slice_set cs up 0 in
-      will_two_back im (around (line (above_row 1)) (line (exch 3 6 ∷ []))) (line (add 3 8 ∷ sub 8 3 ∷ [])) _
+      will_two_back im (around (line (above_row 1)) (line (exch 3 4 ∷ []))) (line (add 3 8 ∷ sub 8 3 ∷ [])) _
       (mk 0 0 fr 0 0 recv 0 0 cs) 2 _
       (will_row im true (sub 8 3 ∷ add 3 8 ∷ []) 2 _ _
       (next refl (omega arith) (ap (λ v. Done (mk 0 recv fr 0 0 v 0 0 cs) 1) (sum_is 0 recv recv (omega arith) small))
       (next refl (omega arith) (ap (λ v. Done (mk 0 v fr 0 0 recv 0 0 cs) 1)
       (difference_is recv recv 0 (omega arith) small)) here)))
-      (will_more im _ true _ _ _ (λ o q. ap (after 2) q) (will_in im true (line (above_row 1)) (line (exch 3 6 ∷ [])) _
-      _ _ _ 2 1 2 (will_find_above 0 0 fr 0 recv 0 0 cs im 1 (omega (arith, small_fr)))
-      (will_row im true (exch 3 6 ∷ []) 1 _ _ (next refl (omega arith)
-      (exchanges true 3 6 (mk 0 0 fr 0 up recv 0 0 cs) inside
-      ∙ ap (λ v. Done (mk 0 v fr 0 up recv 0 0 cs1) 1) z) here))
-      (will_leave_above 0 ob fr 0 recv 0 0 cs1 im 1 (omega (arith, small_fr)))))
+      (will_more im _ true _ _ _ (λ o q. ap (after 2) q) (will_in im true (line (above_row 1)) (line (exch 3 4 ∷ [])) _
+      _ _ _ 1 1 1 (will_raise im 0 fr recv cs 1 up_low)
+      (will_row im true (exch 3 4 ∷ []) 1 _ _ (next refl (omega arith)
+      (exchanges true 3 4 (mk 0 0 up 0 0 recv 0 0 cs) inside
+      ∙ ap (λ v. Done (mk 0 v up 0 0 recv 0 0 cs1) 1) z) here))
+      (will_lower im ob fr recv cs1 1 up_low)))

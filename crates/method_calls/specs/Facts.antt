@@ -14,7 +14,8 @@ use Rattle.roopl_semantics.specs.Value.{Cell, Slot, cell_named, own_class, read,
 use Rattle.roopl_semantics.specs.Execution.{bound, opened, closed, class_of}
 use Rattle.rpp_words.specs.declared.input.FieldWord.{FieldWord}
 use Rattle.pisa_isa.specs.Loaded.{loaded}
-use Rattle.code_conventions.specs.declared.memory.TheConstants.{HEADER_WORDS, MAIN_OBJECT, PLACE_WORD}
+use Rattle.code_conventions.specs.declared.memory.TheConstants.{HEADER_WORDS, MAIN_OBJECT}
+use Rattle.code_conventions.specs.declared.memory.TheConstants.{PLACE_WORD}
 use Rattle.roopl_semantics.specs.Source.{starting, main_body}
 use Rattle.roopl_semantics.specs.Layout.{layout}
 use Rattle.refine_form.specs.Form.{World, Scope, Moved, pairs, with_var, told}
@@ -214,7 +215,8 @@ pub record FrameFacts (w : World) (knows : Known w) : Type 0 where
       → HasWords cells (w.frame_of u) link place
   pub put_back : (s : Scope) (u : w.Under) (st : State) (cells : List ℕ) (link place : ℕ)
       → w.opens s (knows.put u link place) [] st cells → w.IsFresh u
-      → w.opens s u [] st (slice_set (slice_set cells (w.frame_of u + PLACE_WORD) 0) (w.frame_of u) 0)
+      → w.opens s u [] st (slice_set (slice_set cells (w.frame_of u + PLACE_WORD) 0) (w.frame_of u)
+      0)
   pub put_object : (u : w.Under) (link place : ℕ)
       → w.object_of (knows.put u link place) ≡ w.object_of u
   pub put_frame : (u : w.Under) (link place : ℕ)

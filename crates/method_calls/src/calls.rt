@@ -9,57 +9,29 @@ ghost use Rattle.paired_code.specs.Layout.{check_cells, enter_at_cells};
 ghost use Rattle.paired_code.specs.Rows.{line};
 ghost use Rattle.refine_form.specs.Cells.{around};
 ghost use Rattle.refine_form.specs.Held.{Holds};
-ghost use Rattle.method_calls.specs.CallCode.{add, sub, addi, xori, sltx, exch, spot_row, above_row, move_code, depth_row, depth_code, last_cells, save_row, method_code, main_row, main_cells, moves_of, own_cells};
+ghost use Rattle.code_conventions.specs.Cells.{addi, exch};
+ghost use Rattle.code_conventions.specs.declared.faults.TheConstants.{TOO_DEEP, TOUCHED};
+ghost use Rattle.code_conventions.specs.declared.registers.TheConstants.{FLAG, MOVED};
+ghost use Rattle.method_calls.specs.CallCode.{base_of, offset_of, above_row, take_code, move_code, end_row, fits_row, depth_code, last_cells, save_row, method_code, main_row, main_cells, moves_of, own_cells};
 ghost use Rattle.method_calls.specs.Facts.{IsNear};
 ghost use Rattle.method_calls.specs.Laws.{MethodCode, MainCode, OwnCallCode};
 
+use code_conventions::cells::{add, addi, exch, sltx, sub, xori};
+use code_conventions::faults::{TOO_DEEP, TOUCHED};
+use code_conventions::memory::{
+    FIRST_VARIABLE, HEADER_WORDS, MAIN_OBJECT, PLACE_WORD, TABLE_HEADER,
+};
+use code_conventions::registers::{ADDRESS, CONTENT, FLAG, FRAME, LINK, MOVED, OBJECT, VALUE};
 use paired_code::{Piece, check_zero, empty, enter, enter_at, mirror, plain, seq};
-use pisa_isa::{Cell, Op};
+use pisa_isa::Cell;
 use refine_form::{Spot, around};
 use rpp_words::{FRAME_WORDS, NoMemory};
 use std::alloc::Global;
 
-fn cell(op: Op, a: u8, b: u8, c: u8, imm: u32) -> Cell
-    ensures { result ≡ record { op = op; a = a; b = b; c = c; imm = imm } }
-{
-    Cell { op, a, b, c, imm }
-}
+// The cell with the end of the stack, and the one with its base.
+const END_CELL: u32 = 4;
 
-pub(crate) fn add(to: u8, from: u8) -> Cell
-    ensures { result ≡ add to from }
-{
-    cell(Op::Add, to, from, 0, 0)
-}
-
-pub(crate) fn sub(to: u8, from: u8) -> Cell
-    ensures { result ≡ sub to from }
-{
-    cell(Op::Sub, to, from, 0, 0)
-}
-
-pub(crate) fn xori(to: u8, word: u32) -> Cell
-    ensures { result ≡ xori to word }
-{
-    cell(Op::Xori, to, 0, 0, word)
-}
-
-pub(crate) fn sltx(to: u8, left: u8, right: u8) -> Cell
-    ensures { result ≡ sltx to left right }
-{
-    cell(Op::Sltx, to, left, right, 0)
-}
-
-fn addi(to: u8, word: u32) -> Cell
-    ensures { result ≡ addi to word }
-{
-    cell(Op::Addi, to, 0, 0, word)
-}
-
-pub(crate) fn exch(reg: u8, at: u8) -> Cell
-    ensures { result ≡ exch reg at }
-{
-    cell(Op::Exch, reg, at, 0, 0)
-}
+const BASE_CELL: u32 = 3;
 
 // A piece and one instruction more.
 pub(crate) fn then(alloc: Global, piece: Piece, cell: Cell) -> Result<Piece, NoMemory>
@@ -81,93 +53,123 @@ pub(crate) fn bare_around(alloc: Global, outer: Piece, inner: Piece) -> Result<P
     seq(outer, seq(inner, back)?)
 }
 
-pub(crate) fn spot_piece(alloc: Global, spot: Spot) -> Result<Piece, NoMemory>
+// The base goes to a spot.
+pub(crate) fn reach(spot: Spot) -> Cell
     requires near { IsNear spot }
-    ensures code { IfOk result (λ p. p ≡ unmarked (line (spot_row spot))) }
+    ensures row { result ≡ addi (base_of spot) (offset_of spot) }
+    ensures cell { IsCell result }
 {
     match spot {
-        Spot::Field(number) => then(alloc, plain(alloc, add(5, 3))?, addi(5, 2 + number)),
-        Spot::Frame(word) => then(alloc, plain(alloc, add(5, 4))?, addi(5, word)),
+        Spot::Field(number) => addi(OBJECT, HEADER_WORDS + number),
+        Spot::Frame(word) => addi(FRAME, word),
     }
 }
 
-pub(crate) fn above_piece(alloc: Global, word: u32) -> Result<Piece, NoMemory>
-    requires { word < 2 ^ 16 }
-    ensures code { IfOk result (λ p. p ≡ unmarked (line (above_row word))) }
+// MOVED changes places with the word to which the base has gone.
+fn moved_at(spot: Spot) -> Cell
+    ensures row { result ≡ exch MOVED (base_of spot) }
+    ensures cell { IsCell result }
 {
-    then(alloc, plain(alloc, add(6, 4))?, addi(6, FRAME_WORDS + word))
+    match spot {
+        Spot::Field(_) => exch(MOVED, OBJECT),
+        Spot::Frame(_) => exch(MOVED, FRAME),
+    }
 }
 
-// The word of the variable leaves, checked when it comes back.
-fn change_piece(alloc: Global) -> Result<Piece, NoMemory>
-    ensures code { IfOk result (λ p. p ≡ unmarked (check_cells 8 15 ++ line (exch 8 5 ∷ exch 8 6 ∷ []))) }
+// The word of a spot leaves its cell, which is checked when the word comes back.
+fn taken_piece(alloc: Global, spot: Spot) -> Result<Piece, NoMemory>
+    ensures code { IfOk result (λ p. p
+        ≡ unmarked (check_cells MOVED TOUCHED ++ line (exch MOVED (base_of spot) ∷ []))) }
 {
     seq(
-        check_zero(alloc, 8, 15)?,
-        then(alloc, plain(alloc, exch(8, 5))?, exch(8, 6))?,
+        check_zero(alloc, MOVED, TOUCHED)?,
+        plain(alloc, moved_at(spot))?,
     )
 }
 
-fn lifted_piece(alloc: Global, word: u32) -> Result<Piece, NoMemory>
-    requires { word < 2 ^ 16 }
-    ensures code { IfOk result (λ p. p
-        ≡ unmarked (around (line (above_row word))
-        (check_cells 8 15 ++ line (exch 8 5 ∷ exch 8 6 ∷ [])))) }
+pub(crate) fn take_piece(alloc: Global, spot: Spot) -> Result<Piece, NoMemory>
+    requires near { IsNear spot }
+    ensures code { IfOk result (λ p. p ≡ unmarked (take_code spot)) }
 {
-    bare_around(alloc, above_piece(alloc, word)?, change_piece(alloc)?)
+    bare_around(alloc, plain(alloc, reach(spot))?, taken_piece(alloc, spot)?)
 }
 
-// The value of a variable moves into word 16 + j of the frame above, and back.
+// A cell that runs while FRAME stands at a word of the frame above.
+pub(crate) fn above_piece(alloc: Global, word: u32, inner: Cell) -> Result<Piece, NoMemory>
+    requires word { word < 2 ^ 16 }
+    requires single { IsTrue (is_single inner) }
+    requires cell { IsCell inner }
+    ensures code { IfOk result (λ p. p ≡ unmarked (around (line (above_row word)) (line (inner ∷ [])))) }
+{
+    bare_around(
+        alloc,
+        plain(alloc, addi(FRAME, FRAME_WORDS + word))?,
+        plain(alloc, inner)?,
+    )
+}
+
+// The value of a variable moves into the word of variable j of the frame above, and back.
+#[tactic(auto, unfolding(crate::specs::CallCode::move_code))]
 fn move_piece(alloc: Global, spot: Spot, j: u32) -> Result<Piece, NoMemory>
     requires near { IsNear spot }
     requires few { j < 32 }
     ensures code { IfOk result (λ p. p ≡ unmarked (move_code spot j)) }
 {
-    bare_around(
-        alloc,
-        spot_piece(alloc, spot)?,
-        lifted_piece(alloc, 16 + j)?,
+    seq(
+        take_piece(alloc, spot)?,
+        above_piece(alloc, FIRST_VARIABLE + j, exch(MOVED, FRAME))?,
     )
 }
 
-fn depth_test(alloc: Global) -> Result<Piece, NoMemory>
-    ensures code { IfOk result (λ p. p ≡ unmarked (line depth_row)) }
+// CONTENT gets the end of the stack, a frame less.
+fn end_piece(alloc: Global) -> Result<Piece, NoMemory>
+    ensures code { IfOk result (λ p. p ≡ unmarked (line end_row)) }
 {
-    let test = then(alloc, plain(alloc, addi(5, 4))?, exch(6, 5))?;
-    let test = then(alloc, test, add(8, 6))?;
-    let test = then(alloc, test, exch(6, 5))?;
-    let test = then(alloc, test, addi(5, negated(4)))?;
-    let test = then(alloc, test, sub(8, 4))?;
-    let test = then(alloc, test, addi(8, negated(FRAME_WORDS)))?;
-    let test = then(alloc, test, sltx(11, 7, 8))?;
-    then(alloc, test, xori(11, 1))
+    let end = then(
+        alloc,
+        plain(alloc, addi(ADDRESS, END_CELL))?,
+        exch(CONTENT, ADDRESS),
+    )?;
+    then(alloc, end, addi(CONTENT, negated(FRAME_WORDS)))
+}
+
+// Whether the frame above fits: the flag is 0 behind it.
+fn fits_piece(alloc: Global) -> Result<Piece, NoMemory>
+    ensures code { IfOk result (λ p. p ≡ unmarked (line fits_row ++ check_cells FLAG TOO_DEEP)) }
+{
+    let test = then(
+        alloc,
+        plain(alloc, sltx(FLAG, FRAME, CONTENT))?,
+        xori(FLAG, 1),
+    )?;
+    seq(test, check_zero(alloc, FLAG, TOO_DEEP)?)
 }
 
 pub(crate) fn depth_piece(alloc: Global) -> Result<Piece, NoMemory>
     ensures code { IfOk result (λ p. p ≡ unmarked (depth_code)) }
 {
-    bare_around(alloc, depth_test(alloc)?, check_zero(alloc, 11, 14)?)
+    bare_around(alloc, end_piece(alloc)?, fits_piece(alloc)?)
 }
 
-// The last cells before a call: FRAME goes up, and register 12 gets the method's place.
+// The last cells before a call: FRAME goes up, and VALUE gets the method's place.
 #[tactic(auto, unfolding(crate::specs::CallCode::last_cells))]
 pub(crate) fn fetch_piece(alloc: Global, slot: u32) -> Result<Piece, NoMemory>
     requires { slot < 2 ^ 20 }
     ensures code { IfOk result (λ p. p ≡ unmarked (last_cells slot)) }
 {
-    let piece = then(alloc, plain(alloc, addi(4, FRAME_WORDS))?, add(5, 3))?;
-    let piece = then(alloc, piece, exch(6, 5))?;
-    let piece = then(alloc, piece, add(8, 6))?;
-    let piece = then(alloc, piece, exch(6, 5))?;
-    let piece = then(alloc, piece, addi(8, 1 + slot))?;
-    let piece = then(alloc, piece, exch(6, 8))?;
-    let piece = then(alloc, piece, add(12, 6))?;
-    let piece = then(alloc, piece, exch(6, 8))?;
-    let piece = then(alloc, piece, addi(8, negated(1 + slot)))?;
-    let piece = then(alloc, piece, exch(6, 5))?;
-    let piece = then(alloc, piece, sub(8, 6))?;
-    let piece = then(alloc, piece, exch(6, 5))?;
-    then(alloc, piece, sub(5, 3))
+    let entry = TABLE_HEADER + slot;
+    let piece = plain(alloc, addi(FRAME, FRAME_WORDS))?;
+    let piece = then(alloc, piece, exch(CONTENT, OBJECT))?;
+    let piece = then(alloc, piece, add(MOVED, CONTENT))?;
+    let piece = then(alloc, piece, exch(CONTENT, OBJECT))?;
+    let piece = then(alloc, piece, addi(MOVED, entry))?;
+    let piece = then(alloc, piece, exch(CONTENT, MOVED))?;
+    let piece = then(alloc, piece, add(VALUE, CONTENT))?;
+    let piece = then(alloc, piece, exch(CONTENT, MOVED))?;
+    let piece = then(alloc, piece, addi(MOVED, negated(entry)))?;
+    let piece = then(alloc, piece, exch(CONTENT, OBJECT))?;
+    let piece = then(alloc, piece, sub(MOVED, CONTENT))?;
+    then(alloc, piece, exch(CONTENT, OBJECT))
 }
 
 fn negated(word: u32) -> u32
@@ -180,9 +182,13 @@ fn negated(word: u32) -> u32
 fn save_piece(alloc: Global) -> Result<Piece, NoMemory>
     ensures code { IfOk result (λ p. p ≡ unmarked (line save_row)) }
 {
-    let save = then(alloc, plain(alloc, exch(2, 4))?, addi(4, 2))?;
-    let save = then(alloc, save, exch(12, 4))?;
-    then(alloc, save, addi(4, negated(2)))
+    let save = then(
+        alloc,
+        plain(alloc, exch(LINK, FRAME))?,
+        addi(FRAME, PLACE_WORD),
+    )?;
+    let save = then(alloc, save, exch(VALUE, FRAME))?;
+    then(alloc, save, addi(FRAME, negated(PLACE_WORD)))
 }
 
 /// The code of a method, over the piece of its block: the link and the place are put by round it.
@@ -205,11 +211,15 @@ fn saved_piece(alloc: Global, body: Piece) -> Result<Piece, NoMemory>
 fn main_front(alloc: Global) -> Result<Piece, NoMemory>
     ensures code { IfOk result (λ p. p ≡ unmarked (line main_row)) }
 {
-    let open = then(alloc, plain(alloc, addi(3, 40))?, addi(5, 3))?;
-    let open = then(alloc, open, exch(6, 5))?;
-    let open = then(alloc, open, add(4, 6))?;
-    let open = then(alloc, open, exch(6, 5))?;
-    then(alloc, open, addi(5, negated(3)))
+    let open = then(
+        alloc,
+        plain(alloc, addi(OBJECT, MAIN_OBJECT))?,
+        addi(ADDRESS, BASE_CELL),
+    )?;
+    let open = then(alloc, open, exch(CONTENT, ADDRESS))?;
+    let open = then(alloc, open, add(FRAME, CONTENT))?;
+    let open = then(alloc, open, exch(CONTENT, ADDRESS))?;
+    then(alloc, open, addi(ADDRESS, negated(BASE_CELL)))
 }
 
 #[tactic(auto, unfolding(crate::specs::CallCode::main_cells))]
@@ -273,7 +283,7 @@ fn own_piece(alloc: Global, back: bool, slot: u32, args: &[Spot]) -> Result<Piec
     bare_around(
         alloc,
         front_piece(alloc, slot, args)?,
-        enter_at(alloc, 12, back)?,
+        enter_at(alloc, VALUE, back)?,
     )
 }
 
@@ -286,7 +296,7 @@ pub fn own_call(alloc: Global, back: bool, slot: u32, args: &[Spot]) -> Result<P
     requires slot { slot < 2 ^ 20 }
     ensures law { IfOk result (λ p. OwnCallCode back slot args.now p.cells) }
     ensures none { IfOk result (λ p. p.marks ≡ []) }
-    ensures size { IfOk result (λ p. length p.cells ≡ 30 * length args.now + 81) }
+    ensures size { IfOk result (λ p. length p.cells ≡ 22 * length args.now + 57) }
 {
     own_piece(alloc, back, slot, args)
 }

@@ -5,25 +5,40 @@ ghost use Rattle.paired_code.specs.Layout.{mirror_cells};
 ghost use Rattle.paired_code.specs.Rows.{line};
 ghost use Rattle.refine_form.specs.Cells.{around};
 ghost use Rattle.refine_form.specs.Held.{Holds};
-ghost use Rattle.refine_form.specs.declared.spot.Spot.TheVariants.{Frame};
-ghost use Rattle.method_calls.specs.CallCode.{exch, spot_row, local_open, local_code};
+ghost use Rattle.code_conventions.specs.Cells.{exch};
+ghost use Rattle.code_conventions.specs.declared.registers.TheConstants.{ADDRESS, VALUE};
+ghost use Rattle.method_calls.specs.CallCode.{word_row, local_open, local_code};
 ghost use Rattle.method_calls.specs.Laws.{LocalCode};
 
-use crate::calls::{bare_around, exch, spot_piece};
+use crate::calls::{bare_around, then};
+use code_conventions::cells::{add, addi, exch};
+use code_conventions::faults::DELOCAL;
+use code_conventions::registers::{ADDRESS, FRAME, VALUE};
 use paired_code::{Piece, check_zero, mirror, plain, seq};
-use refine_form::Spot;
 use rpp_words::NoMemory;
 use std::alloc::Global;
+
+// ADDRESS gets the address of a word of the frame.
+fn word_piece(alloc: Global, word: u32) -> Result<Piece, NoMemory>
+    requires word { word < 2 ^ 16 }
+    ensures code { IfOk result (λ p. p ≡ unmarked (line (word_row word))) }
+{
+    then(
+        alloc,
+        plain(alloc, add(ADDRESS, FRAME))?,
+        addi(ADDRESS, word),
+    )
+}
 
 fn store_piece(alloc: Global, word: u32) -> Result<Piece, NoMemory>
     requires word { word < 2 ^ 16 }
     ensures code { IfOk result (λ p. p
-        ≡ unmarked (around (line (spot_row (Frame word))) (line (exch 12 5 ∷ [])))) }
+        ≡ unmarked (around (line (word_row word)) (line (exch VALUE ADDRESS ∷ [])))) }
 {
     bare_around(
         alloc,
-        spot_piece(alloc, Spot::Frame(word))?,
-        plain(alloc, exch(12, 5))?,
+        word_piece(alloc, word)?,
+        plain(alloc, exch(VALUE, ADDRESS))?,
     )
 }
 
@@ -33,7 +48,7 @@ fn open_piece(alloc: Global, word: u32, value: Piece) -> Result<Piece, NoMemory>
     ensures code { IfOk result (λ p. p ≡ unmarked (local_open word value.cells)) }
 {
     seq(
-        check_zero(alloc, 12, 3)?,
+        check_zero(alloc, VALUE, DELOCAL)?,
         seq(value, store_piece(alloc, word)?)?,
     )
 }

@@ -5,39 +5,56 @@ ghost use Rattle.paired_code.specs.Code.{unmarked};
 ghost use Rattle.paired_code.specs.Layout.{check_cells, enter_at_cells};
 ghost use Rattle.paired_code.specs.Rows.{line};
 ghost use Rattle.refine_form.specs.Cells.{around};
-ghost use Rattle.method_calls.specs.CallCode.{add, sub, exch, sltx, xori, spot_row, above_row, peek_code, nil_code, take_code, onto_code, last_cells, depth_code, moves_of, behind_of, checked_of, front_on_of};
+ghost use Rattle.pisa_isa.specs.Table.{IsCell};
+ghost use Rattle.code_conventions.specs.Cells.{exch};
+ghost use Rattle.code_conventions.specs.declared.faults.TheConstants.{NIL};
+ghost use Rattle.code_conventions.specs.declared.registers.TheConstants.{CONTENT, FLAG, VALUE};
+ghost use Rattle.method_calls.specs.CallCode.{base_of, peek_row, nil_row, nil_code, onto_code, last_cells, depth_code, moves_of, behind_of, checked_of, front_on_of};
 ghost use Rattle.method_calls.specs.Facts.{IsNear};
 ghost use Rattle.method_calls.specs.Laws.{CallOnCode};
 
 use crate::calls::{
-    above_piece, add, bare_around, depth_piece, exch, fetch_piece, moves_piece, sltx, spot_piece,
-    sub, then, xori,
+    above_piece, bare_around, depth_piece, fetch_piece, moves_piece, reach, take_piece, then,
 };
+use code_conventions::cells::{add, exch, sltx, sub, xori};
+use code_conventions::faults::NIL;
+use code_conventions::memory::OBJECT_WORD;
+use code_conventions::registers::{CONTENT, FLAG, FRAME, MOVED, NOUGHT, OBJECT, VALUE};
 use paired_code::{Piece, check_zero, enter_at, plain, seq};
+use pisa_isa::Cell;
 use refine_form::Spot;
 use rpp_words::NoMemory;
 use std::alloc::Global;
 
-fn read_piece(alloc: Global) -> Result<Piece, NoMemory>
-    ensures code { IfOk result (λ p. p ≡ unmarked (line (exch 6 5 ∷ add 8 6 ∷ exch 6 5 ∷ []))) }
+// CONTENT changes places with the word to which the base has gone.
+fn content_at(spot: Spot) -> Cell
+    ensures row { result ≡ exch CONTENT (base_of spot) }
+    ensures cell { IsCell result }
 {
-    let piece = then(alloc, plain(alloc, exch(6, 5))?, add(8, 6))?;
-    then(alloc, piece, exch(6, 5))
+    match spot {
+        Spot::Field(_) => exch(CONTENT, OBJECT),
+        Spot::Frame(_) => exch(CONTENT, FRAME),
+    }
 }
 
+// CONTENT gets the word of a spot.
 fn peek_piece(alloc: Global, spot: Spot) -> Result<Piece, NoMemory>
     requires near { IsNear spot }
-    ensures code { IfOk result (λ p. p ≡ unmarked (peek_code spot)) }
+    ensures code { IfOk result (λ p. p ≡ unmarked (line (peek_row spot))) }
 {
-    bare_around(alloc, spot_piece(alloc, spot)?, read_piece(alloc)?)
+    then(alloc, plain(alloc, reach(spot))?, content_at(spot))
 }
 
+// Whether it is nil: the flag is 0 behind it.
 fn nil_test(alloc: Global) -> Result<Piece, NoMemory>
-    ensures code { IfOk result (λ p. p
-        ≡ unmarked (around (line (sltx 11 7 8 ∷ xori 11 1 ∷ [])) (check_cells 11 5))) }
+    ensures code { IfOk result (λ p. p ≡ unmarked (line nil_row ++ check_cells FLAG NIL)) }
 {
-    let test = then(alloc, plain(alloc, sltx(11, 7, 8))?, xori(11, 1))?;
-    bare_around(alloc, test, check_zero(alloc, 11, 5)?)
+    let test = then(
+        alloc,
+        plain(alloc, sltx(FLAG, NOUGHT, CONTENT))?,
+        xori(FLAG, 1),
+    )?;
+    seq(test, check_zero(alloc, FLAG, NIL)?)
 }
 
 fn nil_piece(alloc: Global, spot: Spot) -> Result<Piece, NoMemory>
@@ -47,30 +64,11 @@ fn nil_piece(alloc: Global, spot: Spot) -> Result<Piece, NoMemory>
     bare_around(alloc, peek_piece(alloc, spot)?, nil_test(alloc)?)
 }
 
-fn taken_piece(alloc: Global) -> Result<Piece, NoMemory>
-    ensures code { IfOk result (λ p. p ≡ unmarked (check_cells 8 15 ++ line (exch 8 5 ∷ []))) }
-{
-    seq(check_zero(alloc, 8, 15)?, plain(alloc, exch(8, 5))?)
-}
-
-fn take_piece(alloc: Global, spot: Spot) -> Result<Piece, NoMemory>
-    requires near { IsNear spot }
-    ensures code { IfOk result (λ p. p ≡ unmarked (take_code spot)) }
-{
-    bare_around(alloc, spot_piece(alloc, spot)?, taken_piece(alloc)?)
-}
-
-fn saved_piece(alloc: Global) -> Result<Piece, NoMemory>
-    ensures code { IfOk result (λ p. p ≡ unmarked (around (line (above_row 1)) (line (exch 3 6 ∷ [])))) }
-{
-    bare_around(alloc, above_piece(alloc, 1)?, plain(alloc, exch(3, 6))?)
-}
-
 fn onto_piece(alloc: Global) -> Result<Piece, NoMemory>
     ensures code { IfOk result (λ p. p ≡ unmarked (onto_code)) }
 {
-    let swap = then(alloc, plain(alloc, add(3, 8))?, sub(8, 3))?;
-    seq(saved_piece(alloc)?, swap)
+    let swap = then(alloc, plain(alloc, add(OBJECT, MOVED))?, sub(MOVED, OBJECT))?;
+    seq(above_piece(alloc, OBJECT_WORD, exch(OBJECT, FRAME))?, swap)
 }
 
 #[tactic(auto, unfolding(crate::specs::CallCode::behind_of))]
@@ -133,12 +131,12 @@ fn on_piece(
     requires few { length args.now ≤ 32 }
     requires slot { slot < 2 ^ 20 }
     ensures code { IfOk result (λ p. p
-        ≡ unmarked (around (front_on_of spot slot args.now) (enter_at_cells 12 back))) }
+        ≡ unmarked (around (front_on_of spot slot args.now) (enter_at_cells VALUE back))) }
 {
     bare_around(
         alloc,
         front_piece(alloc, spot, slot, args)?,
-        enter_at(alloc, 12, back)?,
+        enter_at(alloc, VALUE, back)?,
     )
 }
 
@@ -158,7 +156,7 @@ pub fn call_on(
     requires slot { slot < 2 ^ 20 }
     ensures law { IfOk result (λ p. CallOnCode back spot slot args.now p.cells) }
     ensures none { IfOk result (λ p. p.marks ≡ []) }
-    ensures size { IfOk result (λ p. length p.cells ≡ 30 * length args.now + 161) }
+    ensures size { IfOk result (λ p. length p.cells ≡ 22 * length args.now + 105) }
 {
     on_piece(alloc, back, spot, slot, args)
 }

@@ -2,6 +2,11 @@
 use Rattle.std.specs.Prelude.{ℕ, ◌^◌, false, List, [], ◌∷◌, ◌++◌}
 use Rattle.rpp_words.specs.Words.{negated}
 use Rattle.pisa_isa.specs.declared.cell.Op.TheVariants.{Rl, Srlvx, Andix}
+use Rattle.code_conventions.specs.declared.faults.TheConstants.{NOT_NIL, NIL, COUNT, NOT_EMPTY}
+use Rattle.code_conventions.specs.declared.faults.TheConstants.{NOT_SAME, CLASS_DIFFERS}
+use Rattle.code_conventions.specs.declared.faults.TheConstants.{LENGTH_DIFFERS, LENGTH}
+use Rattle.code_conventions.specs.declared.memory.TheConstants.{COUNT_WORD, HEADER_WORDS}
+use Rattle.code_conventions.specs.declared.registers.TheConstants.{VALUE, BLOCK}
 use Rattle.paired_code.specs.declared.part.Symbol.{Symbol}
 use Rattle.paired_code.specs.declared.part.Symbol.TheVariants.{Own, Enter}
 use Rattle.paired_code.specs.Layout.{mirror_cells, check_cells, loop_cells}
@@ -30,18 +35,18 @@ load_cells r = around (exch content r ∷ []) (xor first_word content ∷ [])
 
 -- the words at the two places are the same, and the places are two
 abbrev pub same_words : List Symbol
-same_words = around (load_cells place ++ load_cells other_place) (check_cells first_word 10)
+same_words = around (load_cells place ++ load_cells other_place) (check_cells first_word NOT_SAME)
 
 abbrev pub two_places : List Symbol
 two_places = around (sltx outcome place other_place ∷ sltx outcome other_place place
-    ∷ xori outcome 1 ∷ []) (check_cells outcome 10)
+    ∷ xori outcome 1 ∷ []) (check_cells outcome NOT_SAME)
 
 -- what is tried before a copy, and before its inverse
 abbrev pub copy_checks : List Symbol
-copy_checks = some_place place 5 ++ nil_place other_place 4
+copy_checks = some_place place NIL ++ nil_place other_place NOT_NIL
 
 abbrev pub uncopy_checks : List Symbol
-uncopy_checks = some_place place 5 ++ (same_words ++ two_places)
+uncopy_checks = some_place place NIL ++ (same_words ++ two_places)
 
 -- the reference xored into the second place
 abbrev pub refer_cells : List Symbol
@@ -49,7 +54,7 @@ refer_cells = around (exch content other_place ∷ []) (xor content first_word �
 
 -- one more variable has it
 abbrev pub count_cells : List Symbol
-count_cells = around (addi first_word 1 ∷ [])
+count_cells = around (addi first_word COUNT_WORD ∷ [])
     (around (exch content first_word ∷ []) (addi content 1 ∷ []))
 
 abbrev pub copy_alter : List Symbol
@@ -66,18 +71,18 @@ mark_cell r (Fixed table fields) = xori content table
 mark_cell r Lengthy = xor content r
 
 abbrev pub mark_fault : Shape → ℕ
-mark_fault (Fixed table fields) = 11
-mark_fault Lengthy = 12
+mark_fault (Fixed table fields) = CLASS_DIFFERS
+mark_fault Lengthy = LENGTH_DIFFERS
 
 -- the number of its cells added to register d
 abbrev pub grow_cell : ℕ → Shape → Symbol
 grow_cell d (Fixed table fields) = addi d fields
 grow_cell d Lengthy = add d amount
 
--- the reference is not nil, or fault 5
+-- the reference is not nil
 abbrev pub some_reference : List Symbol
 some_reference = around (sltx outcome nought first_word ∷ xori outcome 1 ∷ [])
-    (check_cells outcome 5)
+    (check_cells outcome NIL)
 
 -- the first word of the block is what it is to be
 abbrev pub same_mark : Shape → List Symbol
@@ -86,22 +91,23 @@ same_mark shape = around (exch content first_word ∷ mark_cell amount shape ∷
 
 -- one variable has it
 abbrev pub single : List Symbol
-single = around (addi first_word 1 ∷ exch content first_word ∷ xori content 1 ∷ [])
-    (check_cells content 6)
+single = around (addi first_word COUNT_WORD ∷ exch content first_word ∷ xori content 1 ∷ [])
+    (check_cells content COUNT)
 
 -- the flag turns where the word is past the first one, and where it is before the end
 abbrev pub walk_head : List Symbol
 walk_head = sltx outcome left_truth first_word ∷ sltx outcome first_word right_truth ∷ []
 
 abbrev pub walk_tail : List Symbol
-walk_tail = nil_place first_word 7 ++ addi first_word 1 ∷ []
+walk_tail = nil_place first_word NOT_EMPTY ++ addi first_word 1 ∷ []
 
 abbrev pub walk_cells : List Symbol
 walk_cells = loop_cells outcome walk_head walk_tail
 
 -- where the cells begin and end
 abbrev pub ends_cells : Shape → List Symbol
-ends_cells shape = addi first_word 2 ∷ xor left_truth first_word ∷ xor right_truth first_word
+ends_cells shape =
+    addi first_word HEADER_WORDS ∷ xor left_truth first_word ∷ xor right_truth first_word
     ∷ grow_cell right_truth shape ∷ []
 
 -- all cells are 0
@@ -116,12 +122,12 @@ delete_checks shape = around (load_cells place)
 
 -- the length is above 0
 abbrev pub positive : List Symbol
-positive = around (sltx outcome nought amount ∷ xori outcome 1 ∷ []) (check_cells outcome 13)
+positive = around (sltx outcome nought amount ∷ xori outcome 1 ∷ []) (check_cells outcome LENGTH)
 
 -- what is tried before a new
 abbrev pub new_checks : Shape → List Symbol
-new_checks (Fixed table fields) = nil_place place 4
-new_checks Lengthy = nil_place place 4 ++ positive
+new_checks (Fixed table fields) = nil_place place NOT_NIL
+new_checks Lengthy = nil_place place NOT_NIL ++ positive
 
 -- the first word of a block, and the number of its cells, where a length is v
 abbrev pub mark_of : ℕ → Shape → ℕ
@@ -136,10 +142,10 @@ size_of v Lengthy = v
 
 -- the allocator's registers, the place and the length while it is called
 abbrev pub order : ℕ
-order = 12
+order = VALUE
 
 abbrev pub block : ℕ
-block = 13
+block = BLOCK
 
 abbrev pub at_place : ℕ
 at_place = 14
@@ -157,7 +163,7 @@ move_cells Lengthy = xor at_place place ∷ xor place at_place ∷ xor at_length
 abbrev pub fill_cells : Shape → List Symbol
 fill_cells shape =
     mark_cell at_length shape ∷ exch content block
-    ∷ (around (addi block 1 ∷ []) (xori content 1 ∷ exch content block ∷ [])
+    ∷ (around (addi block COUNT_WORD ∷ []) (xori content 1 ∷ exch content block ∷ [])
     ++ exch block at_place ∷ [])
 
 -- the allocator is routine 0

@@ -166,9 +166,12 @@ pub record Makes (im : Image) (m : Memory) (object frame low n steps a v order :
   pub count_faults : (x : ℕ) → slice_index m.cells a ≡ x → x + 1 < low → x < 2 ^ 31 → x ≢ 0
       → slice_index m.cells x ≡ mark_of v shape → slice_index m.cells (x + 1) ≢ 1
       → Will im p true m (TrapsWithin count_fault (steps + 26))
-  pub not_empty_faults : (x i : ℕ) → slice_index m.cells a ≡ x → x + HEADER_WORDS + size_of v shape ≤ low
-      → x + HEADER_WORDS + size_of v shape < 2 ^ 31 → x ≢ 0 → slice_index m.cells x ≡ mark_of v shape
-      → slice_index m.cells (x + COUNT_WORD) ≡ 1 → x + HEADER_WORDS ≤ i → i < x + HEADER_WORDS + size_of v shape
+  pub not_empty_faults : (x i : ℕ) → slice_index m.cells a ≡ x
+      → x + HEADER_WORDS + size_of v shape ≤ low
+      → x + HEADER_WORDS + size_of v shape < 2 ^ 31 → x ≢ 0
+      → slice_index m.cells x ≡ mark_of v shape
+      → slice_index m.cells (x + COUNT_WORD) ≡ 1 → x + HEADER_WORDS ≤ i
+      → i < x + HEADER_WORDS + size_of v shape
       → slice_index m.cells i ≢ 0
       → Will im p true m (TrapsWithin not_empty_fault (steps + (37 + 15 * size_of v shape)))
 

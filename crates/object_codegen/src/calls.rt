@@ -7,6 +7,7 @@ ghost use Rattle.rpp_tree.specs.Views.{expression_of, lvalue_of, creation_of, so
 ghost use Rattle.roopl_semantics.specs.Elements.{index_elements, own_element, read_cost};
 ghost use Rattle.expr_uncompute.specs.Code.{words as words_of, place_words as words_of_place};
 ghost use Rattle.expr_uncompute.specs.Steps.{tokens, place_tokens};
+ghost use Rattle.code_conventions.specs.declared.memory.TheConstants.{HEADER_WORDS};
 ghost use Rattle.code_scope.specs.Visible.{spot_of, free_of, known_in};
 ghost use Rattle.object_codegen.specs.News.{ObjectLaw, ArrayLaw};
 ghost use Rattle.object_codegen.specs.Creations.{NewLaw, creation_words, creation_size, class_of, fields_of};
@@ -116,7 +117,7 @@ pub fn class_code(
         ObjectLaw (spot_of (known_in scope.now)) (free_of (known_in scope.now))
         (table_at (source_of scope.now.program) (class_of (source_of scope.now.program) class.now))
         (fields_of (source_of scope.now.program) class.now)
-        (order_for (2 + fields_of (source_of scope.now.program) class.now))
+        (order_for (HEADER_WORDS + fields_of (source_of scope.now.program) class.now))
         (lvalue_of place.now) p.cells) }
     ensures marks { IfOk result (λ p. p.marks ≡ []) }
     ensures size { IfOk result (λ p. length p.cells ≤ 87 + 80 * (1 + place_tokens

@@ -4,6 +4,10 @@ ghost use Rattle.paired_code.specs.Code.{unmarked};
 ghost use Rattle.expr_uncompute.specs.Code.{two as two_of, three as three_of, with_word as with_word_of, around};
 ghost use Rattle.object_codegen.specs.Code.{turn_left, srlvx as srlvx_of, andix as andix_of};
 
+use code_conventions::cells::{
+    add as add_cell, addi as addi_cell, exch as exch_cell, sltx as sltx_cell, with_word,
+    xor as xor_cell, xori as xori_cell,
+};
 use paired_code::{Piece, mirror, plain, seq};
 use pisa_isa::{Cell, Op};
 use rpp_words::NoMemory;
@@ -15,14 +19,7 @@ pub fn exch(alloc: Global, d: u8, s: u8) -> Result<Piece, NoMemory>
     requires apart { d ≢ s }
     ensures { IfOk result (λ p. p ≡ unmarked (two_of Op.Exch d s ∷ [])) }
 {
-    let cell = Cell {
-        op: Op::Exch,
-        a: d,
-        b: s,
-        c: 0,
-        imm: 0,
-    };
-    plain(alloc, cell)
+    plain(alloc, exch_cell(d, s))
 }
 
 pub fn xor(alloc: Global, d: u8, s: u8) -> Result<Piece, NoMemory>
@@ -31,14 +28,7 @@ pub fn xor(alloc: Global, d: u8, s: u8) -> Result<Piece, NoMemory>
     requires apart { d ≢ s }
     ensures { IfOk result (λ p. p ≡ unmarked (two_of Op.Xor d s ∷ [])) }
 {
-    let cell = Cell {
-        op: Op::Xor,
-        a: d,
-        b: s,
-        c: 0,
-        imm: 0,
-    };
-    plain(alloc, cell)
+    plain(alloc, xor_cell(d, s))
 }
 
 pub fn add(alloc: Global, d: u8, s: u8) -> Result<Piece, NoMemory>
@@ -47,42 +37,21 @@ pub fn add(alloc: Global, d: u8, s: u8) -> Result<Piece, NoMemory>
     requires apart { d ≢ s }
     ensures { IfOk result (λ p. p ≡ unmarked (two_of Op.Add d s ∷ [])) }
 {
-    let cell = Cell {
-        op: Op::Add,
-        a: d,
-        b: s,
-        c: 0,
-        imm: 0,
-    };
-    plain(alloc, cell)
+    plain(alloc, add_cell(d, s))
 }
 
 pub fn addi(alloc: Global, d: u8, word: u32) -> Result<Piece, NoMemory>
     requires { d < 32 }
     ensures { IfOk result (λ p. p ≡ unmarked (with_word_of Op.Addi d word ∷ [])) }
 {
-    let cell = Cell {
-        op: Op::Addi,
-        a: d,
-        b: 0,
-        c: 0,
-        imm: word,
-    };
-    plain(alloc, cell)
+    plain(alloc, addi_cell(d, word))
 }
 
 pub fn xori(alloc: Global, d: u8, word: u32) -> Result<Piece, NoMemory>
     requires { d < 32 }
     ensures { IfOk result (λ p. p ≡ unmarked (with_word_of Op.Xori d word ∷ [])) }
 {
-    let cell = Cell {
-        op: Op::Xori,
-        a: d,
-        b: 0,
-        c: 0,
-        imm: word,
-    };
-    plain(alloc, cell)
+    plain(alloc, xori_cell(d, word))
 }
 
 pub fn sltx(alloc: Global, d: u8, s: u8, t: u8) -> Result<Piece, NoMemory>
@@ -93,14 +62,7 @@ pub fn sltx(alloc: Global, d: u8, s: u8, t: u8) -> Result<Piece, NoMemory>
     requires apart_t { d ≢ t }
     ensures { IfOk result (λ p. p ≡ unmarked (three_of Op.Sltx d s t ∷ [])) }
 {
-    let cell = Cell {
-        op: Op::Sltx,
-        a: d,
-        b: s,
-        c: t,
-        imm: 0,
-    };
-    plain(alloc, cell)
+    plain(alloc, sltx_cell(d, s, t))
 }
 
 pub fn rl(alloc: Global, d: u8, bits: u32) -> Result<Piece, NoMemory>
@@ -108,14 +70,7 @@ pub fn rl(alloc: Global, d: u8, bits: u32) -> Result<Piece, NoMemory>
     requires bits { bits < 32 }
     ensures { IfOk result (λ p. p ≡ unmarked (turn_left d bits ∷ [])) }
 {
-    let cell = Cell {
-        op: Op::Rl,
-        a: d,
-        b: 0,
-        c: 0,
-        imm: bits,
-    };
-    plain(alloc, cell)
+    plain(alloc, with_word(Op::Rl, d, bits))
 }
 
 pub fn srlvx(alloc: Global, d: u8, s: u8, t: u8) -> Result<Piece, NoMemory>

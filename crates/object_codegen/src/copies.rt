@@ -4,7 +4,10 @@ ghost use Rattle.paired_code.specs.Code.{unmarked};
 ghost use Rattle.object_codegen.specs.Code.{same_words as same_cells, two_places as two_cells, copy_checks as copy_checks_cells, uncopy_checks as uncopy_checks_cells, refer_cells, count_cells, copy_alter, copy_mid};
 
 use crate::cells::{addi, enclosed, exch, sltx, xor, xori};
-use crate::guards::{CONTENT, OUTCOME, REFERENCE, load, nil_place, some_place};
+use crate::guards::{REFERENCE, load, nil_place, some_place};
+use code_conventions::faults::{NIL, NOT_NIL, NOT_SAME};
+use code_conventions::memory::COUNT_WORD;
+use code_conventions::registers::{CONTENT, OUTCOME};
 use expr_uncompute::{OTHER_PLACE, PLACE};
 use paired_code::{Piece, check_zero, mirror, seq};
 use rpp_words::NoMemory;
@@ -16,7 +19,7 @@ fn same_words(alloc: Global) -> Result<Piece, NoMemory>
     let first = load(alloc, PLACE)?;
     let second = load(alloc, OTHER_PLACE)?;
     let both = seq(first, second)?;
-    let check = check_zero(alloc, REFERENCE, 10)?;
+    let check = check_zero(alloc, REFERENCE, NOT_SAME)?;
     enclosed(alloc, both, check)
 }
 
@@ -28,22 +31,22 @@ fn two_places(alloc: Global) -> Result<Piece, NoMemory>
     let turned = xori(alloc, OUTCOME, 1)?;
     let row = seq(below, above)?;
     let row = seq(row, turned)?;
-    let check = check_zero(alloc, OUTCOME, 10)?;
+    let check = check_zero(alloc, OUTCOME, NOT_SAME)?;
     enclosed(alloc, row, check)
 }
 
 fn copy_checks(alloc: Global) -> Result<Piece, NoMemory>
     ensures { IfOk result (λ p. p ≡ unmarked copy_checks_cells) }
 {
-    let some = some_place(alloc, PLACE, 5)?;
-    let nil = nil_place(alloc, OTHER_PLACE, 4)?;
+    let some = some_place(alloc, PLACE, NIL)?;
+    let nil = nil_place(alloc, OTHER_PLACE, NOT_NIL)?;
     seq(some, nil)
 }
 
 fn uncopy_checks(alloc: Global) -> Result<Piece, NoMemory>
     ensures { IfOk result (λ p. p ≡ unmarked uncopy_checks_cells) }
 {
-    let some = some_place(alloc, PLACE, 5)?;
+    let some = some_place(alloc, PLACE, NIL)?;
     let same = same_words(alloc)?;
     let two = two_places(alloc)?;
     let rest = seq(same, two)?;
@@ -61,7 +64,7 @@ fn refer(alloc: Global) -> Result<Piece, NoMemory>
 fn count(alloc: Global) -> Result<Piece, NoMemory>
     ensures { IfOk result (λ p. p ≡ unmarked count_cells) }
 {
-    let at = addi(alloc, REFERENCE, 1)?;
+    let at = addi(alloc, REFERENCE, COUNT_WORD)?;
     let word = exch(alloc, CONTENT, REFERENCE)?;
     let up = addi(alloc, CONTENT, 1)?;
     let change = enclosed(alloc, word, up)?;

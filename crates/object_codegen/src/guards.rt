@@ -4,18 +4,10 @@ ghost use Rattle.paired_code.specs.Code.{unmarked};
 ghost use Rattle.object_codegen.specs.Code.{nil_place as nil_cells, some_place as some_cells, load_cells};
 
 use crate::cells::{enclosed, exch, sltx, xor, xori};
+use code_conventions::registers::{CONTENT, NOUGHT, OUTCOME};
 use paired_code::{Piece, check_zero, seq};
 use rpp_words::NoMemory;
 use std::alloc::Global;
-
-/// The word of a place.
-pub const CONTENT: u8 = 6;
-
-/// Always 0.
-pub const NOUGHT: u8 = 7;
-
-/// The flag of a check.
-pub const OUTCOME: u8 = 10;
 
 /// The address of an object or array.
 pub const REFERENCE: u8 = 22;

@@ -6,8 +6,14 @@ ghost use Rattle.expr_uncompute.specs.Code.{around, xor as xor_cell};
 ghost use Rattle.object_codegen.specs.Code.{mark_cell, mark_fault as fault_of_mark, grow_cell, some_reference as some_reference_cells, same_mark as same_mark_cells, single as single_cells, walk_head as head_cells, walk_tail as tail_cells, walk_cells, ends_cells, zeros_cells, delete_checks as delete_checks_cells, positive as positive_cells, new_checks as new_checks_cells, move_cells, fill_cells, new_alter, new_mid};
 
 use crate::cells::{add, addi, enclosed, exch, sltx, xor, xori};
-use crate::guards::{CONTENT, NOUGHT, OUTCOME, REFERENCE, load, nil_place};
+use crate::guards::{REFERENCE, load, nil_place};
+use crate::orders::AT_LENGTH;
 use crate::shape::Shape;
+use code_conventions::faults::{
+    CLASS_DIFFERS, COUNT, LENGTH, LENGTH_DIFFERS, NIL, NOT_EMPTY, NOT_NIL,
+};
+use code_conventions::memory::{COUNT_WORD, HEADER_WORDS};
+use code_conventions::registers::{BLOCK, CONTENT, NOUGHT, OUTCOME};
 use expr_uncompute::{AMOUNT, PLACE};
 use paired_code::{Piece, check_zero, enter, mirror, seq, turn_while};
 use rpp_words::NoMemory;
@@ -17,11 +23,7 @@ const START: u8 = 8;
 
 const END: u8 = 9;
 
-const BLOCK: u8 = 13;
-
 const AT_PLACE: u8 = 14;
-
-const AT_LENGTH: u8 = 15;
 
 fn mark(alloc: Global, length: u8, shape: Shape) -> Result<Piece, NoMemory>
     requires register { length < 32 }
@@ -38,8 +40,8 @@ fn mark_fault(shape: Shape) -> u32
     ensures { result ≡ fault_of_mark shape }
 {
     match shape {
-        Shape::Fixed(_table, _fields) => 11,
-        Shape::Lengthy => 12,
+        Shape::Fixed(_table, _fields) => CLASS_DIFFERS,
+        Shape::Lengthy => LENGTH_DIFFERS,
     }
 }
 
@@ -60,7 +62,7 @@ fn some_reference(alloc: Global) -> Result<Piece, NoMemory>
     let above = sltx(alloc, OUTCOME, NOUGHT, REFERENCE)?;
     let turned = xori(alloc, OUTCOME, 1)?;
     let row = seq(above, turned)?;
-    let check = check_zero(alloc, OUTCOME, 5)?;
+    let check = check_zero(alloc, OUTCOME, NIL)?;
     enclosed(alloc, row, check)
 }
 
@@ -77,12 +79,12 @@ fn same_mark(alloc: Global, shape: Shape) -> Result<Piece, NoMemory>
 fn single(alloc: Global) -> Result<Piece, NoMemory>
     ensures { IfOk result (λ p. p ≡ unmarked single_cells) }
 {
-    let at = addi(alloc, REFERENCE, 1)?;
+    let at = addi(alloc, REFERENCE, COUNT_WORD)?;
     let word = exch(alloc, CONTENT, REFERENCE)?;
     let compared = xori(alloc, CONTENT, 1)?;
     let row = seq(at, word)?;
     let row = seq(row, compared)?;
-    let check = check_zero(alloc, CONTENT, 6)?;
+    let check = check_zero(alloc, CONTENT, COUNT)?;
     enclosed(alloc, row, check)
 }
 
@@ -97,7 +99,7 @@ fn walk_head(alloc: Global) -> Result<Piece, NoMemory>
 fn walk_tail(alloc: Global) -> Result<Piece, NoMemory>
     ensures { IfOk result (λ p. p ≡ unmarked tail_cells) }
 {
-    let zero = nil_place(alloc, REFERENCE, 7)?;
+    let zero = nil_place(alloc, REFERENCE, NOT_EMPTY)?;
     let next = addi(alloc, REFERENCE, 1)?;
     seq(zero, next)
 }
@@ -113,7 +115,7 @@ fn walk(alloc: Global) -> Result<Piece, NoMemory>
 fn ends(alloc: Global, shape: Shape) -> Result<Piece, NoMemory>
     ensures { IfOk result (λ p. p ≡ unmarked (ends_cells shape)) }
 {
-    let first = addi(alloc, REFERENCE, 2)?;
+    let first = addi(alloc, REFERENCE, HEADER_WORDS)?;
     let start = xor(alloc, START, REFERENCE)?;
     let end = xor(alloc, END, REFERENCE)?;
     let grown = grow(alloc, END, shape)?;
@@ -155,14 +157,14 @@ fn positive(alloc: Global) -> Result<Piece, NoMemory>
     let above = sltx(alloc, OUTCOME, NOUGHT, AMOUNT)?;
     let turned = xori(alloc, OUTCOME, 1)?;
     let row = seq(above, turned)?;
-    let check = check_zero(alloc, OUTCOME, 13)?;
+    let check = check_zero(alloc, OUTCOME, LENGTH)?;
     enclosed(alloc, row, check)
 }
 
 fn new_checks(alloc: Global, shape: Shape) -> Result<Piece, NoMemory>
     ensures { IfOk result (λ p. p ≡ unmarked (new_checks_cells shape)) }
 {
-    let nil = nil_place(alloc, PLACE, 4)?;
+    let nil = nil_place(alloc, PLACE, NOT_NIL)?;
     match shape {
         Shape::Fixed(_table, _fields) => Ok(nil),
         Shape::Lengthy => {
@@ -202,7 +204,7 @@ fn fill(alloc: Global, shape: Shape) -> Result<Piece, NoMemory>
 {
     let marked = mark(alloc, AT_LENGTH, shape)?;
     let first = exch(alloc, CONTENT, BLOCK)?;
-    let at = addi(alloc, BLOCK, 1)?;
+    let at = addi(alloc, BLOCK, COUNT_WORD)?;
     let one = xori(alloc, CONTENT, 1)?;
     let second = exch(alloc, CONTENT, BLOCK)?;
     let count = seq(one, second)?;

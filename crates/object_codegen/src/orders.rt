@@ -6,7 +6,7 @@ ghost use Rattle.expr_uncompute.specs.Code.{addi as addi_cell, xori as xori_cell
 ghost use Rattle.object_codegen.specs.Code.{turn_left, srlvx as srlvx_cell, andix as andix_cell, order_bit as bit_cells, order_cells};
 
 use crate::cells::{add, addi, andix, enclosed, rl, sltx, srlvx, xori};
-use crate::guards::NOUGHT;
+use code_conventions::registers::{NOUGHT, VALUE};
 use paired_code::{Piece, seq};
 use rpp_words::NoMemory;
 use std::alloc::Global;
@@ -15,9 +15,10 @@ const SHIFTED: u8 = 8;
 
 const ONE_BIT: u8 = 9;
 
-const ORDER: u8 = 12;
+const ORDER: u8 = VALUE;
 
-const AT_LENGTH: u8 = 15;
+/// The length of an array, out of the allocator's way.
+pub const AT_LENGTH: u8 = 15;
 
 // Whether the length is not below 2 to the order with this bit.
 fn tried(alloc: Global, bit: u32) -> Result<Piece, NoMemory>

@@ -8,7 +8,7 @@ ghost use Rattle.roopl_semantics.specs.Layout.{table_at as address_of};
 ghost use Rattle.roopl_semantics.specs.Source.{main_fields};
 
 use class_table::Checked;
-use code_conventions::memory::FIRST_FIELD;
+use code_conventions::memory::{FIRST_FIELD, HEADER_WORDS, TABLE_HEADER};
 use rpp_tree::text::Text;
 use rpp_words::order_for;
 
@@ -23,7 +23,7 @@ pub fn table_at(checked: &Checked, fields: u32, class: u32) -> u32
     let table = checked.table();
     let mut at = FIRST_FIELD + fields;
     for before in 0..class {
-        at += 1 + table.slot_count(before);
+        at += TABLE_HEADER + table.slot_count(before);
     }
     at
 }
@@ -61,7 +61,7 @@ pub fn field_count(checked: &Checked, class: u32) -> u32
 /// The order of a block for so many fields.
 pub fn order_of(fields: u32) -> u32
     requires { fields ≤ 64 }
-    ensures { result ≡ least_order (2 + fields) }
+    ensures { result ≡ least_order (HEADER_WORDS + fields) }
 {
-    order_for(fields as u64 + 2)
+    order_for(fields as u64 + HEADER_WORDS as u64)
 }

@@ -2,7 +2,7 @@
 use Rattle.std.proofs.Common.{◌≡◌, ◌≢◌, ℕ, ◌+◌, ◌^◌, ◌<◌, Bool, true, false, List, length, refl, sym, subst, arith}
 use Rattle.std.proofs.Common.{length-append}
 use Rattle.pisa_isa.specs.Machine.{Memory}
-use Rattle.paired_code.specs.Cells.{bra}
+use Rattle.code_conventions.specs.Cells.{bra}
 use Rattle.paired_code.specs.declared.part.Symbol.{Symbol}
 use Rattle.paired_code.specs.Machine.{Image, reg}
 use Rattle.paired_code.specs.Layout.{Frame, Stands, between, branch_cells}

@@ -9,7 +9,8 @@ use Rattle.std.proofs.lemmas.Option.{slice_get_past}
 use Rattle.std.proofs.lemmas.List.{get_or-set_same}
 use Rattle.pisa_isa.specs.declared.cell.Cell.{Cell}
 use Rattle.pisa_isa.specs.declared.cell.Op.TheVariants.{Bra, Rbra, Swapbr}
-use Rattle.paired_code.specs.Cells.{neg, swapbr, bra, rbra}
+use Rattle.code_conventions.specs.Cells.{neg, bra}
+use Rattle.paired_code.specs.Cells.{swapbr, rbra}
 use Rattle.paired_code.specs.declared.part.Symbol.{Symbol}
 use Rattle.paired_code.specs.declared.part.Symbol.TheVariants.{Enter}
 use Rattle.rpp_words.specs.Words.{sum_of, negated}

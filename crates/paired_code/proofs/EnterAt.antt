@@ -8,7 +8,8 @@ use Rattle.std.proofs.lemmas.Bool.Decides.{nat_tests}
 use Rattle.std.proofs.lemmas.List.{get_or-set_other}
 use Rattle.pisa_isa.specs.declared.cell.Cell.{Cell}
 use Rattle.pisa_isa.specs.declared.cell.Op.TheVariants.{Add, Addi, Bra, Swapbr}
-use Rattle.paired_code.specs.Cells.{add, addi, swapbr, bra, rbra}
+use Rattle.code_conventions.specs.Cells.{add, addi, bra}
+use Rattle.paired_code.specs.Cells.{swapbr, rbra}
 use Rattle.paired_code.specs.declared.part.Symbol.{Symbol}
 use Rattle.paired_code.specs.declared.part.Symbol.TheVariants.{Fixed, Aim, Turn}
 use Rattle.rpp_words.specs.Words.{sum_of, difference_of, negated}

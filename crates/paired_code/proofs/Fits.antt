@@ -9,7 +9,8 @@ use Rattle.pisa_isa.specs.declared.cell.Cell.{Cell}
 use Rattle.pisa_isa.specs.Table.{IsCell, inverse_op}
 use Rattle.pisa_isa.proofs.Ranges.{imm_word}
 use Rattle.pisa_isa.proofs.Facing.{IsCell-inverse}
-use Rattle.paired_code.specs.Cells.{add, swapbr, bra, bgtz, bltz, data_word}
+use Rattle.code_conventions.specs.Cells.{add, bra}
+use Rattle.paired_code.specs.Cells.{swapbr, bgtz, bltz, data_word}
 use Rattle.paired_code.specs.declared.part.Symbol.{Symbol}
 use Rattle.paired_code.specs.declared.part.Symbol.TheVariants.{Own, Enter, Fixed, Aim, Turn}
 use Rattle.pisa_isa.specs.declared.notes.Mark.{Mark}

@@ -6,7 +6,8 @@ use Rattle.std.proofs.lemmas.Bool.Decides.{nat_tests}
 use Rattle.std.proofs.Math.Seq.{get_or-append_seam}
 use Rattle.std.proofs.lemmas.Option.{slice_get-get_or, slice_get_within}
 use Rattle.pisa_isa.specs.declared.cell.Cell.{Cell}
-use Rattle.paired_code.specs.Cells.{bra, start, finish}
+use Rattle.code_conventions.specs.Cells.{bra}
+use Rattle.paired_code.specs.Cells.{start, finish}
 use Rattle.paired_code.specs.declared.part.Symbol.{Symbol}
 use Rattle.pisa_isa.specs.Machine.{fetch}
 use Rattle.paired_code.specs.Machine.{Image, is_one_of}

@@ -3,7 +3,7 @@ use Rattle.std.proofs.Common.{◌≡◌, ℕ, ◌+◌, ◌-◌, ◌≤◌, List,
 use Rattle.std.proofs.Common.{length-append, append_assoc, append-nil, take, drop, length-drop}
 use Rattle.std.proofs.Math.Seq.{drop-append-add}
 use Rattle.std.proofs.lemmas.List.{drop-append-le, take-append-le, take_all}
-use Rattle.paired_code.specs.Cells.{bra}
+use Rattle.code_conventions.specs.Cells.{bra}
 use Rattle.paired_code.specs.declared.part.Symbol.{Symbol}
 use Rattle.paired_code.specs.declared.part.Symbol.TheVariants.{Own}
 use Rattle.pisa_isa.specs.declared.notes.Mark.{Mark}

@@ -3,7 +3,8 @@ use Rattle.std.proofs.Common.{◌≡◌, ◌≢◌, ℕ, ◌+◌, ◌^◌, ◌<�
 use Rattle.std.proofs.Common.{◌∙◌, subst, ⊎_elim, arith}
 use Rattle.std.specs.Prelude.{nat_lt, if◌then◌else◌}
 use Rattle.pisa_isa.specs.declared.cell.Cell.{Cell}
-use Rattle.paired_code.specs.Cells.{bra, bgtz, bltz, data_word}
+use Rattle.code_conventions.specs.Cells.{bra}
+use Rattle.paired_code.specs.Cells.{bgtz, bltz, data_word}
 use Rattle.paired_code.specs.declared.part.Symbol.{Symbol}
 use Rattle.paired_code.specs.declared.part.Symbol.TheVariants.{Own}
 use Rattle.pisa_isa.specs.Machine.{stop_at, fetch, Memory}

@@ -14,7 +14,8 @@ use Rattle.pisa_isa.specs.declared.machine.Stop.TheVariants.{BadAddress}
 use Rattle.pisa_isa.specs.Machine.{State, row, row_of, faced, effect, moved, stride, fetch, stop_at, stop_in, has_cell}
 use Rattle.pisa_isa.specs.Machine.{Memory, memory_of}
 use Rattle.pisa_isa.proofs.Mirror.{inverse_op-twice, inverse_word-twice}
-use Rattle.paired_code.specs.Cells.{bra, bgtz, bltz}
+use Rattle.code_conventions.specs.Cells.{bra}
+use Rattle.paired_code.specs.Cells.{bgtz, bltz}
 use Rattle.paired_code.specs.Machine.{state, Image, act, reversed, reversed_word, effect_along, is_single_op, is_single}
 use Rattle.paired_code.specs.Machine.{is_end_op, is_end, reg, change_by, change, Same, Level, same}
 use Rattle.paired_code.specs.Layout.{xor, Frame, spot, place, at, between}

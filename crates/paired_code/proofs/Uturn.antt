@@ -2,7 +2,8 @@
 use Rattle.std.proofs.Common.{◌≡◌, ◌≢◌, ℕ, ◌+◌, ◌^◌, ◌<◌, ◌≤◌, Bool, true, false, List, [], ◌∷◌, ◌++◌, length, Some}
 use Rattle.std.proofs.Common.{None, refl, sym, ap, ◌∙◌, subst, arith, length-append}
 use Rattle.std.specs.Prelude.{not, ℤ}
-use Rattle.paired_code.specs.Cells.{bra, rbra}
+use Rattle.code_conventions.specs.Cells.{bra}
+use Rattle.paired_code.specs.Cells.{rbra}
 use Rattle.paired_code.specs.declared.part.Symbol.{Symbol}
 use Rattle.paired_code.specs.declared.part.Symbol.TheVariants.{Own}
 use Rattle.rpp_words.specs.Words.{sum_of, negated}

@@ -17,7 +17,8 @@ use Rattle.pisa_isa.specs.Runs.{run, steps, started, unless_stop, visited, befor
 use Rattle.pisa_isa.specs.Ends.{is_at_start, is_at_finish, cell_is, MeetsEndsOnce}
 use Rattle.pisa_isa.proofs.Longer.{run-steps}
 use Rattle.pisa_isa.proofs.Runs.{run-stop}
-use Rattle.paired_code.specs.Cells.{neg, swapbr, addi, bra, rbra, start, finish}
+use Rattle.code_conventions.specs.Cells.{neg, addi, bra}
+use Rattle.paired_code.specs.Cells.{swapbr, rbra, start, finish}
 use Rattle.paired_code.specs.declared.part.Symbol.{Symbol}
 use Rattle.paired_code.specs.declared.part.Symbol.TheVariants.{Own, Enter, Fixed, Aim, Turn}
 use Rattle.paired_code.specs.Machine.{state, Image, is_end_op, is_end}

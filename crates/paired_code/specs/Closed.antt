@@ -3,6 +3,7 @@ use Rattle.std.specs.Prelude.{◌≡◌, ◌≢◌, ℕ, zero, suc, ◌+◌, ◌
 use Rattle.std.specs.Prelude.{not, List, [], ◌∷◌, ◌++◌, length, ℤ}
 use Rattle.pisa_isa.specs.declared.cell.Cell.{Cell}
 use Rattle.pisa_isa.specs.Table.{IsCell}
+use Rattle.code_conventions.specs.declared.registers.TheConstants.{LINK}
 use Rattle.paired_code.specs.declared.part.Symbol.{Symbol}
 use Rattle.paired_code.specs.declared.part.Symbol.TheVariants.{Own, Enter}
 use Rattle.pisa_isa.specs.Machine.{State, Memory}
@@ -83,16 +84,16 @@ Left P (Trapped w k) = Unit {0}
 Left P (Bad w k) = Unit {0}
 Left P (Still k) = Unit {0}
 
--- after a routine's body: $2 as it was found
+-- after a routine's body: LINK as it was found
 abbrev pub Back : ℕ → Bool → (Outcome → Type 0) → Outcome → Type 0
-Back w d Q (Done m k) = (reg m 2 ≡ w) × Q (Done (with_reg m 2 0) (k + 7))
+Back w d Q (Done m k) = (reg m LINK ≡ w) × Q (Done (with_reg m LINK 0) (k + 7))
 Back w d Q (Trapped v k) = Q (Trapped v (lead d + k))
 Back w d Q (Bad v k) = Q (Bad v (lead d + k))
 Back w d Q (Still k) = Q (Still (lead d + k))
 
 abbrev pub Back_at : ℕ → ℕ → ℕ → Bool → (Outcome → Type 0) → Outcome → Type 0
-Back_at a s w d Q (Done m k) = (reg m 2 ≡ w)
-    × ((e : ℕ) → 6 ≤ e → e ≤ 15 → Q (Done (with_reg m 2 (left_in d (reg m a) s)) (k + e)))
+Back_at a s w d Q (Done m k) = (reg m LINK ≡ w)
+    × ((e : ℕ) → 6 ≤ e → e ≤ 15 → Q (Done (with_reg m LINK (left_in d (reg m a) s)) (k + e)))
 Back_at a s w d Q (Trapped v k) = (e : ℕ) → 6 ≤ e → e ≤ 15 → Q (Trapped v (k + e))
 Back_at a s w d Q (Bad v k) = (e : ℕ) → 6 ≤ e → e ≤ 15 → Q (Bad v (k + e))
 Back_at a s w d Q (Still k) = (e : ℕ) → 6 ≤ e → e ≤ 15 → Q (Still (k + e))
@@ -133,13 +134,13 @@ fine_with rs n calls (Loop r p q) d m Q =
 fine_with rs n calls (Check r code) d m Q =
     ((reg m r ≡ 0) × Q (Done m 4)) ⊎ ((reg m r ≢ 0) × ((k : ℕ) → k ≤ 4 → Q (Trapped code k)))
 fine_with rs n calls (Call r b) d m Q =
-    (r < rs.count) × (2 < length m.regs) × (reg m 2 ≡ 0)
+    (r < rs.count) × (LINK < length m.regs) × (reg m LINK ≡ 0)
     × ((w : ℕ) → 0 < w → w < 2 ^ 32
-    → calls (rs.body r) (xor b d) (with_reg m 2 w) (Back w (xor b d) Q))
+    → calls (rs.body r) (xor b d) (with_reg m LINK w) (Back w (xor b d) Q))
 fine_with rs n calls (Call_at a b) d m Q =
-    (r : ℕ) × (r < rs.count) × (2 < length m.regs) × (reg m 2 ≡ 0) × (reg m a ≡ rs.top r + 1)
+    (r : ℕ) × (r < rs.count) × (LINK < length m.regs) × (reg m LINK ≡ 0) × (reg m a ≡ rs.top r + 1)
     × ((w : ℕ) → 0 < w → w < 2 ^ 32
-    → calls (rs.body r) (xor b d) (with_reg m 2 w) (Back_at a (rs.top r + 1) w (xor b d) Q))
+    → calls (rs.body r) (xor b d) (with_reg m LINK w) (Back_at a (rs.top r + 1) w (xor b d) Q))
 
 abbrev pub fine : Routines → ℕ → Shape → Bool → Memory → (Outcome → Type 0) → Type 0
 fine rs zero s d m Q = Q (Still 0)

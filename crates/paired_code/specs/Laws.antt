@@ -2,6 +2,7 @@
 use Rattle.std.specs.Prelude.{◌≡◌, ◌≢◌, ℕ, ◌+◌, ◌^◌, ◌<◌, ◌≤◌, Bool, true, false, not, List, length}
 use Rattle.std.specs.Prelude.{if◌then◌else◌, pos}
 use Rattle.pisa_isa.specs.declared.cell.Cell.{Cell}
+use Rattle.code_conventions.specs.declared.registers.TheConstants.{LINK}
 use Rattle.paired_code.specs.declared.part.Symbol.{Symbol}
 use Rattle.rpp_words.specs.Words.{difference_of}
 use Rattle.pisa_isa.specs.Machine.{has_cell, Memory}
@@ -52,9 +53,9 @@ pub record CheckLaw (r code : ℕ) (all : List Symbol) : Type 0 where
   pub other_part : (im : Image) (d : Bool) (m : Memory) → reg m r ≢ 0 → (k : ℕ) × (k ≤ 4)
       × Runs im all d m (Trapped code k)
 
--- what a body's run makes of a call, where it leaves $2 as it found it: w
+-- what a body's run makes of a call, where it leaves LINK as it found it: w
 abbrev pub came_back : ℕ → Outcome → Type 0
-came_back w (Done m k) = reg m 2 ≡ w
+came_back w (Done m k) = reg m LINK ≡ w
 came_back w o = Unit {0}
 
 -- the steps before the body
@@ -63,23 +64,23 @@ lead false = 3
 lead true = 4
 
 abbrev pub called : Bool → Outcome → Outcome
-called d (Done m k) = Done (with_reg m 2 0) (k + 7)
+called d (Done m k) = Done (with_reg m LINK 0) (k + 7)
 called d (Trapped v k) = Trapped v (lead d + k)
 called d (Bad v k) = Bad v (lead d + k)
 called d (Still k) = Still (lead d + k)
 
--- a call of routine r, forward or back: $2 is 0, and the body finds in it a word that is not 0,
+-- a call of routine r, forward or back: LINK is 0, and the body finds in it a word that is not 0,
 -- which it leaves there
 pub record EnterLaw (r : ℕ) (b : Bool) (all : List Symbol) : Type 0 where
   pub enters : (im : Image) (top : ℕ) (body : List Symbol) (d : Bool) (m : Memory) (o : ℕ → Outcome)
-      → Routine im r top body → Tidy im → 2 < length m.regs → reg m 2 ≡ 0
-      → ((w : ℕ) → 0 < w → w < 2 ^ 32 → Runs im body (xor b d) (with_reg m 2 w) (o w)
+      → Routine im r top body → Tidy im → LINK < length m.regs → reg m LINK ≡ 0
+      → ((w : ℕ) → 0 < w → w < 2 ^ 32 → Runs im body (xor b d) (with_reg m LINK w) (o w)
       × came_back w (o w)) → (f : Frame) (i : ℕ) → i + length all < 2 ^ 30 → Stands im f i all
       → (w : ℕ) × (0 < w) × (w < 2 ^ 32)
       × Ends im f d i (i + length all) (near_end d i (i + length all)) m
       (far_end d i (i + length all)) (called (xor b d) (o w))
 
--- what a call by a register leaves in $2, where the body left v in the register in place of s: 0
+-- what a call by a register leaves in LINK, where the body left v in the register in place of s: 0
 -- where they are one
 abbrev pub left_in : Bool → ℕ → ℕ → ℕ
 left_in false v s = difference_of v s
@@ -88,7 +89,7 @@ left_in true v s = difference_of s v
 -- a and s: the register and the routine's place; d: the way in which the body is run; e: the steps
 -- before and after
 abbrev pub called_at : ℕ → ℕ → Bool → ℕ → Outcome → Outcome
-called_at a s d e (Done m k) = Done (with_reg m 2 (left_in d (reg m a) s)) (k + e)
+called_at a s d e (Done m k) = Done (with_reg m LINK (left_in d (reg m a) s)) (k + e)
 called_at a s d e (Trapped v k) = Trapped v (k + e)
 called_at a s d e (Bad v k) = Bad v (k + e)
 called_at a s d e (Still k) = Still (k + e)
@@ -96,9 +97,9 @@ called_at a s d e (Still k) = Still (k + e)
 -- the same of a call by a register
 pub record EnterAtLaw (a : ℕ) (b : Bool) (all : List Symbol) : Type 0 where
   pub enters : (im : Image) (r top : ℕ) (body : List Symbol) (d : Bool) (m : Memory)
-      (o : ℕ → Outcome) → Routine im r top body → Tidy im → 2 < length m.regs → reg m 2 ≡ 0
+      (o : ℕ → Outcome) → Routine im r top body → Tidy im → LINK < length m.regs → reg m LINK ≡ 0
       → reg m a ≡ top + 1 → ((w : ℕ) → 0 < w → w < 2 ^ 32
-      → Runs im body (xor b d) (with_reg m 2 w) (o w) × came_back w (o w)) → (f : Frame) (i : ℕ)
+      → Runs im body (xor b d) (with_reg m LINK w) (o w) × came_back w (o w)) → (f : Frame) (i : ℕ)
       → i + length all < 2 ^ 30 → Stands im f i all → (w : ℕ) × (e : ℕ) × (0 < w) × (w < 2 ^ 32)
       × (6 ≤ e) × (e ≤ 15) × Ends im f d i (i + length all) (near_end d i (i + length all)) m
       (far_end d i (i + length all)) (called_at a (top + 1) (xor b d) e (o w))

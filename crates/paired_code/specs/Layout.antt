@@ -3,7 +3,9 @@ use Rattle.std.specs.Prelude.{◌≡◌, ℕ, ◌+◌, ◌-◌, ◌%◌, ◌^◌
 use Rattle.std.specs.Prelude.{◌∷◌, ◌++◌, length, Some, slice_index, nat_eq, if◌then◌else◌, ℤ, pos}
 use Rattle.std.specs.Prelude.{negsuc, ◌+ℤ◌, ◌-ℤ◌}
 use Rattle.pisa_isa.specs.declared.cell.Cell.{Cell}
-use Rattle.paired_code.specs.Cells.{add, neg, addi, swapbr, bra, rbra, bgtz, bltz, data_word}
+use Rattle.code_conventions.specs.Cells.{add, neg, addi, bra}
+use Rattle.code_conventions.specs.declared.registers.TheConstants.{LINK}
+use Rattle.paired_code.specs.Cells.{swapbr, rbra, bgtz, bltz, data_word}
 use Rattle.paired_code.specs.declared.part.Symbol.{Symbol}
 use Rattle.paired_code.specs.declared.part.Symbol.TheVariants.{Own, Enter, Fixed, Aim, Turn}
 use Rattle.rpp_words.specs.Words.{negated}
@@ -58,8 +60,8 @@ base rs p (Own c) = c
 base rs p (Enter r false) = bra (offset_to (slice_index rs r) p)
 base rs p (Enter r true) = rbra (offset_to (slice_index rs r) p)
 base rs p (Fixed c) = c
-base rs p (Aim b) = addi 2 (aim b p)
-base rs p (Turn k b false) = addi 2 0
+base rs p (Aim b) = addi LINK (aim b p)
+base rs p (Turn k b false) = addi LINK 0
 base rs p (Turn false b true) = bra (six b)
 base rs p (Turn true b true) = rbra (six b)
 
@@ -113,15 +115,16 @@ abbrev pub check_cells : ℕ → ℕ → List Symbol
 check_cells r code = Own (bra (between 0 2)) ∷ Own (data_word code) ∷ Own (bra (between 2 0))
     ∷ Own (bgtz r (between 3 1)) ∷ Own (bltz r (between 4 1)) ∷ []
 
--- $2 is 0 before a call and holds no place of a routine, so that a call by it is never made; its
+-- LINK is 0 before a call and holds no place of a routine, so that a call by it is never made; its
 -- cells are those of another
 abbrev pub place_register : ℕ → ℕ
-place_register a = if nat_eq a 2 then 3 else a
+place_register a = if nat_eq a LINK then 3 else a
 
 -- turn; add; aim; swap; aim; add; turn: a call of the routine whose code place is in the register
 abbrev pub enter_at_cells : ℕ → Bool → List Symbol
-enter_at_cells a b = Turn true false b ∷ Fixed (add 2 a) ∷ Aim false ∷ Fixed (swapbr 2) ∷ Aim true
-    ∷ Fixed (add 2 a) ∷ Turn false true b ∷ []
+enter_at_cells a b =
+    Turn true false b ∷ Fixed (add LINK a) ∷ Aim false ∷ Fixed (swapbr LINK) ∷ Aim true
+    ∷ Fixed (add LINK a) ∷ Turn false true b ∷ []
 
 -- the code itself, as a line
 abbrev pub code_line : Frame
@@ -133,8 +136,8 @@ pub record Routine (im : Image) (r top : ℕ) (body : List Symbol) : Type 0 wher
   pub known : is_routine im.routines (pos (top + 1)) ≡ true
   pub top_cell : fetch im.code (place code_line top)
       ≡ Some (bra (between top (top + 1 + 1 + 1 + length body)))
-  pub sub_cell : fetch im.code (place code_line (top + 1)) ≡ Some (swapbr 2)
-  pub neg_cell : fetch im.code (place code_line (top + 1 + 1)) ≡ Some (neg 2)
+  pub sub_cell : fetch im.code (place code_line (top + 1)) ≡ Some (swapbr LINK)
+  pub neg_cell : fetch im.code (place code_line (top + 1 + 1)) ≡ Some (neg LINK)
   pub body_there : Stands im code_line (top + 1 + 1 + 1) body
   pub bot_cell : fetch im.code (place code_line (top + 1 + 1 + 1 + length body))
       ≡ Some (bra (between (top + 1 + 1 + 1 + length body) top))

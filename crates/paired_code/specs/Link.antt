@@ -7,7 +7,9 @@ use Rattle.pisa_isa.specs.declared.machine.Stop.TheVariants.{Finished, Trap, Bad
 use Rattle.pisa_isa.specs.Machine.{State, Memory}
 use Rattle.pisa_isa.specs.Runs.{run, steps, started}
 use Rattle.pisa_isa.specs.Ends.{MeetsEndsOnce}
-use Rattle.paired_code.specs.Cells.{neg, swapbr, bra, start, finish}
+use Rattle.code_conventions.specs.Cells.{neg, bra}
+use Rattle.code_conventions.specs.declared.registers.TheConstants.{LINK}
+use Rattle.paired_code.specs.Cells.{swapbr, start, finish}
 use Rattle.paired_code.specs.declared.part.Symbol.{Symbol}
 use Rattle.paired_code.specs.declared.part.StaticWord.{StaticWord}
 use Rattle.paired_code.specs.declared.part.StaticWord.TheVariants.{Word, Routine as RoutinePlace}
@@ -33,7 +35,7 @@ linked rs a (c ∷ p) = base rs (pos a) c ∷ linked rs (a + 1) p
 -- a routine with its top at t: a jump over it, SWAPBR, NEG, the body, and the jump back
 abbrev pub routine_code : List ℕ → ℕ → List Symbol → List Cell
 routine_code rs t b =
-    bra (between t (t + 1 + 1 + 1 + length b)) ∷ swapbr 2 ∷ neg 2
+    bra (between t (t + 1 + 1 + 1 + length b)) ∷ swapbr LINK ∷ neg LINK
     ∷ (linked rs (t + 1 + 1 + 1) b ++ bra (between (t + 1 + 1 + 1 + length b) t) ∷ [])
 
 abbrev pub routines_code : List ℕ → ℕ → List (List Symbol) → List Cell

@@ -2,7 +2,8 @@
 
 ghost use Rattle.std.specs.Prelude.{◌≡◌, ◌≢◌, ℕ, ◌+◌, ◌-◌, ◌%◌, ◌^◌, ◌<◌, ◌≤◌, IsTrue, List, [], ◌∷◌, ◌++◌, length, map, reverse, IfOk, OnOk};
 ghost use Rattle.pisa_isa.specs.Table.{IsCell};
-ghost use Rattle.paired_code.specs.Cells.{one_register, add, swapbr, bra, bgtz, bltz, data_word};
+ghost use Rattle.code_conventions.specs.Cells.{bra};
+ghost use Rattle.paired_code.specs.Cells.{swapbr, bgtz, bltz, data_word};
 ghost use Rattle.paired_code.specs.Machine.{reversed, is_single};
 ghost use Rattle.paired_code.specs.Layout.{between, fork, mirror_cells, inverse_sym, check_cells, place_register, enter_at_cells};
 ghost use Rattle.paired_code.specs.Laws.{SeqLaw, MirrorLaw, BranchLaw, WhileLaw, PlainLaw, CheckLaw, EmptyLaw, EnterLaw, EnterAtLaw};
@@ -10,6 +11,8 @@ ghost use Rattle.paired_code.specs.Fit.{AllFit};
 ghost use Rattle.paired_code.specs.Code.{Code, Kept, AllWithin, shift, unmarked, seq_code, branch_code, loop_code, marked_code, parts};
 
 use crate::part::Symbol;
+use code_conventions::cells::{add, with_word};
+use code_conventions::registers::LINK;
 use pisa_isa::{Cell, LAST_PLACE, Mark, Op};
 use rpp_words::NoMemory;
 use std::alloc::Global;
@@ -158,14 +161,14 @@ pub fn enter_at(alloc: Global, reg: u8, back: bool) -> Result<Piece, NoMemory>
     ensures code { IfOk result (λ p. p ≡ unmarked (enter_at_cells (place_register reg) back)) }
     ensures law { IfOk result (λ p. EnterAtLaw reg back p.cells) }
 {
-    let from = if reg == 2 { 3 } else { reg };
+    let from = if reg == LINK { 3 } else { reg };
     let mut cells = Vec::new(alloc);
     cells.push(Symbol::Turn(true, false, back))?;
-    cells.push(Symbol::Fixed(add(2, from)))?;
+    cells.push(Symbol::Fixed(add(LINK, from)))?;
     cells.push(Symbol::Aim(false))?;
-    cells.push(Symbol::Fixed(swapbr(2)))?;
+    cells.push(Symbol::Fixed(swapbr(LINK)))?;
     cells.push(Symbol::Aim(true))?;
-    cells.push(Symbol::Fixed(add(2, from)))?;
+    cells.push(Symbol::Fixed(add(LINK, from)))?;
     cells.push(Symbol::Turn(false, true, back))?;
     sealed(cells, Vec::new(alloc))
 }
@@ -289,53 +292,29 @@ fn put_jump(cells: &mut Vec<Symbol>, word: u32) -> Result<(), NoMemory>
 pub(crate) fn bra(offset: u32) -> Cell
     ensures { result ≡ bra offset }
 {
-    one_register(Op::Bra, 0, offset)
+    with_word(Op::Bra, 0, offset)
 }
 
 fn bgtz(reg: u8, offset: u32) -> Cell
     ensures { result ≡ bgtz reg offset }
 {
-    one_register(Op::Bgtz, reg, offset)
+    with_word(Op::Bgtz, reg, offset)
 }
 
 fn bltz(reg: u8, offset: u32) -> Cell
     ensures { result ≡ bltz reg offset }
 {
-    one_register(Op::Bltz, reg, offset)
+    with_word(Op::Bltz, reg, offset)
 }
 
 pub(crate) fn swapbr(reg: u8) -> Cell
     ensures { result ≡ swapbr reg }
 {
-    one_register(Op::Swapbr, reg, 0)
-}
-
-fn add(to: u8, from: u8) -> Cell
-    ensures { result ≡ add to from }
-{
-    Cell {
-        op: Op::Add,
-        a: to,
-        b: from,
-        c: 0,
-        imm: 0,
-    }
+    with_word(Op::Swapbr, reg, 0)
 }
 
 fn data_word(word: u32) -> Cell
     ensures { result ≡ data_word word }
 {
-    one_register(Op::DataWord, 0, word)
-}
-
-pub(crate) fn one_register(op: Op, a: u8, imm: u32) -> Cell
-    ensures { result ≡ one_register op a imm }
-{
-    Cell {
-        op,
-        a,
-        b: 0,
-        c: 0,
-        imm,
-    }
+    with_word(Op::DataWord, 0, word)
 }

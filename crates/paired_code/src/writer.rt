@@ -2,7 +2,7 @@
 
 ghost use Rattle.std.specs.Prelude.{◌≡◌, ℕ, ◌+◌, ◌-◌, ◌^◌, ◌<◌, ◌≤◌, ◌++◌, [], length, map, pos, IfOk, OnOk, slice_index};
 ghost use Rattle.pisa_isa.specs.Image.{IsImage};
-ghost use Rattle.paired_code.specs.Cells.{neg, addi, swapbr, bra, rbra, start, finish};
+ghost use Rattle.paired_code.specs.Cells.{rbra, start, finish};
 ghost use Rattle.paired_code.specs.Layout.{base, between, six};
 ghost use Rattle.paired_code.specs.Link.{places, linked, routine_code, routines_code, routines_size, first_top, link_code, link_size, static_word, Linked};
 ghost use Rattle.paired_code.specs.Fit.{EachFit};
@@ -11,7 +11,9 @@ ghost use Rattle.paired_code.specs.Code.{bodies, link_marks, marks_size};
 
 use crate::marking::marks_of;
 use crate::part::{StaticWord, Symbol};
-use crate::piece::{Piece, bra, cells_of, one_register, swapbr};
+use crate::piece::{Piece, bra, cells_of, swapbr};
+use code_conventions::cells::{addi, neg, with_word};
+use code_conventions::registers::LINK;
 use pisa_isa::{Cell, Image, MOST_CELLS, MOST_MARKS, MOST_STATICS, Noted, Notes, Op};
 use rpp_words::NoMemory;
 use std::alloc::Global;
@@ -112,8 +114,8 @@ fn put_routine(code: &mut Vec<Cell>, cells: &[Symbol], places: &[u32]) -> Result
 {
     let over = cells.len() as u32 + 3;
     code.push(bra(over))?;
-    code.push(swapbr(2))?;
-    code.push(neg(2))?;
+    code.push(swapbr(LINK))?;
+    code.push(neg(LINK))?;
     put_cells(code, cells, places)?;
     code.push(bra(offset(over, 0)))?;
     Ok(())
@@ -141,9 +143,9 @@ fn base_of(places: &[u32], at: u32, cell: Symbol) -> Cell
         Symbol::Fixed(c) => c,
         Symbol::Enter(routine, false) => bra(offset(at, place_of(places, routine))),
         Symbol::Enter(routine, true) => rbra(offset(at, place_of(places, routine))),
-        Symbol::Aim(false) => addi(2, offset(at + 1, 0)),
-        Symbol::Aim(true) => addi(2, offset(at.saturating_sub(1), 0)),
-        Symbol::Turn(_, _, false) => addi(2, 0),
+        Symbol::Aim(false) => addi(LINK, offset(at + 1, 0)),
+        Symbol::Aim(true) => addi(LINK, offset(at.saturating_sub(1), 0)),
+        Symbol::Turn(_, _, false) => addi(LINK, 0),
         Symbol::Turn(false, back, true) => bra(six_cells(back)),
         Symbol::Turn(true, back, true) => rbra(six_cells(back)),
     }
@@ -196,29 +198,17 @@ fn word_of(word: StaticWord, places: &[u32]) -> u32
 fn start() -> Cell
     ensures { result ≡ start }
 {
-    one_register(Op::Start, 0, 0)
+    with_word(Op::Start, 0, 0)
 }
 
 fn finish() -> Cell
     ensures { result ≡ finish }
 {
-    one_register(Op::Finish, 0, 0)
-}
-
-fn neg(reg: u8) -> Cell
-    ensures { result ≡ neg reg }
-{
-    one_register(Op::Neg, reg, 0)
-}
-
-fn addi(reg: u8, word: u32) -> Cell
-    ensures { result ≡ addi reg word }
-{
-    one_register(Op::Addi, reg, word)
+    with_word(Op::Finish, 0, 0)
 }
 
 fn rbra(offset: u32) -> Cell
     ensures { result ≡ rbra offset }
 {
-    one_register(Op::Rbra, 0, offset)
+    with_word(Op::Rbra, 0, offset)
 }

@@ -1,11 +1,8 @@
 -- A listing is no longer than a text may be, and its names are written byte by byte.
-use Rattle.std.proofs.Common.{◌≡◌, ℕ, zero, suc, ◌+◌, ◌-◌, ◌*◌, ◌<◌, ◌≤◌, ◌^◌, Bool, true, false, cond, arith, List, []}
+use Rattle.std.proofs.Common.{◌≡◌, ℕ, ◌+◌, ◌-◌, ◌*◌, ◌<◌, ◌≤◌, ◌^◌, Bool, true, false, cond, arith, List, []}
 use Rattle.std.proofs.Common.{◌∷◌, ◌++◌, length, length-append}
-use Rattle.std.specs.Prelude.{nat_lt, slice_index}
+use Rattle.std.specs.Prelude.{nat_lt}
 use Rattle.std.specs.List.{All, list_all}
-use Rattle.std.specs.Char.{is_ascii_alphabetic}
-use Rattle.std.proofs.lemmas.Bool.Decides.{nat_tests}
-use Rattle.std.proofs.lemmas.List.Elements.{All-cons}
 use Rattle.std.specs.Fmt.{decimal}
 use Rattle.std.proofs.lemmas.Fmt.{length-decimal-le}
 use Rattle.rpp_words.specs.Words.{IsWord}
@@ -18,7 +15,7 @@ use Rattle.pisa_isa.specs.declared.notes.TheConstants.{MOST_MARKS, MOST_NAMES, M
 use Rattle.pisa_isa.specs.declared.notes.Mark.{Mark}
 use Rattle.pisa_isa.specs.declared.notes.FieldName.{FieldName}
 use Rattle.pisa_isa.specs.Image.{IsImage}
-use Rattle.pisa_isa.specs.Notes.{NotedImage, is_name_byte, is_name, mark_fits, name_fits, names_fit, fits}
+use Rattle.pisa_isa.specs.Notes.{NotedImage, mark_fits, name_fits, names_fit, fits}
 use Rattle.pisa_isa.proofs.Noting.{fitting}
 use Rattle.pisa_isa.proofs.Ranges.{a_below, b_below, c_below, imm_word}
 use Rattle.pisa_asm.specs.declared.assembler.TheConstants.{MOST_TEXT}
@@ -27,7 +24,7 @@ use Rattle.pisa_asm.specs.declared.operand.Last.TheVariants.{Nothing, Word, Amou
 use Rattle.pisa_asm.specs.Mnemonics.{mnemonic}
 use Rattle.pisa_asm.specs.Operands.{last_of}
 use Rattle.pisa_asm.specs.Listing.{signed_text, offset_text, register_text, last_text, cell_text, static_text}
-use Rattle.pisa_asm.specs.Listing.{number_text, mark_text, name_text, HasAsciiText, lines_by, listing}
+use Rattle.pisa_asm.specs.Listing.{number_text, mark_text, name_text, lines_by, listing}
 use Rattle.pisa_asm.proofs.Spelling.{both}
 use Rattle.pisa_asm.proofs.Noting.{at_most}
 use Rattle.pisa_asm.proofs.Relisting.{MarkIn, mark_in, NameIn, name_in, head, tail}
@@ -139,33 +136,3 @@ listing_short n i words h =
     let marks = marks_short (length n.image.code) n.notes.marks few f.each_mark in
     let names = names_short (length n.image.statics) MOST_NAME_BYTES n.notes.names few_statics f.names in
     simp length-append (omega arith)
-
--- names that fit are written byte by byte
-
-name_byte_ascii : (b : ℕ) → is_name_byte b ≡ true → b < 128
-name_byte_ascii b h = grind (arith, nat_tests)
-
-letter_ascii : (b : ℕ) → is_ascii_alphabetic b ≡ true → b < 128
-letter_ascii b h = grind (arith, nat_tests)
-
-bytes_ascii : (bytes : List ℕ) → list_all is_name_byte bytes ≡ true → (i : ℕ) → slice_index bytes i < 128
-bytes_ascii [] h i = omega arith
-bytes_ascii (b ∷ bytes) h zero = name_byte_ascii b (both (is_name_byte b) (list_all is_name_byte bytes) h).0
-bytes_ascii (b ∷ bytes) h (suc i) = bytes_ascii bytes (both (is_name_byte b) (list_all is_name_byte bytes) h).1 i
-
-text_ascii : (text : List ℕ) → is_name text ≡ true → (i : ℕ) → slice_index text i < 128
-text_ascii [] h i = absurd (cc)
-text_ascii (b ∷ text) h zero = letter_ascii b (both (is_ascii_alphabetic b) (list_all is_name_byte text) h).0
-text_ascii (b ∷ text) h (suc i) = bytes_ascii text (both (is_ascii_alphabetic b) (list_all is_name_byte text) h).1 i
-
-names_ascii : (statics left : ℕ) (names : List FieldName) → statics ≤ MOST_STATICS → names_fit statics left names ≡ true
-    → All HasAsciiText names
-names_ascii statics left [] few h = λ k d inside. absurd (omega arith)
-names_ascii statics left (n ∷ names) few h =
-    let p = both (name_fits statics left n) (names_fit statics (left - length n.text) names) h in
-    let i = name_in statics left n few p.0 in
-    All-cons HasAsciiText n names (text_ascii n.text i.text) (names_ascii statics (left - length n.text) names few p.1)
-
-pub ascii_names : (n : NotedImage) → IsImage n.image → fits n.image n.notes ≡ true → All HasAsciiText n.notes.names
-ascii_names n i h = names_ascii (length n.image.statics) MOST_NAME_BYTES n.notes.names i.statics_in_limit
-    (fitting n.image n.notes h).names

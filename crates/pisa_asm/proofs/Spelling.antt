@@ -15,7 +15,8 @@ use Rattle.pisa_isa.specs.declared.cell.Op.TheVariants.{Add}
 use Rattle.pisa_isa.specs.declared.cell.Cell.{Cell}
 use Rattle.pisa_isa.specs.declared.notes.Mark.{Mark}
 use Rattle.pisa_isa.specs.declared.notes.FieldName.{FieldName}
-use Rattle.pisa_isa.specs.Notes.{is_name, is_name_byte}
+use Rattle.rpp_words.specs.Names.{is_name_byte}
+use Rattle.pisa_isa.specs.Notes.{is_name}
 use Rattle.pisa_isa.specs.Table.{has_a, has_b, c_is_source}
 use Rattle.pisa_asm.specs.declared.operand.Last.{Last}
 use Rattle.pisa_asm.specs.declared.operand.Last.TheVariants.{Nothing, Word, Amount, Offset}

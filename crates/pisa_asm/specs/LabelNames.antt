@@ -11,12 +11,12 @@ abbrev pub begins_name : ℕ → Bool
 begins_name b = is_ascii_alphabetic b || b == 95
 
 -- a letter, a digit or `_`
-abbrev pub is_name_byte : ℕ → Bool
-is_name_byte b = is_ascii_alphabetic b || is_ascii_digit b || b == 95
+abbrev pub is_label_byte : ℕ → Bool
+is_label_byte b = is_ascii_alphabetic b || is_ascii_digit b || b == 95
 
 abbrev pub is_name : List ℕ → Bool
 is_name [] = false
-is_name (first ∷ rest) = begins_name first && list_all is_name_byte rest
+is_name (first ∷ rest) = begins_name first && list_all is_label_byte rest
 
 -- a name followed directly by `:`
 abbrev pub is_label : List ℕ → Bool

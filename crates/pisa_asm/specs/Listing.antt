@@ -2,7 +2,6 @@
 use Rattle.std.specs.Prelude.{ℕ, ◌-◌, ◌^◌, nat_lt, Bool, true, false, List, [], ◌∷◌, ◌++◌}
 use Rattle.std.specs.Prelude.{if◌then◌else◌}
 use Rattle.std.specs.Fmt.{decimal}
-use Rattle.std.specs.Str.{IsAscii}
 use Rattle.pisa_isa.specs.declared.cell.Cell.{Cell}
 use Rattle.pisa_isa.specs.Table.{has_a, has_b, c_is_source}
 use Rattle.pisa_isa.specs.declared.notes.Mark.{Mark}
@@ -55,10 +54,6 @@ mark_text m = mark_word ++ number_text m.first ++ number_text m.end ++ number_te
 -- the line of a name, without its line feed
 abbrev pub name_text : FieldName → List ℕ
 name_text n = name_word ++ number_text n.cell ++ 32 ∷ n.text
-
--- a name that can be written byte by byte
-abbrev pub HasAsciiText : FieldName → Type 0
-HasAsciiText n = IsAscii n.text
 
 -- a line for each of these
 abbrev pub lines_by : {X : Type 0} → (X → List ℕ) → List X → List ℕ

@@ -2,6 +2,7 @@
 use Rattle.std.specs.Prelude.{ℕ, List, [], ◌∷◌, Option, Some, None, codes, if◌then◌else◌}
 use Rattle.std.specs.Str.{bytes_eq}
 use Rattle.pisa_isa.specs.declared.cell.Op.{Op}
+use Rattle.pisa_isa.specs.declared.cell.TheConstants.{ROWS}
 use Rattle.pisa_isa.specs.declared.cell.Op.TheVariants.{Add, Sub, Xor, Neg, Addi, Xori, Rl, Rr, Rlv}
 use Rattle.pisa_isa.specs.declared.cell.Op.TheVariants.{Rrv, Andx, Orx, Norx, Sltx, Andix, Orix}
 use Rattle.pisa_isa.specs.declared.cell.Op.TheVariants.{Sllx, Srlx, Srax, Sllvx, Srlvx, Sravx, Exch}
@@ -48,9 +49,7 @@ mnemonic DataWord = codes "DATA"
 
 -- the rows of the table of instructions
 unfoldable pub rows : List Op
-rows = Add ∷ Sub ∷ Xor ∷ Neg ∷ Addi ∷ Xori ∷ Rl ∷ Rr ∷ Rlv ∷ Rrv ∷ Andx ∷ Orx ∷ Norx ∷ Sltx ∷ Andix
-    ∷ Orix ∷ Sllx ∷ Srlx ∷ Srax ∷ Sllvx ∷ Srlvx ∷ Sravx ∷ Exch ∷ Swapbr ∷ Bra ∷ Rbra ∷ Beq ∷ Bne
-    ∷ Bgez ∷ Bgtz ∷ Blez ∷ Bltz ∷ Start ∷ Finish ∷ DataWord ∷ []
+rows = ROWS
 
 -- the first of these rows with this mnemonic
 abbrev pub row_among : List Op → List ℕ → Option Op

@@ -3,7 +3,7 @@ ghost use Rattle.std.specs.Prelude.{◌≡◌, ◌≢◌, ◌<◌, MatchResult, 
 ghost use Rattle.std.specs.List.{list_all};
 ghost use Rattle.pisa_asm.specs.Chain.{Refuses};
 ghost use Rattle.pisa_asm.specs.Lines.{words_of};
-ghost use Rattle.pisa_asm.specs.LabelNames.{begins_name, is_name_byte, is_name, is_label, label_names, after_labels, place_of};
+ghost use Rattle.pisa_asm.specs.LabelNames.{begins_name, is_label_byte, is_name, is_label, label_names, after_labels, place_of};
 ghost use Rattle.pisa_asm.specs.Passes.{label_at, labels_at};
 
 use crate::error::AsmError;
@@ -20,17 +20,17 @@ fn begins_name(byte: u8) -> bool
 }
 
 /// Whether a byte may follow the first of a name.
-fn is_name_byte(byte: u8) -> bool
-    ensures { result ≡ is_name_byte byte }
+fn is_label_byte(byte: u8) -> bool
+    ensures { result ≡ is_label_byte byte }
 {
     byte.is_ascii_alphabetic() || byte.is_ascii_digit() || byte == b'_'
 }
 
 /// Whether all of these bytes may follow the first of a name.
-fn are_name_bytes(bytes: &[u8]) -> bool
-    ensures { result ≡ list_all is_name_byte bytes.now }
+fn are_label_bytes(bytes: &[u8]) -> bool
+    ensures { result ≡ list_all is_label_byte bytes.now }
 {
-    bytes.iter().all(|byte| is_name_byte(*byte))
+    bytes.iter().all(|byte| is_label_byte(*byte))
 }
 
 /// Whether a word is a name.
@@ -39,7 +39,7 @@ pub fn is_name(word: &[u8]) -> bool
 {
     match word {
         [] => false,
-        [first, rest @ ..] => begins_name(*first) && are_name_bytes(rest),
+        [first, rest @ ..] => begins_name(*first) && are_label_bytes(rest),
     }
 }
 

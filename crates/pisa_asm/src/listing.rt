@@ -2,10 +2,11 @@
 ghost use Rattle.std.specs.Prelude.{◌≡◌, ◌≤◌, ◌<◌, ◌^◌, ◌++◌, ◌∷◌, [], string_bytes, string_len, All, IfOk, OnOk, Ok};
 ghost use Rattle.std.specs.Str.{IsAscii};
 ghost use Rattle.pisa_isa.specs.Table.{has_a, has_b, c_is_source};
+ghost use Rattle.pisa_isa.specs.Notes.{HasAsciiText};
 ghost use Rattle.rpp_words.specs.Words.{IsWord};
 ghost use Rattle.pisa_asm.specs.declared.assembler.TheConstants.{MOST_TEXT};
 ghost use Rattle.pisa_asm.specs.Passes.{noted_of_text};
-ghost use Rattle.pisa_asm.specs.Listing.{signed_text, offset_text, register_text, last_text, cell_text, static_text, number_text, mark_text, name_text, HasAsciiText, lines_by, listing};
+ghost use Rattle.pisa_asm.specs.Listing.{signed_text, offset_text, register_text, last_text, cell_text, static_text, number_text, mark_text, name_text, lines_by, listing};
 
 use crate::mnemonic::mnemonic;
 use crate::operand::{Last, has_registers, last_of};

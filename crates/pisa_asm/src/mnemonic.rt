@@ -2,46 +2,7 @@
 ghost use Rattle.std.specs.Prelude.{◌≡◌};
 ghost use Rattle.pisa_asm.specs.Mnemonics.{mnemonic, row_named};
 
-use pisa_isa::Op;
-
-/// The rows of the table of instructions.
-const ROWS: [Op; 35] = [
-    Op::Add,
-    Op::Sub,
-    Op::Xor,
-    Op::Neg,
-    Op::Addi,
-    Op::Xori,
-    Op::Rl,
-    Op::Rr,
-    Op::Rlv,
-    Op::Rrv,
-    Op::Andx,
-    Op::Orx,
-    Op::Norx,
-    Op::Sltx,
-    Op::Andix,
-    Op::Orix,
-    Op::Sllx,
-    Op::Srlx,
-    Op::Srax,
-    Op::Sllvx,
-    Op::Srlvx,
-    Op::Sravx,
-    Op::Exch,
-    Op::Swapbr,
-    Op::Bra,
-    Op::Rbra,
-    Op::Beq,
-    Op::Bne,
-    Op::Bgez,
-    Op::Bgtz,
-    Op::Blez,
-    Op::Bltz,
-    Op::Start,
-    Op::Finish,
-    Op::DataWord,
-];
+use pisa_isa::{Op, ROWS};
 
 /// The mnemonic of a row.
 #[tactic(auto, unfolding(crate::specs::Mnemonics::mnemonic))]

@@ -11,11 +11,12 @@ use Rattle.std.proofs.lemmas.List.{append-nil}
 use Rattle.std.proofs.lemmas.List.Concat.{flat_map-cons}
 use Rattle.rpp_words.specs.Words.{IsWord}
 use Rattle.rpp_words.specs.declared.input.TheConstants.{FIXED_CELLS}
+use Rattle.rpp_words.specs.Names.{is_name_byte}
 use Rattle.pisa_isa.specs.declared.image.TheConstants.{MOST_CELLS, MOST_STATICS}
 use Rattle.pisa_isa.specs.declared.notes.TheConstants.{MOST_MARKS, LAST_PLACE, MOST_NAMES, MOST_NAME_BYTES}
 use Rattle.pisa_isa.specs.declared.notes.Mark.{Mark}
 use Rattle.pisa_isa.specs.declared.notes.FieldName.{FieldName}
-use Rattle.pisa_isa.specs.Notes.{NoteLists, no_notes, is_name_byte, is_name, is_within, mark_fits, marks_fit, name_fits}
+use Rattle.pisa_isa.specs.Notes.{NoteLists, no_notes, is_name, is_within, mark_fits, marks_fit, name_fits}
 use Rattle.pisa_isa.specs.Notes.{names_fit, notes_fit}
 use Rattle.pisa_image.specs.declared.error.ImageError.{ImageError}
 use Rattle.pisa_image.specs.declared.error.ImageError.TheVariants.{ImageTruncated, ImageField}

@@ -9,7 +9,7 @@ use Rattle.pisa_isa.specs.declared.cell.Op.TheVariants.{Add, Sub, Xor, Neg, Addi
 use Rattle.pisa_isa.specs.declared.cell.Op.TheVariants.{Norx, Sltx, Andix, Orix, Sllx, Srlx, Srax, Sllvx, Srlvx, Sravx}
 use Rattle.pisa_isa.specs.declared.cell.Op.TheVariants.{Exch, Swapbr, Bra, Rbra, Beq, Bne, Bgez, Bgtz, Blez, Bltz}
 use Rattle.pisa_isa.specs.declared.cell.Op.TheVariants.{Start, Finish, DataWord}
-use Rattle.pisa_image.specs.declared.rows.TheConstants.{ROWS}
+use Rattle.pisa_isa.specs.declared.cell.TheConstants.{ROWS}
 use Rattle.pisa_image.specs.Rows.{number_of, row_in, row_with}
 
 pub row_again : (op : Op) → row_with (number_of op) ≡ Some op

@@ -8,12 +8,13 @@ use Rattle.pisa_isa.specs.declared.image.TheConstants.{MOST_CELLS, MOST_STATICS}
 use Rattle.pisa_isa.specs.declared.image.SealError.{SealError}
 use Rattle.pisa_isa.specs.declared.image.SealError.TheVariants as seal
 use Rattle.rpp_words.specs.declared.input.TheConstants.{FIXED_CELLS}
+use Rattle.rpp_words.specs.Names.{is_name_byte}
 use Rattle.std.specs.Char.{is_ascii_alphabetic}
 use Rattle.pisa_isa.specs.declared.notes.TheConstants.{MOST_MARKS, LAST_PLACE, MOST_NAMES}
 use Rattle.pisa_isa.specs.declared.notes.TheConstants.{MOST_NAME_BYTES}
 use Rattle.pisa_isa.specs.declared.notes.Mark.{Mark}
 use Rattle.pisa_isa.specs.declared.notes.FieldName.{FieldName}
-use Rattle.pisa_isa.specs.Notes.{NoteLists, NotedImage, no_notes, is_name_byte}
+use Rattle.pisa_isa.specs.Notes.{NoteLists, NotedImage, no_notes}
 use Rattle.pisa_isa.specs.Table.{has_a, has_b, c_is_source, register_end, imm_end, is_one_to_one}
 use Rattle.pisa_isa.specs.Image.{Segments, is_start, is_finish}
 use Rattle.pisa_image.specs.declared.reading.TheConstants.{MARK, VERSION, OLD_VERSION}

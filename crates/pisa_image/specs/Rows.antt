@@ -6,7 +6,7 @@ use Rattle.pisa_isa.specs.declared.cell.Op.TheVariants.{Rrv, Andx, Orx, Norx, Sl
 use Rattle.pisa_isa.specs.declared.cell.Op.TheVariants.{Sllx, Srlx, Srax, Sllvx, Srlvx, Sravx, Exch}
 use Rattle.pisa_isa.specs.declared.cell.Op.TheVariants.{Swapbr, Bra, Rbra, Beq, Bne, Bgez, Bgtz}
 use Rattle.pisa_isa.specs.declared.cell.Op.TheVariants.{Blez, Bltz, Start, Finish, DataWord}
-use Rattle.pisa_image.specs.declared.rows.TheConstants.{ROWS}
+use Rattle.pisa_isa.specs.declared.cell.TheConstants.{ROWS}
 
 -- the number by which a file names a row
 abbrev pub number_of : Op → ℕ

@@ -3,16 +3,17 @@ ghost use Rattle.std.specs.Prelude.{◌≡◌, ◌≤◌, ◌<◌, ◌+◌, ◌*
 ghost use Rattle.std.specs.List.{list_all};
 ghost use Rattle.std.specs.Char.{is_ascii_alphabetic};
 ghost use Rattle.rpp_words.specs.declared.input.TheConstants.{FIXED_CELLS};
-ghost use Rattle.pisa_isa.specs.Notes.{NoteLists, is_name_byte, is_name, mark_fits, name_fits, names_fit, notes_fit};
+ghost use Rattle.rpp_words.specs.Names.{is_name_byte};
+ghost use Rattle.pisa_isa.specs.Notes.{NoteLists, is_name, mark_fits, name_fits, names_fit, notes_fit};
 ghost use Rattle.pisa_image.specs.Reading.{Gives, number_between, tested_byte, mark_at, marks_at, text_from as text_behind, text_at, name_at, names_at, notes_at, notes_of};
 
 use crate::error::ImageError;
 use crate::reading::{OLD_VERSION, number_between};
 use pisa_isa::{
     FieldName, LAST_PLACE, MOST_CELLS, MOST_MARKS, MOST_NAME_BYTES, MOST_NAMES, MOST_STATICS, Mark,
-    NoteText, Notes, is_name_byte,
+    NoteText, Notes,
 };
-use rpp_words::FIXED_CELLS;
+use rpp_words::{FIXED_CELLS, is_name_byte};
 use std::alloc::Global;
 
 /// The notes behind so many code cells and static cells, where the version has them, and the place

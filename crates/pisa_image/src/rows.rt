@@ -2,46 +2,7 @@
 ghost use Rattle.std.specs.Prelude.{◌≡◌, slice_get};
 ghost use Rattle.pisa_image.specs.Rows.{number_of, row_in, row_with};
 
-use pisa_isa::Op;
-
-/// The rows in the order of their numbers, from 1 on.
-pub const ROWS: [Op; 35] = [
-    Op::Add,
-    Op::Sub,
-    Op::Xor,
-    Op::Neg,
-    Op::Addi,
-    Op::Xori,
-    Op::Rl,
-    Op::Rr,
-    Op::Rlv,
-    Op::Rrv,
-    Op::Andx,
-    Op::Orx,
-    Op::Norx,
-    Op::Sltx,
-    Op::Andix,
-    Op::Orix,
-    Op::Sllx,
-    Op::Srlx,
-    Op::Srax,
-    Op::Sllvx,
-    Op::Srlvx,
-    Op::Sravx,
-    Op::Exch,
-    Op::Swapbr,
-    Op::Bra,
-    Op::Rbra,
-    Op::Beq,
-    Op::Bne,
-    Op::Bgez,
-    Op::Bgtz,
-    Op::Blez,
-    Op::Bltz,
-    Op::Start,
-    Op::Finish,
-    Op::DataWord,
-];
+use pisa_isa::{Op, ROWS};
 
 /// The number of a row.
 pub(crate) fn number_of(op: Op) -> u8

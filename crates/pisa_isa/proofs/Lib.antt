@@ -17,3 +17,4 @@ pub mod Flips
 pub mod Longer
 pub mod Loaded
 pub mod Noting
+pub mod NoteNames

@@ -3,6 +3,7 @@ use Rattle.std.specs.Prelude.{◌≡◌, ◌≤◌, ◌<◌, ◌^◌, ℕ, ℤ, 
 use Rattle.std.specs.Prelude.{not, ◌&&◌, ◌||◌, nat_eq, nat_lt, nat_le, if◌then◌else◌, List, length}
 use Rattle.std.specs.Prelude.{Option, Some, None, slice_get, slice_index, slice_set}
 use Rattle.std.specs.List.{All}
+use Rattle.std.specs.Option.{unwrap_or}
 use Rattle.rpp_words.specs.Words.{IsWord, sum_of, negated, signed}
 use Rattle.pisa_isa.specs.declared.cell.Op.{Op}
 use Rattle.pisa_isa.specs.declared.cell.Op.TheVariants.{Exch, Swapbr, Bra, Rbra, Beq, Bne, Bgez}
@@ -36,6 +37,10 @@ reg m r = slice_index m.regs r
 
 abbrev pub with_reg : State → ℕ → ℕ → State
 with_reg m r w = record m { regs = slice_set m.regs r w }
+
+-- the word in a data cell, and 0 behind the memory
+abbrev pub word_at : (cells : List ℕ) → (at : ℕ) → ℕ
+word_at cells at = unwrap_or (slice_get cells at) 0
 
 -- register d and the data cell at an address are swapped
 abbrev pub exchanged_at : State → (d at : ℕ) → State

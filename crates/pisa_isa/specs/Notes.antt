@@ -1,8 +1,10 @@
 -- Notes of images: which statement of the source code cells belong to, and the names of data cells.
-use Rattle.std.specs.Prelude.{ℕ, ◌+◌, ◌-◌, Bool, true, false, nat_le, nat_lt, List, [], ◌∷◌, ◌==◌}
-use Rattle.std.specs.Prelude.{◌||◌, ◌&&◌, if◌then◌else◌, length, map}
+use Rattle.std.specs.Prelude.{ℕ, ◌+◌, ◌-◌, Bool, true, false, nat_le, nat_lt, List, [], ◌∷◌, ◌&&◌}
+use Rattle.std.specs.Prelude.{if◌then◌else◌, length, map}
 use Rattle.std.specs.List.{list_all}
-use Rattle.std.specs.Char.{is_ascii_alphabetic, is_ascii_digit}
+use Rattle.std.specs.Char.{is_ascii_alphabetic}
+use Rattle.std.specs.Str.{IsAscii}
+use Rattle.rpp_words.specs.Names.{is_name_byte}
 use Rattle.rpp_words.specs.declared.input.TheConstants.{FIXED_CELLS}
 use Rattle.pisa_isa.specs.declared.notes.TheConstants.{MOST_MARKS, LAST_PLACE, MOST_NAMES}
 use Rattle.pisa_isa.specs.declared.notes.TheConstants.{MOST_NAME_BYTES}
@@ -24,14 +26,14 @@ pub record NotedImage : Type 0 where
 abbrev pub no_notes : NoteLists
 no_notes = record { marks = []; names = [] }
 
--- a letter, a digit, `_` or `'`
-abbrev pub is_name_byte : ℕ → Bool
-is_name_byte b = is_ascii_alphabetic b || is_ascii_digit b || b == 95 || b == 39
-
--- a letter, and then such bytes
+-- a letter, and then bytes of names
 abbrev pub is_name : List ℕ → Bool
 is_name [] = false
 is_name (first ∷ rest) = is_ascii_alphabetic first && list_all is_name_byte rest
+
+-- a name that can be written byte by byte
+abbrev pub HasAsciiText : FieldName → Type 0
+HasAsciiText n = IsAscii n.text
 
 -- the cells of a mark are some of these, or none
 abbrev pub is_within : (cells : ℕ) → Mark → Bool

@@ -82,6 +82,45 @@ pub enum Op {
     DataWord,
 }
 
+/// All rows, in their order.
+pub const ROWS: [Op; 35] = [
+    Op::Add,
+    Op::Sub,
+    Op::Xor,
+    Op::Neg,
+    Op::Addi,
+    Op::Xori,
+    Op::Rl,
+    Op::Rr,
+    Op::Rlv,
+    Op::Rrv,
+    Op::Andx,
+    Op::Orx,
+    Op::Norx,
+    Op::Sltx,
+    Op::Andix,
+    Op::Orix,
+    Op::Sllx,
+    Op::Srlx,
+    Op::Srax,
+    Op::Sllvx,
+    Op::Srlvx,
+    Op::Sravx,
+    Op::Exch,
+    Op::Swapbr,
+    Op::Bra,
+    Op::Rbra,
+    Op::Beq,
+    Op::Bne,
+    Op::Bgez,
+    Op::Bgtz,
+    Op::Blez,
+    Op::Bltz,
+    Op::Start,
+    Op::Finish,
+    Op::DataWord,
+];
+
 /// An instruction with its operands. An unused field is 0.
 #[derive(Clone, Copy, PartialEq, Eq, Debug)]
 pub struct Cell {

@@ -10,7 +10,7 @@ mod laws;
 mod machine;
 mod notes;
 
-pub use cell::{Cell, Op};
+pub use cell::{Cell, Op, ROWS};
 pub use image::{Image, MOST_CELLS, MOST_STATICS, SealError};
 pub use laws::{
     back_undoes_next, back_undoes_steps, flipped_image_is_image, flipped_notes_fit,
@@ -19,5 +19,5 @@ pub use laws::{
 pub use machine::{Cells, Core, Stop, step, unstep};
 pub use notes::{
     FieldName, LAST_PLACE, MOST_MARKS, MOST_NAME_BYTES, MOST_NAMES, Mark, NoteText, Noted, Notes,
-    fits, is_name, is_name_byte, mark_fits, name_fits,
+    fits, is_name, mark_fits, name_fits,
 };

@@ -2,10 +2,11 @@
 ghost use Rattle.std.specs.Prelude.{◌≡◌, ◌≤◌, ◌∷◌, List, IfOk, IsTrue, map, length};
 ghost use Rattle.std.specs.List.{list_all, All};
 ghost use Rattle.pisa_isa.specs.Image.{Segments, IsImage};
-ghost use Rattle.pisa_isa.specs.Notes.{NoteLists, NotedImage, is_name_byte, is_name, mark_fits, marks_fit, name_fits, names_fit, fits, is_within, turned_mark, turned_notes};
+ghost use Rattle.rpp_words.specs.Names.{is_name_byte};
+ghost use Rattle.pisa_isa.specs.Notes.{NoteLists, NotedImage, is_name, mark_fits, marks_fit, name_fits, names_fit, fits, is_within, turned_mark, turned_notes};
 
 use crate::image::Image;
-use rpp_words::{FIXED_CELLS, NoMemory};
+use rpp_words::{FIXED_CELLS, NoMemory, is_name_byte};
 use std::alloc::Global;
 use std::marker::Model;
 
@@ -118,13 +119,6 @@ impl Model for Noted {
     ghost view = { λ n. record { image = n.image; notes = n.notes } };
 
     ghost invariant = { λ n. IsTrue (fits n.image n.notes) };
-}
-
-/// Whether a byte may follow the first of a name.
-pub fn is_name_byte(byte: u8) -> bool
-    ensures { result ≡ is_name_byte byte }
-{
-    byte.is_ascii_alphabetic() || byte.is_ascii_digit() || byte == b'_' || byte == b'\''
 }
 
 fn are_name_bytes(bytes: &[u8]) -> bool

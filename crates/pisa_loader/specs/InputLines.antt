@@ -9,7 +9,7 @@ use Rattle.std.specs.Str.{bytes_eq}
 use Rattle.rpp_words.specs.declared.input.FieldWord.{FieldWord}
 use Rattle.rpp_words.specs.Words.{IsWord, negated}
 use Rattle.rpp_words.specs.Texts.{decimal_from}
-use Rattle.rpp_tree.specs.Names.{is_name_byte}
+use Rattle.rpp_words.specs.Names.{is_name_byte}
 use Rattle.pisa_image.specs.Numbers.{◌>>=◌}
 use Rattle.pisa_loader.specs.declared.error.LoadError.{LoadError}
 use Rattle.pisa_loader.specs.declared.error.LoadError.TheVariants.{UnknownField, BadInputLine}

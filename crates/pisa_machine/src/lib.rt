@@ -13,6 +13,6 @@ mod run;
 mod steps;
 mod telling;
 
-pub use machine::Machine;
+pub use machine::{Machine, word_at};
 pub use run::RunEnd;
 pub use steps::Steps;

@@ -1,7 +1,7 @@
 // Machines.
 ghost use Rattle.std.specs.Prelude.{◌≡◌, IsSome, ◌<◌, ◌≤◌, ◌^◌, ◌+◌, ◌-◌, ◌↔◌, pos, false, All, length, take, Some, slice_get, vec_len, IsTrue, IsFalse, IfOk, if◌then◌else◌};
 ghost use Rattle.rpp_words.specs.Words.{IsWord};
-ghost use Rattle.pisa_isa.specs.Machine.{state_of, stop, fetch, back, IsCode, IsNext};
+ghost use Rattle.pisa_isa.specs.Machine.{state_of, word_at, stop, fetch, back, IsCode, IsNext};
 ghost use Rattle.pisa_isa.specs.Image.{IsImage, start_of};
 ghost use Rattle.pisa_isa.specs.Runs.{run, steps as steps_made, counted, counted_by, stop_at_bound};
 ghost use Rattle.pisa_machine.specs.Position.{Position, IsMachine, first_position, stepped};
@@ -281,5 +281,18 @@ impl Machine {
             cells,
             made: 0,
         }
+    }
+}
+
+/// The word in a data cell of a machine, and 0 behind its memory.
+pub fn word_at(machine: &Machine, at: u64) -> u32
+    ensures { result ≡ word_at machine.now.state.cells at }
+{
+    if at >= u64::from(machine.cells()) {
+        return 0;
+    }
+    match machine.cell(at as u32) {
+        None => 0,
+        Some(word) => word,
     }
 }

@@ -1,31 +1,41 @@
 // Printed words, and the lines on stops.
-ghost use Rattle.std.specs.Prelude.{◌≡◌, ◌++◌, IfOk, OnOk, string_bytes};
+ghost use Rattle.std.specs.Prelude.{◌≡◌, ◌++◌, OnOk, OnErr, string_bytes};
 ghost use Rattle.pisa_scripts.specs.Stops.{fault_name as name_of_fault, stop_line};
 
 use pisa_isa::Stop;
 use std::alloc::AllocError;
 
-/// Adds the line on why a machine stopped.
+/// Adds the line on why a machine stopped. After want of memory the text is as before.
 pub fn add_stop(text: &mut String, stop: Stop) -> Result<(), AllocError>
-    ensures { OnOk result (string_bytes text.new ≡ string_bytes text.old ++ stop_line stop) }
+    ensures added { OnOk result (string_bytes text.new ≡ string_bytes text.old ++ stop_line stop) }
+    ensures kept { OnErr result (string_bytes text.new ≡ string_bytes text.old) }
 {
     match stop {
         Stop::Finished => text.push_str("finished\n"),
         Stop::Returned => text.push_str("returned\n"),
         Stop::Trap(code) => add_fault(text, code),
-        Stop::BadAddress(address) => write!(text, "bad address {address}\n"),
-        Stop::OffCode(place) => write!(text, "off code {place}\n"),
+        Stop::BadAddress(address) => {
+            let line = format!(in *text.allocator(); "bad address {address}\n")?;
+            text.push_str(line.as_str())
+        }
+        Stop::OffCode(place) => {
+            let line = format!(in *text.allocator(); "off code {place}\n")?;
+            text.push_str(line.as_str())
+        }
         Stop::Bound => text.push_str("bound\n"),
     }
 }
 
 // The line on a fault, with its name.
 fn add_fault(text: &mut String, code: u32) -> Result<(), AllocError>
-    ensures { OnOk result (string_bytes text.new ≡ string_bytes text.old ++ stop_line (Stop.Trap code)) }
+    ensures added { OnOk result (string_bytes text.new
+        ≡ string_bytes text.old ++ stop_line (Stop.Trap code)) }
+    ensures kept { OnErr result (string_bytes text.new ≡ string_bytes text.old) }
 {
     let name = fault_name(code);
     let number = code.cast_signed();
-    write!(text, "fault {number}{name}\n")
+    let line = format!(in *text.allocator(); "fault {number}{name}\n")?;
+    text.push_str(line.as_str())
 }
 
 // The name of a fault, with a space in front.

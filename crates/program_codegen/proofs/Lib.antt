@@ -11,3 +11,4 @@ pub mod Unmarked
 pub mod RoutineMade
 pub mod ImageMade
 pub mod RunsOn
+pub mod Leading

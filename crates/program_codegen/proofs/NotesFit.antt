@@ -10,6 +10,7 @@ use Rattle.std.proofs.lemmas.List.{length-replicate}
 use Rattle.std.proofs.lemmas.List.Elements.{All-tail, All-weaker}
 use Rattle.std.proofs.lemmas.List.Sums.{sum_by-cons, sum_by-le, list_all-from_AllPass}
 use Rattle.rpp_words.specs.declared.input.TheConstants.{FIXED_CELLS}
+use Rattle.rpp_words.specs.Names.{is_name_byte}
 use Rattle.rpp_tree.specs.declared.tree.Ident.{Ident}
 use Rattle.rpp_tree.specs.declared.tree.Var.{Var}
 use Rattle.rpp_tree.specs.Names.{IsName}
@@ -21,7 +22,7 @@ use Rattle.pisa_isa.specs.declared.notes.TheConstants.{MOST_NAMES, MOST_NAME_BYT
 use Rattle.pisa_isa.specs.declared.notes.FieldName.{FieldName}
 use Rattle.pisa_isa.specs.declared.notes.Mark.{Mark}
 use Rattle.pisa_isa.specs.Image.{Segments}
-use Rattle.pisa_isa.specs.Notes.{NoteLists, NotedImage, is_name_byte, is_name, name_fits, names_fit, fits}
+use Rattle.pisa_isa.specs.Notes.{NoteLists, NotedImage, is_name, name_fits, names_fit, fits}
 use Rattle.pisa_isa.proofs.Noting.{fitting, fits_by}
 use Rattle.roopl_semantics.specs.Layout.{tables}
 use Rattle.roopl_semantics.specs.Source.{main_fields, is_int_type}

@@ -12,7 +12,7 @@ use Rattle.rpp_tree.specs.Tree.{New, Delete, Copy, Uncopy, Call, Skip, End, Then
 use Rattle.class_table.specs.declared.kind.Kind.TheVariants as kind
 use Rattle.class_table.specs.Overrides.{parameters_of}
 use Rattle.class_table.specs.Refusal.{Refusal, unknown_name, type_differs, wrong_arity}
-use Rattle.class_table.specs.Scope.{Setting, Locals, kind_of, local_kind, field_kind, kind_in, class_kind}
+use Rattle.class_table.specs.Scope.{Typing, Locals, kind_of, local_kind, field_kind, kind_in, class_kind}
 use Rattle.class_table.specs.Table.{class_of, slot_in, dispatch_in}
 use Rattle.class_table.specs.Expressions.{and_then, is_int, type_of, place_type, variable_type, element_of}
 use Rattle.class_table.specs.Expressions.{operator_type, index_is_int, first_token}
@@ -26,7 +26,7 @@ use Rattle.meaning_sound.proofs.Locals.{means_under}
 
 -- ---- expressions
 
-module _ (setting : Setting) (locals shape : Locals) (means : MeansSame locals shape) where
+module _ (setting : Typing) (locals shape : Locals) (means : MeansSame locals shape) where
   local_same : (name : List ℕ) → local_kind locals name ≡ local_kind shape name
   local_same name = means.same name
 
@@ -159,7 +159,7 @@ module _ (setting : Setting) (locals shape : Locals) (means : MeansSame locals s
 
 -- ---- statements and blocks
 
-module _ (setting : Setting) where
+module _ (setting : Typing) where
   mutual
     pub statement_same : (locals shape : Locals) → MeansSame locals shape → (s : Statement)
         → check_statement setting locals s ≡ check_statement setting shape s

@@ -1,3 +1,4 @@
 pub mod Notes
 pub mod Routines
 pub mod Endless
+pub mod Subroutines

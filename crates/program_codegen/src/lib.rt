@@ -12,4 +12,4 @@ mod routines;
 mod statics;
 
 pub use images::compile;
-pub use laws::endless_images_run_on;
+pub use laws::{calls_enter_by_swapbr, endless_images_run_on};

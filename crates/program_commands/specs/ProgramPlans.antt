@@ -29,7 +29,7 @@ use Rattle.rpp_words.specs.Texts.{line_end}
 use Rattle.command_plan.specs.declared.plan.Verdict.TheVariants.{Done, SourceRefused, Trapped}
 use Rattle.command_plan.specs.declared.plan.Verdict.TheVariants.{Bound}
 use Rattle.command_plan.specs.Plans.{Planned, prints, writes, WithText}
-use Rattle.command_plan.specs.Texts.{steps_line, cells_line}
+use Rattle.command_plan.specs.Texts.{steps_line, bound_lines, cells_line}
 use Rattle.pisa_scripts.specs.Stops.{fault_line}
 
 -- the source gives a store, and the plan reports it
@@ -50,7 +50,7 @@ pub record ReportsFault (program : Source) (limits : Limits) (input : List Field
 pub record ReportsBound (program : Source) (limits : Limits) (input : List FieldWord) (steps : ℕ)
     (p : Planned) : Type 0 where
   pub early : (cost : ℕ) → EndsAt program limits input cost → steps < enough_steps cost
-  pub reported : p ≡ prints Bound (codes "bound" ++ (line_end ++ steps_line steps))
+  pub reported : p ≡ prints Bound (bound_lines steps)
 
 -- what is printed of the way back: its steps, the report, and how many cells are as they were
 abbrev pub back_lines : (spent : ℕ) (report : List ℕ) (count : ℕ) → List ℕ

@@ -1,31 +1,30 @@
 // `go F H D STEPS [INPUT]`: compiles a program, runs its image and reports.
-ghost use Rattle.std.specs.Prelude.{◌≡◌, false, ◌≤◌, ◌<◌, ◌^◌, ◌++◌, ◌∷◌, length, option_map, IfOk, IfSome, string_bytes, codes};
+ghost use Rattle.std.specs.Prelude.{◌≡◌, false, ◌≤◌, ◌<◌, ◌^◌, ◌∷◌, length, option_map, IfOk, IfSome, string_bytes};
 ghost use Rattle.rpp_tree.specs.Views.{source_of};
 ghost use Rattle.rpp_tree.specs.declared.limits.TheConstants.{MOST_BYTES};
 ghost use Rattle.pisa_isa.specs.Image.{IsImage};
 ghost use Rattle.pisa_isa.specs.Loaded.{loaded};
 ghost use Rattle.roopl_semantics.specs.StandsFor.{StandsFor};
 ghost use Rattle.pisa_loader.specs.declared.input.TheConstants.{MOST_INPUT};
-ghost use Rattle.command_plan.specs.Plans.{planned, prints, GivesPlan};
+ghost use Rattle.command_plan.specs.Plans.{planned, GivesPlan};
 ghost use Rattle.program_commands.specs.ProgramPlans.{RunsImage, ReportsStop, ReportsStore};
 ghost use Rattle.program_commands.specs.RunPlans.{IsGoPlan, GoesOn};
-ghost use Rattle.command_plan.specs.Texts.{steps_line};
-ghost use Rattle.pisa_scripts.specs.Stops.{fault_line as line_of_fault};
-ghost use Rattle.rpp_words.specs.Texts.{line_end};
 ghost use Rattle.program_commands.specs.GoRun.{IsLoaded, HasRun};
 ghost use Rattle.command_plan.specs.Files.{OnlyReads, source, input_files};
 
 use crate::readying::ready;
-use crate::setting::{Ready, Setting};
+use crate::setting::{Ready, RunSetting};
 use class_table::Checked;
-use command_plan::{NoPlan, Plan, Sizes, Verdict, fault_line, read_given, with_steps};
+use command_plan::{
+    NoPlan, Plan, Sizes, Verdict, read_given, report_bound, report_fault, with_steps,
+};
 use pisa_isa::{Image, Stop};
 use pisa_loader::load;
 use pisa_machine::{Machine, RunEnd, Steps};
 use program_codegen::compile;
 use rpp_ports::Shelf;
 use rpp_words::NoMemory;
-use std::alloc::{AllocError, Global};
+use std::alloc::Global;
 use std::sync::ledger::Ledger;
 use store_report::report;
 
@@ -83,7 +82,7 @@ pub fn compiled_image(alloc: Global, checked: &Checked) -> Result<Image, NoMemor
 }
 
 /// The image of the program, loaded with the input.
-pub fn loaded_program(alloc: Global, setting: &Setting) -> Result<Machine, NoMemory>
+pub fn loaded_program(alloc: Global, setting: &RunSetting) -> Result<Machine, NoMemory>
     ensures { IfOk result (λ machine. IsLoaded (source_of setting.now.checked) setting.now.limits
         setting.now.input.words.items machine) }
 {
@@ -94,7 +93,7 @@ pub fn loaded_program(alloc: Global, setting: &Setting) -> Result<Machine, NoMem
 // Loads the image of a program with an input, runs it and reports.
 fn run_program<L: Ledger>(
     alloc: Global,
-    setting: &Setting,
+    setting: &RunSetting,
     steps: &mut Steps<L>,
 ) -> Result<Plan, NoMemory>
     ensures { IfOk result (λ plan. RunsImage false (source_of setting.now.checked)
@@ -108,7 +107,7 @@ fn run_program<L: Ledger>(
 /// The plan of a run that ended.
 pub fn report_run(
     alloc: Global,
-    setting: &Setting,
+    setting: &RunSetting,
     machine: &Machine,
     end: RunEnd,
 ) -> Result<Plan, NoMemory>
@@ -132,7 +131,7 @@ pub fn report_run(
 // The plan of a run that finished.
 fn report_store(
     alloc: Global,
-    setting: &Setting,
+    setting: &RunSetting,
     machine: &Machine,
     spent: u64,
 ) -> Result<Plan, NoMemory>
@@ -144,21 +143,4 @@ fn report_store(
     let lines = report(alloc, machine, &setting.checked)?;
     let text = with_steps(lines, spent)?;
     Ok(Plan::prints(Verdict::Done, text))
-}
-
-// The plan of a run that stopped with a fault.
-fn report_fault(alloc: Global, code: u32, spent: u64) -> Result<Plan, AllocError>
-    ensures { IfOk result (λ plan. planned plan
-        ≡ prints Verdict.Trapped (line_of_fault code ++ steps_line spent)) }
-{
-    let text = with_steps(fault_line(alloc, code)?, spent)?;
-    Ok(Plan::prints(Verdict::Trapped, text))
-}
-
-// The plan of a run that the bound ended.
-fn report_bound(alloc: Global, bound: u64) -> Result<Plan, AllocError>
-    ensures { IfOk result (λ plan. planned plan
-        ≡ prints Verdict.Bound (codes "bound" ++ (line_end ++ steps_line bound))) }
-{
-    Ok(Plan::prints(Verdict::Bound, format!(in alloc; "bound\nsteps {bound}\n")?))
 }

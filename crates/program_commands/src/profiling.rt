@@ -10,7 +10,7 @@ ghost use Rattle.program_commands.specs.ToldShort.{ProfilesShort, IsProfileShort
 
 use crate::going::{loaded_program, report_run};
 use crate::readying::ready;
-use crate::setting::{Ready, Setting};
+use crate::setting::{Ready, RunSetting};
 use command_plan::{NoPlan, Plan, Sizes, read_file};
 use pisa_machine::Steps;
 use rpp_ports::Shelf;
@@ -67,7 +67,7 @@ fn profile_text<P: Probes, L: Ledger>(
 // Loads the image of a program, runs it as probes watch, and reports.
 fn profile_program<P: Probes, L: Ledger>(
     alloc: Global,
-    setting: &Setting,
+    setting: &RunSetting,
     probes: &mut P,
     steps: &mut Steps<L>,
 ) -> Result<Plan, NoMemory>

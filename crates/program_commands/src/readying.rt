@@ -10,7 +10,7 @@ ghost use Rattle.program_commands.specs.Readied.{IsReadied};
 ghost use Rattle.program_commands.specs.RunPlans.{RefusesInput, RefusesSizes, RefusesRun, CanRun};
 
 use crate::settable::input_fields;
-use crate::setting::{Ready, Setting};
+use crate::setting::{Ready, RunSetting};
 use class_table::Checked;
 use command_plan::{Plan, Sizes, Verdict, load_line, refuse_source};
 use pisa_loader::{LoadError, check_limits, read_input};
@@ -75,7 +75,7 @@ fn ready_within(
 {
     let fields = input_fields(alloc, &checked)?;
     match read_input(alloc, given, &fields) {
-        Ok(input) => Ok(Ready::Runs(Setting {
+        Ok(input) => Ok(Ready::Runs(RunSetting {
             checked,
             limits,
             input,

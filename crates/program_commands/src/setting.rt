@@ -10,7 +10,7 @@ use rpp_words::{Input, Limits};
 
 /// What a run is made with: the program, the sizes of heap and stack, the input, and the number of steps.
 #[derive(Drop)]
-pub struct Setting {
+pub struct RunSetting {
     pub checked: Checked,
     pub limits: Limits,
     pub input: Input,
@@ -25,5 +25,5 @@ pub struct Setting {
 #[derive(Drop)]
 pub enum Ready {
     Refused(Plan),
-    Runs(Setting),
+    Runs(RunSetting),
 }

@@ -18,7 +18,7 @@ ghost use Rattle.pisa_isa.specs.Runs.{started};
 
 use crate::going::{loaded_program, report_run};
 use crate::readying::ready;
-use crate::setting::{Ready, Setting};
+use crate::setting::{Ready, RunSetting};
 use command_plan::{NoPlan, Plan, Sizes, Verdict, read_given, with_steps};
 use image_inverter::flip;
 use pisa_isa::Stop;
@@ -82,7 +82,7 @@ fn turn_over<P: Probes, L: Ledger>(
 // Loads the image of a program with an input, runs it there and back, and reports.
 fn turn_program<P: Probes, L: Ledger>(
     alloc: Global,
-    setting: &Setting,
+    setting: &RunSetting,
     probes: &mut P,
     steps: &mut Steps<L>,
 ) -> Result<Plan, NoMemory>
@@ -101,7 +101,7 @@ fn turn_program<P: Probes, L: Ledger>(
 // The plan of a run that ended, and of the way back where it finished.
 fn report_turn<P: Probes, L: Ledger>(
     alloc: Global,
-    setting: &Setting,
+    setting: &RunSetting,
     machine: Machine,
     end: RunEnd,
     probes: &mut P,
@@ -134,7 +134,7 @@ fn report_turn<P: Probes, L: Ledger>(
 // The plan of a run that finished, and of the way back.
 fn report_both<P: Probes, L: Ledger>(
     alloc: Global,
-    setting: &Setting,
+    setting: &RunSetting,
     machine: Machine,
     spent: u64,
     probes: &mut P,
@@ -172,7 +172,7 @@ struct Back {
 // Runs the flipped image from where a run finished, and tells the probes its steps.
 fn run_back<P: Probes, L: Ledger>(
     alloc: Global,
-    setting: &Setting,
+    setting: &RunSetting,
     machine: Machine,
     _spent: u64,
     probes: &mut P,

@@ -54,7 +54,7 @@ module _ (setting : Setting) (statics : List ℕ) (few : length statics ≤ 2621
   abbrev pub P : Rattle.rpp_tree.specs.Tree.Source
   P = setting.program
 
-  abbrev pub T : Rattle.class_table.specs.Scope.Setting
+  abbrev pub T : Rattle.class_table.specs.Scope.Typing
   T = typing setting statics classes s u st cells h
 
   abbrev pub S : Rattle.class_table.specs.Scope.Locals

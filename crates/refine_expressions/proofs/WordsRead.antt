@@ -9,7 +9,7 @@ use Rattle.rpp_tree.specs.declared.tree.Ident.{Ident}
 use Rattle.class_table.specs.declared.kind.Kind.{Kind}
 use Rattle.class_table.specs.declared.kind.Kind.TheVariants as kind
 use Rattle.class_table.specs.Table.{table_of, field_in}
-use Rattle.class_table.specs.Scope.{Setting as Typing, Locals, local_kind, kind_at, field_kind, kind_in}
+use Rattle.class_table.specs.Scope.{Typing, Locals, local_kind, kind_at, field_kind, kind_in}
 use Rattle.class_table.specs.Refusal.{unknown_name}
 use Rattle.class_table.specs.Expressions.{element_kind, variable_type}
 use Rattle.class_table.specs.Program.{setting_in}

@@ -3,7 +3,7 @@ use Rattle.std.specs.Prelude.{◌≡◌, ℕ, ◌+◌, ◌≤◌, List, Ok}
 use Rattle.rpp_tree.specs.Tree.{Expression, Statement, Source}
 use Rattle.class_table.specs.declared.kind.Kind.{Kind}
 use Rattle.class_table.specs.Table.{table_of, fields_in}
-use Rattle.class_table.specs.Scope.{Setting}
+use Rattle.class_table.specs.Scope.{Typing}
 use Rattle.class_table.specs.Expressions.{type_of}
 use Rattle.class_table.specs.Statements.{passed, check_statement}
 use Rattle.class_table.specs.Program.{setting_in}
@@ -31,7 +31,7 @@ abbrev pub HasRoom : Source → Scope → ℕ → Type 0
 HasRoom program s n = free_in program s + n ≤ frame_size
 
 -- the program's rules of types, in the scope's class
-abbrev pub typing_in : Source → Scope → Setting
+abbrev pub typing_in : Source → Scope → Typing
 typing_in program s = setting_in program (table_of program) s.class
 
 -- an expression of a type, whose literals are words, and whose parts have room in the frame

@@ -8,7 +8,7 @@ use Rattle.class_table.specs.declared.kind.Kind.{Kind}
 use Rattle.class_table.specs.declared.kind.Kind.TheVariants as kind
 use Rattle.class_table.specs.Table.{Table, table_of}
 use Rattle.class_table.specs.Refusal.{type_differs, refused_operator}
-use Rattle.class_table.specs.Scope.{Setting as Typing, Locals}
+use Rattle.class_table.specs.Scope.{Typing, Locals}
 use Rattle.class_table.specs.Expressions.{is_int, compares, is_comparison, is_refused, operands_fit, type_of}
 use Rattle.class_table.specs.Program.{setting_in}
 use Rattle.roopl_semantics.specs.Operators.{operated, truth_word}

@@ -12,7 +12,8 @@ use Rattle.rpp_words.specs.Limits.{IsLimits}
 use Rattle.roopl_semantics.specs.Layout.{overlaid, word_of, laid}
 use Rattle.pisa_isa.specs.Loaded.{statics_at, heap_base}
 use Rattle.pisa_isa.specs.Machine.{State as Machine, reg}
-use Rattle.code_conventions.specs.declared.memory.TheConstants.{HEADER_WORDS, FIRST_VARIABLE, MOST_VARIABLES}
+use Rattle.code_conventions.specs.declared.memory.TheConstants.{HEADER_WORDS, FIRST_VARIABLE}
+use Rattle.code_conventions.specs.declared.memory.TheConstants.{MOST_VARIABLES}
 use Rattle.meaning_sound.specs.Sound.{head_named}
 
 -- the registers of the present object and of the open frame

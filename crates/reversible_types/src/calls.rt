@@ -7,25 +7,25 @@ ghost use Rattle.rpp_tree.specs.Views.{procedure_of, lvalue_of, optional_lvalue_
 ghost use Rattle.class_table.specs.Table.{dispatch_in};
 ghost use Rattle.class_table.specs.Overrides.{parameters_in as methods_params, parameters_of};
 ghost use Rattle.class_table.specs.Statements.{argument_known, argument_new, argument_fits, arguments_fit as all_fit, receiver_kind, receiver_class, plain_receiver, call_rules as of_call, each_passes, each_passes_after};
-ghost use Rattle.reversible_types.specs.ScopeView.{setting_of, locals_of};
+ghost use Rattle.reversible_types.specs.ScopeView.{typing_of, locals_of};
 ghost use Rattle.reversible_types.specs.Verdicts.{verdict_of};
 
 use crate::error::TypeError;
 use crate::expressions::{occurs_inside, type_place};
-use crate::scope::{Locals, Setting, kind_of_local, kind_of_name, kind_of_type};
+use crate::scope::{Locals, Typing, kind_of_local, kind_of_name, kind_of_type};
 use crate::statements::{equal_kinds, name_of_place};
 use class_table::{Kind, methods_at};
 use rpp_tree::text::Text;
 use rpp_tree::tree::{Ident, Method, Place, Var};
 
 fn know_argument(
-    setting: &Setting,
+    setting: &Typing,
     locals: &Locals,
     own: bool,
     at: u32,
     argument: &Ident,
 ) -> Result<(), TypeError>
-    ensures { verdict_of result ≡ argument_known (setting_of setting.now) (locals_of locals.now) own
+    ensures { verdict_of result ≡ argument_known (typing_of setting.now) (locals_of locals.now) own
         at argument.now }
 {
     if kind_of_name(setting, locals, &argument.text).is_none() {
@@ -38,14 +38,14 @@ fn know_argument(
 }
 
 fn know_arguments(
-    setting: &Setting,
+    setting: &Typing,
     locals: &Locals,
     own: bool,
     at: u32,
     arguments: &[Ident],
 ) -> Result<(), TypeError>
     ensures { verdict_of result ≡ each_passes
-        (argument_known (setting_of setting.now) (locals_of locals.now) own at) arguments.now }
+        (argument_known (typing_of setting.now) (locals_of locals.now) own at) arguments.now }
 {
     for argument in arguments {
         know_argument(setting, locals, own, at, argument)?;
@@ -98,12 +98,12 @@ fn check_distinct_arguments(receiver: &Option<Place>, arguments: &[Ident]) -> Re
 }
 
 fn fit_argument(
-    setting: &Setting,
+    setting: &Typing,
     locals: &Locals,
     parameter: &Var,
     argument: &Ident,
 ) -> Result<(), TypeError>
-    ensures { verdict_of result ≡ argument_fits (setting_of setting.now) (locals_of locals.now)
+    ensures { verdict_of result ≡ argument_fits (typing_of setting.now) (locals_of locals.now)
         parameter.now argument.now }
 {
     let kind = kind_of_name(setting, locals, &argument.text).unwrap_or(Kind::Nil);
@@ -114,12 +114,12 @@ fn fit_argument(
 }
 
 fn fit_arguments(
-    setting: &Setting,
+    setting: &Typing,
     locals: &Locals,
     parameters: &[Var],
     arguments: &[Ident],
 ) -> Result<(), TypeError>
-    ensures { verdict_of result ≡ all_fit (setting_of setting.now) (locals_of locals.now)
+    ensures { verdict_of result ≡ all_fit (typing_of setting.now) (locals_of locals.now)
         parameters.now arguments.now }
 {
     match parameters {
@@ -143,9 +143,9 @@ fn parameters_in(methods: &[Method], number: u32) -> &[Var]
     }
 }
 
-fn parameters<'a>(setting: &Setting<'a>, class: u32, slot: u32) -> &'a [Var]
-    ensures { result.now ≡ parameters_of (setting_of setting.now).program
-        (dispatch_in (setting_of setting.now).table class slot) }
+fn parameters<'a>(setting: &Typing<'a>, class: u32, slot: u32) -> &'a [Var]
+    ensures { result.now ≡ parameters_of (typing_of setting.now).program
+        (dispatch_in (typing_of setting.now).table class slot) }
 {
     let runs = setting.table.dispatch(class, slot);
     parameters_in(methods_at(setting.program, runs.class), runs.method)
@@ -161,11 +161,11 @@ fn class_of_kind(at: u32, kind: Kind) -> Result<u32, TypeError>
 }
 
 fn class_of_receiver(
-    setting: &Setting,
+    setting: &Typing,
     locals: &Locals,
     receiver: &Option<Place>,
 ) -> Result<u32, TypeError>
-    ensures { verdict_of result ≡ receiver_class (setting_of setting.now) (locals_of locals.now)
+    ensures { verdict_of result ≡ receiver_class (typing_of setting.now) (locals_of locals.now)
         (optional_lvalue_of receiver.now) }
 {
     match receiver {
@@ -193,14 +193,14 @@ fn is_own(receiver: &Option<Place>) -> bool
 
 /// The rules of a call.
 pub fn call_rules(
-    setting: &Setting,
+    setting: &Typing,
     locals: &Locals,
     at: u32,
     receiver: &Option<Place>,
     method: &Ident,
     arguments: &[Ident],
 ) -> Result<(), TypeError>
-    ensures { verdict_of result ≡ of_call (setting_of setting.now) (locals_of locals.now) at
+    ensures { verdict_of result ≡ of_call (typing_of setting.now) (locals_of locals.now) at
         (optional_lvalue_of receiver.now) method.now arguments.now }
 {
     let class = class_of_receiver(setting, locals, receiver)?;

@@ -2,11 +2,11 @@
 ghost use Rattle.std.specs.Prelude.{◌≡◌, Bool};
 ghost use Rattle.rpp_tree.specs.Views.{expression_of, lvalue_of};
 ghost use Rattle.reversible_types.specs.Verdicts.{verdict_of};
-ghost use Rattle.reversible_types.specs.ScopeView.{setting_of, locals_of};
+ghost use Rattle.reversible_types.specs.ScopeView.{typing_of, locals_of};
 ghost use Rattle.class_table.specs.Expressions.{is_int, element_kind, are_related, compares, is_comparison, is_refused, operands_fit, first_token as token_of, variable_type, element_of, operator_type, type_of, place_type, occurs, occurs_in_index};
 
 use crate::error::TypeError;
-use crate::scope::{Locals, Setting, kind_of_name};
+use crate::scope::{Locals, Typing, kind_of_name};
 use class_table::{ClassTable, Kind};
 use rpp_tree::text::Text;
 use rpp_tree::tree::{BinOp, Expr, Ident, Place};
@@ -86,8 +86,8 @@ pub fn first_token(e: &Expr) -> u32
     }
 }
 
-fn variable(setting: &Setting, locals: &Locals, name: &Ident) -> Result<Kind, TypeError>
-    ensures { verdict_of result ≡ variable_type (setting_of setting.now) (locals_of locals.now) name.now }
+fn variable(setting: &Typing, locals: &Locals, name: &Ident) -> Result<Kind, TypeError>
+    ensures { verdict_of result ≡ variable_type (typing_of setting.now) (locals_of locals.now) name.now }
 {
     match kind_of_name(setting, locals, &name.text) {
         Some(kind) => Ok(kind),
@@ -97,8 +97,8 @@ fn variable(setting: &Setting, locals: &Locals, name: &Ident) -> Result<Kind, Ty
 
 /// The type of an expression, or its first refusal.
 #[cycle(types)]
-pub fn type_expr(setting: &Setting, locals: &Locals, e: &Expr) -> Result<Kind, TypeError>
-    ensures { verdict_of result ≡ type_of (setting_of setting.now) (locals_of locals.now)
+pub fn type_expr(setting: &Typing, locals: &Locals, e: &Expr) -> Result<Kind, TypeError>
+    ensures { verdict_of result ≡ type_of (typing_of setting.now) (locals_of locals.now)
         (expression_of e.now) }
 {
     match e {
@@ -120,8 +120,8 @@ pub fn type_expr(setting: &Setting, locals: &Locals, e: &Expr) -> Result<Kind, T
 
 /// The type of a place, or its first refusal.
 #[cycle(types)]
-pub fn type_place(setting: &Setting, locals: &Locals, place: &Place) -> Result<Kind, TypeError>
-    ensures { verdict_of result ≡ place_type (setting_of setting.now) (locals_of locals.now)
+pub fn type_place(setting: &Typing, locals: &Locals, place: &Place) -> Result<Kind, TypeError>
+    ensures { verdict_of result ≡ place_type (typing_of setting.now) (locals_of locals.now)
         (lvalue_of place.now) }
 {
     let kind = variable(setting, locals, &place.name)?;

@@ -3,14 +3,14 @@ ghost use Rattle.std.specs.Prelude.{◌≡◌, ◌<◌, length, [], map, IfOk, I
 ghost use Rattle.rpp_tree.specs.Views.{procedure_of, class_text_of, source_of, block_of};
 ghost use Rattle.rpp_tree.specs.Limits.{IsWithinLimits};
 ghost use Rattle.reversible_types.specs.Verdicts.{verdict_of, refusal_of};
-ghost use Rattle.reversible_types.specs.ScopeView.{setting_of, locals_of};
+ghost use Rattle.reversible_types.specs.ScopeView.{typing_of, locals_of};
 ghost use Rattle.class_table.specs.Members.{has_field};
 ghost use Rattle.class_table.specs.Table.{table_of, HasClassTable};
 ghost use Rattle.class_table.specs.Statements.{each_passes_after, check_statements};
 ghost use Rattle.class_table.specs.Program.{parameter_new, with_parameters, check_method as of_method, check_class as of_class, check_classes as of_classes, check_program, IsAccepted};
 
 use crate::error::TypeError;
-use crate::scope::{Locals, Setting, kind_of_type};
+use crate::scope::{Locals, Typing, kind_of_type};
 use crate::statements::check_block;
 use class_table::{Checked, ClassTable};
 use rpp_tree::text::Text;
@@ -47,13 +47,13 @@ fn check_parameters(params: &[Var]) -> Result<(), TypeError>
 }
 
 fn check_body(
-    setting: &Setting,
+    setting: &Typing,
     locals: &Locals,
     params: &[Var],
     body: &Block,
 ) -> Result<(), TypeError>
-    ensures { verdict_of result ≡ check_statements (setting_of setting.now)
-        (with_parameters (setting_of setting.now) (locals_of locals.now) params.now)
+    ensures { verdict_of result ≡ check_statements (typing_of setting.now)
+        (with_parameters (typing_of setting.now) (locals_of locals.now) params.now)
         (block_of body.now) }
 {
     match params {
@@ -69,14 +69,14 @@ fn check_body(
     }
 }
 
-fn check_method(setting: &Setting, method: &Method) -> Result<(), TypeError>
-    ensures { verdict_of result ≡ of_method (setting_of setting.now) (procedure_of method.now) }
+fn check_method(setting: &Typing, method: &Method) -> Result<(), TypeError>
+    ensures { verdict_of result ≡ of_method (typing_of setting.now) (procedure_of method.now) }
 {
     check_parameters(&method.params)?;
     check_body(setting, &Locals::Nothing, &method.params, &method.body)
 }
 
-fn check_class(setting: &Setting, class: &Class) -> Result<(), TypeError>
+fn check_class(setting: &Typing, class: &Class) -> Result<(), TypeError>
     ensures { verdict_of result ≡ of_class (source_of setting.now.program.now) setting.now.table.now
         setting.now.class (class_text_of class.now) }
 {
@@ -95,7 +95,7 @@ pub fn check_all(program: &Program, table: &ClassTable) -> Result<(), TypeError>
     let count = table.class_count();
     for (number, class) in program.classes.iter().enumerate() {
         prove!(number < count as usize);
-        let setting = Setting {
+        let setting = Typing {
             program,
             table,
             class: number as u32,

@@ -3,7 +3,7 @@ ghost use Rattle.std.specs.Prelude.{◌≡◌};
 ghost use Rattle.std.specs.Option.{option_copied};
 ghost use Rattle.class_table.specs.Scope.{class_kind, kind_of, field_kind, local_kind, kind_in};
 ghost use Rattle.class_table.specs.Table.{class_of};
-ghost use Rattle.reversible_types.specs.ScopeView.{setting_of, locals_of};
+ghost use Rattle.reversible_types.specs.ScopeView.{typing_of, locals_of};
 
 use class_table::{ClassTable, Kind};
 use rpp_tree::text::Text;
@@ -11,7 +11,7 @@ use rpp_tree::tree::{Ident, Program, VarType};
 
 /// Where a statement stands: the program and its table, and the class of the method.
 #[derive(Clone, Copy)]
-pub struct Setting<'a> {
+pub struct Typing<'a> {
     pub program: &'a Program,
     pub table: &'a ClassTable,
     pub class: u32,
@@ -86,8 +86,8 @@ pub fn kind_of_local(locals: &Locals, name: &Text) -> Option<Kind>
 }
 
 /// The type of what a name means.
-pub fn kind_of_name(setting: &Setting, locals: &Locals, name: &Text) -> Option<Kind>
-    ensures { result ≡ kind_in (setting_of setting.now) (locals_of locals.now) name.now }
+pub fn kind_of_name(setting: &Typing, locals: &Locals, name: &Text) -> Option<Kind>
+    ensures { result ≡ kind_in (typing_of setting.now) (locals_of locals.now) name.now }
 {
     match kind_of_local(locals, name) {
         Some(kind) => Some(kind),

@@ -5,7 +5,7 @@ ghost use Rattle.std.specs.Option.{unwrap_or};
 ghost use Rattle.std.specs.Str.{bytes_eq};
 ghost use Rattle.rpp_tree.specs.Views.{procedure_of, expression_of, lvalue_of, creation_of, optional_lvalue_of, statement_of, block_of};
 ghost use Rattle.reversible_types.specs.Verdicts.{verdict_of};
-ghost use Rattle.reversible_types.specs.ScopeView.{setting_of, locals_of};
+ghost use Rattle.reversible_types.specs.ScopeView.{typing_of, locals_of};
 ghost use Rattle.class_table.specs.Table.{dispatch_in};
 ghost use Rattle.class_table.specs.Statements.{same_kind, is_class, is_class_array, is_int_array as of_ints, takes_object, takes_copy, is_nil_word, same_plain, written_kind, update_rules as of_update, swap_rules as of_swap, test_rules as of_tests, class_known, type_known, local_rules as of_local, construct_rules as of_construct, copy_rules as of_copy, made_known, length_is_int, occurs_in_length, takes as takes_made, make_rules as of_make, check_statement, check_statements};
 ghost use Rattle.rpp_tree.specs.Places.{place_name};
@@ -13,7 +13,7 @@ ghost use Rattle.rpp_tree.specs.Places.{place_name};
 use crate::calls::call_rules;
 use crate::error::TypeError;
 use crate::expressions::{first_token, holds_int, occurs_in, occurs_inside, type_expr, type_place};
-use crate::scope::{Locals, Setting, kind_of_class, kind_of_local, kind_of_type};
+use crate::scope::{Locals, Typing, kind_of_class, kind_of_local, kind_of_type};
 use class_table::{ClassTable, Kind, same_type};
 use rpp_tree::text::Text;
 use rpp_tree::tree::{Block, Expr, Ident, Made, Place, Stmt, Var, VarType};
@@ -57,13 +57,13 @@ fn is_nil(e: &Expr) -> bool
 }
 
 fn update_rules(
-    setting: &Setting,
+    setting: &Typing,
     locals: &Locals,
     at: u32,
     place: &Place,
     value: &Expr,
 ) -> Result<(), TypeError>
-    ensures { verdict_of result ≡ of_update (setting_of setting.now) (locals_of locals.now) at
+    ensures { verdict_of result ≡ of_update (typing_of setting.now) (locals_of locals.now) at
         (lvalue_of place.now) (expression_of value.now) }
 {
     let place_kind = type_place(setting, locals, place)?;
@@ -79,13 +79,13 @@ fn update_rules(
 }
 
 fn swap_rules(
-    setting: &Setting,
+    setting: &Typing,
     locals: &Locals,
     at: u32,
     left: &Place,
     right: &Place,
 ) -> Result<(), TypeError>
-    ensures { verdict_of result ≡ of_swap (setting_of setting.now) (locals_of locals.now) at
+    ensures { verdict_of result ≡ of_swap (typing_of setting.now) (locals_of locals.now) at
         (lvalue_of left.now) (lvalue_of right.now) }
 {
     let left_kind = type_place(setting, locals, left)?;
@@ -105,13 +105,8 @@ fn swap_rules(
     Ok(())
 }
 
-fn test_rules(
-    setting: &Setting,
-    locals: &Locals,
-    first: &Expr,
-    last: &Expr,
-) -> Result<(), TypeError>
-    ensures { verdict_of result ≡ of_tests (setting_of setting.now) (locals_of locals.now)
+fn test_rules(setting: &Typing, locals: &Locals, first: &Expr, last: &Expr) -> Result<(), TypeError>
+    ensures { verdict_of result ≡ of_tests (typing_of setting.now) (locals_of locals.now)
         (expression_of first.now) (expression_of last.now) }
 {
     let first_kind = type_expr(setting, locals, first)?;
@@ -150,7 +145,7 @@ fn know_type(table: &ClassTable, kind: &VarType) -> Result<(), TypeError>
 }
 
 fn local_rules(
-    setting: &Setting,
+    setting: &Typing,
     locals: &Locals,
     at: u32,
     var: &Var,
@@ -158,7 +153,7 @@ fn local_rules(
     end_var: &Var,
     end_value: &Expr,
 ) -> Result<(), TypeError>
-    ensures { verdict_of result ≡ of_local (setting_of setting.now) (locals_of locals.now) at
+    ensures { verdict_of result ≡ of_local (typing_of setting.now) (locals_of locals.now) at
         var.now (expression_of value.now) end_var.now (expression_of end_value.now) }
 {
     know_type(setting.table, &var.kind)?;
@@ -196,8 +191,8 @@ fn know_made(table: &ClassTable, made: &Made) -> Result<(), TypeError>
     }
 }
 
-fn has_int_length(setting: &Setting, locals: &Locals, made: &Made) -> Result<bool, TypeError>
-    ensures { verdict_of result ≡ length_is_int (setting_of setting.now) (locals_of locals.now)
+fn has_int_length(setting: &Typing, locals: &Locals, made: &Made) -> Result<bool, TypeError>
+    ensures { verdict_of result ≡ length_is_int (typing_of setting.now) (locals_of locals.now)
         (creation_of made.now) }
 {
     match made {
@@ -243,13 +238,13 @@ fn takes(table: &ClassTable, made: &Made, place: Kind) -> bool
 }
 
 fn make_rules(
-    setting: &Setting,
+    setting: &Typing,
     locals: &Locals,
     at: u32,
     made: &Made,
     place: &Place,
 ) -> Result<(), TypeError>
-    ensures { verdict_of result ≡ of_make (setting_of setting.now) (locals_of locals.now) at
+    ensures { verdict_of result ≡ of_make (typing_of setting.now) (locals_of locals.now) at
         (creation_of made.now) (lvalue_of place.now) }
 {
     know_made(setting.table, made)?;
@@ -266,13 +261,13 @@ fn make_rules(
 }
 
 fn construct_rules(
-    setting: &Setting,
+    setting: &Typing,
     locals: &Locals,
     class: &Ident,
     name: &Ident,
     end: &Ident,
 ) -> Result<(), TypeError>
-    ensures { verdict_of result ≡ of_construct (setting_of setting.now) (locals_of locals.now)
+    ensures { verdict_of result ≡ of_construct (typing_of setting.now) (locals_of locals.now)
         class.now name.now end.now }
 {
     know_class(setting.table, class)?;
@@ -354,14 +349,14 @@ fn takes_copies(table: &ClassTable, written: Kind, source: Kind, target: Kind) -
 }
 
 fn copy_rules(
-    setting: &Setting,
+    setting: &Typing,
     locals: &Locals,
     at: u32,
     written: &VarType,
     source: &Place,
     target: &Place,
 ) -> Result<(), TypeError>
-    ensures { verdict_of result ≡ of_copy (setting_of setting.now) (locals_of locals.now) at
+    ensures { verdict_of result ≡ of_copy (typing_of setting.now) (locals_of locals.now) at
         written.now (lvalue_of source.now) (lvalue_of target.now) }
 {
     know_type(setting.table, written)?;
@@ -383,8 +378,8 @@ fn copy_rules(
 
 /// The rules of a block.
 #[cycle(check)]
-pub fn check_block(setting: &Setting, locals: &Locals, b: &Block) -> Result<(), TypeError>
-    ensures { verdict_of result ≡ check_statements (setting_of setting.now) (locals_of locals.now)
+pub fn check_block(setting: &Typing, locals: &Locals, b: &Block) -> Result<(), TypeError>
+    ensures { verdict_of result ≡ check_statements (typing_of setting.now) (locals_of locals.now)
         (block_of b.now) }
 {
     for stmt in &b.list {
@@ -395,8 +390,8 @@ pub fn check_block(setting: &Setting, locals: &Locals, b: &Block) -> Result<(), 
 
 /// The rules of a statement, and then of the statements inside it.
 #[cycle(check)]
-pub fn check_stmt(setting: &Setting, locals: &Locals, s: &Stmt) -> Result<(), TypeError>
-    ensures { verdict_of result ≡ check_statement (setting_of setting.now) (locals_of locals.now)
+pub fn check_stmt(setting: &Typing, locals: &Locals, s: &Stmt) -> Result<(), TypeError>
+    ensures { verdict_of result ≡ check_statement (typing_of setting.now) (locals_of locals.now)
         (statement_of s.now) }
 {
     match s {

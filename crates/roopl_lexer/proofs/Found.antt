@@ -5,7 +5,7 @@ use Rattle.std.specs.Prelude.{Some}
 use Rattle.std.specs.List.{prefix_len}
 use Rattle.std.specs.Char.{is_ascii_alphabetic, is_ascii_digit}
 use Rattle.std.proofs.lemmas.Bool.Decides.{nat_tests}
-use Rattle.rpp_tree.specs.Names.{is_name_byte, is_keyword}
+use Rattle.rpp_tree.specs.Names.{is_keyword}
 use Rattle.rpp_tree.specs.declared.limits.TheConstants.{MOST_NUMBER}
 use Rattle.roopl_lexer.specs.declared.token.Symbol.{Symbol}
 use Rattle.roopl_lexer.specs.declared.token.Keyword.{Keyword}
@@ -13,6 +13,7 @@ use Rattle.roopl_lexer.specs.declared.token.TokenKind.TheVariants.{Word, Name, N
 use Rattle.roopl_lexer.specs.Signs.{keyword_bytes, sign_bytes}
 use Rattle.roopl_lexer.specs.Tokens.{IsLongest, is_too_large}
 use Rattle.rpp_words.specs.Texts.{decimal_from}
+use Rattle.rpp_words.specs.Names.{is_name_byte}
 use Rattle.roopl_lexer.specs.Begins.{IsTokenAt, IsLargeNumber, IsLongestSign}
 use Rattle.roopl_lexer.proofs.Fronts.{letter_name_byte, run_some, word_longest, numeral_longest, run_name, run_numeral}
 use Rattle.roopl_lexer.proofs.Fronts.{sign_longest}

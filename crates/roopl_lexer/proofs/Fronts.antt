@@ -7,7 +7,8 @@ use Rattle.std.specs.Char.{is_ascii_alphabetic, is_ascii_digit}
 use Rattle.std.proofs.lemmas.Bool.Decides.{nat_tests}
 use Rattle.std.proofs.lemmas.List.Elements.{All-from_get_or}
 use Rattle.std.proofs.lemmas.List.Sums.{prefix_len_passes, prefix_len_stops, prefix_len-le-length}
-use Rattle.rpp_tree.specs.Names.{is_name_byte, IsName, is_keyword}
+use Rattle.rpp_words.specs.Names.{is_name_byte}
+use Rattle.rpp_tree.specs.Names.{IsName, is_keyword}
 use Rattle.roopl_lexer.specs.declared.token.Symbol.{Symbol}
 use Rattle.roopl_lexer.specs.declared.token.TokenKind.{TokenKind}
 use Rattle.roopl_lexer.specs.declared.token.TokenKind.TheVariants.{Word, Name, Number, Sign}

@@ -2,21 +2,16 @@
 ghost use Rattle.std.specs.Prelude.{◌≡◌, ◌<◌, ◌≤◌, length, true, false};
 ghost use Rattle.std.specs.List.{prefix_len};
 ghost use Rattle.std.specs.Char.{is_ascii_digit};
-ghost use Rattle.rpp_tree.specs.Names.{is_name_byte};
+ghost use Rattle.rpp_words.specs.Names.{is_name_byte};
 ghost use Rattle.roopl_lexer.specs.Tokens.{is_white, begins_comment, comment_length};
+
+use rpp_words::is_name_byte;
 
 /// Whether a byte is white space.
 pub fn is_white(byte: u8) -> bool
     ensures { result ≡ is_white byte }
 {
     byte == b' ' || byte == b'\t' || byte == b'\n' || byte == b'\r'
-}
-
-/// Whether a byte may follow the first of a name.
-pub fn is_name_byte(byte: u8) -> bool
-    ensures { result ≡ is_name_byte byte }
-{
-    byte.is_ascii_alphabetic() || byte.is_ascii_digit() || byte == b'_' || byte == b'\''
 }
 
 /// Whether a comment begins here.

@@ -9,7 +9,7 @@ use Rattle.std.proofs.lemmas.Bool.Decides.{nat_tests}
 use Rattle.std.proofs.lemmas.Fmt.{decimal_by_steps}
 use Rattle.std.proofs.lemmas.List.{take_at, drop_at, get_or_at}
 use Rattle.rpp_tree.specs.Tree.{Source}
-use Rattle.rpp_tree.specs.Names.{IsName, is_name_byte}
+use Rattle.rpp_tree.specs.Names.{IsName}
 use Rattle.roopl_lexer.specs.declared.token.Keyword.{Keyword}
 use Rattle.roopl_lexer.specs.declared.token.Keyword.TheVariants as word
 use Rattle.roopl_lexer.specs.declared.token.Symbol.{Symbol}
@@ -22,6 +22,7 @@ use Rattle.roopl_lexer.specs.Signs.{keyword_bytes, sign_bytes}
 use Rattle.roopl_lexer.specs.Tokens.{is_white, begins_comment, Spells, IsLongest, is_too_large, Cut, finish, white}
 use Rattle.roopl_lexer.specs.Tokens.{token, IsCutting}
 use Rattle.rpp_words.specs.Texts.{decimal_from}
+use Rattle.rpp_words.specs.Names.{is_name_byte}
 use Rattle.roopl_printer.specs.Printable.{IsPrintable}
 use Rattle.roopl_printer.specs.Printed.{Printed, kind_bytes, gap, with_gaps, text_of}
 use Rattle.roopl_printer.specs.Spelled.{spelled, printed}

@@ -16,7 +16,10 @@ use Rattle.stmt_inverter.specs.Inverse.{inverse}
 use Rattle.buddy_book.specs.Book.{order_for}
 use Rattle.buddy_book.specs.Place.{Taken, Given, count_taken, place}
 use Rattle.code_conventions.specs.declared.memory.TheConstants.{HEADER_WORDS}
-use Rattle.code_conventions.specs.declared.faults.TheConstants.{FI, LOOP, DELOCAL, NOT_NIL, COUNT, NOT_EMPTY, HEAP_FULL, NOT_SAME, CLASS_DIFFERS, LENGTH_DIFFERS, LENGTH, TOO_DEEP, TOUCHED}
+use Rattle.code_conventions.specs.declared.faults.TheConstants.{FI, LOOP, DELOCAL, NOT_NIL, COUNT}
+use Rattle.code_conventions.specs.declared.faults.TheConstants.{NOT_EMPTY, HEAP_FULL, NOT_SAME}
+use Rattle.code_conventions.specs.declared.faults.TheConstants.{CLASS_DIFFERS, LENGTH_DIFFERS}
+use Rattle.code_conventions.specs.declared.faults.TheConstants.{LENGTH, TOO_DEEP, TOUCHED}
 use Rattle.roopl_semantics.specs.Operators.{is_true, updated}
 use Rattle.roopl_semantics.specs.Run.{Run, More, ◌>>=◌, give, spend, fault_if}
 use Rattle.roopl_semantics.specs.Store.{Value, Word, Nil, Name, Head, OfClass, OfInts, OfObjects}

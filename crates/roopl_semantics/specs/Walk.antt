@@ -1,7 +1,7 @@
 -- The walk of a memory: what a list of cells tells of the blocks of its heap.
 use Rattle.std.specs.Prelude.{ℕ, zero, suc, ◌+◌, ◌^◌, Bool, true, false, not, ◌&&◌, nat_eq, nat_lt}
 use Rattle.std.specs.Prelude.{nat_le, List, [], ◌∷◌, ◌++◌, length, map, replicate, position, Option}
-use Rattle.std.specs.Prelude.{Some, None, slice_get, if◌then◌else◌}
+use Rattle.std.specs.Prelude.{Some, None, if◌then◌else◌}
 use Rattle.std.specs.List.{list_any}
 use Rattle.std.specs.Option.{unwrap_or}
 use Rattle.rpp_tree.specs.declared.tree.Var.{Var}
@@ -13,13 +13,10 @@ use Rattle.roopl_semantics.specs.Store.{Store}
 use Rattle.roopl_semantics.specs.Source.{main_fields}
 use Rattle.roopl_semantics.specs.Execution.{order_of_cells}
 use Rattle.roopl_semantics.specs.Report.{Text, objects_shown, live_line, live_count}
+use Rattle.pisa_isa.specs.Machine.{word_at}
 use Rattle.pisa_isa.specs.Loaded.{statics_at}
 use Rattle.code_conventions.specs.declared.memory.TheConstants.{HEADER_WORDS}
 use Rattle.roopl_semantics.specs.Layout.{table_addresses, is_plain}
-
--- the word in a cell
-abbrev pub word_at : List ℕ → ℕ → ℕ
-word_at cells address = unwrap_or (slice_get cells address) 0
 
 -- the order of the heap, its base and its end, as the fixed cells tell them
 abbrev pub highest_order : List ℕ → ℕ
@@ -100,13 +97,15 @@ abbrev pub reached_within : ℕ → Source → List ℕ → List Reference → L
 reached_within zero program cells met pending = met
 reached_within (suc steps) program cells met [] = met
 reached_within (suc steps) program cells met (reference ∷ pending) =
-    let new = newly_reached cells met (reference.at + HEADER_WORDS) (types_at program cells reference) in
+    let new =
+    newly_reached cells met (reference.at + HEADER_WORDS) (types_at program cells reference) in
     reached_within steps program cells (met ++ new) (pending ++ new)
 
 -- the references that are reached from the main object, in the order of their numbers
 abbrev pub reached : Source → List ℕ → List Reference
 reached program cells =
-    let first = newly_reached cells [] (statics_at + HEADER_WORDS) (types_of (main_fields program)) in
+    let first =
+    newly_reached cells [] (statics_at + HEADER_WORDS) (types_of (main_fields program)) in
     reached_within (length cells) program cells first first
 
 -- the order that the type of a reached block needs

@@ -9,7 +9,7 @@ use Rattle.rpp_probes.specs.Tally.{Watch}
 use Rattle.command_plan.specs.Plans.{Planned, Written}
 use Rattle.rpp_command.specs.declared.finish.Broken.{Broken}
 use Rattle.rpp_command.specs.declared.finish.Broken.TheVariants.{Outside, NoMemory}
-use Rattle.rpp_command.specs.Lines.{Asked, Turn, Profile}
+use Rattle.command_line.specs.Lines.{Asked, Turn, Profile}
 use Rattle.rpp_command.specs.Plans.{IsPlan, LeavesProbes}
 use Rattle.rpp_command.specs.Answers.{LeavesUnwritten, BreaksOff, EndsEarly}
 

@@ -3,8 +3,8 @@ use Rattle.std.proofs.Common.{ℕ, List, None, Some, inl, inr, option_map, subst
 use Rattle.std.specs.declared.option.Option.{Option}
 use Rattle.rpp_ports.specs.Ports.{Texts}
 use Rattle.rpp_probes.specs.Tally.{Watch}
-use Rattle.rpp_command.specs.Lines.{Asked, Check, Compile, Asm, ListImage, Flip, ShowInverse, Generate, Cluster}
-use Rattle.rpp_command.specs.Lines.{RunImage, Debug, Trace, Go, Turn, Profile, Wrap, Explain}
+use Rattle.command_line.specs.Lines.{Asked, Check, Compile, Asm, ListImage, Flip, ShowInverse, Generate, Cluster}
+use Rattle.command_line.specs.Lines.{RunImage, Debug, Trace, Go, Turn, Profile, Wrap, Explain}
 use Rattle.command_plan.specs.Plans.{Planned, Written, WritesOnly}
 use Rattle.rpp_command.specs.Plans.{IsPlan}
 use Rattle.rpp_command.specs.Causes.{target_of, KeepsButTarget}

@@ -2,9 +2,9 @@
 use Rattle.std.specs.Prelude.{◌≡◌, ℕ, Bool, true, false, List, [], ◌∷◌, ⊤, None, Some}
 use Rattle.std.specs.declared.option.Option.{Option}
 use Rattle.rpp_ports.specs.Ports.{Texts, KeepsOthers}
-use Rattle.rpp_command.specs.Lines.{Asked, Check, Compile, Asm, ListImage, Flip, ShowInverse}
-use Rattle.rpp_command.specs.Lines.{Generate, Cluster, RunImage, Debug, Trace, Go, Turn, Profile}
-use Rattle.rpp_command.specs.Lines.{Wrap, Explain}
+use Rattle.command_line.specs.Lines.{Asked, Check, Compile, Asm, ListImage, Flip, ShowInverse}
+use Rattle.command_line.specs.Lines.{Generate, Cluster, RunImage, Debug, Trace, Go, Turn, Profile}
+use Rattle.command_line.specs.Lines.{Wrap, Explain}
 use Rattle.command_plan.specs.Files.{Needed, source, assembly, image_file, input_files, state_files}
 use Rattle.image_commands.specs.DebugPlans.{script_file}
 use Rattle.cluster_commands.specs.ClusterPlans.{cluster_files}

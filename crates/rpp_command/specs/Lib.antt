@@ -1,4 +1,3 @@
 pub mod Plans
 pub mod Causes
-pub mod Lines
 pub mod Answers

@@ -14,9 +14,9 @@ use Rattle.cluster_commands.specs.ClusterPlans.{ClustersFiles}
 use Rattle.wrap_commands.specs.WrapPlans.{WrapsFile}
 use Rattle.trace_commands.specs.TracePlans.{Traces}
 use Rattle.text_commands.specs.TextPlans.{ShowsInverse, Generates}
-use Rattle.rpp_command.specs.Lines.{Asked, Check, Compile, Asm, ListImage, Flip, ShowInverse}
-use Rattle.rpp_command.specs.Lines.{Generate, Cluster, RunImage, Debug, Trace, Go, Turn, Profile}
-use Rattle.rpp_command.specs.Lines.{Wrap, Explain}
+use Rattle.command_line.specs.Lines.{Asked, Check, Compile, Asm, ListImage, Flip, ShowInverse}
+use Rattle.command_line.specs.Lines.{Generate, Cluster, RunImage, Debug, Trace, Go, Turn, Profile}
+use Rattle.command_line.specs.Lines.{Wrap, Explain}
 
 -- a plan of the line, where the shelf tells these texts, if it does, and the list of probes is
 -- `before` as it is handed in and `after` as it is left

@@ -2,9 +2,6 @@
 #![tactic(auto)]
 
 mod finish;
-mod line;
 mod top;
 
-pub use command_plan::StateNames;
-pub use line::{Line, read_words};
 pub use top::rooplpp;

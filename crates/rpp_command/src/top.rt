@@ -1,16 +1,16 @@
 // The top call.
 ghost use Rattle.std.specs.Prelude.{◌≡◌, ◌≢◌, false, ◌⊎◌, ◌≤◌, ◌<◌, OnOk, map, string_bytes, IfOk, IfErr, IfSome, IsErrOf, IsTrue};
 ghost use Rattle.rpp_ports.specs.Ports.{Rose};
-ghost use Rattle.rpp_command.specs.Lines.{asked, line_of, HasShortNumbers};
+ghost use Rattle.command_line.specs.Lines.{asked, line_of, HasShortNumbers};
 ghost use Rattle.command_plan.specs.Plans.{GivesPlan, code_of};
 ghost use Rattle.rpp_command.specs.Plans.{IsPlan, LeavesProbes};
 ghost use Rattle.command_plan.specs.Files.{OnlyReads, Unreadable, UnreadCause, LacksOne};
 ghost use Rattle.rpp_command.specs.Causes.{KeepsButTarget, files_of, needed, target, target_of, tell, tells};
-ghost use Rattle.rpp_command.specs.Answers.{CarriesOut, Answers, EndsEarly};
+ghost use Rattle.rpp_command.specs.Answers.{CarriesOut, Answers, EndsEarly, served_status};
 
 use crate::finish::{Broken, finish, say};
-use crate::line::{Line, read_words};
 use cluster_commands::cluster;
+use command_line::{Line, read_words};
 use command_plan::{NoPlan, Plan, Sizes, Verdict};
 use image_commands::{Room, asm, debug, flip, list, run};
 use pisa_machine::Steps;
@@ -75,21 +75,33 @@ pub fn rooplpp<S: Shelf, K: Sink, P: Probes>(
     ensures probes { tell (line_of (map string_bytes words.now)) ≡ false → probes.new ≡ probes.old }
 {
     let Ok(line) = read_words(alloc, words) else {
-        return Broken::NoMemory.code();
+        return status_of(Some(Err(Broken::NoMemory)));
     };
     match line {
         None => match say(out, "words refused\n") {
-            Ok(()) => 1,
-            Err(broken) => broken.code(),
+            Ok(()) => status_of(None),
+            Err(broken) => status_of(Some(Err(broken))),
         },
         Some(line) => {
             let served = serve::<S, K, P, Brand>(alloc, &line, shelf, out, probes, Blank::new(1));
             discard(line);
             match served {
-                Ok(verdict) => verdict.code(),
-                Err(broken) => broken.code(),
+                Ok(verdict) => status_of(Some(Ok(verdict))),
+                Err(broken) => status_of(Some(Err(broken))),
             }
         }
+    }
+}
+
+// The status of what was served: of words that are no line, of a plan that was carried out, or of
+// what broke off.
+fn status_of(served: Option<Result<Verdict, Broken>>) -> u8
+    ensures { result ≡ served_status served }
+{
+    match served {
+        None => 1,
+        Some(Ok(verdict)) => verdict.code(),
+        Some(Err(broken)) => broken.code(),
     }
 }
 

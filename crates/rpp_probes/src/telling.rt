@@ -134,16 +134,17 @@ fn tell_each_of(probes: &mut [Box<dyn Probe>], steps: &[StepAt])
     }
 }
 
-// Appends the lines of the probes of a list, in its order, each with a line feed.
-fn add_lines(probes: &[Box<dyn Probe>], out: &mut String) -> Result<(), NoMemory>
-    ensures { OnOk result (string_bytes out.new
-        ≡ string_bytes out.old ++ lines_shown (map line_shown (map watch probes.now))) }
+// The lines of the probes of a list, in its order, each with a line feed.
+fn lines_of(alloc: Global, probes: &[Box<dyn Probe>]) -> Result<String, NoMemory>
+    ensures { IfOk result (λ lines. string_bytes lines
+        ≡ lines_shown (map line_shown (map watch probes.now))) }
 {
+    let mut lines = String::new(alloc);
     for probe in probes {
-        add_line(probe, out)?;
-        out.push('\n')?;
+        add_line(probe, &mut lines)?;
+        lines.push('\n')?;
     }
-    Ok(())
+    Ok(lines)
 }
 
 /// Probes that watch a run together, in an order. A layer that tells them takes any such list, and
@@ -171,10 +172,12 @@ pub trait Probes {
         requires { EndNone steps.now (watches self.old) }
         ensures { watches self.new ≡ left_after steps.now (watches self.old) };
 
-    /// Appends the lines of the probes, each with a line feed.
+    /// Appends the lines of the probes, each with a line feed. After want of memory the text is as
+    /// before.
     fn show(&self, out: &mut String) -> Result<(), NoMemory>
-        ensures { OnOk result (string_bytes out.new
-            ≡ string_bytes out.old ++ lines_shown (map line_shown (watches self.now))) };
+        ensures ok { OnOk result (string_bytes out.new
+            ≡ string_bytes out.old ++ lines_shown (map line_shown (watches self.now))) }
+        ensures err { OnErr result (string_bytes out.new ≡ string_bytes out.old) };
 }
 
 impl Probes for Vec<Box<dyn Probe>> {
@@ -199,6 +202,7 @@ impl Probes for Vec<Box<dyn Probe>> {
     }
 
     fn show(&self, out: &mut String) -> Result<(), NoMemory> {
-        add_lines(self, out)
+        let lines = lines_of(*out.allocator(), self)?;
+        Ok(out.push_str(lines.as_str())?)
     }
 }

@@ -1,13 +1,9 @@
 -- The names of the language.
-use Rattle.std.specs.Prelude.{◌≡◌, ℕ, Bool, true, false, List, [], ◌∷◌, ◌==◌, ◌||◌, slice_index}
-use Rattle.std.specs.Prelude.{codes}
+use Rattle.std.specs.Prelude.{◌≡◌, ℕ, Bool, true, false, List, [], ◌∷◌, slice_index, codes}
 use Rattle.std.specs.List.{list_any, AllPass}
-use Rattle.std.specs.Char.{is_ascii_alphabetic, is_ascii_digit}
+use Rattle.std.specs.Char.{is_ascii_alphabetic}
 use Rattle.std.specs.Str.{bytes_eq}
-
--- the bytes that may follow the first of a name: letters, digits, `_` and `'`
-abbrev pub is_name_byte : ℕ → Bool
-is_name_byte b = is_ascii_alphabetic b || is_ascii_digit b || b == 95 || b == 39
+use Rattle.rpp_words.specs.Names.{is_name_byte}
 
 -- the words that are no names
 unfoldable pub keywords : List (List ℕ)

@@ -2,3 +2,4 @@ pub mod Limits
 pub mod Texts
 pub mod Order
 pub mod Words
+pub mod Names

@@ -4,11 +4,13 @@
 
 mod input;
 mod memory;
+mod names;
 mod order;
 mod words;
 
 pub use input::{FIXED_CELLS, FRAME_WORDS, FieldWord, Input, Limits, MOST_DEEP, MOST_HEAP};
 pub use memory::NoMemory;
+pub use names::is_name_byte;
 pub use order::order_for;
 pub use words::{
     less, shift_left, shift_right, shift_right_signed, turn_left, turn_right, wrap_add, wrap_sub,

@@ -13,7 +13,7 @@ use Rattle.rpp_tree.specs.Views.{source_of}
 use Rattle.class_table.specs.declared.kind.Kind.{Kind}
 use Rattle.class_table.specs.declared.kind.Kind.TheVariants as kind
 use Rattle.class_table.specs.Refusal.{unknown_name}
-use Rattle.class_table.specs.Scope.{Setting as Typing, Locals, kind_in}
+use Rattle.class_table.specs.Scope.{Typing, Locals, kind_in}
 use Rattle.class_table.specs.Expressions.{variable_type}
 use Rattle.class_table.specs.Statements.{passed, check_statement, call_rules}
 use Rattle.class_table.proofs.FirstPlaces.{equal_name}

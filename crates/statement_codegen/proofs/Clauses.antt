@@ -9,43 +9,16 @@ use Rattle.paired_code.specs.Code.{Code}
 use Rattle.code_scope.specs.Visible.{Known, spot_of, free_of}
 use Rattle.expr_uncompute.specs.Code.{words}
 use Rattle.expr_uncompute.specs.Promises as code
-use Rattle.refine_form.specs.Form.{Scope, TestLaw, ValueLaw}
+use Rattle.refine_form.specs.Form.{Scope, ValueLaw}
 use Rattle.refine_form.specs.Worlds.{Place, world_of}
-use Rattle.branch_codegen.specs.Laws.{IfCode, FromCode}
 use Rattle.method_calls.specs.Names.{IntInit, IsNull, NilInit, IsInit}
 use Rattle.method_calls.specs.Laws.{LocalCode}
 use Rattle.refine_calls.proofs.Stated.{locals_are_open}
-use Rattle.code_conventions.specs.declared.registers.TheConstants.{FLAG, VALUE}
+use Rattle.code_conventions.specs.declared.registers.TheConstants.{VALUE}
 use Rattle.refine_expressions.specs.Typing.{known_of, spot_in, free_in, HasRoom, IsTyped}
 use Rattle.refine_expressions.specs.Laws.{IsLaidOut}
-use Rattle.refine_expressions.proofs.Stated.{tests_are_told, values_are_told}
-use Rattle.statement_codegen.specs.Laws.{IfLaw, FromLaw, LocalLaw}
-
--- the code of a test, in a scope of its names
-test_in : (known : Known) (e : Expression) (p : List Symbol) → code.TestLaw (spot_of known) (free_of known) FLAG e p
-    → (place : Place) → IsLaidOut place → (s : Scope) → known_of place.setting.program s ≡ known
-    → IsTyped place.setting.program s e kind.Int → TestLaw (world_of place) s e p
-test_in known e p law place laid s names ok =
-    tests_are_told place laid s e ok p (subst (λ (k : Known). code.TestLaw (spot_of k) (free_of k) FLAG e p) (sym names)
-    law)
-
-pub if_clause : (known : Known) (test after : Expression) (t p q a all : List Symbol)
-    → code.TestLaw (spot_of known) (free_of known) FLAG test t
-    → code.TestLaw (spot_of known) (free_of known) FLAG after a → IfCode t p q a all → IfLaw known test after p q all
-if_clause known test after t p q a all ht ha made = record {
-  law = λ place laid s names at taken other it ia hp hq.
-      made.law place s at test after taken other (test_in known test t ht place laid s names it)
-      (test_in known after a ha place laid s names ia) hp hq;
-}
-
-pub from_clause : (known : Known) (entry exit : Expression) (e p q x all : List Symbol)
-    → code.TestLaw (spot_of known) (free_of known) FLAG entry e
-    → code.TestLaw (spot_of known) (free_of known) FLAG exit x → FromCode e p q x all → FromLaw known entry exit p q all
-from_clause known entry exit e p q x all he hx made = record {
-  law = λ place laid s names at first again ie ix hp hq.
-      made.law place s at entry exit first again (test_in known entry e he place laid s names ie)
-      (test_in known exit x hx place laid s names ix) hp hq;
-}
+use Rattle.refine_expressions.proofs.Stated.{values_are_told}
+use Rattle.statement_codegen.specs.Laws.{LocalLaw}
 
 -- the code of a value that may be that of a new variable
 value_in : (known : Known) (e : Expression) (p : List Symbol) → code.ValueLaw (spot_of known) (free_of known) VALUE e p
@@ -105,20 +78,6 @@ local_clause known var value last word v p x all is hv hx made = record {
 }
 
 -- ---- what the calls answer
-
-pub if_returns : {E : Type 0} (known : Known) (test after : Expression) (t p q a : List Symbol) (r : Result Code E)
-    → code.TestLaw (spot_of known) (free_of known) FLAG test t
-    → code.TestLaw (spot_of known) (free_of known) FLAG after a → IfOk r (λ x. IfCode t p q a x.cells)
-    → IfOk r (λ x. IfLaw known test after p q x.cells)
-if_returns known test after t p q a (Ok x) ht ha made = if_clause known test after t p q a x.cells ht ha made
-if_returns known test after t p q a (Err e) ht ha made = tt
-
-pub from_returns : {E : Type 0} (known : Known) (entry exit : Expression) (e p q x : List Symbol) (r : Result Code E)
-    → code.TestLaw (spot_of known) (free_of known) FLAG entry e
-    → code.TestLaw (spot_of known) (free_of known) FLAG exit x → IfOk r (λ y. FromCode e p q x y.cells)
-    → IfOk r (λ y. FromLaw known entry exit p q y.cells)
-from_returns known entry exit e p q x (Ok y) he hx made = from_clause known entry exit e p q x y.cells he hx made
-from_returns known entry exit e p q x (Err none) he hx made = tt
 
 pub local_returns : {E : Type 0} (known : Known) (var : Var) (value last : Expression) (word : ℕ) (v p x : List Symbol)
     (r : Result Code E) → word ≡ free_of known → code.ValueLaw (spot_of known) (free_of known) VALUE value v

@@ -18,7 +18,7 @@ use Rattle.class_table.specs.declared.kind.Kind.TheVariants as kind
 use Rattle.class_table.specs.Expressions.{is_int}
 use Rattle.class_table.specs.Inheritance.{kind_of_var}
 use Rattle.class_table.specs.Refusal.{unknown_name}
-use Rattle.class_table.specs.Scope.{Setting, Locals, kind_of, kind_in, class_kind, array_kind}
+use Rattle.class_table.specs.Scope.{Typing, Locals, kind_of, kind_in, class_kind, array_kind}
 use Rattle.class_table.specs.Statements.{passed, check_statement}
 use Rattle.class_table.specs.Table.{Table, table_of, class_of}
 use Rattle.class_table.proofs.PassedRules.{some_of}
@@ -64,7 +64,7 @@ module _ (v : Visible) (at : ℕ) (back : Bool) (array : Ident) (index : Express
   abbrev program : Source
   program = source_of v.program
 
-  abbrev typing : Setting
+  abbrev typing : Typing
   typing = typing_in program (scope_of v)
 
   abbrev shape : Locals

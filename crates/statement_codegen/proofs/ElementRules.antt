@@ -13,7 +13,7 @@ use Rattle.class_table.specs.declared.kind.Kind.TheVariants as kind
 use Rattle.class_table.specs.Overrides.{parameters_of}
 use Rattle.class_table.specs.Table.{slot_in, dispatch_in}
 use Rattle.class_table.specs.Refusal.{unknown_name, type_differs, self_update, same_argument, wrong_arity}
-use Rattle.class_table.specs.Scope.{Setting, Local, Locals, kind_of}
+use Rattle.class_table.specs.Scope.{Typing, Local, Locals, kind_of}
 use Rattle.class_table.specs.Expressions.{and_then, is_int, index_is_int, element_of, variable_type, occurs, type_of}
 use Rattle.class_table.specs.Expressions.{place_type, first_token}
 use Rattle.class_table.specs.Statements.{Verdict, receiver_kind, place_class, passed, required, in_turn, each_passes}
@@ -62,7 +62,7 @@ own_index : (at : ℕ) (x y : ℕ) (b : Bool) → (if b then Err (self_update at
 own_index at x y true q = absurd (cc)
 own_index at x y false q = (refl, cc)
 
-module _ (typing : Setting) (locals : Locals) (at : ℕ) where
+module _ (typing : Typing) (locals : Locals) (at : ℕ) where
   -- with the variable
   abbrev pub inner : Kind → Locals
   inner k = record { name = []; kind = k } ∷ locals

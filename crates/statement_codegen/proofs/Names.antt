@@ -17,7 +17,7 @@ use Rattle.class_table.specs.Members.{field_name, field_of, fields_of}
 use Rattle.class_table.specs.Classes.{class_fields}
 use Rattle.class_table.specs.Table.{Table, table_of, fields_in, field_in}
 use Rattle.class_table.specs.Refusal.{unknown_name}
-use Rattle.class_table.specs.Scope.{Setting, Locals, kind_of, class_kind, array_kind, local_kind, kind_at, field_kind}
+use Rattle.class_table.specs.Scope.{Typing, Locals, kind_of, class_kind, array_kind, local_kind, kind_at, field_kind}
 use Rattle.class_table.specs.Scope.{kind_in, no_var}
 use Rattle.class_table.specs.Inheritance.{kind_of_var}
 use Rattle.class_table.specs.Expressions.{variable_type}
@@ -78,7 +78,7 @@ module _ (program : Source) (s : Scope) where
   abbrev table : Table
   table = table_of program
 
-  abbrev typing : Setting
+  abbrev typing : Typing
   typing = typing_in program s
 
   abbrev shape : Locals

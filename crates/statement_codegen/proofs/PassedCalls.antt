@@ -13,7 +13,7 @@ use Rattle.class_table.specs.declared.kind.Kind.TheVariants as kind
 use Rattle.class_table.specs.Overrides.{parameters_of}
 use Rattle.class_table.specs.Table.{Table, table_of, slot_in, dispatch_in}
 use Rattle.class_table.specs.Refusal.{unknown_name, type_differs, wrong_arity}
-use Rattle.class_table.specs.Scope.{Setting, Locals, kind_of, kind_in}
+use Rattle.class_table.specs.Scope.{Typing, Locals, kind_of, kind_in}
 use Rattle.class_table.specs.Inheritance.{kind_of_var}
 use Rattle.class_table.specs.Expressions.{and_then, variable_type}
 use Rattle.class_table.specs.Statements.{passed, required, each_passes, each_passes_after, argument_known, argument_new}
@@ -42,7 +42,7 @@ module _ (program : Source) (s : Scope) where
   abbrev table : Table
   table = table_of program
 
-  abbrev typing : Setting
+  abbrev typing : Typing
   typing = typing_in program s
 
   abbrev shape : Locals

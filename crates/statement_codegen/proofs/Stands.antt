@@ -17,7 +17,7 @@ use Rattle.class_table.specs.declared.kind.Kind.TheVariants as kind
 use Rattle.class_table.specs.Overrides.{is_type_int, same_type}
 use Rattle.class_table.specs.Table.{table_of, class_of}
 use Rattle.class_table.specs.Refusal.{redeclared, type_differs, local_in_own_expression}
-use Rattle.class_table.specs.Scope.{Setting, Locals, local_kind, kind_of, class_kind, array_kind}
+use Rattle.class_table.specs.Scope.{Typing, Locals, local_kind, kind_of, class_kind, array_kind}
 use Rattle.class_table.specs.Expressions.{is_int, type_of, occurs, first_token}
 use Rattle.class_table.specs.Statements.{passed, required, in_turn, test_rules, type_known, is_nil_word, local_rules}
 use Rattle.class_table.specs.Statements.{with_local, check_statements}
@@ -39,7 +39,8 @@ use Rattle.refine_expressions.specs.Typing.{known_of, HasRoom, typing_in, IsType
 use Rattle.refine_expressions.specs.Laws.{IsLaidOut}
 use Rattle.refine_expressions.proofs.Stated.{updates_are_told, swaps_are_told}
 use Rattle.statement_codegen.specs.Codes.{scope_of, with_variable, IsStatementCode, IsBlockCode, IsAllowed}
-use Rattle.statement_codegen.specs.Laws.{IfLaw, FromLaw, LocalLaw}
+use Rattle.branch_codegen.specs.Laws.{IfLaw, FromLaw}
+use Rattle.statement_codegen.specs.Laws.{LocalLaw}
 
 pub laid_out : (place : Place) (routine : ℕ → Rattle.rpp_tree.specs.declared.tree.Ident.Ident → ℕ)
     → IsLinked place routine → IsLaidOut place
@@ -115,7 +116,7 @@ swap_stands v at left right all made fine = record {
 
 -- ---- conditionals and loops
 
-both_ints : (typing : Setting) (shape : Locals) (first last : Expression) → test_rules typing shape first last ≡ passed
+both_ints : (typing : Typing) (shape : Locals) (first last : Expression) → test_rules typing shape first last ≡ passed
     → (type_of typing shape first ≡ Ok kind.Int) × (type_of typing shape last ≡ Ok kind.Int)
 both_ints typing shape first last h =
     let f = handed_on (type_of typing shape first) _ tt h in

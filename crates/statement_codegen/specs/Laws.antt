@@ -1,17 +1,14 @@
--- What the code of conditionals, of loops and of blocks with a local variable does, in every scope
--- of the
--- names that it was made for, wherever the codes of its parts do what theirs are to do; and what
--- that of
--- `skip`, of `construct`, of calls and of methods does wherever an image of its program is linked.
+-- What the code of blocks with a local variable does, in every scope of the names that it was made
+-- for, wherever the codes of its parts do what theirs are to do; and what that of `skip`, of
+-- `construct`, of calls and of methods does wherever an image of its program is linked.
 use Rattle.std.specs.Prelude.{◌≡◌, ℕ, ◌<◌, Bool, List, ◌++◌, length, Option, Some}
 use Rattle.std.specs.Option.{option_map}
 use Rattle.rpp_tree.specs.declared.tree.Ident.{Ident}
 use Rattle.rpp_tree.specs.declared.tree.Var.{Var}
 use Rattle.rpp_tree.specs.declared.tree.VarType.{VarType}
 use Rattle.rpp_tree.specs.declared.tree.VarType.TheVariants as type
-use Rattle.rpp_tree.specs.Tree.{Expression, Null, Lvalue, Whole, Item, Object, Statements, If, From}
+use Rattle.rpp_tree.specs.Tree.{Expression, Null, Lvalue, Whole, Item, Object, Statements}
 use Rattle.rpp_tree.specs.Tree.{Local, Construct, New, Call, Skip, Procedure}
-use Rattle.class_table.specs.declared.kind.Kind.TheVariants as kind
 use Rattle.paired_code.specs.declared.part.Symbol.{Symbol}
 use Rattle.roopl_semantics.specs.Execution.{constructed, element_call, element_name}
 use Rattle.meaning_sound.specs.Plain.{ReceiverIsPlain}
@@ -22,30 +19,10 @@ use Rattle.expr_uncompute.specs.Promises.{SwapLaw}
 use Rattle.refine_form.specs.Form.{Scope, with_var, BlockLaw, StmtLaw}
 use Rattle.refine_form.specs.Worlds.{Place, world_of}
 use Rattle.method_calls.specs.Names.{IsInit}
-use Rattle.refine_expressions.specs.Typing.{known_of, HasRoom, IsTyped}
+use Rattle.refine_expressions.specs.Typing.{known_of, HasRoom}
 use Rattle.refine_expressions.specs.Laws.{IsLaidOut}
 use Rattle.statement_codegen.specs.Codes.{with_variable, IsStatementCode, IsBlockCode, IsMethodCode}
 use Rattle.statement_codegen.specs.Codes.{Passes, IsAllowed}
-
--- a conditional
-pub record IfLaw (known : Known) (test after : Expression) (p q all : List Symbol) : Type 0 where
-  pub law : (place : Place) → IsLaidOut place → (s : Scope)
-      → known_of place.setting.program s ≡ known
-      → (at : ℕ) (taken other : Statements)
-      → IsTyped place.setting.program s test kind.Int
-      → IsTyped place.setting.program s after kind.Int
-      → BlockLaw (world_of place) s taken p → BlockLaw (world_of place) s other q
-      → StmtLaw (world_of place) s (If at test taken other after) all
-
--- a loop
-pub record FromLaw (known : Known) (entry exit : Expression) (p q all : List Symbol) : Type 0 where
-  pub law : (place : Place) → IsLaidOut place → (s : Scope)
-      → known_of place.setting.program s ≡ known
-      → (at : ℕ) (first again : Statements)
-      → IsTyped place.setting.program s entry kind.Int
-      → IsTyped place.setting.program s exit kind.Int
-      → BlockLaw (world_of place) s first p → BlockLaw (world_of place) s again q
-      → StmtLaw (world_of place) s (From at entry first again exit) all
 
 -- A block with a local variable: its two values may be those of the variable. Where they are nil,
 -- so are the blocks that `construct` and calls on elements mean.

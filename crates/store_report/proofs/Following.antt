@@ -16,9 +16,10 @@ use Rattle.roopl_semantics.specs.Laws.{holders_among, holders}
 use Rattle.roopl_semantics.specs.Report.{newly_met, walked, numbered, number_shown, field_lines, head_shown, cell_lines}
 use Rattle.roopl_semantics.specs.Report.{object_lines, live_line, live_count, report}
 use Rattle.roopl_semantics.specs.Layout.{head_word}
-use Rattle.roopl_semantics.specs.Walk.{word_at, types_of, Reference, cell_types, types_at, newly_reached}
+use Rattle.roopl_semantics.specs.Walk.{types_of, Reference, cell_types, types_at, newly_reached}
 use Rattle.roopl_semantics.specs.Walk.{reached_within, reached}
 use Rattle.pisa_isa.specs.Loaded.{statics_at}
+use Rattle.pisa_isa.specs.Machine.{word_at}
 use Rattle.meaning_sound.specs.Sound.{is_live, Descending, AllFit, cell_kinds}
 use Rattle.meaning_sound.proofs.Stores.{live_object, holders_inside}
 use Rattle.meaning_reached.proofs.Numbering.{unmet, unmet_all, new_count}

@@ -14,7 +14,7 @@ use Rattle.roopl_semantics.specs.Store.{OfClass, State, main_name, object_at}
 use Rattle.roopl_semantics.specs.Source.{starting}
 use Rattle.roopl_semantics.specs.Laws.{holders}
 use Rattle.roopl_semantics.specs.Report.{report, numbered, live_count}
-use Rattle.roopl_semantics.specs.Walk.{word_at}
+use Rattle.pisa_isa.specs.Machine.{word_at}
 use Rattle.roopl_semantics.proofs.Starting.{starts_loaded}
 use Rattle.meaning_sound.specs.Sound.{head_of, is_live, Typed, Sound, main_alone}
 use Rattle.meaning_sound.proofs.Stores.{live_object}

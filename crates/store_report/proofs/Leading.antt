@@ -22,9 +22,10 @@ use Rattle.class_table.proofs.Numbers.{length-each_below, each_below-get}
 use Rattle.roopl_semantics.specs.Source.{main_fields}
 use Rattle.roopl_semantics.specs.Report.{number_shown, field_lines, element_lines, head_shown, cell_lines, live_line}
 use Rattle.roopl_semantics.specs.Layout.{table_at, table_addresses}
-use Rattle.roopl_semantics.specs.Walk.{word_at, types_of, Reference, cell_types, types_at, is_new, is_reference_type}
+use Rattle.roopl_semantics.specs.Walk.{types_of, Reference, cell_types, types_at, is_new, is_reference_type}
 use Rattle.roopl_semantics.specs.Walk.{newly_reached, reached_within, reached}
 use Rattle.pisa_isa.specs.Loaded.{statics_at}
+use Rattle.pisa_isa.specs.Machine.{word_at}
 use Rattle.meaning_sound.proofs.Stores.{same_number, other_number, differs}
 use Rattle.class_table.proofs.FirstPlaces.{position_cons}
 use Rattle.store_report.specs.declared.leads.Lead.{Lead}

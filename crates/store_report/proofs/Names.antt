@@ -1,18 +1,16 @@
 -- The names of an accepted program's fields are ASCII.
-use Rattle.std.proofs.Common.{◌≡◌, sym, ap, subst, refl, ℕ, zero, suc, ◌<◌, ◌≤◌, Bool, true, false, List, [], ◌∷◌, ◌++◌}
-use Rattle.std.proofs.Common.{length, get_or, Option, None, arith, ⊎_elim, slice_get}
+use Rattle.std.proofs.Common.{◌≡◌, sym, ap, subst, refl, ℕ, zero, suc, ◌≤◌, Bool, true, false, List, [], ◌∷◌, ◌++◌}
+use Rattle.std.proofs.Common.{length, Option, None, arith, slice_get}
 use Rattle.std.specs.List.{All, flat_map}
 use Rattle.std.specs.Option.{unwrap_or}
 use Rattle.std.specs.Str.{IsAscii}
 use Rattle.std.specs.Prelude.{nat_lt}
 use Rattle.std.proofs.lemmas.Bool.{ltb-true, ltb-false}
-use Rattle.std.proofs.lemmas.Bool.Decides.{nat_tests}
-use Rattle.std.proofs.lemmas.List.{get_or_past}
 use Rattle.std.proofs.lemmas.List.Elements.{All-head, All-tail, All-nil, All-cons, All-append}
-use Rattle.std.proofs.str.Laws.{order}
 use Rattle.rpp_tree.specs.declared.tree.Ident.{Ident}
 use Rattle.rpp_tree.specs.declared.tree.Var.{Var}
-use Rattle.rpp_tree.specs.Names.{IsName, is_name_byte}
+use Rattle.rpp_words.proofs.AsciiNames.{name_bytes_ascii}
+use Rattle.rpp_tree.specs.Names.{IsName}
 use Rattle.rpp_tree.specs.Parts.{type_names, var_names, procedure_names, parent_names, class_names, source_names}
 use Rattle.rpp_tree.specs.Tree.{ClassText, Source}
 use Rattle.class_table.specs.Chains.{line_of}
@@ -25,15 +23,8 @@ use Rattle.roopl_semantics.specs.Source.{main_fields}
 use Rattle.class_table.specs.Classes.{main_of, class_fields}
 use Rattle.store_report.specs.Ascii.{HasAsciiName, AreAscii}
 
-name_byte_ascii : (b : ℕ) → is_name_byte b ≡ true → b < 128
-name_byte_ascii b is = grind (arith, nat_tests)
-
 name_ascii : (text : List ℕ) → IsName text → IsAscii text
-name_ascii text named i =
-    ⊎_elim
-    (λ (within : i < length text). name_byte_ascii (get_or text i 0) (named.name_bytes i 0 within))
-    (λ (past : length text ≤ i). let none : get_or text i 0 ≡ 0 = get_or_past text i 0 past in omega arith)
-    (order i (length text))
+name_ascii text named = name_bytes_ascii text named.name_bytes
 
 -- parts of what holds of all
 

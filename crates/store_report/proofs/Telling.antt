@@ -22,9 +22,10 @@ use Rattle.roopl_semantics.specs.Agreement.{renamed}
 use Rattle.roopl_semantics.specs.Laws.{holders_among, holders}
 use Rattle.roopl_semantics.specs.Report.{newly_met}
 use Rattle.roopl_semantics.specs.Layout.{word_of, head_word, table_at}
-use Rattle.roopl_semantics.specs.Walk.{word_at, class_with_table, types_of, Reference, cell_types, types_at, is_new}
+use Rattle.roopl_semantics.specs.Walk.{class_with_table, types_of, Reference, cell_types, types_at, is_new}
 use Rattle.roopl_semantics.specs.Walk.{newly_reached, reached_within}
 use Rattle.pisa_isa.specs.Loaded.{statics_at}
+use Rattle.pisa_isa.specs.Machine.{word_at}
 use Rattle.meaning_sound.specs.Sound.{head_of, head_named, head_fits, named_fits, fits, cell_kinds, is_live, AllFit}
 use Rattle.meaning_sound.proofs.Stores.{same_number, other_number, differs, live_object}
 use Rattle.class_table.proofs.FoundMethods.{own_range}

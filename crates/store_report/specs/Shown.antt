@@ -8,8 +8,8 @@ use Rattle.class_table.specs.Table.{Table, fields_in}
 use Rattle.roopl_semantics.specs.Store.{Value, Word, Head, OfClass, OfInts, OfObjects}
 use Rattle.roopl_semantics.specs.Report.{Text, number_shown, field_lines, element_lines, head_shown}
 use Rattle.roopl_semantics.specs.Report.{live_line}
-use Rattle.roopl_semantics.specs.Walk.{word_at}
 use Rattle.pisa_isa.specs.Loaded.{statics_at}
+use Rattle.pisa_isa.specs.Machine.{word_at}
 use Rattle.code_conventions.specs.declared.memory.TheConstants.{HEADER_WORDS}
 use Rattle.store_report.specs.declared.leads.Lead.{Lead}
 use Rattle.store_report.specs.declared.leads.Lead.TheVariants as lead
@@ -43,7 +43,8 @@ abbrev pub cells_by : Table → List ℕ → List ℕ → List ℕ → ℕ → L
 cells_by table tables cells names at lead.Int word = []
 cells_by table tables cells names at lead.Object word =
     let fields = fields_in table (class_at_table tables word) in
-    field_lines (codes "  ") names fields (values_by cells (at + HEADER_WORDS) (leads_of table fields))
+    field_lines (codes "  ") names fields
+    (values_by cells (at + HEADER_WORDS) (leads_of table fields))
 cells_by table tables cells names at lead.Ints word =
     element_lines names 0 (values_by cells (at + HEADER_WORDS) (replicate word lead.Int))
 cells_by table tables cells names at (lead.Objects class) word =
@@ -68,6 +69,7 @@ abbrev pub report_by : Source → Table → List ℕ → List Var → List ℕ �
 report_by program table tables fields cells =
     let met = met_all table tables fields cells in
     let names = addresses_of met in
-    field_lines [] names fields (values_by cells (statics_at + HEADER_WORDS) (leads_of table fields))
+    field_lines [] names fields
+    (values_by cells (statics_at + HEADER_WORDS) (leads_of table fields))
     ++ objects_by program table tables cells names met
     ++ live_line (length met)

@@ -14,9 +14,10 @@ use Rattle.roopl_semantics.specs.Store.{Object}
 use Rattle.roopl_semantics.specs.Source.{main_fields}
 use Rattle.roopl_semantics.specs.Report.{Text, number_shown, field_lines, head_shown, cell_lines}
 use Rattle.roopl_semantics.specs.Report.{live_line}
-use Rattle.roopl_semantics.specs.Walk.{word_at, class_with_table, types_of, Reference, types_at}
+use Rattle.roopl_semantics.specs.Walk.{class_with_table, types_of, Reference, types_at}
 use Rattle.roopl_semantics.specs.Walk.{reached}
 use Rattle.pisa_isa.specs.Loaded.{statics_at}
+use Rattle.pisa_isa.specs.Machine.{word_at}
 use Rattle.code_conventions.specs.declared.memory.TheConstants.{HEADER_WORDS}
 
 -- what a word tells in a cell of a reference type: nil, or the address of a block

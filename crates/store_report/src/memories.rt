@@ -20,11 +20,11 @@ ghost use Rattle.store_report.specs.Told.{report_told};
 use crate::leads::{Lead, class_at_table, lead_of};
 use crate::lines::{add_bytes, add_live, add_name, add_word, class_name};
 use crate::tables::table_addresses;
-use crate::walking::{Memory, met_all, word_at};
+use crate::walking::{Memory, met_all};
 use class_table::Checked;
 use code_conventions::memory::FIRST_FIELD;
 use indexmap::IndexMap;
-use pisa_machine::Machine;
+use pisa_machine::{Machine, word_at};
 use rpp_tree::text::Text;
 use rpp_tree::tree::{Program, Var};
 use rpp_words::NoMemory;
@@ -115,7 +115,8 @@ fn add_field(
 ) -> Result<(), AllocError>
     requires { IsAscii name.now }
     ensures { OnOk result (string_bytes out.new
-        ≡ string_bytes out.old ++ (indent.now ++ name.now ++ codes " = " ++ value_shown (addresses_of met.now.entries) (value_by lead word) ++ line_end)) }
+        ≡ string_bytes out.old ++ (indent.now ++ name.now ++ codes " = "
+        ++ value_shown (addresses_of met.now.entries) (value_by lead word) ++ line_end)) }
 {
     out.push_str(indent)?;
     add_name(out, name)?;
@@ -162,7 +163,8 @@ fn add_element(
     word: u32,
 ) -> Result<(), AllocError>
     ensures { OnOk result (string_bytes out.new
-        ≡ string_bytes out.old ++ (codes "  [" ++ decimal index ++ codes "] = " ++ value_shown (addresses_of met.now.entries) (value_by lead word) ++ line_end)) }
+        ≡ string_bytes out.old ++ (codes "  [" ++ decimal index ++ codes "] = "
+        ++ value_shown (addresses_of met.now.entries) (value_by lead word) ++ line_end)) }
 {
     write!(out, "  [{index}] = ")?;
     add_value(out, met, lead, word)?;

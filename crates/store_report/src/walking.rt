@@ -1,6 +1,5 @@
 // The walk of a memory: what is met from the main object on.
 ghost use Rattle.std.specs.Prelude.{◌≡◌, ◌≤◌, ◌<◌, ◌+◌, ◌^◌, length, replicate, OnOk, IfOk};
-ghost use Rattle.roopl_semantics.specs.Walk.{word_at as word_of_cells};
 ghost use Rattle.code_conventions.specs.declared.memory.TheConstants.{FIRST_FIELD};
 ghost use Rattle.store_report.specs.declared.leads.Lead.TheVariants as lead;
 ghost use Rattle.store_report.specs.Leads.{meets_one, meets, leads_of, meets_behind, walks, met_all};
@@ -9,7 +8,7 @@ use crate::leads::{Lead, class_at_table, lead_of};
 use class_table::ClassTable;
 use code_conventions::memory::FIRST_FIELD;
 use indexmap::IndexMap;
-use pisa_machine::Machine;
+use pisa_machine::{Machine, word_at};
 use rpp_tree::tree::{Program, Var};
 use rpp_words::NoMemory;
 use std::alloc::Global;
@@ -22,19 +21,6 @@ pub struct Memory<'a> {
     pub program: &'a Program,
     pub table: &'a ClassTable,
     pub tables: &'a [u32],
-}
-
-/// The word in a data cell, and 0 beyond the cells.
-pub fn word_at(machine: &Machine, at: u64) -> u32
-    ensures { result ≡ word_of_cells machine.now.state.cells at }
-{
-    if at >= u64::from(machine.cells()) {
-        return 0;
-    }
-    match machine.cell(at as u32) {
-        None => 0,
-        Some(word) => word,
-    }
 }
 
 // Meets what a cell with this word leads to, unless it was met.

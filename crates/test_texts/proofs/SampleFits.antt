@@ -5,7 +5,8 @@ use Rattle.std.proofs.lemmas.List.Elements.{All-from_recursion}
 use Rattle.std.proofs.lemmas.List.Sums.{AllPass-from_list_all}
 use Rattle.rpp_tree.specs.declared.tree.Ident.{Ident}
 use Rattle.rpp_tree.specs.declared.limits.TheConstants.{MOST_BYTES, MOST_NUMBER, MOST_TOKENS}
-use Rattle.rpp_tree.specs.Names.{IsName, is_name_byte, is_keyword, keywords}
+use Rattle.rpp_words.specs.Names.{is_name_byte}
+use Rattle.rpp_tree.specs.Names.{IsName, is_keyword, keywords}
 use Rattle.rpp_tree.specs.Numbers.{source_numbers}
 use Rattle.rpp_tree.specs.Parts.{source_names, source_places}
 use Rattle.rpp_tree.specs.Tree.{Procedure, ClassText}

@@ -1,24 +1,19 @@
 -- The inverse program of an accepted program is accepted, so its names are ASCII.
-use Rattle.std.proofs.Common.{◌≡◌, sym, subst, ℕ, ◌<◌, true, arith}
+use Rattle.std.proofs.Common.{◌≡◌, sym, subst}
 use Rattle.std.specs.List.{All}
 use Rattle.std.specs.Str.{IsAscii}
-use Rattle.std.proofs.lemmas.Bool.Decides.{nat_tests}
 use Rattle.std.proofs.lemmas.List.Elements.{All-weaker}
-use Rattle.std.proofs.lemmas.Str.Ascii.{IsAscii-from_all}
 use Rattle.rpp_tree.specs.declared.tree.Ident.{Ident}
-use Rattle.rpp_tree.specs.Names.{IsName, is_name_byte}
+use Rattle.rpp_words.proofs.AsciiNames.{name_bytes_ascii}
+use Rattle.rpp_tree.specs.Names.{IsName}
 use Rattle.rpp_tree.specs.Parts.{source_names}
 use Rattle.rpp_tree.specs.Tree.{Source}
 use Rattle.class_table.specs.Program.{IsAccepted}
 use Rattle.stmt_inverter.specs.Inverse.{inverse_program}
 use Rattle.meaning_inverse.proofs.SameTypes.{inverse_accepted}
 
-name_byte_ascii : (b : ℕ) → is_name_byte b ≡ true → b < 128
-name_byte_ascii b is = grind (arith, nat_tests)
-
 name_ascii : (name : Ident) → IsName name.text → IsAscii name.text
-name_ascii name named = IsAscii-from_all name.text (All-weaker (λ b. is_name_byte b ≡ true) (λ b. b < 128)
-    name_byte_ascii name.text named.name_bytes)
+name_ascii name named = name_bytes_ascii name.text named.name_bytes
 
 -- the names of what is the inverse of an accepted program
 pub inverse_names : (program inverse : Source) → inverse ≡ inverse_program program → IsAccepted program

@@ -1,8 +1,7 @@
 -- The plan of `wrap`.
 use Rattle.std.specs.Prelude.{◌≡◌, ℕ, ◌<◌, ◌≤◌, List, ◌++◌, All, length, slice_get, None, Some}
-use Rattle.std.specs.Prelude.{Result, Ok, Err, codes, IsTrue}
+use Rattle.std.specs.Prelude.{Result, Ok, Err, IsTrue}
 use Rattle.std.specs.declared.option.Option.{Option}
-use Rattle.rpp_words.specs.Texts.{line_end}
 use Rattle.rpp_words.specs.declared.input.FieldWord.{FieldWord}
 use Rattle.rpp_words.specs.declared.input.Limits.{Limits}
 use Rattle.rpp_words.specs.declared.input.TheConstants.{MOST_DEEP}
@@ -25,7 +24,7 @@ use Rattle.bennett_wrap.specs.Wrapped.{Wrapped}
 use Rattle.refine_wrap.specs.Programs.{EndsDone, wrapped_run, enough_wrapped}
 use Rattle.command_plan.specs.declared.plan.Verdict.TheVariants.{Done, Bound, InputRefused}
 use Rattle.command_plan.specs.Plans.{Planned, prints, WithText, WithInput}
-use Rattle.command_plan.specs.Texts.{load_line, steps_line}
+use Rattle.command_plan.specs.Texts.{load_line, steps_line, bound_lines}
 use Rattle.program_commands.specs.Inputs.{input_fields, given_input}
 use Rattle.program_commands.specs.ProgramPlans.{IsJudgedPlan, ReportsFault}
 use Rattle.wrap_commands.specs.declared.error.NamesError.{NamesError}
@@ -55,7 +54,7 @@ pub record TellsResults (program : Source) (image : Segments) (fields : List Inp
 pub record TellsBound (program : Source) (limits : Limits) (input : List FieldWord) (steps : ℕ)
     (p : Planned) : Type 0 where
   pub early : (cost : ℕ) → EndsAt program limits input cost → steps < enough_wrapped cost
-  pub told : p ≡ prints Bound (codes "bound" ++ (line_end ++ steps_line steps))
+  pub told : p ≡ prints Bound (bound_lines steps)
 
 -- what the plan of a wrapped run says, by why it ended; it never ends otherwise
 abbrev pub TellsStop : Stop → Source → Segments → List InputField → Limits → List FieldWord

@@ -7,7 +7,7 @@ use Rattle.rpp_words.specs.Texts.{line_end}
 use Rattle.pisa_loader.specs.declared.input.InputField.{InputField}
 use Rattle.roopl_semantics.specs.Store.{Value, Nil}
 use Rattle.roopl_semantics.specs.Report.{signed_decimal, value_shown}
-use Rattle.roopl_semantics.specs.Walk.{word_at}
+use Rattle.pisa_isa.specs.Machine.{word_at}
 
 -- a name that can be printed byte by byte
 abbrev pub HasAsciiName : InputField → Type 0

@@ -13,7 +13,7 @@ ghost use Rattle.wrap_commands.specs.WrapPlans.{AreResults, IsGivenPlan, IsNamed
 
 use crate::error::NamesError;
 use crate::names::read_names;
-use crate::running::{Setting, is_accepted, run_wrapped};
+use crate::running::{WrapSetting, is_accepted, run_wrapped};
 use crate::shown::refuse_name;
 use class_table::Checked;
 use command_plan::{NoPlan, Plan, Sizes, Verdict, load_line, read_given, refuse_source};
@@ -149,7 +149,7 @@ fn wrap_given<L: Ledger>(
     let fields = input_fields(alloc, checked)?;
     match read_input(alloc, &request.input, &fields) {
         Ok(input) => {
-            let setting = Setting {
+            let setting = WrapSetting {
                 limits,
                 input,
                 results,

@@ -1,14 +1,11 @@
 // The run of a wrapped image, and its plan.
-ghost use Rattle.std.specs.Prelude.{◌≡◌, ◌<◌, ◌^◌, ◌++◌, All, IfOk, codes};
+ghost use Rattle.std.specs.Prelude.{◌≡◌, ◌<◌, ◌^◌, All, IfOk};
 ghost use Rattle.rpp_tree.specs.Views.{source_of};
 ghost use Rattle.rpp_words.specs.Limits.{IsLimits};
 ghost use Rattle.class_table.specs.Program.{IsAccepted};
-ghost use Rattle.rpp_words.specs.Texts.{line_end};
 ghost use Rattle.roopl_semantics.specs.Source.{IsValid};
 ghost use Rattle.refine_wrap.specs.Programs.{field_cell as cell_of_field};
-ghost use Rattle.pisa_scripts.specs.Stops.{fault_line as line_of_fault};
-ghost use Rattle.command_plan.specs.Plans.{planned, prints};
-ghost use Rattle.command_plan.specs.Texts.{steps_line};
+ghost use Rattle.command_plan.specs.Plans.{planned};
 ghost use Rattle.wrap_commands.specs.WrapNames.{HasLowNumber, result_cells};
 ghost use Rattle.wrap_commands.specs.WrapPlans.{AreResults, TellsResults, TellsStop, WrapsImage};
 ghost use Rattle.wrap_commands.specs.WrapRun.{HasWrapped};
@@ -17,7 +14,7 @@ use crate::shown::{add_results, with_initial};
 use bennett_wrap::wrap_image;
 use class_table::Checked;
 use code_conventions::memory::FIRST_FIELD;
-use command_plan::{Plan, Verdict, fault_line, with_steps};
+use command_plan::{Plan, Verdict, report_bound, report_fault, with_steps};
 use pisa_isa::{Image, Stop};
 use pisa_loader::{InputField, load_more};
 use pisa_machine::{Machine, RunEnd, Steps};
@@ -29,7 +26,7 @@ use std::sync::ledger::Ledger;
 /// What a wrapped run is made with: the sizes of heap and stack, the input, the fields whose words
 /// are its results, and the number of steps.
 #[derive(Drop)]
-pub(crate) struct Setting {
+pub(crate) struct WrapSetting {
     pub limits: Limits,
     pub input: Input,
     pub results: Vec<InputField>,
@@ -41,7 +38,7 @@ pub(crate) struct Setting {
 pub(crate) fn run_wrapped<L: Ledger>(
     alloc: Global,
     checked: &Checked,
-    setting: &Setting,
+    setting: &WrapSetting,
     steps: &mut Steps<L>,
 ) -> Result<Plan, NoMemory>
     requires limits { IsLimits setting.now.limits }
@@ -92,7 +89,7 @@ fn field_cell(field: u32) -> u32
 fn report_run(
     alloc: Global,
     _checked: &Checked,
-    setting: &Setting,
+    setting: &WrapSetting,
     _image: &Image,
     machine: &Machine,
     end: RunEnd,
@@ -119,7 +116,7 @@ fn report_run(
 fn report_results(
     alloc: Global,
     _checked: &Checked,
-    setting: &Setting,
+    setting: &WrapSetting,
     _image: &Image,
     machine: &Machine,
     spent: u64,
@@ -136,21 +133,4 @@ fn report_results(
     add_results(&mut lines, machine, initial, &setting.results)?;
     let text = with_steps(with_initial(lines, initial)?, spent)?;
     Ok(Plan::prints(Verdict::Done, text))
-}
-
-// The plan of a run that stopped with a fault.
-fn report_fault(alloc: Global, code: u32, spent: u64) -> Result<Plan, AllocError>
-    ensures { IfOk result (λ plan. planned plan
-        ≡ prints Verdict.Trapped (line_of_fault code ++ steps_line spent)) }
-{
-    let text = with_steps(fault_line(alloc, code)?, spent)?;
-    Ok(Plan::prints(Verdict::Trapped, text))
-}
-
-// The plan of a run that the bound ended.
-fn report_bound(alloc: Global, bound: u64) -> Result<Plan, AllocError>
-    ensures { IfOk result (λ plan. planned plan
-        ≡ prints Verdict.Bound (codes "bound" ++ (line_end ++ steps_line bound))) }
-{
-    Ok(Plan::prints(Verdict::Bound, format!(in alloc; "bound\nsteps {bound}\n")?))
 }

@@ -2,13 +2,12 @@
 ghost use Rattle.std.specs.Prelude.{◌≡◌, ◌≤◌, ◌+◌, ◌++◌, ◌^◌, ◌<◌, All, length, string_bytes, IfOk, OnOk};
 ghost use Rattle.std.specs.Str.{IsAscii};
 ghost use Rattle.roopl_semantics.specs.Report.{signed_decimal};
-ghost use Rattle.roopl_semantics.specs.Walk.{word_at as word_of_cells};
 ghost use Rattle.command_plan.specs.Plans.{planned, prints};
 ghost use Rattle.wrap_commands.specs.WrapShown.{HasAsciiName, result_line, word_lines, initial_line, unknown_result_line};
 
 use command_plan::{Plan, Verdict};
 use pisa_loader::InputField;
-use pisa_machine::Machine;
+use pisa_machine::{Machine, word_at};
 use std::alloc::{AllocError, Global};
 
 /// Adds the lines of results whose words stand in a memory from an address on.
@@ -26,7 +25,7 @@ pub(crate) fn add_results(
     match results {
         [] => Ok(()),
         [field, others @ ..] => {
-            add_result(out, field, word_at(machine, at))?;
+            add_result(out, field, word_at(machine, u64::from(at)))?;
             add_results(out, machine, at + 1, others)
         }
     }
@@ -65,16 +64,6 @@ fn add_name(out: &mut String, bytes: &[u8]) -> Result<(), AllocError>
         out.push(char::from(*byte))?;
     }
     Ok(())
-}
-
-// The word in a data cell, 0 behind the memory.
-fn word_at(machine: &Machine, at: u32) -> u32
-    ensures { result ≡ word_of_cells machine.now.state.cells at }
-{
-    match machine.cell(at) {
-        Some(word) => word,
-        None => 0,
-    }
 }
 
 /// A text with the line on the number of the program's cells behind it.

@@ -1,8 +1,7 @@
 use Rattle.std.proofs.Common.{sym, subst}
 use Rattle.std.specs.List.{All}
-use Rattle.pisa_isa.specs.Notes.{NoteLists}
-use Rattle.image_commands.specs.RunTexts.{HasAsciiText}
-use Rattle.image_commands.proofs.NoteNames.{ascii_names}
+use Rattle.pisa_isa.specs.Notes.{NoteLists, HasAsciiText}
+use Rattle.pisa_isa.proofs.NoteNames.{ascii_names}
 use Rattle.image_commands.proofs.running.run_from.Goals as goal
 
 pub run_machine-requires-clause-names : goal.run_machine-requires-clause-names

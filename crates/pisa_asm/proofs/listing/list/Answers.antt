@@ -4,20 +4,21 @@ use Rattle.std.specs.List.{All}
 use Rattle.rpp_words.specs.Words.{IsWord}
 use Rattle.pisa_isa.specs.declared.notes.FieldName.{FieldName}
 use Rattle.pisa_isa.specs.Image.{Segments, IsImage}
+use Rattle.pisa_isa.specs.Notes.{HasAsciiText}
+use Rattle.pisa_isa.proofs.NoteNames.{ascii_names}
 use Rattle.pisa_asm.specs.declared.assembler.TheConstants.{MOST_TEXT}
 use Rattle.pisa_asm.specs.Passes.{noted_of_text}
-use Rattle.pisa_asm.specs.Listing.{HasAsciiText, listing}
-use Rattle.pisa_asm.proofs.Measuring.{listing_short, ascii_names}
+use Rattle.pisa_asm.specs.Listing.{listing}
+use Rattle.pisa_asm.proofs.Measuring.{listing_short}
 use Rattle.pisa_asm.proofs.Relisting.{listing_read}
 use Rattle.pisa_asm.proofs.listing.list.Goals as goal
 
 pub add_names-requires : goal.add_names-requires
 add_names-requires c =
     let n = c.args.noted.now in
-    let image : IsImage n.image = subst IsImage c.image-image.ensures.image c.statics.ensures.image in
     let names : c.deref-2.result.now ≡ n.notes.names = search rules in
     subst (λ (names : List FieldName). All HasAsciiText names) (sym names)
-    (ascii_names n image c.image-image.ensures.fits)
+    (ascii_names n.image n.notes c.image-image.ensures.fits)
 
 pub returns-clause-within : goal.returns-clause-within
 returns-clause-within c =

@@ -2,7 +2,7 @@ use Rattle.std.proofs.Common.{subst, subst₂, sym, map, string_bytes}
 use Rattle.command_plan.specs.Files.{OnlyReads}
 use Rattle.cluster_commands.specs.ClusterPlans.{cluster_files}
 use Rattle.rpp_command.specs.Causes.{files_of}
-use Rattle.rpp_command.specs.Lines.{asked}
+use Rattle.command_line.specs.Lines.{asked}
 use Rattle.rpp_command.proofs.top.plan_line.Goals as goal
 
 pub returns-in-Cluster-clause-reads : goal.returns-in-Cluster-clause-reads

@@ -1,7 +1,7 @@
 use Rattle.std.proofs.Common.{map, string_bytes}
 use Rattle.std.specs.Prelude.{IsTrue}
 use Rattle.rpp_ports.specs.Ports.{Rose}
-use Rattle.rpp_command.specs.Lines.{line_of}
+use Rattle.command_line.specs.Lines.{line_of}
 use Rattle.rpp_command.proofs.Early.{untouched}
 use Rattle.rpp_command.proofs.top.rooplpp.Goals as goal
 

@@ -10,4 +10,4 @@ loop-number-preserved c =
     one_cell_more c.loop-number.number (c.loop-number.number + 1) (c.args.from + c.args.count) c.in-Some.word cells
     (string_bytes c.loop-number.text) (string_bytes c.add_cell.new.text)
     (cells_shown c.args.from c.args.count cells)
-    refl (omega arith) c.in-Some.ensures c.in_ok-add_cell.ensures c.loop-number.invariant
+    refl (omega arith) c.in-Some.ensures c.in_ok-add_cell.ensures.added c.loop-number.invariant

@@ -1,6 +1,6 @@
 // What the words ask for.
 ghost use Rattle.std.specs.Prelude.{◌≡◌, ◌<◌, ◌≤◌, ◌^◌, map, option_map, IfOk, IfSome, string_bytes};
-ghost use Rattle.rpp_command.specs.Lines.{asked, line_of, source_line_of, check_line_of, files_line_of, Compile, Asm, ListImage, Flip, ShowInverse, generate_line_of, generate_with as generate_asked, items_of, cluster_line_of, cluster_with as cluster_asked, common_of, run_line_of, run_with as run_asked, debug_line_of, debug_with as debug_asked, trace_line_of, trace_with as trace_asked, go_line_of, go_with as go_asked, profile_line_of, profile_with as profile_asked, wrap_line_of, wrap_with as wrap_asked, explain_line_of, explain_with as explain_asked, number_of, HasShortNumbers};
+ghost use Rattle.command_line.specs.Lines.{asked, line_of, source_line_of, check_line_of, files_line_of, Compile, Asm, ListImage, Flip, ShowInverse, generate_line_of, generate_with as generate_asked, items_of, cluster_line_of, cluster_with as cluster_asked, common_of, run_line_of, run_with as run_asked, debug_line_of, debug_with as debug_asked, trace_line_of, trace_with as trace_asked, go_line_of, go_with as go_asked, profile_line_of, profile_with as profile_asked, wrap_line_of, wrap_with as wrap_asked, explain_line_of, explain_with as explain_asked, number_of, HasShortNumbers};
 ghost use Rattle.command_plan.specs.Files.{state_of_names, save_of_names};
 
 use command_plan::StateNames;

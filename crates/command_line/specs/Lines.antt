@@ -5,9 +5,9 @@ use Rattle.std.specs.Prelude.{string_bytes, codes, ◌≤◌, map}
 use Rattle.std.specs.Char.{is_ascii_digit}
 use Rattle.std.specs.declared.option.Option.{Option}
 use Rattle.std.specs.Str.{bytes_eq}
-use Rattle.rpp_command.specs.declared.line.Line.{Line}
+use Rattle.command_line.specs.declared.line.Line.{Line}
 use Rattle.command_plan.specs.Files.{state_named, state_of_names, save_of_names}
-use Rattle.rpp_command.specs.declared.line.Line.TheVariants as line
+use Rattle.command_line.specs.declared.line.Line.TheVariants as line
 
 -- a line as contracts see it
 pub data Asked : Type 0 where

@@ -1,13 +1,13 @@
-// Conditionals and loops.
+// Conditionals and loops by their expressions, in a scope.
 ghost use Rattle.std.specs.Prelude.{◌≤◌, ◌+◌, ◌*◌, length, IfOk};
 ghost use Rattle.rpp_tree.specs.Views.{expression_of};
 ghost use Rattle.code_scope.specs.Visible.{known_in};
 ghost use Rattle.expr_uncompute.specs.Code.{words as words_of};
 ghost use Rattle.expr_uncompute.specs.Steps.{tokens};
 ghost use Rattle.refine_form.specs.Held.{HoldsBoth};
-ghost use Rattle.statement_codegen.specs.Laws.{IfLaw, FromLaw};
+ghost use Rattle.branch_codegen.specs.Laws.{IfLaw, FromLaw};
 
-use branch_codegen::{conditional, repetition};
+use crate::branches::{conditional, repetition};
 use code_conventions::registers::FLAG;
 use code_scope::Scope;
 use expr_uncompute::test_code;

@@ -1,7 +1,7 @@
 use Rattle.rpp_tree.specs.Views.{expression_of}
 use Rattle.code_scope.specs.Visible.{known_in}
-use Rattle.statement_codegen.proofs.Clauses.{from_returns}
-use Rattle.statement_codegen.proofs.branches.from_code.Goals as goal
+use Rattle.branch_codegen.proofs.InScope.{from_returns}
+use Rattle.branch_codegen.proofs.scoped.from_code.Goals as goal
 
 pub returns-clause-law : goal.returns-clause-law
 returns-clause-law c = from_returns (known_in c.args.scope.now) (expression_of c.args.entry.now)

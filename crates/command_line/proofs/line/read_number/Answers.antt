@@ -1,6 +1,6 @@
 use Rattle.std.proofs.Common.{ℕ, ◌^◌, ◌<◌, ◌≤◌, arith, lit<}
 use Rattle.std.proofs.Math.Nat.{pow-le-pow_right}
-use Rattle.rpp_command.proofs.line.read_number.Goals as goal
+use Rattle.command_line.proofs.line.read_number.Goals as goal
 
 -- fewer than 18 digits leave room for one more
 has_room : (n i : ℕ) → n < 10 ^ i → i < 18 → n < 10 ^ 17

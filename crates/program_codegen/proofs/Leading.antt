@@ -1,0 +1,36 @@
+-- The class tables of an image with the marks of a program lead to routines.
+use Rattle.std.proofs.Common.{◌∙◌, ℕ, ◌+◌, List, []}
+use Rattle.std.specs.Prelude.{slice_get}
+use Rattle.std.specs.Option.{unwrap_or}
+use Rattle.rpp_words.specs.declared.input.Limits.{Limits}
+use Rattle.rpp_tree.specs.Tree.{Source}
+use Rattle.pisa_isa.specs.Image.{Segments}
+use Rattle.paired_code.specs.declared.part.Symbol.{Symbol}
+use Rattle.refine_calls.specs.Laws.{IsLinked}
+use Rattle.refine_program.specs.Methods.{routine_in}
+use Rattle.refine_program.specs.Laws.{place_of}
+use Rattle.program_codegen.specs.Subroutines.{TablesLeadToSwapbr, CallsEnterBySwapbr}
+
+linked_leads : (program : Source) (image : Segments) (starts : List ℕ) (bodies : List (List Symbol)) (tops : ℕ → ℕ)
+    (limits : Limits) → IsLinked (place_of program image starts bodies tops limits) (routine_in program)
+    → TablesLeadToSwapbr program image
+linked_leads program image starts bodies tops limits linked = record {
+  starts = starts;
+  places = linked.has.places;
+  words = linked.statics_are ∙ linked.has.words;
+  leads = λ own class slot name above inside slot_is.
+      let route = linked.routes own class slot name above inside slot_is in
+      record {
+        number = 1 + routine_in program own name;
+        top = tops (routine_in program own name);
+        body = unwrap_or (slice_get bodies (routine_in program own name)) [];
+        behind_top = route.place_is;
+        form = linked.placed (routine_in program own name) route.below;
+      };
+}
+
+pub enter_by_swapbr : CallsEnterBySwapbr
+enter_by_swapbr program image marks has =
+    let limits : Limits = record { heap = 1; deep = 1 } in
+    let routines = has.rows.routines in
+    linked_leads program image has.rows.starts routines.bodies routines.tops limits (routines.linked limits)
