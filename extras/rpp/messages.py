@@ -159,7 +159,5 @@ def page_text(page: str) -> str:
 
 
 def page_link(page: str) -> str:
-    """The page as a message names it: docs/PAGE in the repository, else its whole path."""
-    path = page_path(page) or f'docs/{page}'
-    inside = os.path.join(TOP, 'docs', page)
-    return f'docs/{page}' if path == inside else path
+    """The page as a message names it, in the repository and below the folder where a package puts documents."""
+    return f'docs/{page}'

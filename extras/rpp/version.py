@@ -2,8 +2,9 @@
 import os
 import subprocess
 import sys
-from typing import List
+from typing import Dict, List
 
+from .messages import page_path
 from .options import Parser
 from .program import TOP, NoProgram, Program, origin_of
 
@@ -18,10 +19,11 @@ def main(words: List[str]) -> int:
         print(missing, file=sys.stderr)
         return 126
     origin = origin_of(program)
+    release = released()
     print(f'program: {program.path} ({program.origin})')
     print(f'sha256: {origin.digest}')
-    print(f'kit: {origin.kit or "not known"}')
-    print(f'proved: {proved(origin)}')
+    print(f'kit: {origin.kit or release.get("kit") or "not known"}')
+    print(f'proved: {proved(origin, release)}')
     return 0
 
 
@@ -32,11 +34,24 @@ def commit() -> str:
                               stdout=subprocess.PIPE, stderr=subprocess.DEVNULL, check=False)
         if done.returncode == 0:
             return f'commit {done.stdout.decode().strip()}'
-    return 'commit not known'
+    commit = released().get('commit')
+    return f'commit {commit}, of a release' if commit else 'commit not known'
 
 
-def proved(origin) -> str:
-    """What the record beside the program allows to say."""
+def released() -> Dict[str, str]:
+    """What PROVED.txt of an installed release tells: its commit, kit and program's sum, among others; empty where there is none."""
+    path = page_path('PROVED.txt')
+    if path is None:
+        return {}
+    with open(path, encoding='utf-8') as file:
+        lines = [line.split() for line in file]
+    return {words[0]: ' '.join(words[1:]) for words in lines if len(words) > 1}
+
+
+def proved(origin, release: Dict[str, str]) -> str:
+    """What the record beside the program, or that of an installed release, allows to say."""
+    if origin.kit is None and release.get('program') == origin.digest:
+        return 'yes, by PROVED.txt of its release, which names this sum'
     if origin.kit is None:
         return 'not known: no record (made_of) of its build stands beside it'
     if origin.fits is None:
