@@ -54,6 +54,16 @@ class Answer(NamedTuple):
     output: str
 
 
+class Closing:
+    """What a `with` closes where it ends; a class of this kind has `close`."""
+
+    def __enter__(self):
+        return self
+
+    def __exit__(self, *_):
+        self.close()
+
+
 class Folder:
     """A folder for files that only the program reads or writes; it goes with the `with` that opened it."""
 

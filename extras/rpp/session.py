@@ -17,7 +17,7 @@ from typing import Callable, List, NamedTuple, Optional
 
 from .changes import value_of
 from .outline import Call, Outline
-from .program import Interrupted, Program
+from .program import Closing, Interrupted, Program
 from .trace import FAR, Moment, Point, Refused, SourceRun
 
 FIRST_BOUND = 100_000
@@ -48,7 +48,7 @@ class Frame(NamedTuple):
     number: Optional[int]
 
 
-class Session:
+class Session(Closing):
     """A run, a position on it, and breakpoints. `notify` is called with a text while a long search goes on."""
 
     def __init__(self, run: SourceRun, outline: Outline, notify: Optional[Callable[[str], None]] = None):
@@ -70,12 +70,6 @@ class Session:
         except BaseException:
             run.close()
             raise
-
-    def __enter__(self) -> 'Session':
-        return self
-
-    def __exit__(self, *_):
-        self.close()
 
     def close(self) -> None:
         self.run.close()

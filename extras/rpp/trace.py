@@ -20,7 +20,7 @@ from typing import Dict, List, NamedTuple, Optional, Set, Tuple
 
 from .messages import Told, read_answer
 from .places import Text
-from .program import SCRIPT_LIMIT, Program
+from .program import SCRIPT_LIMIT, Closing, Program
 
 FAR = 10 ** 17
 MOST_CELLS = 1000
@@ -83,7 +83,7 @@ class Moment(NamedTuple):
         return found[-1] if found else None
 
 
-class SourceRun:
+class SourceRun(Closing):
     """The run of a source, read through `trace`. `text` is the source as it was at the beginning, and stays so; `copy` and
     `inputs` are files that keep it and its input. `patience` is the time that a call may take; without it, any."""
 
@@ -104,12 +104,6 @@ class SourceRun:
         with open(self.copy, 'wb') as out:
             out.write(self.text.content)
         self.inputs = [self._kept(inputs)] if inputs else []
-
-    def __enter__(self) -> 'SourceRun':
-        return self
-
-    def __exit__(self, *_):
-        self.close()
 
     def close(self) -> None:
         self._folder.__exit__()
@@ -323,7 +317,7 @@ class Standing(NamedTuple):
     note: str
 
 
-class MachineRun:
+class MachineRun(Closing):
     """The run of an image from the loaded memory, read through `debug`."""
 
     def __init__(self, program: Program, image: str, heap: int = 12, depth: int = 64):
@@ -332,12 +326,6 @@ class MachineRun:
         self.bounds = (heap, depth)
         self._folder = program.folder()
         self._folder.__enter__()
-
-    def __enter__(self) -> 'MachineRun':
-        return self
-
-    def __exit__(self, *_):
-        self.close()
 
     def close(self) -> None:
         self._folder.__exit__()
