@@ -7,11 +7,12 @@
 import re
 from typing import List, Optional
 
+from .tokens import NAME
 from .trace import Moment, Thing
 
 MOST_THINGS = 6
-PATH = re.compile(r"(#\d+|[A-Za-z][A-Za-z0-9_']*)((?:\.[A-Za-z][A-Za-z0-9_']*|\[\d+\])*)$")
-PART = re.compile(r"\.([A-Za-z][A-Za-z0-9_']*)|(\[\d+\])")
+PATH = re.compile(rf'(#\d+|{NAME})((?:\.{NAME}|\[\d+\])*)$')
+PART = re.compile(rf'\.({NAME})|(\[\d+\])')
 
 
 def value_of(moment: Moment, path: str) -> Optional[str]:

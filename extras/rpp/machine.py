@@ -10,15 +10,16 @@ from .places import Text
 from .program import Program
 from .prompt import Prompt, hold, number_of
 from .report import failure_lines
+from .state import NOTE
+from .tokens import NAME
 from .trace import FAR, MachineRun, Refused
 
 FIRST_BOUND = 1_000_000
 WINDOW = 2000
 MARK = re.compile(r'^MARK (\d+) (\d+) (\d+)$', re.M)
-NAME = re.compile(r'^NAME (\d+) (\S+)$', re.M)
 REGISTERS = re.compile(r'^\$(\d+) = (-?\d+)$', re.M)
 CELLS = re.compile(r'^cell (\d+) = (-?\d+)$', re.M)
-WATCHED = re.compile(r"^(?:\$(\d+)|(\d+)|([A-Za-z][A-Za-z0-9_']*))$")
+WATCHED = re.compile(rf'^(?:\$(\d+)|(\d+)|({NAME}))$')
 
 
 class Listing(NamedTuple):
@@ -38,7 +39,7 @@ class Listing(NamedTuple):
                 text = file.read()
         code = [line for line in text.split('\n') if line and not line.startswith(('STATIC', 'MARK', 'NAME'))]
         marks = [(int(first), int(behind), int(place)) for first, behind, place in MARK.findall(text)]
-        return cls(code, marks, {name: int(cell) for cell, name in NAME.findall(text)})
+        return cls(code, marks, {name: int(cell) for cell, name in NOTE.findall(text)})
 
     def place(self, pc: int) -> Optional[int]:
         """The place of the mark with the fewest cells that has this one; the first of equal ones."""

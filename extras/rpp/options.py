@@ -12,13 +12,14 @@ import re
 from typing import List, Optional
 
 from .program import Folder
+from .tokens import NAME
 
 HEAP = 12
 DEPTH = 64
 STEPS = 100_000_000
 MOST_HEAP = 20
 MOST_DEPTH = 8192
-ASSIGNMENT = re.compile(r"^([A-Za-z][A-Za-z0-9_']*)=(-?[0-9]+)$")
+ASSIGNMENT = re.compile(rf'^({NAME})=(-?[0-9]+)$')
 
 
 class Unfit(Exception):

@@ -12,7 +12,9 @@ import bisect
 import re
 from typing import List, NamedTuple, Tuple
 
-TOKEN = re.compile(rb"[A-Za-z][A-Za-z0-9_']*|[0-9]+|<=>|[-+^]=|&&|\|\||[<>!]=|::|\S")
+from .tokens import NAME
+
+TOKEN = re.compile(NAME.encode() + rb"|[0-9]+|<=>|[-+^]=|&&|\|\||[<>!]=|::|\S")
 
 
 class Place(NamedTuple):

@@ -7,9 +7,10 @@ from .messages import read_answer
 from .options import DEPTH, HEAP, MOST_DEPTH, MOST_HEAP, Parser, Unfit
 from .program import Program, keep_apart
 from .report import failure_lines
+from .tokens import NAME
 
 HEADER = struct.Struct('<4sI32iI')
-LINE = re.compile(r"^[ \t]*([A-Za-z][A-Za-z0-9_']*)[ \t]*=[ \t]*(-?[0-9]+)[ \t]*$")
+LINE = re.compile(rf'^[ \t]*({NAME})[ \t]*=[ \t]*(-?[0-9]+)[ \t]*$')
 NOTE = re.compile(r"^NAME (\d+) (\S+)$", re.M)
 
 

@@ -9,12 +9,15 @@ KEYWORDS = frozenset(
 OPERATORS = frozenset('* / % + - < > <= >= = != & ^ | && ||'.split())
 UPDATES = frozenset('+= -= ^='.split())
 
+# The form of a name, as a part of patterns.
+NAME = r"[A-Za-z][A-Za-z0-9_']*"
+
 _PIECE = re.compile(
-    rb"(?P<blank>[ \t\n\r]+)|(?P<comment>//[^\n]*)|(?P<name>[A-Za-z][A-Za-z0-9_']*)|(?P<number>[0-9]+)"
+    rb"(?P<blank>[ \t\n\r]+)|(?P<comment>//[^\n]*)|(?P<name>" + NAME.encode() + rb")|(?P<number>[0-9]+)"
     rb'|(?P<sign><=>|[-+^]=|&&|\|\||[<>!]=|::|[-+^&|<>=*/%()\[\],])|(?P<bad>.)',
     re.S,
 )
-_NAME = re.compile(r"[A-Za-z][A-Za-z0-9_']*\Z")
+_NAME = re.compile(NAME + r'\Z')
 
 
 class Token(NamedTuple):

@@ -21,6 +21,7 @@ from typing import Dict, List, NamedTuple, Optional, Set, Tuple
 from .messages import Told, read_answer
 from .places import Text
 from .program import SCRIPT_LIMIT, Closing, Program
+from .tokens import NAME
 
 FAR = 10 ** 17
 MOST_CELLS = 1000
@@ -30,7 +31,7 @@ AROUND = 10
 AROUND_SECONDS = 0.2
 AT_SOURCE = re.compile(r'^at (\d+) (?:place (\d+) depth (\d+)|end)(?: (?:start|fault (-?\d+)(?: (\w+))?))?$')
 AT_IMAGE = re.compile(r'^at (\d+) pc (-?\d+) br (-?\d+) dir (-?1)(?: (start|end .*))?$')
-VARIABLE = re.compile(r"^([A-Za-z][A-Za-z0-9_']*) = (.+)$")
+VARIABLE = re.compile(rf'^({NAME}) = (.+)$')
 OBJECT = re.compile(r'^#(\d+) (\S+) count (\d+)$')
 CELL = re.compile(r'^  (\S+) = (.+)$')
 
