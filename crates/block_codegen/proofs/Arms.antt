@@ -175,7 +175,7 @@ pub call_arm : {E : Type 0} (v : Visible) (x : Statement) (at : ℕ) (back : Boo
     (name : Option Ident) (method : Ident) (args : List Ident) (r : Result Code E)
     → x ≡ Call at back receiver method args → option_map Whole name ≡ receiver → StatementStands v x
     → IfOk r (λ p. CallLaw v back name method args p.cells) → IfOk r (λ p. p.marks ≡ [])
-    → IfOk r (λ p. length p.cells ≤ 22 * length args + 105) → IfOk r (λ p. InnerPiece v x p)
+    → IfOk r (λ p. length p.cells ≤ 22 * length args + 97) → IfOk r (λ p. InnerPiece v x p)
 call_arm v x at back receiver name method args (Err e) is same h law none size = tt
 call_arm v x at back receiver name method args (Ok p) is same h law none size =
     let e : x ≡ Call at back (option_map Whole name) method args = is
@@ -189,7 +189,7 @@ pub element_arm : {E : Type 0} (v : Visible) (at : ℕ) (back : Bool) (element :
     (index : Expression) (method : Ident) (args : List Ident) (r : Result Code E) → element ≡ Item array index
     → StatementStands v (Call at back (Some element) method args)
     → IfOk r (λ p. ElementLaw v at back element method args p.cells) → IfOk r (λ p. p.marks ≡ [])
-    → IfOk r (λ p. length p.cells ≤ 160 * (2 + place_tokens element) + 22 * length args + 241)
+    → IfOk r (λ p. length p.cells ≤ 160 * (2 + place_tokens element) + 22 * length args + 233)
     → IfOk r (λ p. InnerPiece v (Call at back (Some element) method args) p)
 element_arm v at back element array index method args (Err e) is h law none size = tt
 element_arm v at back element array index method args (Ok p) is h law none size =
@@ -211,7 +211,7 @@ pub whole_arm : {E : Type 0} (v : Visible) (at : ℕ) (back : Bool) (receiver : 
     (args : List Ident) (r : Result Code E) → receiver ≡ Whole name
     → StatementStands v (Call at back (Some receiver) method args)
     → IfOk r (λ p. CallLaw v back (Some name) method args p.cells) → IfOk r (λ p. p.marks ≡ [])
-    → IfOk r (λ p. length p.cells ≤ 22 * length args + 105)
+    → IfOk r (λ p. length p.cells ≤ 22 * length args + 97)
     → IfOk r (λ p. InnerPiece v (Call at back (Some receiver) method args) p)
 whole_arm v at back receiver name method args r is h law none size =
     call_arm v (Call at back (Some receiver) method args) at back (Some receiver) (Some name) method args r refl

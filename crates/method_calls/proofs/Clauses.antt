@@ -154,15 +154,15 @@ moves_length (spot ∷ spots) = sum_moves (length (moves_of spots)) (length spot
     (length-append (moves_of spots) (move_code spot (length spots))
     ∙ ap (λ n. length (moves_of spots) + n) (move_length spot (length spots))) (moves_length spots)
 
-last_length : (slot : ℕ) → length (last_cells slot) ≡ 12
+last_length : (slot : ℕ) → length (last_cells slot) ≡ 8
 unfolding last_cells
 last_length slot = refl
 
-sum_own : (k n1 n2 n3 n4 : ℕ) → n1 ≡ 13 + n2 → n2 ≡ n3 + 12 → n3 ≡ 11 * k → n4 ≡ 2 * n1 + 7 → n4 ≡ 22 * k + 57
+sum_own : (k n1 n2 n3 n4 : ℕ) → n1 ≡ 13 + n2 → n2 ≡ n3 + 8 → n3 ≡ 11 * k → n4 ≡ 2 * n1 + 7 → n4 ≡ 22 * k + 49
 sum_own k n1 n2 n3 n4 a b c d = omega arith
 
 pub own_length : (back : Bool) (slot : ℕ) (spots : List Spot)
-    → length (own_cells back slot spots) ≡ 22 * length spots + 57
+    → length (own_cells back slot spots) ≡ 22 * length spots + 49
 unfolding own_cells
 own_length back slot spots =
     let front = depth_code ++ (moves_of spots ++ last_cells slot) in
@@ -173,7 +173,7 @@ own_length back slot spots =
     (moves_length spots)
     (around_length front (enter_at_cells 12 back))
 
-behind_length : (spot : Spot) (slot : ℕ) → length (behind_of spot slot) ≡ 25
+behind_length : (spot : Spot) (slot : ℕ) → length (behind_of spot slot) ≡ 21
 unfolding last_cells behind_of
 behind_length (Field i) slot = refl
 behind_length (Frame i) slot = refl
@@ -182,11 +182,11 @@ nil_length : (spot : Spot) → length (nil_code spot) ≡ 11
 nil_length (Field i) = refl
 nil_length (Frame i) = refl
 
-sum_checked : (k n1 n2 n3 : ℕ) → n1 ≡ 13 + n2 → n2 ≡ n3 + 25 → n3 ≡ 11 * k → n1 ≡ 11 * k + 38
+sum_checked : (k n1 n2 n3 : ℕ) → n1 ≡ 13 + n2 → n2 ≡ n3 + 21 → n3 ≡ 11 * k → n1 ≡ 11 * k + 34
 sum_checked k n1 n2 n3 a b c = omega arith
 
 checked_length : (spot : Spot) (slot : ℕ) (spots : List Spot)
-    → length (checked_of spot slot spots) ≡ 11 * length spots + 38
+    → length (checked_of spot slot spots) ≡ 11 * length spots + 34
 unfolding checked_of
 checked_length spot slot spots =
     sum_checked (length spots) (length (depth_code ++ (moves_of spots ++ behind_of spot slot)))
@@ -196,17 +196,17 @@ checked_length spot slot spots =
     ∙ ap (λ n. length (moves_of spots) + n) (behind_length spot slot)) (moves_length spots)
 
 front_length : (spot : Spot) (slot : ℕ) (spots : List Spot)
-    → length (front_on_of spot slot spots) ≡ 11 + (11 * length spots + 38)
+    → length (front_on_of spot slot spots) ≡ 11 + (11 * length spots + 34)
 unfolding front_on_of
 front_length spot slot spots = length-append (nil_code spot) (checked_of spot slot spots)
     ∙ ap (λ n. n + length (checked_of spot slot spots)) (nil_length spot)
     ∙ ap (λ n. 11 + n) (checked_length spot slot spots)
 
-sum_on : (k n1 n4 : ℕ) → n1 ≡ 11 + (11 * k + 38) → n4 ≡ 2 * n1 + 7 → n4 ≡ 22 * k + 105
+sum_on : (k n1 n4 : ℕ) → n1 ≡ 11 + (11 * k + 34) → n4 ≡ 2 * n1 + 7 → n4 ≡ 22 * k + 97
 sum_on k n1 n4 a d = omega arith
 
 pub on_length : (back : Bool) (spot : Spot) (slot : ℕ) (spots : List Spot)
-    → length (around (front_on_of spot slot spots) (enter_at_cells 12 back)) ≡ 22 * length spots + 105
+    → length (around (front_on_of spot slot spots) (enter_at_cells 12 back)) ≡ 22 * length spots + 97
 on_length back spot slot spots =
     sum_on (length spots) (length (front_on_of spot slot spots))
     (length (around (front_on_of spot slot spots) (enter_at_cells 12 back))) (front_length spot slot spots)

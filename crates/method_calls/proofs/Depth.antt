@@ -1,5 +1,5 @@
 -- The check of the depth, the place of a method, and what a body puts by.
-use Rattle.std.proofs.Common.{◌≡◌, ℕ, ◌+◌, ◌-◌, ◌^◌, ◌<◌, ◌≤◌, Bool, true, false, List, [], ◌∷◌, ◌++◌, length, refl}
+use Rattle.std.proofs.Common.{◌≡◌, ◌≢◌, ℕ, ◌+◌, ◌-◌, ◌^◌, ◌<◌, ◌≤◌, Bool, true, false, List, [], ◌∷◌, ◌++◌, length, refl}
 use Rattle.std.proofs.Common.{sym}
 use Rattle.std.proofs.Common.{ap, ◌∙◌, arith}
 use Rattle.std.specs.Prelude.{not, nat_lt, slice_index, slice_set, bit_xor, int_lt, pos, if◌then◌else◌}
@@ -16,7 +16,7 @@ use Rattle.paired_code.specs.Pieces.{Done, Trapped, Will, after}
 use Rattle.paired_code.proofs.Laws.{will_of, will_more}
 use Rattle.paired_code.proofs.Call.{set_set}
 use Rattle.paired_code.proofs.Small.{runs_check_zero, runs_check_other}
-use Rattle.code_conventions.specs.Cells.{add, sub, exch, addi, xori, sltx}
+use Rattle.code_conventions.specs.Cells.{add, exch, addi, xori, sltx}
 use Rattle.method_calls.specs.CallCode.{end_row, fits_row, depth_code, fetch_row, save_row}
 use Rattle.refine_form.proofs.Rows.{Ran, here, next, will_row}
 use Rattle.method_calls.proofs.Addresses.{mk, sum_is, difference_is, less_is}
@@ -140,7 +140,7 @@ module _ (im : Image) (ob fr : ℕ) (cs : List ℕ) (inside : 4 < length cs) (sm
 
 module _ (im : Image) (ob fr slot place : ℕ) (cs : List ℕ) (inside : ob < length cs)
     (small : slice_index cs ob < 2 ^ 23) (slot_small : slot < 2 ^ 20)
-    (entry_in : slice_index cs ob + (1 + slot) < length cs)
+    (entry_in : slice_index cs ob + (1 + slot) < length cs) (apart : slice_index cs ob + (1 + slot) ≢ ob)
     (entry : slice_index cs (slice_index cs ob + (1 + slot)) ≡ place) (place_small : place < 2 ^ 32) where
   abbrev table : ℕ
   table = slice_index cs ob
@@ -155,82 +155,75 @@ module _ (im : Image) (ob fr slot place : ℕ) (cs : List ℕ) (inside : ob < le
   no_table = slice_set cs ob 0
 
   abbrev no_entry : List ℕ
-  no_entry = slice_set cs at_entry 0
+  no_entry = slice_set no_table at_entry 0
 
-  -- the table's address goes out, is copied, and goes in again
   out_in : ob < length no_table
   out_in = omega (arith, length-set cs ob 0, inside)
 
-  entry_out : at_entry < length no_entry
-  entry_out = omega (arith, length-set cs at_entry 0, entry_in)
+  entry_there : at_entry < length no_table
+  entry_there = omega (arith, length-set cs ob 0, entry_in)
 
-  table_back : (d : Bool) (c p : ℕ) → package.Rattle.paired_code.specs.Laws.outcome_of d (exch 6 3)
-      (fetch_mem table c p no_table) ≡ Done (fetch_mem 0 c p cs) 1
-  table_back d c p = exchanges d 6 3 (fetch_mem table c p no_table) out_in
-      ∙ ap (λ v. Done (fetch_mem v c p (slice_set no_table ob table)) 1) (emptied cs ob inside)
-      ∙ ap (λ l. Done (fetch_mem 0 c p l) 1) (filled cs ob)
+  entry_out : at_entry < length no_entry
+  entry_out = omega (arith, length-set no_table at_entry 0, entry_there)
+
+  same_entry : slice_index no_table at_entry ≡ place
+  same_entry = get_or-set_other cs ob at_entry 0 0 apart ∙ entry
+
+  -- the table's address goes out, and the place is copied there
+  table_back : (d : Bool) (p : ℕ) → package.Rattle.paired_code.specs.Laws.outcome_of d (exch 8 3)
+      (fetch_mem 0 table p no_table) ≡ Done (fetch_mem 0 0 p cs) 1
+  table_back d p = exchanges d 8 3 (fetch_mem 0 table p no_table) out_in
+      ∙ ap (λ v. Done (fetch_mem 0 v p (slice_set no_table ob table)) 1) (emptied cs ob inside)
+      ∙ ap (λ l. Done (fetch_mem 0 0 p l) 1) (filled cs ob)
 
   entry_back : (d : Bool) (p : ℕ) → package.Rattle.paired_code.specs.Laws.outcome_of d (exch 6 8)
-      (fetch_mem place at_entry p no_entry) ≡ Done (fetch_mem 0 at_entry p cs) 1
+      (fetch_mem place at_entry p no_entry) ≡ Done (fetch_mem 0 at_entry p no_table) 1
   entry_back d p =
       exchanges d 6 8 (fetch_mem place at_entry p no_entry) entry_out
-      ∙ ap (λ v. Done (fetch_mem v at_entry p (slice_set no_entry at_entry place)) 1) (emptied cs at_entry entry_in)
-      ∙ ap (λ v. Done (fetch_mem 0 at_entry p (slice_set no_entry at_entry v)) 1) (sym entry)
-      ∙ ap (λ l. Done (fetch_mem 0 at_entry p l) 1) (filled cs at_entry)
+      ∙ ap (λ v. Done (fetch_mem v at_entry p (slice_set no_entry at_entry place)) 1)
+      (emptied no_table at_entry entry_there)
+      ∙ ap (λ v. Done (fetch_mem 0 at_entry p (slice_set no_entry at_entry v)) 1) (sym same_entry)
+      ∙ ap (λ l. Done (fetch_mem 0 at_entry p l) 1) (filled no_table at_entry)
 
-  fetches : Ran false (fetch_row slot) 11 (fetch_mem 0 0 0 cs) (fetch_mem 0 0 place cs)
+  fetches : Ran false (fetch_row slot) 7 (fetch_mem 0 0 0 cs) (fetch_mem 0 0 place cs)
   fetches =
-      next refl (omega arith) (exchanges false 6 3 (fetch_mem 0 0 0 cs) inside)
-      (next refl (omega arith) (ap (λ v. Done (fetch_mem table v 0 no_table) 1)
-      (sum_is 0 table table (omega arith) (omega (arith, small))))
-      (next refl (omega arith) (table_back false table 0)
-      (next refl (omega (arith, slot_small)) (ap (λ v. Done (fetch_mem 0 v 0 cs) 1)
+      next refl (omega arith) (exchanges false 8 3 (fetch_mem 0 0 0 cs) inside)
+      (next refl (omega (arith, slot_small)) (ap (λ v. Done (fetch_mem 0 v 0 no_table) 1)
       (sum_is table (1 + slot) at_entry refl (omega (arith, small, slot_small))))
-      (next refl (omega arith) (exchanges false 6 8 (fetch_mem 0 at_entry 0 cs) entry_in
-      ∙ ap (λ v. Done (fetch_mem v at_entry 0 no_entry) 1) entry)
+      (next refl (omega arith) (exchanges false 6 8 (fetch_mem 0 at_entry 0 no_table) entry_there
+      ∙ ap (λ v. Done (fetch_mem v at_entry 0 no_entry) 1) same_entry)
       (next refl (omega arith) (ap (λ v. Done (fetch_mem place at_entry v no_entry) 1)
       (sum_is 0 place place (omega arith) (omega (arith, place_small))))
       (next refl (omega arith) (entry_back false place)
-      (next refl (omega arith) (ap (λ v. Done (fetch_mem 0 v place cs) 1)
+      (next refl (omega arith) (ap (λ v. Done (fetch_mem 0 v place no_table) 1)
       (less_is at_entry (1 + slot) table refl (omega (arith, small, slot_small))))
-      (next refl (omega arith) (exchanges false 6 3 (fetch_mem 0 table place cs) inside)
-      (next refl (omega arith) (ap (λ v. Done (fetch_mem table v place no_table) 1)
-      (difference_is table table 0 (omega arith) (omega (arith, small))))
-      (next refl (omega arith) (table_back false 0 place) here))))))))))
+      (next refl (omega arith) (table_back false place) here))))))
 
   abbrev pub fetch_back : List Cell
   fetch_back =
-      exch 6 3 ∷ sub 8 6 ∷ exch 6 3 ∷ addi 8 (negated (1 + slot))
-      ∷ exch 6 8 ∷ add 12 6 ∷ exch 6 8 ∷ addi 8 (1 + slot)
-      ∷ exch 6 3 ∷ add 8 6 ∷ exch 6 3 ∷ []
+      exch 8 3 ∷ addi 8 (negated (1 + slot)) ∷ exch 6 8 ∷ add 12 6 ∷ exch 6 8 ∷ addi 8 (1 + slot) ∷ exch 8 3 ∷ []
 
-  unfetches : Ran true fetch_back 11 (fetch_mem 0 0 place cs) (fetch_mem 0 0 0 cs)
+  unfetches : Ran true fetch_back 7 (fetch_mem 0 0 place cs) (fetch_mem 0 0 0 cs)
   unfetches =
-      next refl (omega arith) (exchanges true 6 3 (fetch_mem 0 0 place cs) inside)
-      (next refl (omega arith) (ap (λ v. Done (fetch_mem table v place no_table) 1)
-      (sum_is 0 table table (omega arith) (omega (arith, small))))
-      (next refl (omega arith) (table_back true table place)
-      (next refl (omega arith) (ap (λ v. Done (fetch_mem 0 v place cs) 1)
+      next refl (omega arith) (exchanges true 8 3 (fetch_mem 0 0 place cs) inside)
+      (next refl (omega arith) (ap (λ v. Done (fetch_mem 0 v place no_table) 1)
       (more_is table (1 + slot) at_entry refl (omega (arith, slot_small)) (omega (arith, small, slot_small))))
-      (next refl (omega arith) (exchanges true 6 8 (fetch_mem 0 at_entry place cs) entry_in
-      ∙ ap (λ v. Done (fetch_mem v at_entry place no_entry) 1) entry)
+      (next refl (omega arith) (exchanges true 6 8 (fetch_mem 0 at_entry place no_table) entry_there
+      ∙ ap (λ v. Done (fetch_mem v at_entry place no_entry) 1) same_entry)
       (next refl (omega arith) (ap (λ v. Done (fetch_mem place at_entry v no_entry) 1)
       (difference_is place place 0 (omega arith) (omega (arith, place_small))))
       (next refl (omega arith) (entry_back true 0)
-      (next refl (omega (arith, slot_small)) (ap (λ v. Done (fetch_mem 0 v 0 cs) 1)
+      (next refl (omega (arith, slot_small)) (ap (λ v. Done (fetch_mem 0 v 0 no_table) 1)
       (less_is at_entry (1 + slot) table refl (omega (arith, small, slot_small))))
-      (next refl (omega arith) (exchanges true 6 3 (fetch_mem 0 table 0 cs) inside)
-      (next refl (omega arith) (ap (λ v. Done (fetch_mem table v 0 no_table) 1)
-      (difference_is table table 0 (omega arith) (omega (arith, small))))
-      (next refl (omega arith) (table_back true 0 0) here))))))))))
+      (next refl (omega arith) (table_back true 0) here))))))
 
   pub will_fetch : Will im (line (fetch_row slot)) false (fetch_mem 0 0 0 cs)
-      (λ o. o ≡ Done (fetch_mem 0 0 place cs) 11)
-  will_fetch = will_row im false (fetch_row slot) 11 _ _ fetches
+      (λ o. o ≡ Done (fetch_mem 0 0 place cs) 7)
+  will_fetch = will_row im false (fetch_row slot) 7 _ _ fetches
 
   pub will_unfetch : Will im (line (fetch_row slot)) true (fetch_mem 0 0 place cs)
-      (λ o. o ≡ Done (fetch_mem 0 0 0 cs) 11)
-  will_unfetch = will_row im true fetch_back 11 _ _ unfetches
+      (λ o. o ≡ Done (fetch_mem 0 0 0 cs) 7)
+  will_unfetch = will_row im true fetch_back 7 _ _ unfetches
 
 -- ---- what a body puts by
 

@@ -281,19 +281,19 @@ module _ (w : World) (knows : Known w) (f : FrameFacts w knows) (on : Receivers 
 
     fetched : (cs2 : List ℕ) → HasPlace cs2 (w.object_of deep) slot place
         → Will w.im (line (fetch_row slot)) false (mk 0 (w.object_of deep) (fr + 512) 0 0 0 0 0 cs2)
-        (λ o. o ≡ Done (mk 0 (w.object_of deep) (fr + 512) 0 0 0 0 place cs2) 11)
+        (λ o. o ≡ Done (mk 0 (w.object_of deep) (fr + 512) 0 0 0 0 place cs2) 7)
     fetched cs2 p = will_fetch w.im (w.object_of deep) (fr + 512) slot place cs2 p.object_in p.small
-        (g.slot_small s x name args is) p.entry_in p.entry place_small
+        (g.slot_small s x name args is) p.entry_in p.apart p.entry place_small
 
     unfetched : (cs2 : List ℕ) → HasPlace cs2 (w.object_of deep) slot place
         → Will w.im (line (fetch_row slot)) true (mk 0 (w.object_of deep) (fr + 512) 0 0 0 0 place cs2)
-        (λ o. o ≡ Done (mk 0 (w.object_of deep) (fr + 512) 0 0 0 0 0 cs2) 11)
+        (λ o. o ≡ Done (mk 0 (w.object_of deep) (fr + 512) 0 0 0 0 0 cs2) 7)
     unfetched cs2 p = will_unfetch w.im (w.object_of deep) (fr + 512) slot place cs2 p.object_in p.small
-        (g.slot_small s x name args is) p.entry_in p.entry place_small
+        (g.slot_small s x name args is) p.entry_in p.apart p.entry place_small
 
     front_in : Will w.im (front_on_code (knows.spot s) x slot args) false (mk 0 ob fr 0 0 0 0 0 cs)
         (λ o. o ≡ Done (mk 0 (w.object_of deep) (fr + 512) 0 0 0 0 place in_cells)
-        (10 + (12 + (10 * length args + (7 + (5 + 12))))))
+        (10 + (12 + (10 * length args + (7 + (5 + 8))))))
     front_in =
         let e = f.has_end s u st cs h in
         let cs1 = moved.cells in
@@ -362,7 +362,7 @@ module _ (w : World) (knows : Known w) (f : FrameFacts w knows) (on : Receivers 
 
       -- the place, the frame and OBJECT
       lowered : Will w.im (onto_code ++ last_row) true m0 (λ q. q
-          ≡ Done (mk 0 ob fr 0 0 (w.object_of deep) 0 0 (out_cells cs2)) 17)
+          ≡ Done (mk 0 ob fr 0 0 (w.object_of deep) 0 0 (out_cells cs2)) 13)
       lowered =
           let word = w.object_of deep in
           let p = g.place_on s u caller end cs2 x name args n_of o is suits in
@@ -371,16 +371,16 @@ module _ (w : World) (knows : Known w) (f : FrameFacts w knows) (on : Receivers 
           will_row w.im true (addi 4 512 ∷ []) 1 _ _ (next refl (omega arith)
           (ap (λ v. Done (mk 0 word v 0 0 0 0 0 cs2) 1) (less_is (fr + 512) 512 fr refl
           (let t = frame_small in omega arith))) here) in
-          let both : Will w.im last_row true m0 (λ q. q ≡ Done (mk 0 word fr 0 0 0 0 0 cs2) 12) =
-          will_two_back w.im (line (addi 4 512 ∷ [])) (line (fetch_row slot)) _ _ 11 _ (unfetched cs2 p)
-          (will_more w.im _ true _ _ _ (λ o q. ap (after 11) q) down) in
-          will_two_back w.im onto_code last_row m0 (mk 0 word fr 0 0 0 0 0 cs2) 12 _ both
-          (will_more w.im _ true _ _ _ (λ o q. ap (after 12) q)
+          let both : Will w.im last_row true m0 (λ q. q ≡ Done (mk 0 word fr 0 0 0 0 0 cs2) 8) =
+          will_two_back w.im (line (addi 4 512 ∷ [])) (line (fetch_row slot)) _ _ 7 _ (unfetched cs2 p)
+          (will_more w.im _ true _ _ _ (λ o q. ap (after 7) q) down) in
+          will_two_back w.im onto_code last_row m0 (mk 0 word fr 0 0 0 0 0 cs2) 8 _ both
+          (will_more w.im _ true _ _ _ (λ o q. ap (after 8) q)
           (turns_from w.im ob fr word cs2 comes.up_in (let t = object_small in omega arith) frame_small
           (let t = rw_small in omega arith) comes.saved))
 
       abbrev Moved : Outcome → Type 0
-      Moved q = Meets Home w.rates n (24 + 10 * length args) (moves_home end) q
+      Moved q = Meets Home w.rates n (20 + 10 * length args) (moves_home end) q
 
       arguments : (b : Bool) → is_zero (read (home end) c) ≡ b
           → Will w.im (moves_code (knows.spot s) args ++ (take_code sp ++ (onto_code ++ last_row))) true m0 Moved
@@ -394,17 +394,17 @@ module _ (w : World) (knows : Known w) (f : FrameFacts w knows) (on : Receivers 
           ∙ told_after 0 (moved_back cells (values end) home1)
           ∙ plus_none (told (moved_back cells (values end) home1)) in
           let taken : Will w.im (take_code sp ++ (onto_code ++ last_row)) true m0
-          (λ q. q ≡ Done (mk 0 ob fr 0 0 0 0 0 cs3) 24) =
-          will_two_back w.im (take_code sp) (onto_code ++ last_row) m0 (mk 0 ob fr 0 0 word 0 0 (out_cells cs2)) 17 _
+          (λ q. q ≡ Done (mk 0 ob fr 0 0 0 0 0 cs3) 20) =
+          will_two_back w.im (take_code sp) (onto_code ++ last_row) m0 (mk 0 ob fr 0 0 word 0 0 (out_cells cs2)) 13 _
           lowered
-          (will_more w.im _ true _ _ _ (λ o q. ap (after 17) q)
+          (will_more w.im _ true _ _ _ (λ o q. ap (after 13) q)
           (gives_back w.im ob fr sp (out_cells cs2) still_in low word (same_word ∙ comes.untouched z))) in
           let many = g.as_many_on s u caller end cs2 x name args n_of o is suits in
           let there_again = g.is_there s u (pairs args (values end)) (home end) (Name n_of) cs3 x name args opens1 is in
           will_two_back w.im (moves_code (knows.spot s) args) (take_code sp ++ (onto_code ++ last_row)) m0
-          (mk 0 ob fr 0 0 0 0 0 cs3) 24 Moved taken
+          (mk 0 ob fr 0 0 0 0 0 cs3) 20 Moved taken
           (will_more w.im _ true _ _ _ (λ o q. meets_told _ _ (sym said)
-          (meets_later 24 (meets_as (λ a m k e i. record
+          (meets_later 20 (meets_as (λ a m k e i. record
           { opened_again = i; receiver = stays cells (values end) home1 a k c not_arg e ∙ there_again })
           q)))
           (all_back w knows f s u n args vars (values end) home1 cs3 many few opens1))
@@ -416,10 +416,10 @@ module _ (w : World) (knows : Known w) (f : FrameFacts w knows) (on : Receivers 
           let found = finds_touched w.im ob fr sp (out_cells cs2) still_in low word
           (λ e. comes.touched z (sym same_word ∙ e)) in
           let taken : Will w.im (take_code sp ++ (onto_code ++ last_row)) true m0
-          (λ q. (k : ℕ) × (k ≤ 24) × (q ≡ Trapped 15 k)) =
-          will_two_back w.im (take_code sp) (onto_code ++ last_row) m0 (mk 0 ob fr 0 0 word 0 0 (out_cells cs2)) 17 _
+          (λ q. (k : ℕ) × (k ≤ 20) × (q ≡ Trapped 15 k)) =
+          will_two_back w.im (take_code sp) (onto_code ++ last_row) m0 (mk 0 ob fr 0 0 word 0 0 (out_cells cs2)) 13 _
           lowered
-          (will_more w.im _ true _ _ _ (λ o t. (17 + t.0, (let l = t.1 in omega arith), ap (after 17) t.2)) found) in
+          (will_more w.im _ true _ _ _ (λ o t. (13 + t.0, (let l = t.1 in omega arith), ap (after 13) t.2)) found) in
           let W : Memory → ℕ → Type 0 = λ m1 k. Will w.im (moves_code (knows.spot s) args) true m1
           (λ o. Moved (after k o)) in
           will_seq_back w.im (moves_code (knows.spot s) args) (take_code sp ++ (onto_code ++ last_row)) m0 Moved
@@ -427,12 +427,12 @@ module _ (w : World) (knows : Known w) (f : FrameFacts w knows) (on : Receivers 
           (meets_told (Fault 15 0) _ (sym said) (faults (let l = t.1 in omega arith)))) taken)
 
       front_back : Will w.im (front_on_code (knows.spot s) x slot args) true m0
-          (Meets (Open w s u) w.rates n (24 + 10 * length args + 12 + 10) (moves_home end))
+          (Meets (Open w s u) w.rates n (20 + 10 * length args + 12 + 10) (moves_home end))
       front_back =
           let rest1 = moves_code (knows.spot s) args ++ (take_code sp ++ (onto_code ++ last_row)) in
-          let inner = then_quiet w.im true Home Home w.rates n 12 (24 + 10 * length args) rest1 depth_code m0
+          let inner = then_quiet w.im true Home Home w.rates n 12 (20 + 10 * length args) rest1 depth_code m0
           (moves_home end) (arguments (is_zero (read (home end) c)) refl) (λ a m i. deep_ok a m i) in
-          then_quiet w.im true Home (Open w s u) w.rates n 10 (24 + 10 * length args + 12) (depth_code ++ rest1)
+          then_quiet w.im true Home (Open w s u) w.rates n 10 (20 + 10 * length args + 12) (depth_code ++ rest1)
           (nil_code sp) m0 (moves_home end) inner (λ a m i. nil_ok a m i)
         where
           deep_ok : (a : State) (m : Memory) → Home a m → Will w.im depth_code true m (Quiet (Home a) 12)
@@ -475,16 +475,16 @@ module _ (w : World) (knows : Known w) (f : FrameFacts w knows) (on : Receivers 
         subst (λ y. Will w.im (enter_at_cells 12 kind) d (mk 0 (w.object_of deep) y 0 0 0 0 place in_cells)
         (Meets (InCall w (w.routines.scope r) deep place) w.rates n 55 t)) nf body in
         wraps_spent w.im d (front_on_code (knows.spot s) x slot args) (enter_at_cells 12 kind) _ _
-        (InCall w (w.routines.scope r) deep place) (Open w s u) w.rates n 55 (24 + 10 * length args + 12 + 10)
-        (10 + (12 + (10 * length args + (7 + (5 + 12))))) (1 + length args) 0 t moves_home
+        (InCall w (w.routines.scope r) deep place) (Open w s u) w.rates n 55 (20 + 10 * length args + 12 + 10)
+        (10 + (12 + (10 * length args + (7 + (5 + 8))))) (1 + length args) 0 t moves_home
         f.counts (omega arith) (enough w.rates.steps (length args) f.thousand few) front_in mid (λ a m2 k e i.
         let known = as_known m2 _ (i.regs_are ∙ ap (λ y. registers 0 (w.object_of deep) y 0 0 0 0 place) nf) in
         subst (λ z. Will w.im (front_on_code (knows.spot s) x slot args) true z
-        (Meets (Open w s u) w.rates (n - k) (24 + 10 * length args + 12 + 10) (moves_home a))) (sym known)
+        (Meets (Open w s u) w.rates (n - k) (20 + 10 * length args + 12 + 10) (moves_home a))) (sym known)
         (front_back (n - k) a m2.cells i.open_frame))
       where
-        enough : (steps k : ℕ) → steps ≡ 1000 → k ≤ 32 → 10 + (12 + (10 * k + (7 + (5 + 12)))) +
-            (55 + (24 + 10 * k + 12 + 10)) ≤ steps * (1 + k) + 0
+        enough : (steps k : ℕ) → steps ≡ 1000 → k ≤ 32 → 10 + (12 + (10 * k + (7 + (5 + 8)))) +
+            (55 + (20 + 10 * k + 12 + 10)) ≤ steps * (1 + k) + 0
         enough steps k e few = let z : steps * (1 + k) ≡ 1000 * (1 + k) = ap (λ y. y * (1 + k)) e in omega (arith, z)
 
   -- a trap before anything has moved

@@ -227,7 +227,7 @@ module _ (w : World) (knows : Known w) (f : FrameFacts w knows) (s : Scope) (nam
     has_place = f.has_place s u caller callee moved.cells name args entered is
 
     front_in : Will w.im (front_code (knows.spot s) slot args) false (mk 0 ob fr 0 0 0 0 0 cs)
-        (λ o. o ≡ Done (mk 0 ob (fr + 512) 0 0 0 0 place moved.cells) (12 + (10 * length args + 12)))
+        (λ o. o ≡ Done (mk 0 ob (fr + 512) 0 0 0 0 place moved.cells) (12 + (10 * length args + 8)))
     front_in =
         let e = f.has_end s u st cs h in
         let p = has_place in
@@ -238,7 +238,7 @@ module _ (w : World) (knows : Known w) (f : FrameFacts w knows) (s : Scope) (nam
         (let z : package.Rattle.rpp_words.specs.Words.sum_of fr 512
         ≡ fr + 512 = (let t = frame_small in omega arith) in z)) here) in
         let fetched = will_fetch w.im ob (fr + 512) slot place moved.cells p.object_in p.small
-        (f.slot_small s name args is) p.entry_in p.entry place_small in
+        (f.slot_small s name args is) p.entry_in p.apart p.entry place_small in
         will_two w.im depth_code (moves_code (knows.spot s) args ++ line (addi 4 512 ∷ fetch_row slot)) _ _ 12 _
         (depth_passes w.im ob fr cs e.cell_in e.small (end_fits st cs h false room) false (e.room room))
         (will_two w.im (moves_code (knows.spot s) args) (line (addi 4 512 ∷ fetch_row slot)) _ _ (10 * length args) _
@@ -254,35 +254,35 @@ module _ (w : World) (knows : Known w) (f : FrameFacts w knows) (s : Scope) (nam
 
     front_back : (n : ℕ) (end : State) (cs2 : List ℕ) → w.opens (w.routines.scope r) deep [] end cs2
         → Will w.im (front_code (knows.spot s) slot args) true (mk 0 ob (fr + 512) 0 0 0 0 place cs2)
-        (Meets (Open w s u) w.rates n (12 + (10 * length args + 12)) (moves_home end))
+        (Meets (Open w s u) w.rates n (8 + (10 * length args + 12)) (moves_home end))
     front_back n end cs2 g =
         let p = f.has_place s u caller end cs2 name args g is in
         let left = f.leaves s u caller end cs2 name args (pairs args vals) moved.cells moved.up g is in
         let as_many = f.as_many s u caller end cs2 name args g is in
         let unfetched = will_unfetch w.im ob (fr + 512) slot place cs2 p.object_in p.small (f.slot_small s name args is)
-        p.entry_in p.entry place_small in
+        p.entry_in p.apart p.entry place_small in
         let down : Will w.im (line (addi 4 512 ∷ [])) true (mk 0 ob (fr + 512) 0 0 0 0 0 cs2)
         (λ o. o ≡ Done (mk 0 ob fr 0 0 0 0 0 cs2) 1) =
         will_row w.im true (addi 4 512 ∷ []) 1 _ _ (next refl (omega arith)
         (ap (λ v. Done (mk 0 ob v 0 0 0 0 0 cs2) 1) (less_is (fr + 512) 512 fr refl
         (let t = frame_small in omega arith))) here) in
         let both : Will w.im (line (addi 4 512 ∷ fetch_row slot)) true (mk 0 ob (fr + 512) 0 0 0 0 place cs2)
-        (λ o. o ≡ Done (mk 0 ob fr 0 0 0 0 0 cs2) 12) =
-        will_two_back w.im (line (addi 4 512 ∷ [])) (line (fetch_row slot)) _ _ 11 _ unfetched
-        (will_more w.im _ true _ _ _ (λ o q. ap (after 11) q) down) in
+        (λ o. o ≡ Done (mk 0 ob fr 0 0 0 0 0 cs2) 8) =
+        will_two_back w.im (line (addi 4 512 ∷ [])) (line (fetch_row slot)) _ _ 7 _ unfetched
+        (will_more w.im _ true _ _ _ (λ o q. ap (after 7) q) down) in
         let values = map (λ binding. binding.value) end.frame in
         let home = record caller { store = end.store; log = end.log } in
         let inner : Will w.im (moves_code (knows.spot s) args ++ line (addi 4 512 ∷ fetch_row slot)) true
-        (mk 0 ob (fr + 512) 0 0 0 0 place cs2) (Meets (Open w s u) w.rates n (12 + 10 * length args)
+        (mk 0 ob (fr + 512) 0 0 0 0 place cs2) (Meets (Open w s u) w.rates n (8 + 10 * length args)
         (moves_home end)) =
-        will_two_back w.im (moves_code (knows.spot s) args) (line (addi 4 512 ∷ fetch_row slot)) _ _ 12 _ both
-        (will_more w.im _ true _ _ _ (λ o q. meets_later 12 q)
+        will_two_back w.im (moves_code (knows.spot s) args) (line (addi 4 512 ∷ fetch_row slot)) _ _ 8 _ both
+        (will_more w.im _ true _ _ _ (λ o q. meets_later 8 q)
         (all_back w knows f s u n args vars values home cs2 as_many few left)) in
-        let all = then_quiet w.im true (Open w s u) (Open w s u) w.rates n 12 (12 + 10 * length args)
+        let all = then_quiet w.im true (Open w s u) (Open w s u) w.rates n 12 (8 + 10 * length args)
         (moves_code (knows.spot s) args ++ line (addi 4 512 ∷ fetch_row slot)) depth_code
         (mk 0 ob (fr + 512) 0 0 0 0 place cs2) (moves_home end) inner (λ a m i. checked a m i) in
         will_more w.im (front_code (knows.spot s) slot args) true _ _ _
-        (λ o q. meets_slack (12 + (10 * length args + 12)) (omega arith) q) all
+        (λ o q. meets_slack (8 + (10 * length args + 12)) (omega arith) q) all
       where
         checked : (a : State) (m : Memory) → Open w s u a m → Will w.im depth_code true m (Quiet (Open w s u a) 12)
         checked a m i =
@@ -312,16 +312,16 @@ module _ (w : World) (knows : Known w) (f : FrameFacts w knows) (s : Scope) (nam
         (subst (λ x. Will w.im (enter_at_cells 12 kind) d (mk 0 (w.object_of deep) x 0 0 0 0 place moved.cells)
         (Meets (InCall w (w.routines.scope r) deep place) w.rates n 55 t)) nf body) in
         wraps_spent w.im d (front_code (knows.spot s) slot args) (enter_at_cells 12 kind) _ _
-        (InCall w (w.routines.scope r) deep place) (Open w s u) w.rates n 55 (12 + (10 * length args + 12))
-        (12 + (10 * length args + 12)) (1 + length args) 0 t moves_home
+        (InCall w (w.routines.scope r) deep place) (Open w s u) w.rates n 55 (8 + (10 * length args + 12))
+        (12 + (10 * length args + 8)) (1 + length args) 0 t moves_home
         f.counts (omega arith) (enough w.rates.steps (length args) f.thousand few) front_in mid (λ a m2 c e i.
         let known = as_known m2 _ (i.regs_are ∙ ap (λ o. registers 0 o (w.frame_of deep) 0 0 0 0 place) so
         ∙ ap (λ x. registers 0 ob x 0 0 0 0 place) nf) in
         subst (λ z. Will w.im (front_code (knows.spot s) slot args) true z
-        (Meets (Open w s u) w.rates (n - c) (12 + (10 * length args + 12)) (moves_home a))) (sym known)
+        (Meets (Open w s u) w.rates (n - c) (8 + (10 * length args + 12)) (moves_home a))) (sym known)
         (front_back (n - c) a m2.cells i.open_frame))
       where
-        enough : (steps k : ℕ) → steps ≡ 1000 → k ≤ 32 → 12 + (10 * k + 12) + (55 + (12 + (10 * k + 12))) ≤ steps *
+        enough : (steps k : ℕ) → steps ≡ 1000 → k ≤ 32 → 12 + (10 * k + 8) + (55 + (8 + (10 * k + 12))) ≤ steps *
             (1 + k) + 0
         enough steps k e few = let z : steps * (1 + k) ≡ 1000 * (1 + k) = ap (λ x. x * (1 + k)) e in omega (arith, z)
 

@@ -80,14 +80,13 @@ fits_row = sltx FLAG FRAME CONTENT ∷ xori FLAG 1 ∷ []
 abbrev pub depth_code : List Symbol
 depth_code = around (line end_row) (line fits_row ++ check_cells FLAG TOO_DEEP)
 
--- VALUE gets the place of the method in a slot, by the table of the present object's class: the
--- table's word is copied, so that it stands in the object while the place is read
+-- VALUE gets the place of the method in a slot, by the table of the present object's class, whose
+-- word is out of the object meanwhile
 abbrev pub fetch_row : ℕ → List Cell
 fetch_row slot =
-    exch CONTENT OBJECT ∷ add MOVED CONTENT ∷ exch CONTENT OBJECT
-    ∷ addi MOVED (TABLE_HEADER + slot) ∷ exch CONTENT MOVED ∷ add VALUE CONTENT
-    ∷ exch CONTENT MOVED ∷ addi MOVED (negated (TABLE_HEADER + slot))
-    ∷ exch CONTENT OBJECT ∷ sub MOVED CONTENT ∷ exch CONTENT OBJECT ∷ []
+    exch MOVED OBJECT ∷ addi MOVED (TABLE_HEADER + slot) ∷ exch CONTENT MOVED
+    ∷ add VALUE CONTENT ∷ exch CONTENT MOVED ∷ addi MOVED (negated (TABLE_HEADER + slot))
+    ∷ exch MOVED OBJECT ∷ []
 
 -- before a call on the present object
 abbrev pub front_code : (Ident → Spot) → ℕ → List Ident → List Symbol

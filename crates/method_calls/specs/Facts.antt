@@ -57,11 +57,13 @@ pub record HasEnd (cells : List ℕ) (frame : ℕ) (full : Bool) : Type 0 where
   pub at_end : full ≡ true → frame + FRAME_WORDS ≡ slice_index cells 4
   pub room : full ≡ false → frame + FRAME_WORDS < slice_index cells 4
 
--- the table of an object's class, and the place that stands in a slot
+-- the table of an object's class, and the place that stands in a slot: not in the object's own first
+-- word, which is 0 while the place is read
 pub record HasPlace (cells : List ℕ) (object slot place : ℕ) : Type 0 where
   pub object_in : object < length cells
   pub small : slice_index cells object < 2 ^ 23
   pub entry_in : slice_index cells object + (1 + slot) < length cells
+  pub apart : slice_index cells object + (1 + slot) ≢ object
   pub entry : slice_index cells (slice_index cells object + (1 + slot)) ≡ place
 
 -- a frame's words 0 and 2

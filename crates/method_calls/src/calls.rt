@@ -16,7 +16,7 @@ ghost use Rattle.method_calls.specs.CallCode.{base_of, offset_of, above_row, tak
 ghost use Rattle.method_calls.specs.Facts.{IsNear};
 ghost use Rattle.method_calls.specs.Laws.{MethodCode, MainCode, OwnCallCode};
 
-use code_conventions::cells::{add, addi, exch, sltx, sub, xori};
+use code_conventions::cells::{add, addi, exch, sltx, xori};
 use code_conventions::faults::{TOO_DEEP, TOUCHED};
 use code_conventions::memory::{
     FIRST_VARIABLE, HEADER_WORDS, MAIN_OBJECT, PLACE_WORD, TABLE_HEADER,
@@ -159,17 +159,13 @@ pub(crate) fn fetch_piece(alloc: Global, slot: u32) -> Result<Piece, NoMemory>
 {
     let entry = TABLE_HEADER + slot;
     let piece = plain(alloc, addi(FRAME, FRAME_WORDS))?;
-    let piece = then(alloc, piece, exch(CONTENT, OBJECT))?;
-    let piece = then(alloc, piece, add(MOVED, CONTENT))?;
-    let piece = then(alloc, piece, exch(CONTENT, OBJECT))?;
+    let piece = then(alloc, piece, exch(MOVED, OBJECT))?;
     let piece = then(alloc, piece, addi(MOVED, entry))?;
     let piece = then(alloc, piece, exch(CONTENT, MOVED))?;
     let piece = then(alloc, piece, add(VALUE, CONTENT))?;
     let piece = then(alloc, piece, exch(CONTENT, MOVED))?;
     let piece = then(alloc, piece, addi(MOVED, negated(entry)))?;
-    let piece = then(alloc, piece, exch(CONTENT, OBJECT))?;
-    let piece = then(alloc, piece, sub(MOVED, CONTENT))?;
-    then(alloc, piece, exch(CONTENT, OBJECT))
+    then(alloc, piece, exch(MOVED, OBJECT))
 }
 
 fn negated(word: u32) -> u32
@@ -296,7 +292,7 @@ pub fn own_call(alloc: Global, back: bool, slot: u32, args: &[Spot]) -> Result<P
     requires slot { slot < 2 ^ 20 }
     ensures law { IfOk result (λ p. OwnCallCode back slot args.now p.cells) }
     ensures none { IfOk result (λ p. p.marks ≡ []) }
-    ensures size { IfOk result (λ p. length p.cells ≡ 22 * length args.now + 57) }
+    ensures size { IfOk result (λ p. length p.cells ≡ 22 * length args.now + 49) }
 {
     own_piece(alloc, back, slot, args)
 }

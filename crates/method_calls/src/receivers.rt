@@ -156,7 +156,7 @@ pub fn call_on(
     requires slot { slot < 2 ^ 20 }
     ensures law { IfOk result (λ p. CallOnCode back spot slot args.now p.cells) }
     ensures none { IfOk result (λ p. p.marks ≡ []) }
-    ensures size { IfOk result (λ p. length p.cells ≡ 22 * length args.now + 105) }
+    ensures size { IfOk result (λ p. length p.cells ≡ 22 * length args.now + 97) }
 {
     on_piece(alloc, back, spot, slot, args)
 }

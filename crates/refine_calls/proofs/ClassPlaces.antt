@@ -1,10 +1,12 @@
 -- The table of an object's class, in the memory of an open frame.
-use Rattle.std.proofs.Common.{◌≡◌, ℕ, ◌+◌, ◌<◌, ◌≤◌, true, List, length, Some, sym, ap, ◌∙◌, subst, arith}
-use Rattle.std.specs.Prelude.{slice_index, is_some}
+use Rattle.std.proofs.Common.{◌≡◌, ◌≢◌, ℕ, zero, suc, ◌+◌, ◌<◌, ◌≤◌, Bool, true, false, List, length, Some, sym, ap, ◌∙◌}
+use Rattle.std.proofs.Common.{subst, arith}
+use Rattle.std.specs.Prelude.{nat_eq, if◌then◌else◌, slice_index, is_some}
 use Rattle.class_table.specs.declared.kind.Kind.TheVariants as kind
 use Rattle.class_table.specs.Classes.{class_slots}
-use Rattle.buddy_book.specs.Place.{Placing}
-use Rattle.roopl_semantics.specs.Store.{OfClass, State, object_at}
+use Rattle.rpp_tree.specs.Tree.{Source}
+use Rattle.buddy_book.specs.Place.{Placing, block_of}
+use Rattle.roopl_semantics.specs.Store.{OfClass, State, main_name, object_at}
 use Rattle.roopl_semantics.specs.Layout.{HasStatics, table_at, head_word}
 use Rattle.roopl_semantics.specs.Execution.{Setting}
 use Rattle.pisa_isa.specs.Image.{Segments}
@@ -23,6 +25,17 @@ use Rattle.refine_calls.proofs.Bridge.{same_memory, same_at, typed, stack_fits, 
 use Rattle.refine_calls.proofs.MovesFit.{frame_long}
 use Rattle.refine_calls.proofs.FramePlaces.{all_small, object_low}
 use Rattle.refine_calls.proofs.Bridge.{reads_of}
+
+-- the tables stand behind the main object
+table_high : (program : Source) (class : ℕ) → 42 ≤ table_at program class
+table_high program zero = omega arith
+table_high program (suc class) = let h = table_high program class in omega (arith, h)
+
+-- no object begins there: the main object stands before them, any other one in the heap
+no_object : (is_main : Bool) (base block entry : ℕ) → 40 < entry → entry < base
+    → entry ≢ (if is_main then 40 else base + block)
+no_object true base block entry h g e = let q : entry ≡ 40 = e in omega (arith, h, q)
+no_object false base block entry h g e = let q : entry ≡ base + block = e in omega (arith, g, q)
 
 module _ (setting : Setting) (statics : List ℕ) (few : length statics ≤ 262144) (image : Segments)
     (has : HasStatics setting.program image) (same : statics ≡ image.statics) where
@@ -78,6 +91,9 @@ module _ (setting : Setting) (statics : List ℕ) (few : length statics ≤ 2621
         object_in = omega (arith, all, object);
         small = omega (arith, object_word, small, b, table);
         entry_in = omega (arith, object_word, all, b, table);
+        apart = λ e. no_object (nat_eq u.self main_name) (base setting statics) (block_of at.blocks u.self)
+            (table_at setting.program u.class + (1 + slot)) (omega (arith, table_high setting.program u.class))
+            (omega (arith, b, table)) (ap (λ z. z + (1 + slot)) (sym object_word) ∙ e ∙ sym h.frame.stands.1);
         entry = ap (λ z. slice_index cells (z + (1 + slot))) object_word ∙ ap (slice_index cells) (sym at_entry)
             ∙ ap (λ c. slice_index c (table_at setting.program u.class + 1 + slot)) shown ∙ entry_word;
       }
