@@ -189,7 +189,7 @@ pub element_arm : {E : Type 0} (v : Visible) (at : ℕ) (back : Bool) (element :
     (index : Expression) (method : Ident) (args : List Ident) (r : Result Code E) → element ≡ Item array index
     → StatementStands v (Call at back (Some element) method args)
     → IfOk r (λ p. ElementLaw v at back element method args p.cells) → IfOk r (λ p. p.marks ≡ [])
-    → IfOk r (λ p. length p.cells ≤ 160 * (2 + place_tokens element) + 22 * length args + 233)
+    → IfOk r (λ p. length p.cells ≤ 160 * (2 + place_tokens element) + 22 * length args + 229)
     → IfOk r (λ p. InnerPiece v (Call at back (Some element) method args) p)
 element_arm v at back element array index method args (Err e) is h law none size = tt
 element_arm v at back element array index method args (Ok p) is h law none size =
@@ -244,7 +244,7 @@ pub local_arm : {E : Type 0} (v : Visible) (x : Statement) (at : ℕ) (var : Var
     → StatementStands v x
     → BlockPiece (with_variable v var) body inside
     → IfOk r (λ p. LocalLaw (known_in v) var value last inside.cells p.cells) → IfOk r (λ p. Holds inside p)
-    → IfOk r (λ p. length p.cells ≤ 58 * (tokens value + tokens last) + length inside.cells + 20)
+    → IfOk r (λ p. length p.cells ≤ 58 * (tokens value + tokens last) + length inside.cells + 16)
     → IfOk r (λ p. InnerPiece v x p)
 local_arm v x at var value body end_var last inside (Err e) is h a law holds size = tt
 local_arm v x at var value body end_var last inside (Ok p) is h a law holds size =
@@ -288,7 +288,7 @@ pub local_made : {E : Type 0} (v w u o : Visible) (x : Statement) (at : ℕ) (va
     → x ≡ Local at var value body end_var last → StatementStands v x
     → w ≡ with_variable v var → u ≡ w → o ≡ popped u → BlockPiece w body inside
     → IfOk r (λ p. LocalLaw (known_in o) var value last inside.cells p.cells) → IfOk r (λ p. Holds inside p)
-    → IfOk r (λ p. length p.cells ≤ 58 * (tokens value + tokens last) + length inside.cells + 20)
+    → IfOk r (λ p. length p.cells ≤ 58 * (tokens value + tokens last) + length inside.cells + 16)
     → IfOk r (λ p. InnerPiece v x p)
 local_made v w u o x at var value body end_var last inside r is h e f g a law holds size =
     let back : o ≡ v = g ∙ ap popped (f ∙ e) in

@@ -137,7 +137,7 @@ pub construct_made : {E : Type 0} (v w u : Visible) (x : Statement) (at : ℕ) (
     making.cells
     → length making.cells ≤ creation_size (Object class) (Whole name) → BlockPiece w body inside
     → IfOk r (λ p. ConstructLaw o at var making.cells inside.cells p.cells) → IfOk r (λ p. Holds inside p)
-    → IfOk r (λ p. length p.cells ≤ 2 * length making.cells + length inside.cells + 136)
+    → IfOk r (λ p. length p.cells ≤ 2 * length making.cells + length inside.cells + 132)
     → IfOk r (λ p. InnerPiece v x p)
 construct_made v w u x at class name body end var making inside o (Err e) is h var_is w_is u_is o_is new few a made held
     size = tt

@@ -118,7 +118,7 @@ module _ (v : Visible) where
   pub local_inner : (at : ℕ) (var : Var) (value : Expression) (body : Statements) (end_var : Var) (last : Expression)
       (inside p : Code) → StatementStands v (Local at var value body end_var last)
       → LocalLaw (known_in v) var value last inside.cells p.cells → Holds inside p
-      → length p.cells ≤ 58 * (tokens value + tokens last) + length inside.cells + 20
+      → length p.cells ≤ 58 * (tokens value + tokens last) + length inside.cells + 16
       → BlockPiece (with_variable v var) body inside → InnerPiece v (Local at var value body end_var last) p
   local_inner at var value body end_var last inside p h made held size a = record {
     law = local_stands v at var value body end_var last inside.cells p.cells made h.allowed a.law;
@@ -130,7 +130,7 @@ module _ (v : Visible) where
   pub construct_inner : (at : ℕ) (class name : Ident) (body : Statements) (end : Ident) (making : List Symbol)
       (inside p : Code) → IsAllowed v (Construct at class name body end)
       → ConstructLaw v at (record { kind = type.Class class; name = name }) making inside.cells p.cells → Holds inside p
-      → length p.cells ≤ 2 * length making + length inside.cells + 136 → length making ≤ 432
+      → length p.cells ≤ 2 * length making + length inside.cells + 132 → length making ≤ 432
       → IsStatementCode (with_variable v (record { kind = type.Class class; name = name }))
       (New at (Object class) (Whole name)) making
       → BlockPiece (with_variable v (record { kind = type.Class class; name = name })) body inside

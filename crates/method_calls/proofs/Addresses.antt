@@ -6,12 +6,12 @@ use Rattle.pisa_isa.specs.Machine.{Memory}
 use Rattle.paired_code.specs.Machine.{Image}
 use Rattle.paired_code.specs.Pieces.{Done, Will}
 use Rattle.paired_code.specs.Rows.{line}
-use Rattle.code_conventions.specs.Cells.{add, exch, addi}
+use Rattle.code_conventions.specs.Cells.{exch, addi}
 use Rattle.refine_form.specs.declared.spot.Spot.{Spot}
 use Rattle.refine_form.specs.declared.spot.Spot.TheVariants.{Field, Frame}
 use Rattle.refine_form.specs.Form.{registers}
 use Rattle.refine_form.proofs.Rows.{here, next, will_row}
-use Rattle.method_calls.specs.CallCode.{base_of, reach_row, above_row, word_row}
+use Rattle.method_calls.specs.CallCode.{base_of, reach_row, above_row}
 use Rattle.method_calls.specs.Facts.{address}
 use Rattle.method_calls.proofs.Exchanges.{exchanges}
 
@@ -103,18 +103,12 @@ module _ (im : Image) (o f c : ℕ) (cs : List ℕ) (word : ℕ) (h : f + (512 +
 -- ---- a word of the frame
 
 module _ (im : Image) (o f p : ℕ) (cs : List ℕ) (j : ℕ) (h : f + j < 2 ^ 32) where
-  pub will_find_word : Will im (line (word_row j)) false (mk 0 o f 0 0 0 0 p cs)
-      (λ out. out ≡ Done (mk 0 o f (f + j) 0 0 0 p cs) 2)
-  will_find_word =
-      will_row im false (word_row j) 2 _ _
-      (next refl (omega arith) (ap (λ v. Done (mk 0 o f v 0 0 0 p cs) 1)
-      (sum_is 0 f f (omega arith) (omega (arith, h))))
-      (next refl (omega (arith, h)) (ap (λ v. Done (mk 0 o f v 0 0 0 p cs) 1) (sum_is f j (f + j) refl h)) here))
+  pub will_find_word : Will im (line (reach_row (Frame j))) false (mk 0 o f 0 0 0 0 p cs)
+      (λ out. out ≡ Done (mk 0 o (f + j) 0 0 0 0 p cs) 1)
+  will_find_word = will_row im false (reach_row (Frame j)) 1 _ _ (next refl (omega (arith, h))
+      (ap (λ v. Done (mk 0 o v 0 0 0 0 p cs) 1) (sum_is f j (f + j) refl h)) here)
 
-  pub will_leave_word : Will im (line (word_row j)) true (mk 0 o f (f + j) 0 0 0 p cs)
-      (λ out. out ≡ Done (mk 0 o f 0 0 0 0 p cs) 2)
-  will_leave_word =
-      will_row im true (addi 5 j ∷ add 5 4 ∷ []) 2 _ _
-      (next refl (omega (arith, h)) (ap (λ v. Done (mk 0 o f v 0 0 0 p cs) 1) (less_is (f + j) j f refl h))
-      (next refl (omega arith) (ap (λ v. Done (mk 0 o f v 0 0 0 p cs) 1)
-      (difference_is f f 0 (omega arith) (omega (arith, h)))) here))
+  pub will_leave_word : Will im (line (reach_row (Frame j))) true (mk 0 o (f + j) 0 0 0 0 p cs)
+      (λ out. out ≡ Done (mk 0 o f 0 0 0 0 p cs) 1)
+  will_leave_word = will_row im true (reach_row (Frame j)) 1 _ _ (next refl (omega (arith, h))
+      (ap (λ v. Done (mk 0 o v 0 0 0 0 p cs) 1) (less_is (f + j) j f refl h)) here)

@@ -21,11 +21,11 @@ use Rattle.refine_form.specs.Cells.{around}
 use Rattle.refine_form.specs.Form.{World, Scope, StmtLaw, told}
 use Rattle.refine_form.specs.Stands.{spot_in}
 use Rattle.refine_form.specs.Worlds.{world_of, rates_of}
-use Rattle.code_conventions.specs.Cells.{exch, addi}
+use Rattle.code_conventions.specs.Cells.{addi}
 use Rattle.method_calls.specs.CallCode.{fetch_row, depth_code, moves_code, move_code, moves_of, last_cells}
 use Rattle.method_calls.specs.CallCode.{behind_of, checked_of, front_on_of, call_code, call_on_code, own_cells}
 use Rattle.method_calls.specs.CallCode.{nil_code, take_code, onto_code, method_code, main_code, main_cells, local_open}
-use Rattle.method_calls.specs.CallCode.{local_code, save_row, word_row}
+use Rattle.method_calls.specs.CallCode.{local_code, save_row, store_code}
 use Rattle.method_calls.specs.Facts.{Known, FrameFacts}
 use Rattle.method_calls.specs.Names.{known_of, receivers_of, slot_of}
 use Rattle.method_calls.specs.Laws.{LocalCode, OwnCallCode, CallOnCode, MethodCode, MainCode, AreVariables, quiet}
@@ -222,21 +222,21 @@ pub main_length : (number : ℕ) → length (main_cells number) ≡ 13
 unfolding main_cells
 main_length number = refl
 
-sum_open : (v n k : ℕ) → n ≡ 5 + k → k ≡ v + 5 → n ≡ v + 10
+sum_open : (v n k : ℕ) → n ≡ 5 + k → k ≡ v + 3 → n ≡ v + 8
 sum_open v n k h g = omega arith
 
-open_length : (word : ℕ) (v : List Symbol) → length (local_open word v) ≡ length v + 10
+open_length : (word : ℕ) (v : List Symbol) → length (local_open word v) ≡ length v + 8
 open_length word v =
-    let store = around (line (word_row word)) (line (exch 12 5 ∷ [])) in
+    let store = store_code word in
     sum_open (length v) (length (local_open word v)) (length (v ++ store))
     (length-append (check_cells 12 3) (v ++ store)) (length-append v store)
 
-sum_local : (v p x n1 n2 n3 n4 n5 : ℕ) → n5 ≡ n1 + n2 → n2 ≡ p + n3 → n3 ≡ n4 → n1 ≡ v + 10 → n4 ≡ x + 10
-    → n5 ≡ v + p + x + 20
+sum_local : (v p x n1 n2 n3 n4 n5 : ℕ) → n5 ≡ n1 + n2 → n2 ≡ p + n3 → n3 ≡ n4 → n1 ≡ v + 8 → n4 ≡ x + 8
+    → n5 ≡ v + p + x + 16
 sum_local v p x n1 n2 n3 n4 n5 a b c d e = omega arith
 
 pub local_length : (word : ℕ) (v p x : List Symbol) → length (local_code word v p x)
-    ≡ length v + length p + length x + 20
+    ≡ length v + length p + length x + 16
 local_length word v p x =
     let last = mirror_cells (local_open word x) in
     sum_local (length v) (length p) (length x) (length (local_open word v)) (length (p ++ last)) (length last)

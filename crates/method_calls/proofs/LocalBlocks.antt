@@ -24,8 +24,9 @@ use Rattle.roopl_semantics.specs.Execution.{exec, statement, opened, closed, wit
 use Rattle.roopl_semantics.specs.Execution.{element_call, element_name}
 use Rattle.refine_form.specs.Form.{World, Scope, Moved, Open, holding, Owes, StmtLaw, BlockLaw, ValueLaw, with_var}
 use Rattle.refine_form.specs.Form.{told, one, turned}
+use Rattle.refine_form.specs.declared.spot.Spot.TheVariants.{Frame}
 use Rattle.code_conventions.specs.Cells.{exch}
-use Rattle.method_calls.specs.CallCode.{word_row, local_open, local_code}
+use Rattle.method_calls.specs.CallCode.{reach_row, store_code, local_open, local_code}
 use Rattle.method_calls.specs.Facts.{LocalFacts, new_word}
 use Rattle.refine_form.proofs.Told.{told_after, told_bind, same_then}
 use Rattle.refine_form.proofs.Rules.{meets_rate, meets_told, meets_less, meets_then, meets_later, Late, late}
@@ -33,29 +34,28 @@ use Rattle.refine_form.proofs.Rules.{late_then, late_counts, as_known, will_in, 
 use Rattle.refine_form.proofs.Rows.{here, next, will_row}
 use Rattle.method_calls.proofs.Addresses.{mk, will_find_word, will_leave_word}
 use Rattle.paired_code.specs.Rows.{line}
-use Rattle.refine_form.specs.Cells.{around}
 use Rattle.method_calls.proofs.Exchanges.{exchanges}
 
 -- ---- a word changes places with a word of the frame
 
 module _ (im : Image) (ob fr j : ℕ) (cs : List ℕ) (inside : fr + j < length cs) (small : fr + j < 2 ^ 32) where
   swaps : (d : Bool) (x y : ℕ) → slice_index cs (fr + j) ≡ y
-      → Will im (line (exch 12 5 ∷ [])) d (mk 0 ob fr (fr + j) 0 0 0 x cs)
-      (λ o. o ≡ Done (mk 0 ob fr (fr + j) 0 0 0 y (slice_set cs (fr + j) x)) 1)
+      → Will im (line (exch 12 4 ∷ [])) d (mk 0 ob (fr + j) 0 0 0 0 x cs)
+      (λ o. o ≡ Done (mk 0 ob (fr + j) 0 0 0 0 y (slice_set cs (fr + j) x)) 1)
   swaps false x y e =
-      will_row im false (exch 12 5 ∷ []) 1 _ _ (next refl (omega arith)
-      (exchanges false 12 5 (mk 0 ob fr (fr + j) 0 0 0 x cs) inside
-      ∙ ap (λ v. Done (mk 0 ob fr (fr + j) 0 0 0 v (slice_set cs (fr + j) x)) 1) e) here)
+      will_row im false (exch 12 4 ∷ []) 1 _ _ (next refl (omega arith)
+      (exchanges false 12 4 (mk 0 ob (fr + j) 0 0 0 0 x cs) inside
+      ∙ ap (λ v. Done (mk 0 ob (fr + j) 0 0 0 0 v (slice_set cs (fr + j) x)) 1) e) here)
   swaps true x y e =
-      will_row im true (exch 12 5 ∷ []) 1 _ _ (next refl (omega arith)
-      (exchanges true 12 5 (mk 0 ob fr (fr + j) 0 0 0 x cs) inside
-      ∙ ap (λ v. Done (mk 0 ob fr (fr + j) 0 0 0 v (slice_set cs (fr + j) x)) 1) e) here)
+      will_row im true (exch 12 4 ∷ []) 1 _ _ (next refl (omega arith)
+      (exchanges true 12 4 (mk 0 ob (fr + j) 0 0 0 0 x cs) inside
+      ∙ ap (λ v. Done (mk 0 ob (fr + j) 0 0 0 0 v (slice_set cs (fr + j) x)) 1) e) here)
 
   pub stores : (d : Bool) (x y : ℕ) → slice_index cs (fr + j) ≡ y
-      → Will im (around (line (word_row j)) (line (exch 12 5 ∷ []))) d (mk 0 ob fr 0 0 0 0 x cs)
-      (λ o. o ≡ Done (mk 0 ob fr 0 0 0 0 y (slice_set cs (fr + j) x)) 5)
+      → Will im (store_code j) d (mk 0 ob fr 0 0 0 0 x cs)
+      (λ o. o ≡ Done (mk 0 ob fr 0 0 0 0 y (slice_set cs (fr + j) x)) 3)
   stores d x y e =
-      will_in im d (line (word_row j)) (line (exch 12 5 ∷ [])) _ _ _ _ 2 1 2
+      will_in im d (line (reach_row (Frame j))) (line (exch 12 4 ∷ [])) _ _ _ _ 1 1 1
       (will_find_word im ob fr x cs j small) (swaps d x y e)
       (will_leave_word im ob fr y (slice_set cs (fr + j) x) j small)
 
@@ -71,9 +71,6 @@ module _ (w : World) (IsInit : Scope → Var → Expression → Type 0) (f : Loc
   abbrev j : ℕ
   j = new_word s
 
-  abbrev store_code : List Symbol
-  store_code = around (line (word_row j)) (line (exch 12 5 ∷ []))
-
   near : (vals : List Moved) (s' : Scope) (st : State) (cs : List ℕ) → w.opens s' u vals st cs → fr + j < 2 ^ 32
   near vals s' st cs h = let a = f.frame_small s' u vals st cs h in let b = f.few_vars s var e is in omega arith
 
@@ -82,14 +79,14 @@ module _ (w : World) (IsInit : Scope → Var → Expression → Type 0) (f : Loc
   appears st = told_then (told (evaluated w.setting.program e st)) (λ c v. Fine (opened var.name.text v st) 0)
 
   pub opens_var : (n : ℕ) (st : State) (m : Memory) → Open w s u st m
-      → Will w.im (local_open j p) false m (Late 4 (Meets (Open w (with_var s var) u) w.rates n 55 (appears st)))
+      → Will w.im (local_open j p) false m (Late 4 (Meets (Open w (with_var s var) u) w.rates n 53 (appears st)))
   opens_var n st m h =
       let cs = m.cells in
       let t = told (evaluated w.setting.program e st) in
-      let rest : Will w.im (in_order false (p ∷ store_code ∷ [])) false (mk 0 ob fr 0 0 0 0 0 cs)
-      (Meets (Open w (with_var s var) u) w.rates n (50 + 5) (appears st)) =
+      let rest : Will w.im (in_order false (p ∷ store_code j ∷ [])) false (mk 0 ob fr 0 0 0 0 0 cs)
+      (Meets (Open w (with_var s var) u) w.rates n (50 + 3) (appears st)) =
       meets_then w.im false (λ v m1. m1 ≡ holding w u (bit_xor 0 (w.word_of u st v)) cs) (Open w (with_var s var) u)
-      w.rates n 50 5 p (store_code ∷ []) (mk 0 ob fr 0 0 0 0 0 cs) t (λ c v. Fine (opened var.name.text v st) 0)
+      w.rates n 50 3 p (store_code j ∷ []) (mk 0 ob fr 0 0 0 0 0 cs) t (λ c v. Fine (opened var.name.text v st) 0)
       (will_more w.im p false _ _ _ (λ o q. meets_rate (omega (arith, thousand)) q)
       (hp n false u 0 st cs (w.are_read s u st cs h.open_frame))) (λ c v m1 said i.
       let x = w.word_of u st v in
@@ -97,20 +94,20 @@ module _ (w : World) (IsInit : Scope → Var → Expression → Type 0) (f : Loc
       let known : m1 ≡ mk 0 ob fr 0 0 0 0 x cs = i ∙ ap (λ y. mk 0 ob fr 0 0 0 0 y cs) z in
       let done : Open w (with_var s var) u (opened var.name.text v st) (mk 0 ob fr 0 0 0 0 0 (slice_set cs (fr + j) x))
       = record { regs_are = refl; open_frame = f.declares s u st cs var e v c h.open_frame is said } in
-      will_last w.im false store_code m1 _ (subst (λ z. Will w.im store_code false z
-      (Meets (Open w (with_var s var) u) w.rates (n - c) 5 (Fine (opened var.name.text v st) 0))) (sym known)
-      (will_more w.im store_code false _ _ _ (λ o q. subst
-      (Meets (Open w (with_var s var) u) w.rates (n - c) 5 (Fine (opened var.name.text v st) 0)) (sym q)
+      will_last w.im false (store_code j) m1 _ (subst (λ z. Will w.im (store_code j) false z
+      (Meets (Open w (with_var s var) u) w.rates (n - c) 3 (Fine (opened var.name.text v st) 0))) (sym known)
+      (will_more w.im (store_code j) false _ _ _ (λ o q. subst
+      (Meets (Open w (with_var s var) u) w.rates (n - c) 3 (Fine (opened var.name.text v st) 0)) (sym q)
       (fine done (omega arith) (omega arith)))
       (stores w.im ob fr j cs (f.free_in s u st cs var e h.open_frame is) (near [] s st cs h.open_frame) false x 0
       (f.free_word s u st cs var e h.open_frame is))))) in
       subst (λ z. Will w.im (local_open j p) false z (Late 4
-      (Meets (Open w (with_var s var) u) w.rates n 55 (appears st)))) (sym (as_known m _ h.regs_are))
-      (will_two w.im (check_cells 12 3) (p ++ store_code) _ (mk 0 ob fr 0 0 0 0 0 cs) 4 _
+      (Meets (Open w (with_var s var) u) w.rates n 53 (appears st)))) (sym (as_known m _ h.regs_are))
+      (will_two w.im (check_cells 12 3) (p ++ store_code j) _ (mk 0 ob fr 0 0 0 0 0 cs) 4 _
       (will_of w.im _ false _ _ _ (runs_check_zero w.im false 12 3 (mk 0 ob fr 0 0 0 0 0 cs) refl) refl)
-      (will_more w.im (p ++ store_code) false _ _ _ (λ o q. late q)
+      (will_more w.im (p ++ store_code j) false _ _ _ (λ o q. late q)
       (subst (λ z. Will w.im (p ++ z) false (mk 0 ob fr 0 0 0 0 0 cs)
-      (Meets (Open w (with_var s var) u) w.rates n 55 (appears st))) (append-nil store_code) rest)))
+      (Meets (Open w (with_var s var) u) w.rates n 53 (appears st))) (append-nil (store_code j)) rest)))
     where
       no_xor : (x : ℕ) → bit_xor 0 x ≡ x
       no_xor x = refl
@@ -150,7 +147,7 @@ module _ (w : World) (IsInit : Scope → Var → Expression → Type 0) (f : Loc
       (will_of w.im _ true _ _ _ k.2 (meets_told _ _ (sym told_is) (faults (let q = k.1 in omega arith))))
 
   pub closes_var : (n : ℕ) (st : State) (m : Memory) → Open w (with_var s var) u st m
-      → Will w.im (local_open j p) true m (Meets (Open w s u) w.rates n 59 (goes_away st))
+      → Will w.im (local_open j p) true m (Meets (Open w s u) w.rates n 57 (goes_away st))
   closes_var n st m h =
       let cs = m.cells in
       let x = w.word_of u st (read st (Slot 0)) in
@@ -165,16 +162,16 @@ module _ (w : World) (IsInit : Scope → Var → Expression → Type 0) (f : Loc
       last_check (n - c) st cs v c h.open_frame said m1 i (same_value (read st (Slot 0)) v) refl) in
       let said : goes_away st ≡ told_then t (λ c v. checked st v) =
       ap (λ r. told_then (told r) (λ c v. checked st v)) (f.not_named s u st cs var e h.open_frame is) in
-      let all : Will w.im ((check_cells 12 3 ++ p) ++ store_code) true (mk 0 ob fr 0 0 0 0 0 cs)
-      (Meets (Open w s u) w.rates n 59 (goes_away st)) =
-      will_two_back w.im (check_cells 12 3 ++ p) store_code _ (mk 0 ob fr 0 0 0 0 x cs1) 5 _
+      let all : Will w.im ((check_cells 12 3 ++ p) ++ store_code j) true (mk 0 ob fr 0 0 0 0 0 cs)
+      (Meets (Open w s u) w.rates n 57 (goes_away st)) =
+      will_two_back w.im (check_cells 12 3 ++ p) (store_code j) _ (mk 0 ob fr 0 0 0 0 x cs1) 3 _
       (stores w.im ob fr j cs (f.var_in s u st cs var e h.open_frame is)
       (near [] (with_var s var) st cs h.open_frame) true 0 x (f.var_word s u st cs var e h.open_frame is))
-      (will_more w.im _ true _ _ _ (λ o q. meets_told _ _ (sym said) (meets_later 5 q)) rest) in
-      subst (λ z. Will w.im (local_open j p) true z (Meets (Open w s u) w.rates n 59 (goes_away st)))
+      (will_more w.im _ true _ _ _ (λ o q. meets_told _ _ (sym said) (meets_later 3 q)) rest) in
+      subst (λ z. Will w.im (local_open j p) true z (Meets (Open w s u) w.rates n 57 (goes_away st)))
       (sym (as_known m _ h.regs_are))
-      (subst (λ z. Will w.im z true (mk 0 ob fr 0 0 0 0 0 cs) (Meets (Open w s u) w.rates n 59 (goes_away st)))
-      (append_assoc (check_cells 12 3) p store_code) all)
+      (subst (λ z. Will w.im z true (mk 0 ob fr 0 0 0 0 0 cs) (Meets (Open w s u) w.rates n 57 (goes_away st)))
+      (append_assoc (check_cells 12 3) p (store_code j)) all)
 
 -- ---- the whole
 
@@ -215,12 +212,12 @@ module _ (w : World) (IsInit : Scope → Var → Expression → Type 0) (f : Loc
   -- the three parts in the order of a direction
   in_parts : (n : ℕ) (d : Bool) (e : Expression) (body : Statements) (e' : Expression) (p1 pb p3 : List Symbol)
       (st : State) (m : Memory)
-      → Will w.im p1 d m (Late 4 (Meets (Open w (with_var s var) u) w.rates n 55
+      → Will w.im p1 d m (Late 4 (Meets (Open w (with_var s var) u) w.rates n 53
       (told_then (told (evaluated w.setting.program e st)) (λ c v. Fine (opened var.name.text v st) 0))))
       → ((n' : ℕ) → n' ≤ n → Does w.im pb d (Open w (with_var s var) u) (Open w (with_var s var) u) w.rates n' 0
       (λ st. told (exec w.setting n body st)))
       → ((n' : ℕ) (st : State) (m : Memory) → Open w (with_var s var) u st m
-      → Will w.im p3 d m (Meets (Open w s u) w.rates n' 59
+      → Will w.im p3 d m (Meets (Open w s u) w.rates n' 57
       (told_then (told (evaluated w.setting.program e' st))
       (λ c v. told (fault_if delocal_fault (not (same_value (read st (Slot 0)) v)) >>= λ z. give
       (closed st))))))
@@ -231,9 +228,9 @@ module _ (w : World) (IsInit : Scope → Var → Expression → Type 0) (f : Loc
       let rest : State → Told State = λ end. told_then (told (evaluated w.setting.program e' end))
       (λ c v. told (fault_if delocal_fault (not (same_value (read end (Slot 0)) v)) >>= λ z. give (closed end))) in
       will_more w.im _ d _ _ _ (λ o q. late_counts 1 0 counts (omega arith) (omega (arith, thousand)) q)
-      (late_then w.im d S (Open w s u) w.rates n 55 (0 + 59) 4 p1 (pb ∷ p3 ∷ []) m _
+      (late_then w.im d S (Open w s u) w.rates n 53 (0 + 57) 4 p1 (pb ∷ p3 ∷ []) m _
       (λ c st1. told_then (told (exec w.setting n body st1)) (λ c end. rest end)) first (λ c st1 m1 said i.
-      meets_then w.im d S (Open w s u) w.rates (n - c) 0 59 pb (p3 ∷ []) m1 (told (exec w.setting n body st1))
+      meets_then w.im d S (Open w s u) w.rates (n - c) 0 57 pb (p3 ∷ []) m1 (told (exec w.setting n body st1))
       (λ c end. rest end) ((block (n - c) (omega arith)).does st1 m1 i) (λ c2 end m2 said2 i2.
       will_last w.im d p3 m2 _ (last (n - c - c2) end m2 i2))))
 

@@ -117,14 +117,13 @@ main_row =
 abbrev pub main_code : ℕ → List Symbol
 main_code routine = around (line main_row) (Enter routine false ∷ [])
 
--- ADDRESS gets the address of a word of the frame
-abbrev pub word_row : ℕ → List Cell
-word_row word = add ADDRESS FRAME ∷ addi ADDRESS word ∷ []
+-- VALUE changes places with a word of the frame
+abbrev pub store_code : ℕ → List Symbol
+store_code word = around (line (reach_row (Frame word))) (line (exch VALUE FRAME ∷ []))
 
 -- a value goes into the word of a new variable; back, the word is to be the value, or fault 3 comes
 abbrev pub local_open : ℕ → List Symbol → List Symbol
-local_open word value = check_cells VALUE DELOCAL
-    ++ (value ++ around (line (word_row word)) (line (exch VALUE ADDRESS ∷ [])))
+local_open word value = check_cells VALUE DELOCAL ++ (value ++ store_code word)
 
 -- a block with a local variable: the codes of its value, its block and the closing value
 abbrev pub local_code : ℕ → (value body last : List Symbol) → List Symbol

@@ -1,44 +1,29 @@
 // The cells of a block with a local variable, one piece after the other.
-ghost use Rattle.std.specs.Prelude.{◌≡◌, ◌<◌, ◌^◌, ◌+◌, ◌++◌, List, [], ◌∷◌, length, IfOk};
+ghost use Rattle.std.specs.Prelude.{◌≡◌, ◌<◌, ◌^◌, ◌+◌, ◌++◌, [], length, IfOk};
 ghost use Rattle.paired_code.specs.Code.{unmarked};
 ghost use Rattle.paired_code.specs.Layout.{mirror_cells};
-ghost use Rattle.paired_code.specs.Rows.{line};
-ghost use Rattle.refine_form.specs.Cells.{around};
 ghost use Rattle.refine_form.specs.Held.{Holds};
-ghost use Rattle.code_conventions.specs.Cells.{exch};
-ghost use Rattle.code_conventions.specs.declared.registers.TheConstants.{ADDRESS, VALUE};
-ghost use Rattle.method_calls.specs.CallCode.{word_row, local_open, local_code};
+ghost use Rattle.method_calls.specs.CallCode.{store_code, local_open, local_code};
 ghost use Rattle.method_calls.specs.Laws.{LocalCode};
 
-use crate::calls::{bare_around, then};
-use code_conventions::cells::{add, addi, exch};
+use crate::calls::{bare_around, reach};
+use code_conventions::cells::exch;
 use code_conventions::faults::DELOCAL;
-use code_conventions::registers::{ADDRESS, FRAME, VALUE};
+use code_conventions::registers::{FRAME, VALUE};
 use paired_code::{Piece, check_zero, mirror, plain, seq};
+use refine_form::Spot;
 use rpp_words::NoMemory;
 use std::alloc::Global;
 
-// ADDRESS gets the address of a word of the frame.
-fn word_piece(alloc: Global, word: u32) -> Result<Piece, NoMemory>
-    requires word { word < 2 ^ 16 }
-    ensures code { IfOk result (λ p. p ≡ unmarked (line (word_row word))) }
-{
-    then(
-        alloc,
-        plain(alloc, add(ADDRESS, FRAME))?,
-        addi(ADDRESS, word),
-    )
-}
-
+// VALUE changes places with a word of the frame.
 fn store_piece(alloc: Global, word: u32) -> Result<Piece, NoMemory>
     requires word { word < 2 ^ 16 }
-    ensures code { IfOk result (λ p. p
-        ≡ unmarked (around (line (word_row word)) (line (exch VALUE ADDRESS ∷ [])))) }
+    ensures code { IfOk result (λ p. p ≡ unmarked (store_code word)) }
 {
     bare_around(
         alloc,
-        word_piece(alloc, word)?,
-        plain(alloc, exch(VALUE, ADDRESS))?,
+        plain(alloc, reach(Spot::Frame(word)))?,
+        plain(alloc, exch(VALUE, FRAME))?,
     )
 }
 
@@ -108,7 +93,7 @@ pub fn local_block(
     ensures law { IfOk result (λ p. LocalCode word value.cells body.cells last.cells p.cells) }
     ensures held { IfOk result (λ p. Holds body p) }
     ensures size { IfOk result (λ p. length p.cells
-        ≡ length value.cells + length body.cells + length last.cells + 20) }
+        ≡ length value.cells + length body.cells + length last.cells + 16) }
 {
     local_piece(alloc, word, value, body, last)
 }

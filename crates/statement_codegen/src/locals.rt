@@ -36,7 +36,7 @@ pub fn local_code(
     ensures held { IfOk result (λ p. Holds body p) }
     ensures size { IfOk result (λ p.
         length p.cells ≤ 58 * (tokens (expression_of value.now) + tokens (expression_of last.now)) +
-        length body.cells + 20) }
+        length body.cells + 16) }
 {
     let word = scope.free();
     let begins = value_code(alloc, value, scope, VALUE)?;
@@ -72,7 +72,7 @@ pub fn construct_code(
     requires none { making.marks ≡ [] }
     ensures law { IfOk result (λ p. ConstructLaw scope.now at _var.now making.cells body.cells p.cells) }
     ensures held { IfOk result (λ p. Holds body p) }
-    ensures size { IfOk result (λ p. length p.cells ≤ 2 * length making.cells + length body.cells + 136) }
+    ensures size { IfOk result (λ p. length p.cells ≤ 2 * length making.cells + length body.cells + 132) }
 {
     let nothing = Expr::Nil { at };
     let inside = between_piece(alloc, making, body)?;
