@@ -119,7 +119,7 @@ module _ (w : World) (knows : Known w) (f : FrameFacts w knows) (statics : List 
   main_does n =
       let fr = w.frame_of mf.first in
       let s = w.routines.scope mf.main in
-      let stands = f.placed mf.main mf.is_routine in
+      let stands = f.image.placed mf.main mf.is_routine in
       let t = told (exec w.setting n (main_body program) (starting program input)) in
       let owed = all_owe w laws (suc n) n (omega arith) mf.main mf.is_routine in
       let inner : (link : ℕ) → 0 < link → link < 2 ^ 32 → Will w.im (w.routines.body mf.main) false
@@ -134,7 +134,7 @@ module _ (w : World) (knows : Known w) (f : FrameFacts w knows) (statics : List 
       let mid : Will w.im (Enter (w.routines.number mf.main) false ∷ []) false (mk 0 40 fr 0 0 0 0 0 loaded_cells)
       (Meets InMain w.rates n 50 t) =
       will_enter w.im (w.routines.number mf.main) (w.routines.top mf.main) (w.routines.body mf.main) false false
-      (mk 0 40 fr 0 0 0 0 0 loaded_cells) _ stands f.tidy.short (omega arith) refl inner in
+      (mk 0 40 fr 0 0 0 0 0 loaded_cells) _ stands f.image.tidy.short (omega arith) refl inner in
       let all = wraps w.im false (line main_row) (Enter (w.routines.number mf.main) false ∷ []) start
       (mk 0 40 fr 0 0 0 0 0 loaded_cells) InMain Ended w.rates n 50 6 6 t (λ a. Fine a 0)
       (sets_out w.im fr loaded_cells (mf.base_in _ _ mf.starts) (mf.base_is _ _ mf.starts) mf.frame_small) mid

@@ -30,13 +30,13 @@ module _ (w : World) (knows : Known w) (f : FrameFacts w knows) (s : Scope) (met
       let cs = m.cells in
       let t = told (exec w.setting n (in_direction d method.body) st) in
       let u2 = knows.put u link place in
-      let free = f.saves s u st cs h.open_frame fresh in
-      let small = f.frame_small s u [] st cs h.open_frame in
+      let free = f.puts.saves s u st cs h.open_frame fresh in
+      let small = (f.steady s u [] st cs h.open_frame).frame_small in
       let cs1 = slice_set (slice_set cs fr link) (fr + 2) place in
       let inner : Open w s u2 st (mk 0 ob fr 0 0 0 0 0 cs1) = record {
-        regs_are = ap (λ o. registers 0 o fr 0 0 0 0 0) (sym (f.put_object u link place))
-            ∙ ap (λ r. registers 0 (w.object_of u2) r 0 0 0 0 0) (sym (f.put_frame u link place));
-        open_frame = f.put_opens s u st cs link place h.open_frame fresh lw pw;
+        regs_are = ap (λ o. registers 0 o fr 0 0 0 0 0) (sym (f.puts.put_object u link place))
+            ∙ ap (λ r. registers 0 (w.object_of u2) r 0 0 0 0 0) (sym (f.puts.put_frame u link place));
+        open_frame = f.puts.put_opens s u st cs link place h.open_frame fresh lw pw;
       } in
       let all : Will w.im (method_code p) d (mk link ob fr 0 0 0 0 place cs)
       (Meets (Entered w s u link place) w.rates n (4 + (0 + 4)) (told_then t (λ c a. Fine a 0))) =
@@ -45,13 +45,13 @@ module _ (w : World) (knows : Known w) (f : FrameFacts w knows) (s : Scope) (met
       (will_save w.im ob fr link place cs free.words_in small free.link_word free.place_word)
       ((hp n owes d u2).does st _ inner) (λ a m2 c e r.
       let cs2 = m2.cells in
-      let words = f.put_words s u a cs2 link place r.open_frame fresh in
+      let words = f.puts.put_words s u a cs2 link place r.open_frame fresh in
       let known : m2 ≡ mk 0 ob fr 0 0 0 0 0 cs2 = as_known m2 _
-      (r.regs_are ∙ ap (λ o. registers 0 o (w.frame_of u2) 0 0 0 0 0) (f.put_object u link place)
-      ∙ ap (λ k. registers 0 ob k 0 0 0 0 0) (f.put_frame u link place)) in
+      (r.regs_are ∙ ap (λ o. registers 0 o (w.frame_of u2) 0 0 0 0 0) (f.puts.put_object u link place)
+      ∙ ap (λ k. registers 0 ob k 0 0 0 0 0) (f.puts.put_frame u link place)) in
       let cs3 = slice_set (slice_set cs2 (fr + 2) 0) fr 0 in
       let end : Entered w s u link place a (mk link ob fr 0 0 0 0 place cs3) =
-      record { regs_are = refl; open_frame = f.put_back s u a cs2 link place r.open_frame fresh } in
+      record { regs_are = refl; open_frame = f.puts.put_back s u a cs2 link place r.open_frame fresh } in
       subst (λ z. Will w.im (line save_row) true z (Meets (Entered w s u link place) w.rates (n - c) 4 (Fine a 0)))
       (sym known)
       (will_more w.im (line save_row) true _ _ _ (λ o q. subst

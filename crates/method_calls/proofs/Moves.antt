@@ -140,10 +140,11 @@ module _ (w : World) (knows : Known w) (f : FrameFacts w knows) (s : Scope) (u :
           let sp = knows.spot s name in
           let vals = pairs names (vals_from (cells_of names) st) in
           let n = long names st in
-          let m = f.moves_in s u vals (out_from (cells_of names) st) before.cells name before.up is (omega (arith, n))
-          room in
-          let os = f.object_small s u vals (out_from (cells_of names) st) before.cells before.up in
-          let fs = f.frame_small s u vals (out_from (cells_of names) st) before.cells before.up in
+          let m = f.moves.moves_in s u vals (out_from (cells_of names) st) before.cells name before.up is
+          (omega (arith, n)) room in
+          let steady = f.steady s u vals (out_from (cells_of names) st) before.cells before.up in
+          let os = steady.object_small in
+          let fs = steady.frame_small in
           let at = address (w.object_of u) (w.frame_of u) sp in
           let up = w.frame_of u + (512 + (first_word + length vals)) in
           let cs2 = slice_set (slice_set before.cells at 0) up (slice_index before.cells at) in
@@ -152,7 +153,8 @@ module _ (w : World) (knows : Known w) (f : FrameFacts w knows) (s : Scope) (u :
           (λ o. o ≡ Done (plain w u cs2) 10) =
           subst (λ k. Will w.im (move_code sp k) false (plain w u before.cells) (λ o. o ≡ Done (plain w u cs2) 10)) n
           (moves_up w.im (w.object_of u) (w.frame_of u) sp (length vals) before.cells
-          (spot_in sp (f.near s name is) os fs) (omega (arith, fs, n)) m.at_in m.up_in m.apart m.empty) in
+          (spot_in sp (f.near s name is) os fs) (omega (arith, fs, n)) m.words.at_in m.words.up_in m.words.apart
+          m.empty) in
           record {
             cells = cs2;
             up = m.moved;
@@ -182,15 +184,15 @@ module _ (w : World) (knows : Known w) (f : FrameFacts w knows) (s : Scope) (u :
     cs2 = slice_set (slice_set cs up_at 0) here_at (slice_index cs up_at)
 
     m : MovesBack cs here_at up_at (is_zero (read st c)) (w.opens s u (pairs names vals) (written st c v))
-    m = f.moves_back s u v (pairs names vals) st cs name h is
+    m = f.moves.moves_back s u v (pairs names vals) st cs name h is
 
     near : here_at < 2 ^ 32
     near = spot_in (knows.spot s name) (f.near s name is)
-        (f.object_small s u (record { from = name; value = v } ∷ pairs names vals) st cs h)
-        (f.frame_small s u (record { from = name; value = v } ∷ pairs names vals) st cs h)
+        (f.steady s u (record { from = name; value = v } ∷ pairs names vals) st cs h).object_small
+        (f.steady s u (record { from = name; value = v } ∷ pairs names vals) st cs h).frame_small
 
     high : up_at < 2 ^ 32
-    high = let q = f.frame_small s u (record { from = name; value = v } ∷ pairs names vals) st cs h in
+    high = let q = (f.steady s u (record { from = name; value = v } ∷ pairs names vals) st cs h).frame_small in
         omega (arith, q, same, l)
 
     abbrev Q : Outcome → Type 0
@@ -212,7 +214,7 @@ module _ (w : World) (knows : Known w) (f : FrameFacts w knows) (s : Scope) (u :
         subst (λ k. Will w.im (move_code (knows.spot s name) k) true (plain w u cs) (λ o. o ≡ Done (plain w u cs2) 10))
         same
         (moves_down w.im (w.object_of u) (w.frame_of u) (knows.spot s name) (length (pairs names vals)) cs near high
-        m.at_in m.up_in m.apart (m.untouched z)) in
+        m.words.at_in m.words.up_in m.words.apart (m.cell.untouched z)) in
         will_two_back w.im (moves_code (knows.spot s) names) (move_code (knows.spot s name) (length names))
         (plain w u cs) (plain w u cs2) 10 Q first
         (will_more w.im _ true _ _ _ (λ o q. meets_told _ _ (sym said)
@@ -224,7 +226,7 @@ module _ (w : World) (knows : Known w) (f : FrameFacts w knows) (s : Scope) (u :
         let first = subst (λ k. Will w.im (move_code (knows.spot s name) k) true (plain w u cs)
         (λ o. (k : ℕ) × (k ≤ 10) × (o ≡ Trapped 15 k))) same
         (traps_down w.im (w.object_of u) (w.frame_of u) (knows.spot s name) (length (pairs names vals)) cs near high
-        m.at_in m.up_in m.apart (m.touched z)) in
+        m.words.at_in m.words.up_in m.words.apart (m.cell.touched z)) in
         will_seq_back w.im (moves_code (knows.spot s) names) (move_code (knows.spot s name) (length names)) _ Q
         (will_more w.im _ true _ _ _ (λ o t. subst (Next _ Q) (sym t.2)
         (meets_told _ _ (sym said) (faults (let h = t.1 in omega arith)))) first)

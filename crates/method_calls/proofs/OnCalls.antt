@@ -24,7 +24,7 @@ use Rattle.code_conventions.specs.Cells.{addi}
 use Rattle.method_calls.specs.CallCode.{depth_code, moves_code, fetch_row, nil_code, take_code, onto_code}
 use Rattle.method_calls.specs.CallCode.{front_on_code, call_on_code}
 use Rattle.method_calls.specs.Facts.{Known, FrameFacts, Receivers, ReceiverFacts, HasPlace, GoesOn, ComesBack, address}
-use Rattle.method_calls.specs.Facts.{out_from, vals_from}
+use Rattle.method_calls.specs.Facts.{ReceiverWord, FindsMethod, callee_on, out_from, vals_from}
 use Rattle.refine_form.proofs.Told.{told_after, told_bind, plus_none, plus_plus}
 use Rattle.refine_form.proofs.Rules.{wraps_spent, will_around, meets_told, meets_less, meets_later, meets_as}
 use Rattle.refine_form.proofs.Rules.{as_known, will_two, will_two_back}
@@ -226,14 +226,17 @@ module _ (w : World) (knows : Known w) (f : FrameFacts w knows) (on : Receivers 
   abbrev is_full : Bool
   is_full = not (nat_lt (knows.depth_of u) w.setting.limits.deep)
 
+  peeked : ReceiverWord w knows s u st cs x
+  peeked = g.words.word s u st cs x name args h is
+
   frame_small : fr < 2 ^ 23
-  frame_small = f.frame_small s u [] st cs h
+  frame_small = (f.steady s u [] st cs h).frame_small
 
   object_small : ob < 2 ^ 23
-  object_small = f.object_small s u [] st cs h
+  object_small = (f.steady s u [] st cs h).object_small
 
   low : at < 2 ^ 32
-  low = spot_in w knows f s u sp (f.near s x (g.is_variable s x name args is)) object_small frame_small
+  low = spot_in w knows f s u sp (f.near s x (g.words.is_variable s x name args is)) object_small frame_small
 
   end_fits : (st : State) (cs : List ℕ) → w.opens s u [] st cs → (b : Bool) → is_full ≡ b → fr + 512 ≤ slice_index cs 4
   end_fits st cs h true e = let t = (f.has_end s u st cs h).at_end e in omega arith
@@ -248,14 +251,17 @@ module _ (w : World) (knows : Known w) (f : FrameFacts w knows) (on : Receivers 
   as_many_cells (y ∷ names) = ap suc (as_many_cells names)
 
   module _ (there : is_nil (read st c) ≡ false) (room : is_full ≡ false) where
+    finds : FindsMethod w knows on s st x n_of (callee_on w knows on s u caller n_of name)
+    finds = g.calls.dispatches s u st caller cs x name args h is there refl
+
     known_routine : r < w.routines.count
-    known_routine = g.routine_on s u st caller cs x name args h is there refl
+    known_routine = finds.runs.is_routine
 
     suits : on.IsFor s x (knows.class_of deep)
-    suits = g.is_for s u st caller cs x name args h is there refl
+    suits = finds.suits
 
     place_small : place < 2 ^ 32
-    place_small = let t = (f.placed r known_routine).small in omega arith
+    place_small = let t = (f.image.placed r known_routine).small in omega arith
 
     moved : AllUp w knows f s u args st cs
     moved = all_up w knows f s u args vars few room st cs h
@@ -264,8 +270,8 @@ module _ (w : World) (knows : Known w) (f : FrameFacts w knows) (on : Receivers 
     same_read = out_reads cells c st not_arg
 
     goes : GoesOn moved.cells at up ob (w.object_of deep) (w.opens (w.routines.scope r) deep [] callee)
-    goes = g.enters_on s u vals moved_st moved.cells x name args n_of moved.up is (long_vals cells ∙ as_many_cells args)
-        room (ap is_nil same_read ∙ there) (ap number_of same_read)
+    goes = g.calls.enters s u vals moved_st moved.cells x name args n_of moved.up is
+        (long_vals cells ∙ as_many_cells args) room (ap is_nil same_read ∙ there) (ap number_of same_read)
 
     abbrev in_cells : List ℕ
     in_cells = slice_set (slice_set moved.cells at 0) up ob
@@ -274,22 +280,22 @@ module _ (w : World) (knows : Known w) (f : FrameFacts w knows) (on : Receivers 
     entered = goes.moved
 
     rw_small : w.object_of deep < 2 ^ 23
-    rw_small = f.object_small (w.routines.scope r) deep [] callee in_cells entered
+    rw_small = (f.steady (w.routines.scope r) deep [] callee in_cells entered).object_small
 
     has_place : HasPlace in_cells (w.object_of deep) slot place
-    has_place = g.place_on s u caller callee in_cells x name args n_of entered is suits
+    has_place = (g.calls.tells s u caller callee in_cells x name args n_of entered is suits).has_place
 
     fetched : (cs2 : List ℕ) → HasPlace cs2 (w.object_of deep) slot place
         → Will w.im (line (fetch_row slot)) false (mk 0 (w.object_of deep) (fr + 512) 0 0 0 0 0 cs2)
         (λ o. o ≡ Done (mk 0 (w.object_of deep) (fr + 512) 0 0 0 0 place cs2) 7)
     fetched cs2 p = will_fetch w.im (w.object_of deep) (fr + 512) slot place cs2 p.object_in p.small
-        (g.slot_small s x name args is) p.entry_in p.apart p.entry place_small
+        (g.calls.slot_small s x name args is) p.entry_in p.apart p.entry place_small
 
     unfetched : (cs2 : List ℕ) → HasPlace cs2 (w.object_of deep) slot place
         → Will w.im (line (fetch_row slot)) true (mk 0 (w.object_of deep) (fr + 512) 0 0 0 0 place cs2)
         (λ o. o ≡ Done (mk 0 (w.object_of deep) (fr + 512) 0 0 0 0 0 cs2) 7)
     unfetched cs2 p = will_unfetch w.im (w.object_of deep) (fr + 512) slot place cs2 p.object_in p.small
-        (g.slot_small s x name args is) p.entry_in p.apart p.entry place_small
+        (g.calls.slot_small s x name args is) p.entry_in p.apart p.entry place_small
 
     front_in : Will w.im (front_on_code (knows.spot s) x slot args) false (mk 0 ob fr 0 0 0 0 0 cs)
         (λ o. o ≡ Done (mk 0 (w.object_of deep) (fr + 512) 0 0 0 0 place in_cells)
@@ -302,9 +308,10 @@ module _ (w : World) (knows : Known w) (f : FrameFacts w knows) (on : Receivers 
         let take : Will w.im (take_code sp) false (mk 0 ob fr 0 0 0 0 0 cs1)
         (λ o. o ≡ Done (mk 0 ob fr 0 0 word 0 0 gone) 7) =
         will_more w.im _ false _ _ _ (λ o q. q ∙ ap (λ v. Done (mk 0 ob fr 0 0 v 0 0 gone) 7) goes.word_is)
-        (takes w.im ob fr sp cs1 goes.at_in low) in
-        let empty : slice_index gone up ≡ 0 = get_or-set_other cs1 at up 0 0 (λ q. goes.apart (sym q)) ∙ goes.empty in
-        let onto = turns_to w.im ob fr word gone (let l = goes.up_in in omega (arith, length-set cs1 at 0))
+        (takes w.im ob fr sp cs1 goes.words.at_in low) in
+        let empty : slice_index gone up ≡ 0 = get_or-set_other cs1 at up 0 0 (λ q. goes.words.apart (sym q))
+        ∙ goes.empty in
+        let onto = turns_to w.im ob fr word gone (let l = goes.words.up_in in omega (arith, length-set cs1 at 0))
         (omega (arith, object_small)) frame_small (omega (arith, rw_small)) empty in
         let raise : Will w.im (line (addi 4 512 ∷ [])) false (mk 0 word fr 0 0 0 0 0 in_cells)
         (λ o. o ≡ Done (mk 0 word (fr + 512) 0 0 0 0 0 in_cells) 1) =
@@ -312,8 +319,8 @@ module _ (w : World) (knows : Known w) (f : FrameFacts w knows) (on : Receivers 
         (ap (λ v. Done (mk 0 word v 0 0 0 0 0 in_cells) 1)
         (let z : package.Rattle.rpp_words.specs.Words.sum_of fr 512
         ≡ fr + 512 = (let t = frame_small in omega arith) in z)) here) in
-        will_two w.im (nil_code sp) _ _ _ 10 _ (nil_passes w.im ob fr sp cs (g.at_in s u st cs x name args h is) low
-        (g.word_small s u st cs x name args h is) false (g.name_word s u st cs x name args h is there))
+        will_two w.im (nil_code sp) _ _ _ 10 _ (nil_passes w.im ob fr sp cs peeked.at_in low peeked.small false
+        (peeked.name_word there))
         (will_two w.im depth_code _ _ _ 12 _ (depth_passes w.im ob fr cs e.cell_in e.small (end_fits st cs h false room)
         false (e.room room))
         (will_two w.im (moves_code (knows.spot s) args) _ _ _ (10 * length args) _ moved.goes
@@ -351,21 +358,21 @@ module _ (w : World) (knows : Known w) (f : FrameFacts w knows) (on : Receivers 
 
       comes : ComesBack cs2 at up ob (w.object_of deep) (is_zero (read (home end) c))
           (w.opens s u (pairs args (values end)) (written (home end) c (Name n_of)))
-      comes = g.leaves_on s u moved_st caller end cs2 x name args n_of (pairs args vals) moved.cells moved.up refl o is
-          suits
+      comes = g.calls.leaves s u moved_st caller end cs2 x name args n_of (pairs args vals) moved.cells moved.up refl o
+          is suits
 
       still_in : at < length (out_cells cs2)
-      still_in = let l = comes.at_in in omega (arith, length-set cs2 up 0)
+      still_in = let l = comes.words.at_in in omega (arith, length-set cs2 up 0)
 
       same_word : slice_index (out_cells cs2) at ≡ slice_index cs2 at
-      same_word = get_or-set_other cs2 up at 0 0 comes.apart
+      same_word = get_or-set_other cs2 up at 0 0 comes.words.apart
 
       -- the place, the frame and OBJECT
       lowered : Will w.im (onto_code ++ last_row) true m0 (λ q. q
           ≡ Done (mk 0 ob fr 0 0 (w.object_of deep) 0 0 (out_cells cs2)) 13)
       lowered =
           let word = w.object_of deep in
-          let p = g.place_on s u caller end cs2 x name args n_of o is suits in
+          let p = (g.calls.tells s u caller end cs2 x name args n_of o is suits).has_place in
           let down : Will w.im (line (addi 4 512 ∷ [])) true (mk 0 word (fr + 512) 0 0 0 0 0 cs2)
           (λ q. q ≡ Done (mk 0 word fr 0 0 0 0 0 cs2) 1) =
           will_row w.im true (addi 4 512 ∷ []) 1 _ _ (next refl (omega arith)
@@ -376,7 +383,7 @@ module _ (w : World) (knows : Known w) (f : FrameFacts w knows) (on : Receivers 
           (will_more w.im _ true _ _ _ (λ o q. ap (after 7) q) down) in
           will_two_back w.im onto_code last_row m0 (mk 0 word fr 0 0 0 0 0 cs2) 8 _ both
           (will_more w.im _ true _ _ _ (λ o q. ap (after 8) q)
-          (turns_from w.im ob fr word cs2 comes.up_in (let t = object_small in omega arith) frame_small
+          (turns_from w.im ob fr word cs2 comes.words.up_in (let t = object_small in omega arith) frame_small
           (let t = rw_small in omega arith) comes.saved))
 
       abbrev Moved : Outcome → Type 0
@@ -398,9 +405,10 @@ module _ (w : World) (knows : Known w) (f : FrameFacts w knows) (on : Receivers 
           will_two_back w.im (take_code sp) (onto_code ++ last_row) m0 (mk 0 ob fr 0 0 word 0 0 (out_cells cs2)) 13 _
           lowered
           (will_more w.im _ true _ _ _ (λ o q. ap (after 13) q)
-          (gives_back w.im ob fr sp (out_cells cs2) still_in low word (same_word ∙ comes.untouched z))) in
-          let many = g.as_many_on s u caller end cs2 x name args n_of o is suits in
-          let there_again = g.is_there s u (pairs args (values end)) (home end) (Name n_of) cs3 x name args opens1 is in
+          (gives_back w.im ob fr sp (out_cells cs2) still_in low word (same_word ∙ comes.cell.untouched z))) in
+          let many = (g.calls.tells s u caller end cs2 x name args n_of o is suits).as_many in
+          let there_again = g.words.is_there s u (pairs args (values end)) (home end) (Name n_of) cs3 x name args opens1
+          is in
           will_two_back w.im (moves_code (knows.spot s) args) (take_code sp ++ (onto_code ++ last_row)) m0
           (mk 0 ob fr 0 0 0 0 0 cs3) 20 Moved taken
           (will_more w.im _ true _ _ _ (λ o q. meets_told _ _ (sym said)
@@ -414,7 +422,7 @@ module _ (w : World) (knows : Known w) (f : FrameFacts w knows) (on : Receivers 
           let said : moves_home end ≡ Fault 15 0 = ap (λ b. told
           (fault_if touched_fault (not b) >>= λ t. moved_back cells (values end) home1)) z in
           let found = finds_touched w.im ob fr sp (out_cells cs2) still_in low word
-          (λ e. comes.touched z (sym same_word ∙ e)) in
+          (λ e. comes.cell.touched z (sym same_word ∙ e)) in
           let taken : Will w.im (take_code sp ++ (onto_code ++ last_row)) true m0
           (λ q. (k : ℕ) × (k ≤ 20) × (q ≡ Trapped 15 k)) =
           will_two_back w.im (take_code sp) (onto_code ++ last_row) m0 (mk 0 ob fr 0 0 word 0 0 (out_cells cs2)) 13 _
@@ -453,13 +461,13 @@ module _ (w : World) (knows : Known w) (f : FrameFacts w knows) (on : Receivers 
           nil_ok : (a : State) (m : Memory) → Home a m → Will w.im (nil_code sp) true m (Quiet (Open w s u a) 10)
           nil_ok a m i =
               let oa = i.opened_again.open_frame in
-              let pos = g.name_word s u a m.cells x name args oa is (ap is_nil i.receiver) in
+              let again = g.words.word s u a m.cells x name args oa is in
+              let pos = again.name_word (ap is_nil i.receiver) in
               subst (λ z. Will w.im (nil_code sp) true z (Quiet (Open w s u a) 10))
               (sym (as_known m _ i.opened_again.regs_are))
               (will_more w.im (nil_code sp) true _ _ _ (λ o q. subst (Quiet (Open w s u a) 10) (sym q)
               (quiet (record { regs_are = refl; open_frame = oa }) (omega arith)))
-              (nil_passes w.im ob fr sp m.cells (g.at_in s u a m.cells x name args oa is) low
-              (g.word_small s u a m.cells x name args oa is) true pos))
+              (nil_passes w.im ob fr sp m.cells again.at_in low again.small true pos))
 
     called : (n : ℕ) → Owes w (suc n) → (kind d : Bool) → Will w.im (call_on_code (knows.spot s) kind x slot args) d
         (mk 0 ob fr 0 0 0 0 0 cs) (Meets (Open w s u) w.rates (n + (1 + length args)) 0
@@ -467,9 +475,9 @@ module _ (w : World) (knows : Known w) (f : FrameFacts w knows) (on : Receivers 
         (in_direction (xor kind d) (w.routines.method r).body) callee)) (λ k end. moves_home end))))
     called n owes kind d =
         let t = told (exec w.setting n (in_direction (xor kind d) (w.routines.method r).body) callee) in
-        let nf = g.next_frame_on s u caller n_of in
-        let body = enters_body w (w.routines.scope r) deep place r n (f.placed r known_routine) f.tidy refl
-        (owes n (omega arith) r known_routine) (g.fresh_on s u caller n_of) kind d callee in_cells entered in
+        let nf = (g.calls.next s u caller n_of).above in
+        let body = enters_body w (w.routines.scope r) deep place r n (f.image.placed r known_routine) f.image.tidy refl
+        (owes n (omega arith) r known_routine) (g.calls.next s u caller n_of).fresh kind d callee in_cells entered in
         let mid : Will w.im (enter_at_cells 12 kind) d (mk 0 (w.object_of deep) (fr + 512) 0 0 0 0 place in_cells)
         (Meets (InCall w (w.routines.scope r) deep place) w.rates n 55 t) =
         subst (λ y. Will w.im (enter_at_cells 12 kind) d (mk 0 (w.object_of deep) y 0 0 0 0 place in_cells)
@@ -477,7 +485,7 @@ module _ (w : World) (knows : Known w) (f : FrameFacts w knows) (on : Receivers 
         wraps_spent w.im d (front_on_code (knows.spot s) x slot args) (enter_at_cells 12 kind) _ _
         (InCall w (w.routines.scope r) deep place) (Open w s u) w.rates n 55 (20 + 10 * length args + 12 + 10)
         (10 + (12 + (10 * length args + (7 + (5 + 8))))) (1 + length args) 0 t moves_home
-        f.counts (omega arith) (enough w.rates.steps (length args) f.thousand few) front_in mid (λ a m2 k e i.
+        f.image.counts (omega arith) (enough w.rates.steps (length args) f.image.thousand few) front_in mid (λ a m2 k e i.
         let known = as_known m2 _ (i.regs_are ∙ ap (λ y. registers 0 (w.object_of deep) y 0 0 0 0 place) nf) in
         subst (λ z. Will w.im (front_on_code (knows.spot s) x slot args) true z
         (Meets (Open w s u) w.rates (n - k) (20 + 10 * length args + 12 + 10) (moves_home a))) (sym known)
@@ -499,7 +507,7 @@ module _ (w : World) (knows : Known w) (f : FrameFacts w knows) (on : Receivers 
       (λ o. Q (after k1 o))) in
       will_around w.im d (front_on_code (knows.spot s) x slot args) (enter_at_cells 12 kind) _ Q
       (will_more w.im _ false _ _ _ (λ o q. subst (Next W Q) (sym q.2)
-      (faults (few_steps w.rates.steps (length args) q.0 f.thousand q.1))) t)
+      (faults (few_steps w.rates.steps (length args) q.0 f.image.thousand q.1))) t)
     where
       few_steps : (steps k j : ℕ) → steps ≡ 1000 → j ≤ 40 → j ≤ steps * (1 + k) + 0
       few_steps steps k j e l = let z : steps * (1 + k) ≡ 1000 * (1 + k) = ap (λ y. y * (1 + k)) e in omega (arith, z)
@@ -517,8 +525,8 @@ module _ (w : World) (knows : Known w) (f : FrameFacts w knows) (on : Receivers 
       (Meets (Open w s u) w.rates (suc n) 0 (Fault 5 (1 + length args)))
   on_nil n kind d z =
       early n 5 kind d (will_more w.im _ false _ _ _ (λ o q. (q.0, (let l = q.1 in omega arith), q.2))
-      (trap_first (nil_code sp) _ _ 5 8 (nil_traps w.im ob fr sp cs (g.at_in s u st cs x name args h is) low
-      (g.word_small s u st cs x name args h is) (g.nil_word s u st cs x name args h is z))))
+      (trap_first (nil_code sp) _ _ 5 8 (nil_traps w.im ob fr sp cs peeked.at_in low peeked.small
+      (peeked.nil_word z))))
 
   too_deep : (n : ℕ) (kind d : Bool) → is_nil (read st c) ≡ false → is_full ≡ true
       → Will w.im (call_on_code (knows.spot s) kind x slot args) d (mk 0 ob fr 0 0 0 0 0 cs)
@@ -526,8 +534,7 @@ module _ (w : World) (knows : Known w) (f : FrameFacts w knows) (on : Receivers 
   too_deep n kind d there e =
       let he = f.has_end s u st cs h in
       early n 14 kind d (will_two w.im (nil_code sp) _ _ _ 10 _
-      (nil_passes w.im ob fr sp cs (g.at_in s u st cs x name args h is) low
-      (g.word_small s u st cs x name args h is) false (g.name_word s u st cs x name args h is there))
+      (nil_passes w.im ob fr sp cs peeked.at_in low peeked.small false (peeked.name_word there))
       (will_more w.im _ false _ _ _ (λ o q. (10 + q.0, (let l = q.1 in omega arith), ap (after 10) q.2))
       (trap_first depth_code _ _ 14 9 (depth_traps w.im ob fr cs he.cell_in he.small (end_fits st cs h true e)
       (he.at_end e)))))
@@ -553,7 +560,7 @@ module _ (w : World) (knows : Known w) (f : FrameFacts w knows) (on : Receivers 
   named : (u : w.Under) (st : State) (cs : List ℕ) (names : List Ident) → w.opens s u [] st cs
       → AllVariables w knows f s u names → cells_named w.setting st names ≡ cells_of w knows f s u names
   named u st cs [] h all = refl
-  named u st cs (y ∷ names) h all = ap (λ c. c ∷ cells_named w.setting st names) (f.means s u [] st cs y h all.0)
+  named u st cs (y ∷ names) h all = ap (λ c. c ∷ cells_named w.setting st names) ((f.steady s u [] st cs h).means y all.0)
       ∙ ap (λ l. knows.cell_of s u y ∷ l) (named u st cs names h all.1)
 
   abbrev Goal : ℕ → Bool → (u : w.Under) → State → Memory → Type 0
@@ -565,7 +572,7 @@ module _ (w : World) (knows : Known w) (f : FrameFacts w knows) (on : Receivers 
       → (z b : Bool) → is_nil (read st (knows.cell_of s u x)) ≡ z
       → not (nat_lt (knows.depth_of u) w.setting.limits.deep) ≡ b → Goal n d u st m
   law_by n owes d u st m h true b ez e =
-      let mean = f.means s u [] st m.cells x h.open_frame (g.is_variable s x name args is) in
+      let mean = (f.steady s u [] st m.cells h.open_frame).means x (g.words.is_variable s x name args is) in
       let said = ap (λ z. told (one w.setting n z st)) (turned_on d back at x name args)
       ∙ says_nil w.setting n (xor d back) at x name args st (ap (λ k. is_nil (read st k)) mean ∙ ez) in
       subst (λ z. Goal n d u st z) (sym (as_known m _ h.regs_are))
@@ -573,9 +580,9 @@ module _ (w : World) (knows : Known w) (f : FrameFacts w knows) (on : Receivers 
       (on_nil w knows f on g s x name args is few u (vars u) (apart u st m.cells h.open_frame).0 st m.cells
       h.open_frame n back d ez))
   law_by n owes d u st m h false true ez e =
-      let mean = f.means s u [] st m.cells x h.open_frame (g.is_variable s x name args is) in
+      let mean = (f.steady s u [] st m.cells h.open_frame).means x (g.words.is_variable s x name args is) in
       let deep : is_too_deep w.setting st ≡ true = ap (λ k. not (nat_lt k w.setting.limits.deep))
-      (f.depth_is s u [] st m.cells h.open_frame) ∙ e in
+      (f.steady s u [] st m.cells h.open_frame).depth_is ∙ e in
       let said = ap (λ z. told (one w.setting n z st)) (turned_on d back at x name args)
       ∙ says_deep w.setting n (xor d back) at x name args st (ap (λ k. is_nil (read st k)) mean ∙ ez) deep in
       subst (λ z. Goal n d u st z) (sym (as_known m _ h.regs_are))
@@ -590,21 +597,22 @@ module _ (w : World) (knows : Known w) (f : FrameFacts w knows) (on : Receivers 
       let vals = vals_from cells st in
       let deep = on.deeper_on s u caller n_of in
       let method = w.routines.method (knows.routine (knows.class_of deep) name) in
-      let mean = f.means s u [] st m.cells x h.open_frame (g.is_variable s x name args is) in
+      let mean = (f.steady s u [] st m.cells h.open_frame).means x (g.words.is_variable s x name args is) in
       let moving : AllUp w knows f s u args st m.cells = moved w knows f on g s x name args is few u (vars u)
       (apart u st m.cells h.open_frame).0 st m.cells h.open_frame ez e in
-      let depth = f.depth_is s u [] st m.cells h.open_frame in
+      let depth = (f.steady s u [] st m.cells h.open_frame).depth_is in
       let open_yet : is_too_deep w.setting st ≡ false = ap (λ k. not (nat_lt k w.setting.limits.deep)) depth ∙ e in
       let em = ap (λ k. method_named w.setting.program k name.text)
-      (g.class_on s u st caller m.cells x name args h.open_frame is ez refl)
-      ∙ g.method_on s u st caller m.cells x name args h.open_frame is ez refl in
-      let ed : st.depth ≡ caller.depth = depth ∙ sym (f.depth_is s u (pairs args vals) (out_from cells st) moving.cells
-      moving.up) ∙ same_depth c (out_from cells st) (cleared (read (out_from cells st) c)) in
+      (g.calls.dispatches s u st caller m.cells x name args h.open_frame is ez refl).class_is
+      ∙ (g.calls.dispatches s u st caller m.cells x name args h.open_frame is ez refl).runs.is_method in
+      let ed : st.depth ≡ caller.depth = depth
+      ∙ sym (f.steady s u (pairs args vals) (out_from cells st) moving.cells moving.up).depth_is
+      ∙ same_depth c (out_from cells st) (cleared (read (out_from cells st) c)) in
       let said = ap (λ z. told (one w.setting n z st)) (turned_on d back at x name args)
       ∙ ap (λ z. told (one w.setting n (Call at z (Some (Whole x)) name args) st)) (sym (same_way d back))
       ∙ says_on w.setting n (xor back d) at x name args st method n_of c cells caller vals (Name n_of)
       (ap (λ k. is_nil (read st k)) mean ∙ ez) open_yet mean
-      (g.is_name s u st m.cells x name args h.open_frame is ez) refl em
+      ((g.words.word s u st m.cells x name args h.open_frame is).is_name ez) refl em
       (named u st m.cells args h.open_frame (vars u)) (moves_out (c ∷ cells) st (apart u st m.cells h.open_frame))
       (same_values cells st (apart u st m.cells h.open_frame).1) ed in
       let ec : caller.depth ≡ (out_from cells st).depth = sym

@@ -192,16 +192,16 @@ module _ (w : World) (knows : Known w) (f : FrameFacts w knows) (s : Scope) (nam
   is_full = not (nat_lt (knows.depth_of u) w.setting.limits.deep)
 
   known_routine : r < w.routines.count
-  known_routine = f.is_routine s u [] st cs name args h is
+  known_routine = (f.calls.dispatches s u [] st cs name args h is).is_routine
 
   place_small : place < 2 ^ 32
-  place_small = let t = (f.placed r known_routine).small in omega arith
+  place_small = let t = (f.image.placed r known_routine).small in omega arith
 
   frame_small : fr < 2 ^ 23
-  frame_small = f.frame_small s u [] st cs h
+  frame_small = (f.steady s u [] st cs h).frame_small
 
   object_small : ob < 2 ^ 23
-  object_small = f.object_small s u [] st cs h
+  object_small = (f.steady s u [] st cs h).object_small
 
   -- an open frame leaves room behind it, or ends the stack
   end_fits : (st : State) (cs : List ℕ) → w.opens s u [] st cs → (b : Bool) → is_full ≡ b → fr + 512 ≤ slice_index cs 4
@@ -221,10 +221,10 @@ module _ (w : World) (knows : Known w) (f : FrameFacts w knows) (s : Scope) (nam
     moved = all_up w knows f s u args vars few room st cs h
 
     entered : w.opens (w.routines.scope r) deep [] callee moved.cells
-    entered = f.enters s u vals caller moved.cells name args moved.up is (long_vals cells ∙ as_many_cells args) room
+    entered = f.calls.enters s u vals caller moved.cells name args moved.up is (long_vals cells ∙ as_many_cells args) room
 
     has_place : HasPlace moved.cells ob slot place
-    has_place = f.has_place s u caller callee moved.cells name args entered is
+    has_place = (f.calls.tells s u caller callee moved.cells name args entered is).has_place
 
     front_in : Will w.im (front_code (knows.spot s) slot args) false (mk 0 ob fr 0 0 0 0 0 cs)
         (λ o. o ≡ Done (mk 0 ob (fr + 512) 0 0 0 0 place moved.cells) (12 + (10 * length args + 8)))
@@ -238,7 +238,7 @@ module _ (w : World) (knows : Known w) (f : FrameFacts w knows) (s : Scope) (nam
         (let z : package.Rattle.rpp_words.specs.Words.sum_of fr 512
         ≡ fr + 512 = (let t = frame_small in omega arith) in z)) here) in
         let fetched = will_fetch w.im ob (fr + 512) slot place moved.cells p.object_in p.small
-        (f.slot_small s name args is) p.entry_in p.apart p.entry place_small in
+        (f.calls.slot_small s name args is) p.entry_in p.apart p.entry place_small in
         will_two w.im depth_code (moves_code (knows.spot s) args ++ line (addi 4 512 ∷ fetch_row slot)) _ _ 12 _
         (depth_passes w.im ob fr cs e.cell_in e.small (end_fits st cs h false room) false (e.room room))
         (will_two w.im (moves_code (knows.spot s) args) (line (addi 4 512 ∷ fetch_row slot)) _ _ (10 * length args) _
@@ -256,11 +256,11 @@ module _ (w : World) (knows : Known w) (f : FrameFacts w knows) (s : Scope) (nam
         → Will w.im (front_code (knows.spot s) slot args) true (mk 0 ob (fr + 512) 0 0 0 0 place cs2)
         (Meets (Open w s u) w.rates n (8 + (10 * length args + 12)) (moves_home end))
     front_back n end cs2 g =
-        let p = f.has_place s u caller end cs2 name args g is in
-        let left = f.leaves s u caller end cs2 name args (pairs args vals) moved.cells moved.up g is in
-        let as_many = f.as_many s u caller end cs2 name args g is in
-        let unfetched = will_unfetch w.im ob (fr + 512) slot place cs2 p.object_in p.small (f.slot_small s name args is)
-        p.entry_in p.apart p.entry place_small in
+        let tells = f.calls.tells s u caller end cs2 name args g is in
+        let p = tells.has_place in
+        let left = f.calls.leaves s u caller end cs2 name args (pairs args vals) moved.cells moved.up g is in
+        let unfetched = will_unfetch w.im ob (fr + 512) slot place cs2 p.object_in p.small
+        (f.calls.slot_small s name args is) p.entry_in p.apart p.entry place_small in
         let down : Will w.im (line (addi 4 512 ∷ [])) true (mk 0 ob (fr + 512) 0 0 0 0 0 cs2)
         (λ o. o ≡ Done (mk 0 ob fr 0 0 0 0 0 cs2) 1) =
         will_row w.im true (addi 4 512 ∷ []) 1 _ _ (next refl (omega arith)
@@ -277,7 +277,7 @@ module _ (w : World) (knows : Known w) (f : FrameFacts w knows) (s : Scope) (nam
         (moves_home end)) =
         will_two_back w.im (moves_code (knows.spot s) args) (line (addi 4 512 ∷ fetch_row slot)) _ _ 8 _ both
         (will_more w.im _ true _ _ _ (λ o q. meets_later 8 q)
-        (all_back w knows f s u n args vars values home cs2 as_many few left)) in
+        (all_back w knows f s u n args vars values home cs2 tells.as_many few left)) in
         let all = then_quiet w.im true (Open w s u) (Open w s u) w.rates n 12 (8 + 10 * length args)
         (moves_code (knows.spot s) args ++ line (addi 4 512 ∷ fetch_row slot)) depth_code
         (mk 0 ob (fr + 512) 0 0 0 0 place cs2) (moves_home end) inner (λ a m i. checked a m i) in
@@ -301,10 +301,10 @@ module _ (w : World) (knows : Known w) (f : FrameFacts w knows) (s : Scope) (nam
         (in_direction (xor kind d) (w.routines.method r).body) callee)) (λ c end. moves_home end))))
     called n owes kind d =
         let t = told (exec w.setting n (in_direction (xor kind d) (w.routines.method r).body) callee) in
-        let so = f.same_object s u caller in
-        let nf = f.next_frame s u caller in
-        let body = enters_body w (w.routines.scope r) deep place r n (f.placed r known_routine) f.tidy refl
-        (owes n (omega arith) r known_routine) (f.fresh s u caller) kind d callee moved.cells entered in
+        let so = f.calls.same_object s u caller in
+        let nf = (f.calls.next s u caller).above in
+        let body = enters_body w (w.routines.scope r) deep place r n (f.image.placed r known_routine) f.image.tidy refl
+        (owes n (omega arith) r known_routine) (f.calls.next s u caller).fresh kind d callee moved.cells entered in
         let mid : Will w.im (enter_at_cells 12 kind) d (mk 0 ob (fr + 512) 0 0 0 0 place moved.cells)
         (Meets (InCall w (w.routines.scope r) deep place) w.rates n 55 t) =
         subst (λ x. Will w.im (enter_at_cells 12 kind) d (mk 0 x (fr + 512) 0 0 0 0 place moved.cells)
@@ -314,7 +314,7 @@ module _ (w : World) (knows : Known w) (f : FrameFacts w knows) (s : Scope) (nam
         wraps_spent w.im d (front_code (knows.spot s) slot args) (enter_at_cells 12 kind) _ _
         (InCall w (w.routines.scope r) deep place) (Open w s u) w.rates n 55 (8 + (10 * length args + 12))
         (12 + (10 * length args + 8)) (1 + length args) 0 t moves_home
-        f.counts (omega arith) (enough w.rates.steps (length args) f.thousand few) front_in mid (λ a m2 c e i.
+        f.image.counts (omega arith) (enough w.rates.steps (length args) f.image.thousand few) front_in mid (λ a m2 c e i.
         let known = as_known m2 _ (i.regs_are ∙ ap (λ o. registers 0 o (w.frame_of deep) 0 0 0 0 place) so
         ∙ ap (λ x. registers 0 ob x 0 0 0 0 place) nf) in
         subst (λ z. Will w.im (front_code (knows.spot s) slot args) true z
@@ -336,7 +336,7 @@ module _ (w : World) (knows : Known w) (f : FrameFacts w knows) (s : Scope) (nam
       (λ o. Q (after k1 o))) in
       let trap : (o : Outcome) → (k : ℕ) × (k ≤ 9) × (o ≡ Trapped 14 k)
       → Next W Q o = λ o t. subst (Next W Q) (sym t.2) (faults
-      (few_steps w.rates.steps (length args) t.0 f.thousand t.1)) in
+      (few_steps w.rates.steps (length args) t.0 f.image.thousand t.1)) in
       let first : Will w.im (front_code (knows.spot s) slot args) false (mk 0 ob fr 0 0 0 0 0 cs) (Next W Q) =
       will_seq w.im depth_code (moves_code (knows.spot s) args ++ line (addi 4 512 ∷ fetch_row slot)) _ (Next W Q)
       (will_more w.im depth_code false _ _ _ (λ o t. subst (Next _ (Next W Q)) (sym t.2)
@@ -373,7 +373,7 @@ module _ (w : World) (knows : Known w) (f : FrameFacts w knows) (s : Scope) (at 
   named : (u : w.Under) (st : State) (cs : List ℕ) (names : List Ident) → w.opens s u [] st cs
       → AllVariables w knows f s u names → cells_named w.setting st names ≡ cells_of w knows f s u names
   named u st cs [] h all = refl
-  named u st cs (x ∷ names) h all = ap (λ c. c ∷ cells_named w.setting st names) (f.means s u [] st cs x h all.0)
+  named u st cs (x ∷ names) h all = ap (λ c. c ∷ cells_named w.setting st names) ((f.steady s u [] st cs h).means x all.0)
       ∙ ap (λ l. knows.cell_of s u x ∷ l) (named u st cs names h all.1)
 
   law_by : (n : ℕ) → Owes w (suc n) → (d : Bool) (u : w.Under) (st : State) (m : Memory) → Open w s u st m → (b : Bool)
@@ -381,7 +381,7 @@ module _ (w : World) (knows : Known w) (f : FrameFacts w knows) (s : Scope) (at 
       → Will w.im (call_code (knows.spot s) back (knows.slot s name) args) d m
       (Meets (Open w s u) w.rates (suc n) 0 (told (one w.setting n (turned d (Call at back None name args)) st)))
   law_by n owes d u st m h true e =
-      let depth = f.depth_is s u [] st m.cells h.open_frame in
+      let depth = (f.steady s u [] st m.cells h.open_frame).depth_is in
       let deep : is_too_deep w.setting st ≡ true = ap (λ x. not (nat_lt x w.setting.limits.deep)) depth ∙ e in
       let said : told (one w.setting n (turned d (Call at back None name args)) st) ≡ Fault 14 (1 + length args) =
       ap (λ z. told (one w.setting n z st)) (turned_call d back at name args)
@@ -397,13 +397,15 @@ module _ (w : World) (knows : Known w) (f : FrameFacts w knows) (s : Scope) (at 
       let vals = vals_from cells st in
       let mine : w.opens s u (pairs args vals) caller (moved w knows f s name args is few u (vars u) st m.cells
       h.open_frame e).cells = (moved w knows f s name args is few u (vars u) st m.cells h.open_frame e).up in
-      let depth = f.depth_is s u [] st m.cells h.open_frame in
-      let open_yet : is_too_deep w.setting st ≡ false = ap (λ x. not (nat_lt x w.setting.limits.deep)) depth ∙ e in
+      let before = f.steady s u [] st m.cells h.open_frame in
+      let open_yet : is_too_deep w.setting st ≡ false = ap (λ x. not (nat_lt x w.setting.limits.deep)) before.depth_is
+      ∙ e in
       let method = w.routines.method (knows.routine (knows.class_of u) name) in
-      let em = ap (λ x. method_named w.setting.program x name.text) (f.class_is s u [] st m.cells h.open_frame)
-      ∙ f.is_method s u [] st m.cells name args h.open_frame is in
-      let es = f.self_is s u [] st m.cells h.open_frame ∙ sym (f.self_is s u (pairs args vals) caller _ mine) in
-      let ed = depth ∙ sym (f.depth_is s u (pairs args vals) caller _ mine) in
+      let em = ap (λ x. method_named w.setting.program x name.text) before.class_is
+      ∙ (f.calls.dispatches s u [] st m.cells name args h.open_frame is).is_method in
+      let after = f.steady s u (pairs args vals) caller _ mine in
+      let es = before.self_is ∙ sym after.self_is in
+      let ed = before.depth_is ∙ sym after.depth_is in
       let said = ap (λ z. told (one w.setting n z st)) (turned_call d back at name args)
       ∙ ap (λ z. told (one w.setting n (Call at z None name args) st)) (sym (same_way d back))
       ∙ says_called w.setting n (xor back d) at name args st method cells caller vals open_yet em

@@ -8,18 +8,18 @@ use Rattle.paired_code.specs.Does.{Fine}
 use Rattle.rpp_tree.specs.Tree.{Expression}
 use Rattle.class_table.specs.Classes.{method_named}
 use Rattle.paired_code.specs.Layout.{Routine, Tidy}
-use Rattle.roopl_semantics.specs.Store.{Value, Name, State, is_zero, is_nil, number_of, cleared}
+use Rattle.roopl_semantics.specs.Store.{Value, Name, Store, State, is_zero, is_nil, number_of, cleared}
 use Rattle.roopl_semantics.specs.Store.{same_value}
 use Rattle.roopl_semantics.specs.Value.{Cell, Slot, cell_named, own_class, read, written, evaluated}
 use Rattle.roopl_semantics.specs.Execution.{bound, opened, closed, class_of}
 use Rattle.rpp_words.specs.declared.input.FieldWord.{FieldWord}
 use Rattle.pisa_isa.specs.Loaded.{loaded}
 use Rattle.code_conventions.specs.declared.memory.TheConstants.{HEADER_WORDS, MAIN_OBJECT}
-use Rattle.code_conventions.specs.declared.memory.TheConstants.{PLACE_WORD}
+use Rattle.code_conventions.specs.declared.memory.TheConstants.{OBJECT_WORD, PLACE_WORD, TABLE_HEADER}
 use Rattle.roopl_semantics.specs.Source.{starting, main_body}
 use Rattle.roopl_semantics.specs.Layout.{layout}
 use Rattle.refine_form.specs.Form.{World, Scope, Moved, pairs, with_var, told}
-use Rattle.method_calls.specs.CallCode.{first_word}
+use Rattle.method_calls.specs.CallCode.{first_word, base_cell, end_cell}
 use Rattle.refine_form.specs.declared.spot.Spot.{Spot}
 use Rattle.refine_form.specs.declared.spot.Spot.TheVariants.{Field, Frame}
 
@@ -32,41 +32,47 @@ abbrev pub IsNear : Spot → Type 0
 IsNear (Field i) = i < 2 ^ 16
 IsNear (Frame j) = j < 2 ^ 16
 
--- a value goes from a cell of an open frame to an empty word of the frame above
-pub record MovesIn (cells : List ℕ) (at up : ℕ) (After : List ℕ → Type 0) : Type 0 where
+-- a cell of an open frame and a word of the frame above
+pub record AreApart (cells : List ℕ) (at up : ℕ) : Type 0 where
   pub at_in : at < length cells
   pub up_in : up < length cells
   pub apart : at ≢ up
+
+-- whether a cell is free for its word again: it still reads 0 or nil
+pub record IsFree (cells : List ℕ) (at : ℕ) (free : Bool) : Type 0 where
+  pub touched : free ≡ false → slice_index cells at ≢ 0
+  pub untouched : free ≡ true → slice_index cells at ≡ 0
+
+-- a value goes from a cell of an open frame to an empty word of the frame above
+pub record MovesIn (cells : List ℕ) (at up : ℕ) (After : List ℕ → Type 0) : Type 0 where
+  pub words : AreApart cells at up
   pub empty : slice_index cells up ≡ 0
   pub moved : After (slice_set (slice_set cells at 0) up (slice_index cells at))
 
--- and back, where the cell still reads 0 or nil
+-- and back, where the cell is free
 pub record MovesBack (cells : List ℕ) (at up : ℕ) (free : Bool) (After : List ℕ → Type 0) : Type 0
   where
-    pub at_in : at < length cells
-    pub up_in : up < length cells
-    pub apart : at ≢ up
-    pub touched : free ≡ false → slice_index cells at ≢ 0
-    pub untouched : free ≡ true → slice_index cells at ≡ 0
+    pub words : AreApart cells at up
+    pub cell : IsFree cells at free
     pub back : free ≡ true → After (slice_set (slice_set cells up 0) at (slice_index cells up))
 
--- the end of the stack in cell 4: it tells whether one more call may be open
+-- the end of the stack stands in its cell: it tells whether one more call may be open
 pub record HasEnd (cells : List ℕ) (frame : ℕ) (full : Bool) : Type 0 where
-  pub cell_in : 4 < length cells
-  pub small : slice_index cells 4 < 2 ^ 31
-  pub at_end : full ≡ true → frame + FRAME_WORDS ≡ slice_index cells 4
-  pub room : full ≡ false → frame + FRAME_WORDS < slice_index cells 4
+  pub cell_in : end_cell < length cells
+  pub small : slice_index cells end_cell < 2 ^ 31
+  pub at_end : full ≡ true → frame + FRAME_WORDS ≡ slice_index cells end_cell
+  pub room : full ≡ false → frame + FRAME_WORDS < slice_index cells end_cell
 
 -- the table of an object's class, and the place that stands in a slot: not in the object's own first
 -- word, which is 0 while the place is read
 pub record HasPlace (cells : List ℕ) (object slot place : ℕ) : Type 0 where
   pub object_in : object < length cells
   pub small : slice_index cells object < 2 ^ 23
-  pub entry_in : slice_index cells object + (1 + slot) < length cells
-  pub apart : slice_index cells object + (1 + slot) ≢ object
-  pub entry : slice_index cells (slice_index cells object + (1 + slot)) ≡ place
+  pub entry_in : slice_index cells object + (TABLE_HEADER + slot) < length cells
+  pub apart : slice_index cells object + (TABLE_HEADER + slot) ≢ object
+  pub entry : slice_index cells (slice_index cells object + (TABLE_HEADER + slot)) ≡ place
 
--- a frame's words 0 and 2
+-- a frame's words for a link and a place
 pub record HasWords (cells : List ℕ) (frame link place : ℕ) : Type 0 where
   pub words_in : frame + PLACE_WORD < length cells
   pub link_word : slice_index cells frame ≡ link
@@ -102,109 +108,173 @@ pub record Known (w : World) : Type 1 where
   -- the routine of a method in a class
   pub routine : ℕ → Ident → ℕ
 
--- what calls need of open frames, of the class table and of the image
-pub record FrameFacts (w : World) (knows : Known w) : Type 0 where
-  -- ---- the image: each routine stands in it, one jump stands before each place
+-- ---- what an open frame tells
+
+-- where the word of a name stands
+abbrev pub address_in : (w : World) → Known w → Scope → w.Under → Ident → ℕ
+address_in w knows s u name = address (w.object_of u) (w.frame_of u) (knows.spot s name)
+
+-- the word of the frame above for the argument before so many others
+abbrev pub argument_above : (w : World) → w.Under → ℕ → ℕ
+argument_above w u others = w.frame_of u + (FRAME_WORDS + (first_word + others))
+
+-- the word of the frame above for the present object
+abbrev pub object_above : (w : World) → w.Under → ℕ
+object_above w u = w.frame_of u + (FRAME_WORDS + OBJECT_WORD)
+
+-- what a name holds
+abbrev pub value_in : (w : World) → Known w → Scope → w.Under → State → Ident → Value
+value_in w knows s u st name = read st (knows.cell_of s u name)
+
+-- the state where it holds another value
+abbrev pub with_value : (w : World) → Known w → Scope → w.Under → State → Ident → Value → State
+with_value w knows s u st name v = written st (knows.cell_of s u name) v
+
+-- the state where its value has moved out
+abbrev pub without : (w : World) → Known w → Scope → w.Under → State → Ident → State
+without w knows s u st name = with_value w knows s u st name (cleared (value_in w knows s u st name))
+
+-- whether no more call may be open
+abbrev pub is_full : (w : World) → Known w → w.Under → Bool
+is_full w knows u = not (nat_lt (knows.depth_of u) w.setting.limits.deep)
+
+-- an open frame is steady: its addresses are small, its depth, its object and the object's class
+-- stay, and a name means the same cell all the while
+pub record IsSteady (w : World) (knows : Known w) (s : Scope) (u : w.Under) (st : State) : Type 0
+  where
+    pub object_small : w.object_of u < 2 ^ 23
+    pub frame_small : w.frame_of u < 2 ^ 23
+    pub depth_is : st.depth ≡ knows.depth_of u
+    pub self_is : st.self ≡ knows.self_of u
+    pub class_is : own_class st ≡ knows.class_of u
+    pub means : (name : Ident) → knows.IsVariable s name
+        → cell_named w.setting.program st name.text ≡ knows.cell_of s u name
+
+-- ---- what a call tells of the frame that it opens
+
+-- a call: what stays while it is open, and of which class the method is, by its name
+pub record Callee (w : World) : Type 0 where
+  pub under : w.Under
+  pub class : ℕ
+  pub name : Ident
+
+-- the routine of its method
+abbrev pub routine_of : (w : World) → Known w → Callee w → ℕ
+routine_of w knows callee = knows.routine callee.class callee.name
+
+-- the cells are those of the callee's frame, which is open
+abbrev pub OpensCallee : (w : World) → Known w → Callee w → State → List ℕ → Type 0
+OpensCallee w knows callee st cells =
+    w.opens (w.routines.scope (routine_of w knows callee)) callee.under [] st cells
+
+-- the state in which it begins, on an object, from the caller's state and store
+abbrev pub begun : (w : World) → Known w → Callee w → List Value → ℕ → Store → State → State
+begun w knows callee vals self store st = record {
+  frame = bound (w.routines.method (routine_of w knows callee)).params vals;
+  self = self;
+  depth = 1 + st.depth;
+  store = store;
+  log = st.log;
+}
+
+-- the values of its variables where it has ended
+abbrev pub last_values : State → List Value
+last_values end = map (λ binding. binding.value) end.frame
+
+-- the caller's state then
+abbrev pub resumed : State → State → State
+resumed st end = record st { store = end.store; log = end.log }
+
+-- its frame is the next one, and nothing is put by in it
+pub record IsNext (w : World) (u deeper : w.Under) : Type 0 where
+  pub fresh : w.IsFresh deeper
+  pub above : w.frame_of deeper ≡ w.frame_of u + FRAME_WORDS
+
+-- its routine is one of the image's, and runs the method that the class has for the name
+pub record RunsMethod (w : World) (knows : Known w) (class : ℕ) (name : Ident) : Type 0 where
+  pub is_routine : knows.routine class name < w.routines.count
+  pub is_method : method_named w.setting.program class name.text
+      ≡ w.routines.method (knows.routine class name)
+
+-- while it is open it has a variable for each argument, and the table of the object's class has the
+-- place of its routine
+pub record CalleeTells (w : World) (knows : Known w) (callee : Callee w) (object slot : ℕ)
+    (args : List Ident) (end : State) (cells : List ℕ) : Type 0 where
+  pub as_many : length (last_values end) ≡ length args
+  pub has_place : HasPlace cells object slot (w.routines.top (routine_of w knows callee) + 1)
+
+-- ---- what calls need of open frames, of the class table and of the image
+
+-- each routine stands in the image, with one jump before its place; a step stands for a count at
+-- least, and a count for a thousand steps
+pub record ImageFacts (w : World) : Type 0 where
   pub placed : (r : ℕ) → r < w.routines.count
       → Routine w.im (w.routines.number r) (w.routines.top r) (w.routines.body r)
   pub tidy : Tidy w.im
-  -- ---- the rates: a step stands for a count at least, a count for a thousand steps
   pub counts : 1 ≤ w.rates.counts
   pub thousand : w.rates.steps ≡ 1000
-  -- ---- facts of every open frame
-  -- the addresses are small
-  pub object_small : (s : Scope) (u : w.Under) (vals : List Moved) (st : State) (cells : List ℕ)
-      → w.opens s u vals st cells → w.object_of u < 2 ^ 23
-  pub frame_small : (s : Scope) (u : w.Under) (vals : List Moved) (st : State) (cells : List ℕ)
-      → w.opens s u vals st cells → w.frame_of u < 2 ^ 23
-  pub near : (s : Scope) (name : Ident) → knows.IsVariable s name → IsNear (knows.spot s name)
-  -- depth, object and class stay
-  pub depth_is : (s : Scope) (u : w.Under) (vals : List Moved) (st : State) (cells : List ℕ)
-      → w.opens s u vals st cells → st.depth ≡ knows.depth_of u
-  pub self_is : (s : Scope) (u : w.Under) (vals : List Moved) (st : State) (cells : List ℕ)
-      → w.opens s u vals st cells → st.self ≡ knows.self_of u
-  pub class_is : (s : Scope) (u : w.Under) (vals : List Moved) (st : State) (cells : List ℕ)
-      → w.opens s u vals st cells → own_class st ≡ knows.class_of u
-  -- a name means the same cell all the while
-  pub means : (s : Scope) (u : w.Under) (vals : List Moved) (st : State) (cells : List ℕ)
-      (name : Ident)
-      → w.opens s u vals st cells → knows.IsVariable s name
-      → cell_named w.setting.program st name.text ≡ knows.cell_of s u name
-  -- ---- the stack's end tells the depth
-  pub has_end : (s : Scope) (u : w.Under) (st : State) (cells : List ℕ) → w.opens s u [] st cells
-      → HasEnd cells (w.frame_of u) (not (nat_lt (knows.depth_of u) w.setting.limits.deep))
-  -- ---- moving one value up, and back
+
+-- the value of a variable moves into the frame above, while one more call may be open, and back
+pub record MoveFacts (w : World) (knows : Known w) : Type 0 where
   pub moves_in :
       (s : Scope) (u : w.Under) (vals : List Moved) (st : State) (cells : List ℕ) (name : Ident)
       → w.opens s u vals st cells → knows.IsVariable s name → length vals < 32
-      → not (nat_lt (knows.depth_of u) w.setting.limits.deep) ≡ false
-      → MovesIn cells (address (w.object_of u) (w.frame_of u) (knows.spot s name))
-      (w.frame_of u + (FRAME_WORDS + (first_word + length vals)))
-      (w.opens s u (record { from = name; value = read st (knows.cell_of s u name) } ∷ vals)
-      (written st (knows.cell_of s u name) (cleared (read st (knows.cell_of s u name)))))
+      → is_full w knows u ≡ false
+      → MovesIn cells (address_in w knows s u name) (argument_above w u (length vals))
+      (w.opens s u (record { from = name; value = value_in w knows s u st name } ∷ vals)
+      (without w knows s u st name))
   pub moves_back :
       (s : Scope) (u : w.Under) (v : Value) (vals : List Moved) (st : State) (cells : List ℕ)
       (name : Ident)
       → w.opens s u (record { from = name; value = v } ∷ vals) st cells → knows.IsVariable s name
-      → MovesBack cells (address (w.object_of u) (w.frame_of u) (knows.spot s name))
-      (w.frame_of u + (FRAME_WORDS + (first_word + length vals)))
-      (is_zero (read st (knows.cell_of s u name)))
-      (w.opens s u vals (written st (knows.cell_of s u name) v))
-  -- ---- a frame with all arguments above it is the callee's open frame, and back
+      → MovesBack cells (address_in w knows s u name) (argument_above w u (length vals))
+      (is_zero (value_in w knows s u st name))
+      (w.opens s u vals (with_value w knows s u st name v))
+
+-- a call on the present object, of the method that the object's class has
+abbrev pub own_callee : (w : World) → Known w → Scope → w.Under → State → Ident → Callee w
+own_callee w knows s u st name = record {
+  under = knows.deeper s u st;
+  class = knows.class_of u;
+  name = name;
+}
+
+-- a call on the present object has a routine; with all arguments in the frame above, that frame is
+-- the callee's, and where the method has ended, its variables are the arguments that have moved
+pub record OwnFacts (w : World) (knows : Known w) : Type 0 where
+  pub slot_small : (s : Scope) (name : Ident) (args : List Ident) → knows.IsMethod s name args
+      → knows.slot s name < 2 ^ 20
+  pub dispatches : (s : Scope) (u : w.Under) (vals : List Moved) (st : State) (cells : List ℕ)
+      (name : Ident) (args : List Ident)
+      → w.opens s u vals st cells → knows.IsMethod s name args
+      → RunsMethod w knows (knows.class_of u) name
+  pub next : (s : Scope) (u : w.Under) (st : State) → IsNext w u (knows.deeper s u st)
+  pub same_object : (s : Scope) (u : w.Under) (st : State)
+      → w.object_of (knows.deeper s u st) ≡ w.object_of u
   pub enters :
       (s : Scope) (u : w.Under) (vals : List Value) (st : State) (cells : List ℕ) (name : Ident)
       (args : List Ident)
       → w.opens s u (pairs args vals) st cells → knows.IsMethod s name args
-      → length vals ≡ length args
-      → not (nat_lt (knows.depth_of u) w.setting.limits.deep) ≡ false
-      → w.opens (w.routines.scope (knows.routine (knows.class_of u) name)) (knows.deeper s u st) []
-      (record {
-        frame = bound (w.routines.method (knows.routine (knows.class_of u) name)).params
-            vals;
-        self = st.self;
-        depth = 1 + st.depth;
-        store = st.store;
-        log = st.log;
-      }) cells
+      → length vals ≡ length args → is_full w knows u ≡ false
+      → OpensCallee w knows (own_callee w knows s u st name)
+      (begun w knows (own_callee w knows s u st name) vals st.self st.store st) cells
+  pub tells :
+      (s : Scope) (u : w.Under) (st end : State) (cells : List ℕ) (name : Ident) (args : List Ident)
+      → OpensCallee w knows (own_callee w knows s u st name) end cells
+      → knows.IsMethod s name args
+      → CalleeTells w knows (own_callee w knows s u st name) (w.object_of u) (knows.slot s name) args
+      end cells
   pub leaves :
       (s : Scope) (u : w.Under) (st end : State) (cells : List ℕ) (name : Ident) (args : List Ident)
       (vals : List Moved) (before : List ℕ)
       → w.opens s u vals st before
-      → w.opens (w.routines.scope (knows.routine (knows.class_of u) name)) (knows.deeper s u st) []
-      end cells
+      → OpensCallee w knows (own_callee w knows s u st name) end cells
       → knows.IsMethod s name args
-      → w.opens s u (pairs args (map (λ binding. binding.value) end.frame))
-      (record st { store = end.store; log = end.log }) cells
-  pub as_many :
-      (s : Scope) (u : w.Under) (st end : State) (cells : List ℕ) (name : Ident) (args : List Ident)
-      → w.opens (w.routines.scope (knows.routine (knows.class_of u) name)) (knows.deeper s u st) []
-      end cells
-      → knows.IsMethod s name args → length (map (λ binding. binding.value) end.frame) ≡ length args
-  pub same_object : (s : Scope) (u : w.Under) (st : State)
-      → w.object_of (knows.deeper s u st) ≡ w.object_of u
-  pub fresh : (s : Scope) (u : w.Under) (st : State) → w.IsFresh (knows.deeper s u st)
-  pub next_frame : (s : Scope) (u : w.Under) (st : State)
-      → w.frame_of (knows.deeper s u st) ≡ w.frame_of u + FRAME_WORDS
-  -- ---- the class table
-  pub is_routine : (s : Scope) (u : w.Under) (vals : List Moved) (st : State) (cells : List ℕ)
-      (name : Ident) (args : List Ident)
-      → w.opens s u vals st cells → knows.IsMethod s name args
-      → knows.routine (knows.class_of u) name < w.routines.count
-  pub is_method : (s : Scope) (u : w.Under) (vals : List Moved) (st : State) (cells : List ℕ)
-      (name : Ident) (args : List Ident)
-      → w.opens s u vals st cells → knows.IsMethod s name args
-      → method_named w.setting.program (knows.class_of u) name.text
-      ≡ w.routines.method (knows.routine (knows.class_of u) name)
-  pub has_place :
-      (s : Scope) (u : w.Under) (st end : State) (cells : List ℕ) (name : Ident) (args : List Ident)
-      → w.opens (w.routines.scope (knows.routine (knows.class_of u) name)) (knows.deeper s u st) []
-      end cells
-      → knows.IsMethod s name args
-      → HasPlace cells (w.object_of u) (knows.slot s name)
-      (w.routines.top (knows.routine (knows.class_of u) name) + 1)
-  pub slot_small : (s : Scope) (name : Ident) (args : List Ident) → knows.IsMethod s name args
-      → knows.slot s name < 2 ^ 20
-  -- ---- what is put by
+      → w.opens s u (pairs args (last_values end)) (resumed st end) cells
+
+-- the words of a fresh frame for a link and a place are 0; with these put by, the same object and
+-- frame are open, and where they are taken back, the frame is as before
+pub record PutFacts (w : World) (knows : Known w) : Type 0 where
   pub saves : (s : Scope) (u : w.Under) (st : State) (cells : List ℕ) → w.opens s u [] st cells
       → w.IsFresh u
       → HasWords cells (w.frame_of u) 0 0
@@ -224,6 +294,19 @@ pub record FrameFacts (w : World) (knows : Known w) : Type 0 where
   pub put_frame : (u : w.Under) (link place : ℕ)
       → w.frame_of (knows.put u link place) ≡ w.frame_of u
 
+-- all of this; each variable stands near, each open frame is steady, and the stack's end tells its
+-- depth
+pub record FrameFacts (w : World) (knows : Known w) : Type 0 where
+  pub image : ImageFacts w
+  pub near : (s : Scope) (name : Ident) → knows.IsVariable s name → IsNear (knows.spot s name)
+  pub steady : (s : Scope) (u : w.Under) (vals : List Moved) (st : State) (cells : List ℕ)
+      → w.opens s u vals st cells → IsSteady w knows s u st
+  pub has_end : (s : Scope) (u : w.Under) (st : State) (cells : List ℕ) → w.opens s u [] st cells
+      → HasEnd cells (w.frame_of u) (is_full w knows u)
+  pub moves : MoveFacts w knows
+  pub calls : OwnFacts w knows
+  pub puts : PutFacts w knows
+
 -- what main needs of them, for an input: its frame is the first one, and where it is the only one,
 -- the memory is the layout
 pub record MainFacts (w : World) (statics : List ℕ) (input : List FieldWord) : Type 0 where
@@ -237,9 +320,9 @@ pub record MainFacts (w : World) (statics : List ℕ) (input : List FieldWord) :
   pub starts : w.opens (w.routines.scope main) first [] (starting w.setting.program input)
       (loaded statics w.setting.limits input)
   pub base_in : (st : State) (cells : List ℕ) → w.opens (w.routines.scope main) first [] st cells
-      → 3 < length cells
+      → base_cell < length cells
   pub base_is : (st : State) (cells : List ℕ) → w.opens (w.routines.scope main) first [] st cells
-      → slice_index cells 3 ≡ w.frame_of first
+      → slice_index cells base_cell ≡ w.frame_of first
   pub ends : (st : State) (cells : List ℕ) → w.opens (w.routines.scope main) first [] st cells
       → cells ≡ layout w.setting.program w.setting.limits statics st.store st.log
 
@@ -303,22 +386,17 @@ pub record LocalFacts (w : World) (IsInit : Scope → Var → Expression → Typ
 
 -- the receiver's word leaves its cell, and the caller's object is put by in the frame above
 pub record GoesOn (cells : List ℕ) (at up object word : ℕ) (After : List ℕ → Type 0) : Type 0 where
-  pub at_in : at < length cells
-  pub up_in : up < length cells
-  pub apart : at ≢ up
+  pub words : AreApart cells at up
   pub empty : slice_index cells up ≡ 0
   pub word_is : slice_index cells at ≡ word
   pub moved : After (slice_set (slice_set cells at 0) up object)
 
--- and back, where the cell still reads nil
+-- and back, where the cell is free
 pub record ComesBack (cells : List ℕ) (at up object word : ℕ) (free : Bool)
     (After : List ℕ → Type 0) : Type 0 where
-  pub at_in : at < length cells
-  pub up_in : up < length cells
-  pub apart : at ≢ up
+  pub words : AreApart cells at up
   pub saved : slice_index cells up ≡ object
-  pub touched : free ≡ false → slice_index cells at ≢ 0
-  pub untouched : free ≡ true → slice_index cells at ≡ 0
+  pub cell : IsFree cells at free
   pub back : free ≡ true → After (slice_set (slice_set cells up 0) at word)
 
 -- what is known of receivers: a variable x whose class has the method, with so many arguments; the
@@ -330,132 +408,88 @@ pub record Receivers (w : World) : Type 1 where
   pub deeper_on : Scope → w.Under → State → ℕ → w.Under
   pub IsFor : Scope → Ident → ℕ → Type 0
 
--- what a call on the object of a variable needs beside
-pub record ReceiverFacts (w : World) (knows : Known w) (on : Receivers w) : Type 0 where
+-- a call on the object n of a receiver, from the caller's state without it: its class has the method
+abbrev pub callee_on : (w : World) → Known w → Receivers w → Scope → w.Under → State → ℕ → Ident
+    → Callee w
+callee_on w knows on s u st n name = record {
+  under = on.deeper_on s u st n;
+  class = knows.class_of (on.deeper_on s u st n);
+  name = name;
+}
+
+-- the word of a receiver x: 0 for nil, else an address, where x names an object
+pub record ReceiverWord (w : World) (knows : Known w) (s : Scope) (u : w.Under) (st : State)
+    (cells : List ℕ) (x : Ident) : Type 0 where
+  pub at_in : address_in w knows s u x < length cells
+  pub small : slice_index cells (address_in w knows s u x) < 2 ^ 31
+  pub nil_word : is_nil (value_in w knows s u st x) ≡ true
+      → slice_index cells (address_in w knows s u x) ≡ 0
+  pub name_word : is_nil (value_in w knows s u st x) ≡ false
+      → 0 < slice_index cells (address_in w knows s u x)
+  pub is_name : is_nil (value_in w knows s u st x) ≡ false
+      → value_in w knows s u st x ≡ Name (number_of (value_in w knows s u st x))
+
+-- an object n of the state may stand in the variable x, and its class has the method
+pub record FindsMethod (w : World) (knows : Known w) (on : Receivers w) (s : Scope) (st : State)
+    (x : Ident) (n : ℕ) (callee : Callee w) : Type 0 where
+  pub suits : on.IsFor s x callee.class
+  pub class_is : class_of w.setting st n ≡ callee.class
+  pub runs : RunsMethod w knows callee.class callee.name
+
+-- a receiver is a variable whose word tells its object, and whose cell reads what was written
+pub record ReceiverWords (w : World) (knows : Known w) (on : Receivers w) : Type 0 where
   pub is_variable : (s : Scope) (x name : Ident) (args : List Ident) → on.IsReceiver s x name args
       → knows.IsVariable s x
-  pub slot_small : (s : Scope) (x name : Ident) (args : List Ident) → on.IsReceiver s x name args
-      → on.slot_on s x name < 2 ^ 20
-  pub fresh_on : (s : Scope) (u : w.Under) (st : State) (n : ℕ) → w.IsFresh (on.deeper_on s u st n)
-  pub next_frame_on : (s : Scope) (u : w.Under) (st : State) (n : ℕ)
-      → w.frame_of (on.deeper_on s u st n) ≡ w.frame_of u + FRAME_WORDS
-  -- the word of a receiver: 0 for nil, else an address
-  pub at_in : (s : Scope) (u : w.Under) (st : State) (cells : List ℕ) (x name : Ident)
+  pub word : (s : Scope) (u : w.Under) (st : State) (cells : List ℕ) (x name : Ident)
       (args : List Ident)
-      → w.opens s u [] st cells → on.IsReceiver s x name args
-      → address (w.object_of u) (w.frame_of u) (knows.spot s x) < length cells
-  pub word_small : (s : Scope) (u : w.Under) (st : State) (cells : List ℕ) (x name : Ident)
-      (args : List Ident)
-      → w.opens s u [] st cells → on.IsReceiver s x name args
-      → slice_index cells (address (w.object_of u) (w.frame_of u) (knows.spot s x)) < 2 ^ 31
-  pub nil_word : (s : Scope) (u : w.Under) (st : State) (cells : List ℕ) (x name : Ident)
-      (args : List Ident)
-      → w.opens s u [] st cells → on.IsReceiver s x name args
-      → is_nil (read st (knows.cell_of s u x)) ≡ true
-      → slice_index cells (address (w.object_of u) (w.frame_of u) (knows.spot s x)) ≡ 0
-  pub name_word : (s : Scope) (u : w.Under) (st : State) (cells : List ℕ) (x name : Ident)
-      (args : List Ident)
-      → w.opens s u [] st cells → on.IsReceiver s x name args
-      → is_nil (read st (knows.cell_of s u x)) ≡ false
-      → 0 < slice_index cells (address (w.object_of u) (w.frame_of u) (knows.spot s x))
-  pub is_name : (s : Scope) (u : w.Under) (st : State) (cells : List ℕ) (x name : Ident)
-      (args : List Ident)
-      → w.opens s u [] st cells → on.IsReceiver s x name args
-      → is_nil (read st (knows.cell_of s u x)) ≡ false
-      → read st (knows.cell_of s u x) ≡ Name (number_of (read st (knows.cell_of s u x)))
-  -- its cell is there, so that it reads what was written
+      → w.opens s u [] st cells → on.IsReceiver s x name args → ReceiverWord w knows s u st cells x
   pub is_there : (s : Scope) (u : w.Under) (vals : List Moved) (st : State) (v : Value)
       (cells : List ℕ) (x name : Ident) (args : List Ident)
-      → w.opens s u vals (written st (knows.cell_of s u x) v) cells → on.IsReceiver s x name args
-      → read (written st (knows.cell_of s u x) v) (knows.cell_of s u x) ≡ v
-  -- which method it is, of an object that may stand in the variable
-  pub is_for : (s : Scope) (u : w.Under) (st caller : State) (cells : List ℕ) (x name : Ident)
+      → w.opens s u vals (with_value w knows s u st x v) cells → on.IsReceiver s x name args
+      → value_in w knows s u (with_value w knows s u st x v) x ≡ v
+
+-- a call on its object has a routine; with all arguments and the caller's object in the frame
+-- above, that frame is the callee's, and where the method has ended, the receiver comes back
+pub record OnFacts (w : World) (knows : Known w) (on : Receivers w) : Type 0 where
+  pub slot_small : (s : Scope) (x name : Ident) (args : List Ident) → on.IsReceiver s x name args
+      → on.slot_on s x name < 2 ^ 20
+  pub dispatches : (s : Scope) (u : w.Under) (st caller : State) (cells : List ℕ) (x name : Ident)
       (args : List Ident)
       → w.opens s u [] st cells → on.IsReceiver s x name args
-      → is_nil (read st (knows.cell_of s u x)) ≡ false
+      → is_nil (value_in w knows s u st x) ≡ false
       → caller ≡ out_from (knows.cell_of s u x ∷ map (knows.cell_of s u) args) st
-      → on.IsFor s x (knows.class_of
-      (on.deeper_on s u caller (number_of (read st (knows.cell_of s u x)))))
-  pub class_on : (s : Scope) (u : w.Under) (st caller : State) (cells : List ℕ) (x name : Ident)
-      (args : List Ident)
-      → w.opens s u [] st cells → on.IsReceiver s x name args
-      → is_nil (read st (knows.cell_of s u x)) ≡ false
-      → caller ≡ out_from (knows.cell_of s u x ∷ map (knows.cell_of s u) args) st
-      → class_of w.setting st (number_of (read st (knows.cell_of s u x)))
-      ≡ knows.class_of (on.deeper_on s u caller (number_of (read st (knows.cell_of s u x))))
-  pub routine_on : (s : Scope) (u : w.Under) (st caller : State) (cells : List ℕ) (x name : Ident)
-      (args : List Ident)
-      → w.opens s u [] st cells → on.IsReceiver s x name args
-      → is_nil (read st (knows.cell_of s u x)) ≡ false
-      → caller ≡ out_from (knows.cell_of s u x ∷ map (knows.cell_of s u) args) st
-      → knows.routine (knows.class_of
-      (on.deeper_on s u caller (number_of (read st (knows.cell_of s u x))))) name
-      < w.routines.count
-  pub method_on : (s : Scope) (u : w.Under) (st caller : State) (cells : List ℕ) (x name : Ident)
-      (args : List Ident)
-      → w.opens s u [] st cells → on.IsReceiver s x name args
-      → is_nil (read st (knows.cell_of s u x)) ≡ false
-      → caller ≡ out_from (knows.cell_of s u x ∷ map (knows.cell_of s u) args) st
-      → method_named w.setting.program
-      (knows.class_of (on.deeper_on s u caller (number_of (read st (knows.cell_of s u x)))))
-      name.text ≡ w.routines.method
-      (knows.routine (knows.class_of
-      (on.deeper_on s u caller (number_of (read st (knows.cell_of s u x))))) name)
-  -- the last move, and the callee's frame is open: st has its arguments moved, and its receiver not
-  -- yet
-  pub enters_on :
+      → FindsMethod w knows on s st x (number_of (value_in w knows s u st x))
+      (callee_on w knows on s u caller (number_of (value_in w knows s u st x)) name)
+  pub next : (s : Scope) (u : w.Under) (st : State) (n : ℕ) → IsNext w u (on.deeper_on s u st n)
+  pub enters :
       (s : Scope) (u : w.Under) (vals : List Value) (st : State) (cells : List ℕ) (x name : Ident)
       (args : List Ident) (n : ℕ)
       → w.opens s u (pairs args vals) st cells → on.IsReceiver s x name args
-      → length vals ≡ length args
-      → not (nat_lt (knows.depth_of u) w.setting.limits.deep) ≡ false
-      → is_nil (read st (knows.cell_of s u x)) ≡ false
-      → number_of (read st (knows.cell_of s u x)) ≡ n
-      → GoesOn cells (address (w.object_of u) (w.frame_of u) (knows.spot s x))
-      (w.frame_of u + (FRAME_WORDS + 1)) (w.object_of u)
-      (w.object_of (on.deeper_on s u
-      (written st (knows.cell_of s u x) (cleared (read st (knows.cell_of s u x)))) n))
-      (w.opens (w.routines.scope
-      (knows.routine (knows.class_of
-      (on.deeper_on s u (written st (knows.cell_of s u x)
-      (cleared (read st (knows.cell_of s u x)))) n)) name))
-      (on.deeper_on s u (written st (knows.cell_of s u x)
-      (cleared (read st (knows.cell_of s u x)))) n) []
-      (record {
-        frame = bound (w.routines.method
-            (knows.routine (knows.class_of
-            (on.deeper_on s u (written st (knows.cell_of s u x)
-            (cleared (read st (knows.cell_of s u x)))) n)) name)).params vals;
-        self = n;
-        depth = 1 + st.depth;
-        store = (written st (knows.cell_of s u x)
-            (cleared (read st (knows.cell_of s u x)))).store;
-        log = st.log;
-      }))
-  pub leaves_on :
-      (s : Scope) (u : w.Under) (st0 st end : State) (cells : List ℕ) (x name : Ident)
-      (args : List Ident) (n : ℕ) (vals : List Moved) (before : List ℕ)
-      → w.opens s u vals st0 before
-      → st ≡ written st0 (knows.cell_of s u x) (cleared (read st0 (knows.cell_of s u x)))
-      → w.opens (w.routines.scope (knows.routine (knows.class_of (on.deeper_on s u st n)) name))
-      (on.deeper_on s u st n) [] end cells
-      → on.IsReceiver s x name args → on.IsFor s x (knows.class_of (on.deeper_on s u st n))
-      → ComesBack cells (address (w.object_of u) (w.frame_of u) (knows.spot s x))
-      (w.frame_of u + (FRAME_WORDS + 1)) (w.object_of u) (w.object_of (on.deeper_on s u st n))
-      (is_zero (read (record st { store = end.store; log = end.log }) (knows.cell_of s u x)))
-      (w.opens s u (pairs args (map (λ binding. binding.value) end.frame))
-      (written (record st { store = end.store; log = end.log }) (knows.cell_of s u x) (Name n)))
-  pub as_many_on : (s : Scope) (u : w.Under) (st end : State) (cells : List ℕ) (x name : Ident)
+      → length vals ≡ length args → is_full w knows u ≡ false
+      → is_nil (value_in w knows s u st x) ≡ false → number_of (value_in w knows s u st x) ≡ n
+      → GoesOn cells (address_in w knows s u x) (object_above w u) (w.object_of u)
+      (w.object_of (on.deeper_on s u (without w knows s u st x) n))
+      (OpensCallee w knows (callee_on w knows on s u (without w knows s u st x) n name)
+      (begun w knows (callee_on w knows on s u (without w knows s u st x) n name) vals n
+      (without w knows s u st x).store st))
+  pub tells : (s : Scope) (u : w.Under) (st end : State) (cells : List ℕ) (x name : Ident)
       (args : List Ident) (n : ℕ)
-      → w.opens (w.routines.scope (knows.routine (knows.class_of (on.deeper_on s u st n)) name))
-      (on.deeper_on s u st n) [] end cells
+      → OpensCallee w knows (callee_on w knows on s u st n name) end cells
       → on.IsReceiver s x name args → on.IsFor s x (knows.class_of (on.deeper_on s u st n))
-      → length (map (λ binding. binding.value) end.frame) ≡ length args
-  pub place_on :
-      (s : Scope) (u : w.Under) (st end : State) (cells : List ℕ) (x name : Ident)
-      (args : List Ident) (n : ℕ)
-      → w.opens (w.routines.scope (knows.routine (knows.class_of (on.deeper_on s u st n)) name))
-      (on.deeper_on s u st n) [] end cells
+      → CalleeTells w knows (callee_on w knows on s u st n name)
+      (w.object_of (on.deeper_on s u st n)) (on.slot_on s x name) args end cells
+  pub leaves :
+      (s : Scope) (u : w.Under) (before st end : State) (cells : List ℕ) (x name : Ident)
+      (args : List Ident) (n : ℕ) (vals : List Moved) (cells_before : List ℕ)
+      → w.opens s u vals before cells_before → st ≡ without w knows s u before x
+      → OpensCallee w knows (callee_on w knows on s u st n name) end cells
       → on.IsReceiver s x name args → on.IsFor s x (knows.class_of (on.deeper_on s u st n))
-      → HasPlace cells (w.object_of (on.deeper_on s u st n)) (on.slot_on s x name)
-      (w.routines.top (knows.routine (knows.class_of (on.deeper_on s u st n)) name) + 1)
+      → ComesBack cells (address_in w knows s u x) (object_above w u) (w.object_of u)
+      (w.object_of (on.deeper_on s u st n)) (is_zero (value_in w knows s u (resumed st end) x))
+      (w.opens s u (pairs args (last_values end))
+      (with_value w knows s u (resumed st end) x (Name n)))
+
+-- what a call on the object of a variable needs beside
+pub record ReceiverFacts (w : World) (knows : Known w) (on : Receivers w) : Type 0 where
+  pub words : ReceiverWords w knows on
+  pub calls : OnFacts w knows on

@@ -23,7 +23,7 @@ use Rattle.meaning_sound.proofs.Classes.{KnowsClasses}
 use Rattle.meaning_sound.proofs.Invocations.{types_of_params}
 use Rattle.meaning_sound.proofs.Values.{variable_fits}
 use Rattle.refine_form.specs.Form.{Scope, Moved, Routines, pairs}
-use Rattle.method_calls.specs.Facts.{FrameFacts}
+use Rattle.method_calls.specs.Facts.{IsSteady, ImageFacts, MoveFacts, OwnFacts, PutFacts, FrameFacts}
 use Rattle.refine_form.specs.Frames.{Under, cell_in, cell_at, OpenFrame}
 use Rattle.refine_calls.proofs.FramesFit.{means, class_stays, enters, leaves}
 use Rattle.refine_form.specs.Stands.{local_of, shape_of, extra, moved_values, Stands}
@@ -38,7 +38,7 @@ use Rattle.meaning_sound.proofs.Accepted.{knows_classes}
 use Rattle.meaning_sound.proofs.Plainness.{program_plain}
 use Rattle.refine_form.specs.Worlds.{Place, world_of}
 use Rattle.method_calls.specs.Facts.{HasPlace}
-use Rattle.method_calls.specs.Names.{AllTyped, HasMethod, deeper, known_of}
+use Rattle.method_calls.specs.Names.{AllTyped, HasMethod, deeper, known_of, slot_of}
 use Rattle.refine_calls.specs.Laws.{Route, IsLinked}
 use Rattle.refine_calls.proofs.Bridge.{reads_of}
 
@@ -215,51 +215,78 @@ module _ (place : Place) (routine : ℕ → Ident → ℕ) (linked : IsLinked pl
         counts = counts_leave setting statics s s' u st end args moved h.keeps o.keeps kinds many o.counts;
       }
 
-  pub frame_facts : FrameFacts (world_of place) (known_of place routine)
-  frame_facts = record {
-    placed = linked.placed;
-    tidy = linked.tidy;
-    counts = omega arith;
-    thousand = refl;
-    object_small = λ s u moved st cells h. object_small setting statics linked.few s u moved st cells h;
-    frame_small = λ s u moved st cells h. frame_small setting statics linked.few s u moved st cells h;
-    near = λ s name v. v.near;
-    depth_is = λ s u moved st cells h. h.frame.depth_is;
-    self_is = λ s u moved st cells h. h.frame.self_is;
-    class_is = λ s u moved st cells h. class_stays setting statics s u (moved_values setting statics moved) st cells
-        h.frame;
-    means = λ s u moved st cells name h v. cell_is setting statics classes s u moved st cells (reads_of h) name v;
-    has_end = λ s u st cells h. frame_end setting statics linked.few s u st cells h;
+  image_facts : ImageFacts (world_of place)
+  image_facts = record { placed = linked.placed; tidy = linked.tidy; counts = omega arith; thousand = refl }
+
+  move_facts : MoveFacts (world_of place) (known_of place routine)
+  move_facts = record {
     moves_in = λ s u moved st cells name h v l room. moves_in setting statics classes s u moved st cells name h v l
         (let d = h.frame.depth_is in let q = not_full (1 + length u.callers) setting.limits.deep room in
         omega (arith, d, q));
     moves_back = λ s u v moved st cells name h var. moves_back setting statics classes s u v moved st cells name h var;
+  }
+
+  -- the table of the object's class has the routine's place
+  place_in_table : (s : Scope) (u : Under) (st end : State) (cells : List ℕ) (name : Ident) (args : List Ident)
+      → Stands setting statics (scope_of u name) (deeper s u st) [] end cells
+      → (m : HasMethod program s s.class name args)
+      → HasPlace cells u.object (slot_of program s.class name) (routines.top (routine u.class name) + 1)
+  place_in_table s u st end cells name args o m =
+      let r = open_route s u st end cells name args o m in
+      let above = open_above s u st end cells name o in
+      let low = (dispatched_method program linked.accepted u.class s.class m.slot name.text
+      (own_range program u.class s.class above m.inside) above m.is_slot).low in
+      let t = table_read setting statics linked.few linked.image linked.has linked.statics_are (scope_of u name)
+      (deeper s u st) [] end cells o m.slot low in
+      subst (λ z. HasPlace cells u.object z (routines.top (routine u.class name) + 1))
+      (sym (ap (λ o. unwrap_or o 0) m.is_slot)) (subst (λ p. HasPlace cells u.object m.slot p) r.place_is t)
+
+  own_facts : OwnFacts (world_of place) (known_of place routine)
+  own_facts = record {
+    slot_small = λ s name args m. subst (λ z. z < 2 ^ 20) (sym (ap (λ o. unwrap_or o 0) m.is_slot)) m.small;
+    dispatches = λ s u moved st cells name args h m.
+        let r = route_of s u.class s.class name args (above_own s u moved st cells h) m in
+        record { is_routine = r.below; is_method = r.method_is };
+    next = λ s u st. record { fresh = record { is = refl }; above = omega arith };
+    same_object = λ s u st. refl;
     enters = λ s u vals st cells name args h m many room. enters_in s u vals st cells name args h m many
         (let d = h.frame.depth_is in let q = not_full (1 + length u.callers) setting.limits.deep room in
         omega (arith, d, q));
+    tells = λ s u st end cells name args o m. record {
+      as_many = as_many s u st end cells name args o m;
+      has_place = place_in_table s u st end cells name args o m;
+    };
     leaves = λ s u st end cells name args moved before h o m. leaves_out s u st end cells name args moved before h o m;
-    as_many = λ s u st end cells name args o m. as_many s u st end cells name args o m;
-    same_object = λ s u st. refl;
-    fresh = λ s u st. record { is = refl };
-    next_frame = λ s u st. omega arith;
-    is_routine = λ s u moved st cells name args h m. (route_of s u.class s.class name args
-        (above_own s u moved st cells h) m).below;
-    is_method = λ s u moved st cells name args h m. (route_of s u.class s.class name args
-        (above_own s u moved st cells h) m).method_is;
-    has_place = λ s u st end cells name args o m.
-        let r = open_route s u st end cells name args o m in
-        let above = open_above s u st end cells name o in
-        let low = (dispatched_method program linked.accepted u.class s.class m.slot name.text
-        (own_range program u.class s.class above m.inside) above m.is_slot).low in
-        let t = table_read setting statics linked.few linked.image linked.has linked.statics_are (scope_of u name)
-        (deeper s u st) [] end cells o m.slot low in
-        subst (λ z. HasPlace cells u.object z (routines.top (routine u.class name) + 1))
-        (sym (ap (λ o. unwrap_or o 0) m.is_slot)) (subst (λ p. HasPlace cells u.object m.slot p) r.place_is t);
-    slot_small = λ s name args m. subst (λ z. z < 2 ^ 20) (sym (ap (λ o. unwrap_or o 0) m.is_slot)) m.small;
+  }
+
+  put_facts : PutFacts (world_of place) (known_of place routine)
+  put_facts = record {
     saves = λ s u st cells h f. saves setting statics linked.few s u st cells h f;
     put_opens = λ s u st cells link place h f lw pw. puts setting statics linked.few s u st cells link place h f lw pw;
     put_words = λ s u st cells link place h f. put_words setting statics linked.few s u st cells link place h;
     put_back = λ s u st cells link place h f. puts_back setting statics linked.few s u st cells link place h f;
     put_object = λ u link place. refl;
     put_frame = λ u link place. refl;
+  }
+
+  steady : (s : Scope) (u : Under) (moved : List Moved) (st : State) (cells : List ℕ)
+      → Stands setting statics s u moved st cells → IsSteady (world_of place) (known_of place routine) s u st
+  steady s u moved st cells h = record {
+    object_small = object_small setting statics linked.few s u moved st cells h;
+    frame_small = frame_small setting statics linked.few s u moved st cells h;
+    depth_is = h.frame.depth_is;
+    self_is = h.frame.self_is;
+    class_is = class_stays setting statics s u (moved_values setting statics moved) st cells h.frame;
+    means = λ name v. cell_is setting statics classes s u moved st cells (reads_of h) name v;
+  }
+
+  pub frame_facts : FrameFacts (world_of place) (known_of place routine)
+  frame_facts = record {
+    image = image_facts;
+    near = λ s name v. v.near;
+    steady = λ s u moved st cells h. steady s u moved st cells h;
+    has_end = λ s u st cells h. frame_end setting statics linked.few s u st cells h;
+    moves = move_facts;
+    calls = own_facts;
+    puts = put_facts;
   }

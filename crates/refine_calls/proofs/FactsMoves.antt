@@ -160,9 +160,11 @@ module _ (setting : Setting) (statics : List ℕ) (classes : KnowsClasses settin
       ∙ ap (slice_set (slice_set cells (place_of setting statics at u st c)
       (value_word setting statics at (cleared v))) up0) got in
       record {
-        at_in = omega (arith, where_is, inside);
-        up_in = omega (arith, all, d, room, few);
-        apart = λ e. omega (arith, e, where_is, low, vars);
+        words = record {
+          at_in = omega (arith, where_is, inside);
+          up_in = omega (arith, all, d, room, few);
+          apart = λ e. omega (arith, e, where_is, low, vars);
+        };
         empty = ap (slice_index cells) (sym up_same) ∙ up_empty setting statics s u (moved_values setting statics moved)
             st cells h.frame long fv room;
         moved = record {
@@ -216,11 +218,15 @@ module _ (setting : Setting) (statics : List ℕ) (classes : KnowsClasses settin
       let untouched : is_zero (read st c) ≡ true → slice_index cells P ≡ 0 = λ e. got
       ∙ zero_word setting statics at (read st c) e in
       record {
-        at_in = omega (arith, where_is, inside);
-        up_in = omega (arith, all, d, room, few);
-        apart = apart;
-        touched = λ e z. other_word setting statics at (read st c) pos e (sym got ∙ z);
-        untouched = untouched;
+        words = record {
+          at_in = omega (arith, where_is, inside);
+          up_in = omega (arith, all, d, room, few);
+          apart = apart;
+        };
+        cell = record {
+          touched = λ e z. other_word setting statics at (read st c) pos e (sym got ∙ z);
+          untouched = untouched;
+        };
         back = λ e.
             let k = kept_back setting statics s u x moved st t h.keeps e in
             let f1 = frame_write setting statics s u (x ∷ moved) st cells (reads_of h) c var.kind v has in

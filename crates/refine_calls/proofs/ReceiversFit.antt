@@ -31,7 +31,8 @@ use Rattle.refine_form.specs.Frames.{Under, base, stack_base, address_of, value_
 use Rattle.refine_form.specs.Frames.{OpenFrame}
 use Rattle.refine_form.specs.Stands.{shape_of, extra, moved_values, spot_in, setup, Kept, Reads, Stands}
 use Rattle.refine_form.specs.Worlds.{Place, world_of}
-use Rattle.method_calls.specs.Facts.{ReceiverFacts, GoesOn, ComesBack, HasPlace, address, out_from}
+use Rattle.method_calls.specs.Facts.{ReceiverWords, OnFacts, ReceiverFacts, GoesOn, ComesBack, HasPlace, address}
+use Rattle.method_calls.specs.Facts.{out_from}
 use Rattle.method_calls.specs.Names.{IsReceiver, IsVariable, class_named, class_found, slot_of, deeper, deeper_on}
 use Rattle.method_calls.specs.Names.{known_of, receivers_of}
 use Rattle.refine_calls.specs.Laws.{Route, IsLinked}
@@ -478,10 +479,12 @@ module _ (place : Place) (routine : ℕ → Ident → ℕ) (linked : IsLinked pl
         (Stands setting statics s1 (deeper_on place s u st1 n) []
         (callee_at (routines.method (routine (own_of st1 n) name)).params st.depth st.log))
     goes_on = record {
-      at_in = inside s u moved1 st cells h x name args r;
-      up_in = (let l = frame_long setting statics s u moved1 st cells (reads_of h) in let d = h.frame.depth_is in
-          omega (arith, l, d, room));
-      apart = apart1;
+      words = record {
+        at_in = inside s u moved1 st cells h x name args r;
+        up_in = (let l = frame_long setting statics s u moved1 st cells (reads_of h) in let d = h.frame.depth_is in
+            omega (arith, l, d, room));
+        apart = apart1;
+      };
       empty = empty1;
       word_is = word1;
       moved = stands_here;
@@ -692,17 +695,21 @@ module _ (place : Place) (routine : ℕ → Ident → ℕ) (linked : IsLinked pl
       pub comes_back : ComesBack cells at2 up2 u.object on2.object (is_zero (read home2 c2))
           (Stands setting statics s u args2 (written home2 c2 (Name n)))
       comes_back = record {
-        at_in = (let l = cell_inside setting statics s u args2 home2 cells3 reads_home c2 k2 x_has in
-            let d = length-set cells up_end 0 in omega (arith, where2, l, d));
-        up_in = (let l = frame_long setting statics s2 on2 [] end cells (reads_of o) in let d = o.frame.depth_is in
-            let i = o.frame.in_depth in omega (arith, l, d, i));
-        apart = apart2;
+        words = record {
+          at_in = (let l = cell_inside setting statics s u args2 home2 cells3 reads_home c2 k2 x_has in
+              let d = length-set cells up_end 0 in omega (arith, where2, l, d));
+          up_in = (let l = frame_long setting statics s2 on2 [] end cells (reads_of o) in let d = o.frame.depth_is in
+              let i = o.frame.in_depth in omega (arith, l, d, i));
+          apart = apart2;
+        };
         saved = ap (slice_index cells) (sym up_end_is) ∙ object_word setting statics s2 on2 [] end cells o.frame 0
             u.object 0 (replicate 13 0) refl long2;
-        touched = λ e z. (let b : 40 + length statics ≤ base setting statics = base_above (setup setting statics) in
-            other_word setting statics reads_home.frame.at (read home2 c2) (omega (arith, b)) e
-            (sym got2 ∙ sym unchanged2 ∙ z));
-        untouched = λ e. unchanged2 ∙ got2 ∙ zero_word setting statics reads_home.frame.at (read home2 c2) e;
+        cell = record {
+          touched = λ e z. (let b : 40 + length statics ≤ base setting statics = base_above (setup setting statics) in
+              other_word setting statics reads_home.frame.at (read home2 c2) (omega (arith, b)) e
+              (sym got2 ∙ sym unchanged2 ∙ z));
+          untouched = λ e. unchanged2 ∙ got2 ∙ zero_word setting statics reads_home.frame.at (read home2 c2) e;
+        };
         back = came;
       }
 
@@ -792,30 +799,43 @@ module _ (place : Place) (routine : ℕ → Ident → ℕ) (linked : IsLinked pl
       (subst (λ z. Stands setting statics (scope_on z n name) (deeper_on place s u z n) [] end cells) out o)
       (subst (λ z. is_or_inherits program (own_of z n) (class_named program s x) ≡ true) out suits))
 
-  pub receiver_facts : ReceiverFacts (world_of place) (known_of place routine) (receivers_of place)
-  receiver_facts = record {
+  receiver_words : ReceiverWords (world_of place) (known_of place routine) (receivers_of place)
+  receiver_words = record {
     is_variable = λ s x name args r. as_variable s x name args r;
-    slot_small = λ s x name args r. subst (λ z. z < 2 ^ 20) (sym (slot_is s x name args r)) r.method.small;
-    fresh_on = λ s u st n. record { is = refl };
-    next_frame_on = λ s u st n. omega arith;
-    at_in = λ s u st cells x name args h r. inside s u [] st cells h x name args r;
-    word_small = λ s u st cells x name args h r. small s u [] st cells h x name args r;
-    nil_word = λ s u st cells x name args h r e. nil_word s u [] st cells h x name args r e;
-    name_word = λ s u st cells x name args h r e. name_word s u [] st cells h x name args r e;
-    is_name = λ s u st cells x name args h r e. is_name s u [] st cells h x name args r e;
+    word = λ s u st cells x name args h r. record {
+      at_in = inside s u [] st cells h x name args r;
+      small = small s u [] st cells h x name args r;
+      nil_word = λ e. nil_word s u [] st cells h x name args r e;
+      name_word = λ e. name_word s u [] st cells h x name args r e;
+      is_name = λ e. is_name s u [] st cells h x name args r e;
+    };
     is_there = λ s u vals st v cells x name args h r. is_there s u vals st v cells x name args h r;
-    is_for = λ s u st caller cells x name args h r e out. is_for5 s u st caller cells x name args h r e out;
-    class_on = λ s u st caller cells x name args h r e out. class5 s u st caller cells x name args h r e out;
-    routine_on = λ s u st caller cells x name args h r e out. (route5 s u st caller cells x name args h r e out).below;
-    method_on = λ s u st caller cells x name args h r e out.
-        (route5 s u st caller cells x name args h r e out).method_is;
-    enters_on = λ s u vals st cells x name args n h r many room there is.
+  }
+
+  on_facts : OnFacts (world_of place) (known_of place routine) (receivers_of place)
+  on_facts = record {
+    slot_small = λ s x name args r. subst (λ z. z < 2 ^ 20) (sym (slot_is s x name args r)) r.method.small;
+    dispatches = λ s u st caller cells x name args h r e out. record {
+      suits = is_for5 s u st caller cells x name args h r e out;
+      class_is = class5 s u st caller cells x name args h r e out;
+      runs = record {
+        is_routine = (route5 s u st caller cells x name args h r e out).below;
+        is_method = (route5 s u st caller cells x name args h r e out).method_is;
+      };
+    };
+    next = λ s u st n. record { fresh = record { is = refl }; above = omega arith };
+    enters = λ s u vals st cells x name args n h r many room there is.
         goes_on s u vals st cells x name args n h r many
         (let d = h.frame.depth_is in let q = not_full (1 + length u.callers) setting.limits.deep room in
         omega (arith, d, q))
         (is_name s u (pairs args vals) st cells h x name args r there ∙ ap Name is);
-    leaves_on = λ s u st0 st end cells x name args n vals before h out o r suits.
+    tells = λ s u st end cells x name args n o r suits. record {
+      as_many = as_many_on s u st end cells x name args n o r suits;
+      has_place = place_on s u st end cells x name args n o r suits;
+    };
+    leaves = λ s u st0 st end cells x name args n vals before h out o r suits.
         leaves_by s u st0 st end cells x name args n vals before h out o r suits;
-    as_many_on = λ s u st end cells x name args n o r suits. as_many_on s u st end cells x name args n o r suits;
-    place_on = λ s u st end cells x name args n o r suits. place_on s u st end cells x name args n o r suits;
   }
+
+  pub receiver_facts : ReceiverFacts (world_of place) (known_of place routine) (receivers_of place)
+  receiver_facts = record { words = receiver_words; calls = on_facts }
