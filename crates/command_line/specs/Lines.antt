@@ -6,6 +6,9 @@ use Rattle.std.specs.Char.{is_ascii_digit}
 use Rattle.std.specs.declared.option.Option.{Option}
 use Rattle.std.specs.Str.{bytes_eq}
 use Rattle.command_line.specs.declared.line.Line.{Line}
+use Rattle.command_line.specs.declared.line.TwoFiles.{TwoFiles}
+use Rattle.command_line.specs.declared.line.ProgramWords.{ProgramWords}
+use Rattle.command_plan.specs.declared.plan.Sizes.{Sizes}
 use Rattle.command_plan.specs.Files.{state_named, state_of_names, save_of_names}
 use Rattle.command_line.specs.declared.line.Line.TheVariants as line
 
@@ -64,80 +67,81 @@ abbrev pub number_of : List ℕ → Option ℕ
 number_of word = if nat_lt 0 (length word) && nat_le (length word) 18 then digits_after 0 word else
     None
 
--- a run of a program, and whether it turns back after a finish
-abbrev pub go_or_turn : (turns : Bool)
-    → (file : List ℕ) (heap deep steps : ℕ) (input : Option (List ℕ)) → Asked
-go_or_turn false = Go
-go_or_turn true = Turn
+-- the sizes of a run that three words are: the order of the heap, the depth, and the number of steps
+abbrev pub sizes_with : (heap deep steps : Option ℕ) → Option Sizes
+sizes_with (Some heap) (Some deep) (Some steps) =
+    Some (record { heap = heap; deep = deep; bound = steps })
+sizes_with _ _ _ = None
 
--- a file, an order of the heap, a depth, a number of steps, and the file of an input, if there is
+abbrev pub sizes_of : (heap deep steps : List ℕ) → Option Sizes
+sizes_of heap deep steps = sizes_with (number_of heap) (number_of deep) (number_of steps)
+
+-- what a program is run with: its file, the sizes of the run, and the file of an input, if there is
 -- one
-abbrev pub go_with : (turns : Bool) → List ℕ → Option ℕ → Option ℕ → Option ℕ → Option (List ℕ)
-    → Option Asked
-go_with turns file (Some heap) (Some deep) (Some steps) input =
-    Some (go_or_turn turns file heap deep steps input)
-go_with turns file _ _ _ input = None
+pub record ProgramAsked : Type 0 where
+  pub file : List ℕ
+  pub sizes : Sizes
+  pub input : Option (List ℕ)
 
-abbrev pub go_line_of : (turns : Bool) → List (List ℕ) → Option Asked
-go_line_of turns (file ∷ heap ∷ deep ∷ steps ∷ []) =
-    go_with turns file (number_of heap) (number_of deep) (number_of steps) None
-go_line_of turns (file ∷ heap ∷ deep ∷ steps ∷ input ∷ []) =
-    go_with turns file (number_of heap) (number_of deep) (number_of steps) (Some input)
-go_line_of turns _ = None
+abbrev pub program_seen : ProgramWords → ProgramAsked
+program_seen words = record {
+  file = string_bytes words.file;
+  sizes = words.sizes;
+  input = option_map string_bytes words.input;
+}
 
--- a file, an order of the heap, a depth, and a number of steps
-abbrev pub profile_with : List ℕ → Option ℕ → Option ℕ → Option ℕ → Option Asked
-profile_with file (Some heap) (Some deep) (Some steps) = Some (Profile file heap deep steps)
-profile_with file _ _ _ = None
+abbrev pub program_with : List ℕ → Option Sizes → Option (List ℕ) → Option ProgramAsked
+program_with file (Some sizes) input =
+    Some (record { file = file; sizes = sizes; input = input })
+program_with file None input = None
+
+abbrev pub program_words_of : List (List ℕ) → Option ProgramAsked
+program_words_of (file ∷ heap ∷ deep ∷ steps ∷ []) =
+    program_with file (sizes_of heap deep steps) None
+program_words_of (file ∷ heap ∷ deep ∷ steps ∷ input ∷ []) =
+    program_with file (sizes_of heap deep steps) (Some input)
+program_words_of _ = None
+
+-- a line of these words
+abbrev pub program_line_of : (List ℕ → (heap deep steps : ℕ) → Option (List ℕ) → Asked)
+    → List (List ℕ) → Option Asked
+program_line_of make args = option_map
+    (λ words. make words.file words.sizes.heap words.sizes.deep words.sizes.bound words.input)
+    (program_words_of args)
+
+-- a file, and the sizes of a run
+abbrev pub profile_with : List ℕ → Option Sizes → Option Asked
+profile_with file (Some sizes) = Some (Profile file sizes.heap sizes.deep sizes.bound)
+profile_with file None = None
 
 abbrev pub profile_line_of : List (List ℕ) → Option Asked
-profile_line_of (file ∷ heap ∷ deep ∷ steps ∷ []) =
-    profile_with file (number_of heap) (number_of deep) (number_of steps)
+profile_line_of (file ∷ heap ∷ deep ∷ steps ∷ []) = profile_with file (sizes_of heap deep steps)
 profile_line_of _ = None
 
--- a file, an order of the heap, a depth, a number of steps, the names of results, and the file of
--- an input, if there is one
-abbrev pub wrap_with : List ℕ → Option ℕ → Option ℕ → Option ℕ → (names : List ℕ) → Option (List ℕ)
-    → Option Asked
-wrap_with file (Some heap) (Some deep) (Some steps) names input =
-    Some (Wrap file heap deep steps names input)
-wrap_with file _ _ _ names input = None
+-- a file, the sizes of a run, the names of results, and the file of an input, if there is one
+abbrev pub wrap_with : List ℕ → Option Sizes → (names : List ℕ) → Option (List ℕ) → Option Asked
+wrap_with file (Some sizes) names input =
+    Some (Wrap file sizes.heap sizes.deep sizes.bound names input)
+wrap_with file None names input = None
 
 abbrev pub wrap_line_of : List (List ℕ) → Option Asked
 wrap_line_of (file ∷ heap ∷ deep ∷ steps ∷ names ∷ []) =
-    wrap_with file (number_of heap) (number_of deep) (number_of steps) names None
+    wrap_with file (sizes_of heap deep steps) names None
 wrap_line_of (file ∷ heap ∷ deep ∷ steps ∷ names ∷ input ∷ []) =
-    wrap_with file (number_of heap) (number_of deep) (number_of steps) names (Some input)
+    wrap_with file (sizes_of heap deep steps) names (Some input)
 wrap_line_of _ = None
 
--- a file, an order of the heap, a depth, the most that a run may cost, and the file of an input, if
--- there is one
-abbrev pub explain_with : List ℕ → Option ℕ → Option ℕ → Option ℕ → Option (List ℕ) → Option Asked
-explain_with file (Some heap) (Some deep) (Some fuel) input =
-    Some (Explain file heap deep fuel input)
-explain_with file _ _ _ input = None
-
-abbrev pub explain_line_of : List (List ℕ) → Option Asked
-explain_line_of (file ∷ heap ∷ deep ∷ fuel ∷ []) =
-    explain_with file (number_of heap) (number_of deep) (number_of fuel) None
-explain_line_of (file ∷ heap ∷ deep ∷ fuel ∷ input ∷ []) =
-    explain_with file (number_of heap) (number_of deep) (number_of fuel) (Some input)
-explain_line_of _ = None
-
--- an image, an order of the heap, a depth, a number of steps, and the files of two states, if there
--- are such
-abbrev pub run_with : List ℕ → Option ℕ → Option ℕ → Option ℕ → (state save : Option (List ℕ))
-    → Option Asked
-run_with image (Some heap) (Some deep) (Some steps) state save =
-    Some (RunImage image heap deep steps state save)
-run_with image _ _ _ state save = None
+-- an image, the sizes of a run, and the files of two states, if there are such
+abbrev pub run_with : List ℕ → Option Sizes → (state save : Option (List ℕ)) → Option Asked
+run_with image (Some sizes) state save =
+    Some (RunImage image sizes.heap sizes.deep sizes.bound state save)
+run_with image None state save = None
 
 abbrev pub run_line_of : List (List ℕ) → Option Asked
 run_line_of (image ∷ heap ∷ deep ∷ steps ∷ []) =
-    run_with image (number_of heap) (number_of deep) (number_of steps) None None
+    run_with image (sizes_of heap deep steps) None None
 run_line_of (image ∷ heap ∷ deep ∷ steps ∷ state ∷ save ∷ []) =
-    run_with image (number_of heap) (number_of deep) (number_of steps) (state_named state)
-    (Some save)
+    run_with image (sizes_of heap deep steps) (state_named state) (Some save)
 run_line_of _ = None
 
 -- a number of items
@@ -198,10 +202,17 @@ abbrev pub check_line_of : List (List ℕ) → Option Asked
 check_line_of (file ∷ []) = Some (Check file)
 check_line_of _ = None
 
+-- two files
+abbrev pub files_seen : TwoFiles → List ℕ × List ℕ
+files_seen files = (string_bytes files.from, string_bytes files.to)
+
+abbrev pub two_files_of : List (List ℕ) → Option (List ℕ × List ℕ)
+two_files_of (from ∷ to ∷ []) = Some (from, to)
+two_files_of _ = None
+
 -- a line of two files
-abbrev pub files_line_of : (List ℕ → List ℕ → Asked) → List (List ℕ) → Option Asked
-files_line_of make (from ∷ to ∷ []) = Some (make from to)
-files_line_of make _ = None
+unfoldable pub files_line_of : (List ℕ → List ℕ → Asked) → List (List ℕ) → Option Asked
+files_line_of make args = option_map (λ files. make files.0 files.1) (two_files_of args)
 
 -- the line of a command on sources
 unfoldable pub source_line_of : (name : List ℕ) → List (List ℕ) → Option Asked
@@ -210,11 +221,11 @@ source_line_of name args =
     else if bytes_eq name (codes "compile") then files_line_of Compile args
     else if bytes_eq name (codes "show-inverse") then files_line_of ShowInverse args
     else if bytes_eq name (codes "generate") then generate_line_of args
-    else if bytes_eq name (codes "go") then go_line_of false args
-    else if bytes_eq name (codes "turn") then go_line_of true args
+    else if bytes_eq name (codes "go") then program_line_of Go args
+    else if bytes_eq name (codes "turn") then program_line_of Turn args
     else if bytes_eq name (codes "profile") then profile_line_of args
     else if bytes_eq name (codes "wrap") then wrap_line_of args
-    else if bytes_eq name (codes "explain") then explain_line_of args
+    else if bytes_eq name (codes "explain") then program_line_of Explain args
     else if bytes_eq name (codes "trace") then trace_line_of args
     else None
 
@@ -229,6 +240,10 @@ line_of (name ∷ args) =
     else if bytes_eq name (codes "debug") then debug_line_of args
     else if bytes_eq name (codes "cluster") then cluster_line_of args
     else source_line_of name args
+
+-- the sizes of a run have at most 18 digits
+abbrev pub HasShortSizes : Sizes → Type 0
+HasShortSizes sizes = (sizes.heap < 10 ^ 18) × (sizes.deep < 10 ^ 18) × (sizes.bound < 10 ^ 18)
 
 -- the numbers of a line that are no sizes of texts have at most 18 digits; those of `cluster` are
 -- in their ranges

@@ -1,9 +1,9 @@
 // What the words ask for.
 ghost use Rattle.std.specs.Prelude.{◌≡◌, ◌<◌, ◌≤◌, ◌^◌, map, option_map, IfOk, IfSome, string_bytes};
-ghost use Rattle.command_line.specs.Lines.{asked, line_of, source_line_of, check_line_of, files_line_of, Compile, Asm, ListImage, Flip, ShowInverse, generate_line_of, generate_with as generate_asked, items_of, cluster_line_of, cluster_with as cluster_asked, common_of, run_line_of, run_with as run_asked, debug_line_of, debug_with as debug_asked, trace_line_of, trace_with as trace_asked, go_line_of, go_with as go_asked, profile_line_of, profile_with as profile_asked, wrap_line_of, wrap_with as wrap_asked, explain_line_of, explain_with as explain_asked, number_of, HasShortNumbers};
+ghost use Rattle.command_line.specs.Lines.{asked, line_of, source_line_of, check_line_of, files_seen, two_files_of, files_line_of, Compile, Asm, ListImage, Flip, ShowInverse, generate_line_of, generate_with as generate_asked, items_of, cluster_line_of, cluster_with as cluster_asked, common_of, run_line_of, run_with as run_asked, debug_line_of, debug_with as debug_asked, trace_line_of, trace_with as trace_asked, program_seen, program_with as program_asked, program_words_of, program_line_of, Go, Turn, Explain, profile_line_of, profile_with as profile_asked, wrap_line_of, wrap_with as wrap_asked, sizes_of, number_of, HasShortSizes, HasShortNumbers};
 ghost use Rattle.command_plan.specs.Files.{state_of_names, save_of_names};
 
-use command_plan::StateNames;
+use command_plan::{Sizes, StateNames};
 use rpp_words::NoMemory;
 use std::alloc::Global;
 
@@ -156,8 +156,8 @@ fn source_line(name: &str, args: &[String]) -> Result<Option<Line>, NoMemory>
         "compile" => compile_line(args),
         "show-inverse" => show_inverse_line(args),
         "generate" => generate_line(args),
-        "go" => go_line(args, false),
-        "turn" => go_line(args, true),
+        "go" => go_line(args),
+        "turn" => turn_line(args),
         "profile" => profile_line(args),
         "wrap" => wrap_line(args),
         "explain" => explain_line(args),
@@ -179,73 +179,99 @@ fn check_line(args: &[String]) -> Result<Option<Line>, NoMemory>
     }))
 }
 
+// A file that is read, and one that is written.
+#[derive(Drop)]
+struct TwoFiles {
+    from: String,
+    to: String,
+}
+
+// The two files that the words are.
+fn two_files(args: &[String]) -> Result<Option<TwoFiles>, NoMemory>
+    ensures { IfOk result (λ files. option_map files_seen files
+        ≡ two_files_of (map string_bytes args.now)) }
+{
+    let [from, to] = args else {
+        return Ok(None);
+    };
+    Ok(Some(TwoFiles {
+        from: from.clone()?,
+        to: to.clone()?,
+    }))
+}
+
+#[tactic(auto, unfolding(crate::specs::Lines::files_line_of))]
 fn compile_line(args: &[String]) -> Result<Option<Line>, NoMemory>
     ensures line { IfOk result (λ line. option_map asked line
         ≡ files_line_of Compile (map string_bytes args.now)) }
     ensures numbers { IfOk result (λ line. IfSome line (λ line. HasShortNumbers (asked line))) }
 {
-    let [file, image] = args else {
+    let Some(files) = two_files(args)? else {
         return Ok(None);
     };
     Ok(Some(Line::Compile {
-        file: file.clone()?,
-        image: image.clone()?,
+        file: files.from,
+        image: files.to,
     }))
 }
 
+#[tactic(auto, unfolding(crate::specs::Lines::files_line_of))]
 fn asm_line(args: &[String]) -> Result<Option<Line>, NoMemory>
     ensures line { IfOk result (λ line. option_map asked line
         ≡ files_line_of Asm (map string_bytes args.now)) }
     ensures numbers { IfOk result (λ line. IfSome line (λ line. HasShortNumbers (asked line))) }
 {
-    let [text, image] = args else {
+    let Some(files) = two_files(args)? else {
         return Ok(None);
     };
     Ok(Some(Line::Asm {
-        text: text.clone()?,
-        image: image.clone()?,
+        text: files.from,
+        image: files.to,
     }))
 }
 
+#[tactic(auto, unfolding(crate::specs::Lines::files_line_of))]
 fn list_line(args: &[String]) -> Result<Option<Line>, NoMemory>
     ensures line { IfOk result (λ line. option_map asked line
         ≡ files_line_of ListImage (map string_bytes args.now)) }
     ensures numbers { IfOk result (λ line. IfSome line (λ line. HasShortNumbers (asked line))) }
 {
-    let [image, text] = args else {
+    let Some(files) = two_files(args)? else {
         return Ok(None);
     };
     Ok(Some(Line::List {
-        image: image.clone()?,
-        text: text.clone()?,
+        image: files.from,
+        text: files.to,
     }))
 }
 
+#[tactic(auto, unfolding(crate::specs::Lines::files_line_of))]
 fn flip_line(args: &[String]) -> Result<Option<Line>, NoMemory>
     ensures line { IfOk result (λ line. option_map asked line
         ≡ files_line_of Flip (map string_bytes args.now)) }
     ensures numbers { IfOk result (λ line. IfSome line (λ line. HasShortNumbers (asked line))) }
 {
-    let [image, flipped] = args else {
+    let Some(files) = two_files(args)? else {
         return Ok(None);
     };
     Ok(Some(Line::Flip {
-        image: image.clone()?,
-        flipped: flipped.clone()?,
+        image: files.from,
+        flipped: files.to,
     }))
 }
 
+#[tactic(auto, unfolding(crate::specs::Lines::files_line_of))]
 fn show_inverse_line(args: &[String]) -> Result<Option<Line>, NoMemory>
     ensures line { IfOk result (λ line. option_map asked line
         ≡ files_line_of ShowInverse (map string_bytes args.now)) }
     ensures numbers { IfOk result (λ line. IfSome line (λ line. HasShortNumbers (asked line))) }
 {
-    let [file, out] = args else {
+    let Some(files) = two_files(args)? else {
         return Ok(None);
     };
     Ok(Some(Line::ShowInverse {
-        file: file.clone()?,
-        out: out.clone()?,
+        file: files.from,
+        out: files.to,
     }))
 }
 
@@ -330,13 +356,13 @@ fn run_line(args: &[String]) -> Result<Option<Line>, NoMemory>
     ensures numbers { IfOk result (λ line. IfSome line (λ line. HasShortNumbers (asked line))) }
 {
     match args {
-        [image, heap, deep, steps] => run_with(image, heap, deep, steps, None),
+        [image, heap, deep, steps] => run_with(image, read_sizes(heap, deep, steps), None),
         [image, heap, deep, steps, state, save] => {
             let names = StateNames {
                 state: state.clone()?,
                 save: save.clone()?,
             };
-            run_with(image, heap, deep, steps, Some(names))
+            run_with(image, read_sizes(heap, deep, steps), Some(names))
         }
         _ => Ok(None),
     }
@@ -344,31 +370,22 @@ fn run_line(args: &[String]) -> Result<Option<Line>, NoMemory>
 
 fn run_with(
     image: &String,
-    heap: &String,
-    deep: &String,
-    steps: &String,
+    sizes: Option<Sizes>,
     states: Option<StateNames>,
 ) -> Result<Option<Line>, NoMemory>
+    requires { IfSome sizes HasShortSizes }
     ensures line { IfOk result (λ line. option_map asked line
-        ≡ run_asked (string_bytes image.now) (number_of (string_bytes heap.now))
-        (number_of (string_bytes deep.now)) (number_of (string_bytes steps.now))
-        (state_of_names states) (save_of_names states)) }
+        ≡ run_asked (string_bytes image.now) sizes (state_of_names states) (save_of_names states)) }
     ensures numbers { IfOk result (λ line. IfSome line (λ line. HasShortNumbers (asked line))) }
 {
-    let Some(heap) = read_number(heap.as_str()) else {
-        return Ok(None);
-    };
-    let Some(deep) = read_number(deep.as_str()) else {
-        return Ok(None);
-    };
-    let Some(steps) = read_number(steps.as_str()) else {
+    let Some(sizes) = sizes else {
         return Ok(None);
     };
     Ok(Some(Line::Run {
         image: image.clone()?,
-        heap,
-        deep,
-        steps,
+        heap: sizes.heap,
+        deep: sizes.deep,
+        steps: sizes.bound,
         states,
     }))
 }
@@ -409,59 +426,98 @@ fn debug_with(
     }))
 }
 
-fn go_line(args: &[String], turns: bool) -> Result<Option<Line>, NoMemory>
-    ensures line { IfOk result (λ line. option_map asked line
-        ≡ go_line_of turns (map string_bytes args.now)) }
-    ensures numbers { IfOk result (λ line. IfSome line (λ line. HasShortNumbers (asked line))) }
+// What a program is run with: its file, the sizes of the run, and the file of its input, if there is
+// one.
+#[derive(Drop)]
+struct ProgramWords {
+    file: String,
+    sizes: Sizes,
+    input: Option<String>,
+}
+
+// What of this the words are.
+fn program_words(args: &[String]) -> Result<Option<ProgramWords>, NoMemory>
+    ensures words { IfOk result (λ words. option_map program_seen words
+        ≡ program_words_of (map string_bytes args.now)) }
+    ensures numbers { IfOk result (λ words. IfSome words (λ words. HasShortSizes words.sizes)) }
 {
     match args {
-        [file, heap, deep, steps] => go_with(turns, file, heap, deep, steps, None),
+        [file, heap, deep, steps] => program_with(file, read_sizes(heap, deep, steps), None),
         [file, heap, deep, steps, input] => {
-            go_with(turns, file, heap, deep, steps, Some(input.clone()?))
+            program_with(file, read_sizes(heap, deep, steps), Some(input.clone()?))
         }
         _ => Ok(None),
     }
 }
 
-fn go_with(
-    turns: bool,
+fn program_with(
     file: &String,
-    heap: &String,
-    deep: &String,
-    steps: &String,
+    sizes: Option<Sizes>,
     input: Option<String>,
-) -> Result<Option<Line>, NoMemory>
+) -> Result<Option<ProgramWords>, NoMemory>
+    requires { IfSome sizes HasShortSizes }
+    ensures words { IfOk result (λ words. option_map program_seen words
+        ≡ program_asked (string_bytes file.now) sizes (option_map string_bytes input)) }
+    ensures numbers { IfOk result (λ words. IfSome words (λ words. HasShortSizes words.sizes)) }
+{
+    let Some(sizes) = sizes else {
+        return Ok(None);
+    };
+    Ok(Some(ProgramWords {
+        file: file.clone()?,
+        sizes,
+        input,
+    }))
+}
+
+fn go_line(args: &[String]) -> Result<Option<Line>, NoMemory>
     ensures line { IfOk result (λ line. option_map asked line
-        ≡ go_asked turns (string_bytes file.now) (number_of (string_bytes heap.now))
-        (number_of (string_bytes deep.now)) (number_of (string_bytes steps.now))
-        (option_map string_bytes input)) }
+        ≡ program_line_of Go (map string_bytes args.now)) }
     ensures numbers { IfOk result (λ line. IfSome line (λ line. HasShortNumbers (asked line))) }
 {
-    let Some(heap) = read_number(heap.as_str()) else {
+    let Some(words) = program_words(args)? else {
         return Ok(None);
     };
-    let Some(deep) = read_number(deep.as_str()) else {
-        return Ok(None);
-    };
-    let Some(steps) = read_number(steps.as_str()) else {
-        return Ok(None);
-    };
-    let file = file.clone()?;
-    if turns {
-        return Ok(Some(Line::Turn {
-            file,
-            heap,
-            deep,
-            steps,
-            input,
-        }));
-    }
     Ok(Some(Line::Go {
-        file,
-        heap,
-        deep,
-        steps,
-        input,
+        file: words.file,
+        heap: words.sizes.heap,
+        deep: words.sizes.deep,
+        steps: words.sizes.bound,
+        input: words.input,
+    }))
+}
+
+fn turn_line(args: &[String]) -> Result<Option<Line>, NoMemory>
+    ensures line { IfOk result (λ line. option_map asked line
+        ≡ program_line_of Turn (map string_bytes args.now)) }
+    ensures numbers { IfOk result (λ line. IfSome line (λ line. HasShortNumbers (asked line))) }
+{
+    let Some(words) = program_words(args)? else {
+        return Ok(None);
+    };
+    Ok(Some(Line::Turn {
+        file: words.file,
+        heap: words.sizes.heap,
+        deep: words.sizes.deep,
+        steps: words.sizes.bound,
+        input: words.input,
+    }))
+}
+
+fn explain_line(args: &[String]) -> Result<Option<Line>, NoMemory>
+    ensures line { IfOk result (λ line. option_map asked line
+        ≡ program_line_of Explain (map string_bytes args.now)) }
+    ensures numbers { IfOk result (λ line. IfSome line (λ line. HasShortNumbers (asked line))) }
+{
+    let Some(words) = program_words(args)? else {
+        return Ok(None);
+    };
+    Ok(Some(Line::Explain {
+        file: words.file,
+        heap: words.sizes.heap,
+        deep: words.sizes.deep,
+        fuel: words.sizes.bound,
+        input: words.input,
     }))
 }
 
@@ -471,36 +527,25 @@ fn profile_line(args: &[String]) -> Result<Option<Line>, NoMemory>
     ensures numbers { IfOk result (λ line. IfSome line (λ line. HasShortNumbers (asked line))) }
 {
     match args {
-        [file, heap, deep, steps] => profile_with(file, heap, deep, steps),
+        [file, heap, deep, steps] => profile_with(file, read_sizes(heap, deep, steps)),
         _ => Ok(None),
     }
 }
 
-fn profile_with(
-    file: &String,
-    heap: &String,
-    deep: &String,
-    steps: &String,
-) -> Result<Option<Line>, NoMemory>
+fn profile_with(file: &String, sizes: Option<Sizes>) -> Result<Option<Line>, NoMemory>
+    requires { IfSome sizes HasShortSizes }
     ensures line { IfOk result (λ line. option_map asked line
-        ≡ profile_asked (string_bytes file.now) (number_of (string_bytes heap.now))
-        (number_of (string_bytes deep.now)) (number_of (string_bytes steps.now))) }
+        ≡ profile_asked (string_bytes file.now) sizes) }
     ensures numbers { IfOk result (λ line. IfSome line (λ line. HasShortNumbers (asked line))) }
 {
-    let Some(heap) = read_number(heap.as_str()) else {
-        return Ok(None);
-    };
-    let Some(deep) = read_number(deep.as_str()) else {
-        return Ok(None);
-    };
-    let Some(steps) = read_number(steps.as_str()) else {
+    let Some(sizes) = sizes else {
         return Ok(None);
     };
     Ok(Some(Line::Profile {
         file: file.clone()?,
-        heap,
-        deep,
-        steps,
+        heap: sizes.heap,
+        deep: sizes.deep,
+        steps: sizes.bound,
     }))
 }
 
@@ -510,93 +555,42 @@ fn wrap_line(args: &[String]) -> Result<Option<Line>, NoMemory>
     ensures numbers { IfOk result (λ line. IfSome line (λ line. HasShortNumbers (asked line))) }
 {
     match args {
-        [file, heap, deep, steps, names] => wrap_with(file, heap, deep, steps, names, None),
-        [file, heap, deep, steps, names, input] => wrap_with(
-            file,
-            heap,
-            deep,
-            steps,
-            names,
-            Some(input.clone()?),
-        ),
+        [file, heap, deep, steps, names] => {
+            wrap_with(file, read_sizes(heap, deep, steps), names, None)
+        }
+        [file, heap, deep, steps, names, input] => {
+            wrap_with(
+                file,
+                read_sizes(heap, deep, steps),
+                names,
+                Some(input.clone()?),
+            )
+        }
         _ => Ok(None),
     }
 }
 
 fn wrap_with(
     file: &String,
-    heap: &String,
-    deep: &String,
-    steps: &String,
+    sizes: Option<Sizes>,
     names: &String,
     input: Option<String>,
 ) -> Result<Option<Line>, NoMemory>
+    requires { IfSome sizes HasShortSizes }
     ensures line { IfOk result (λ line. option_map asked line
-        ≡ wrap_asked (string_bytes file.now) (number_of (string_bytes heap.now))
-        (number_of (string_bytes deep.now)) (number_of (string_bytes steps.now))
-        (string_bytes names.now) (option_map string_bytes input)) }
+        ≡ wrap_asked (string_bytes file.now) sizes (string_bytes names.now)
+        (option_map string_bytes input)) }
     ensures numbers { IfOk result (λ line. IfSome line (λ line. HasShortNumbers (asked line))) }
 {
-    let Some(heap) = read_number(heap.as_str()) else {
-        return Ok(None);
-    };
-    let Some(deep) = read_number(deep.as_str()) else {
-        return Ok(None);
-    };
-    let Some(steps) = read_number(steps.as_str()) else {
+    let Some(sizes) = sizes else {
         return Ok(None);
     };
     Ok(Some(Line::Wrap {
         file: file.clone()?,
-        heap,
-        deep,
-        steps,
+        heap: sizes.heap,
+        deep: sizes.deep,
+        steps: sizes.bound,
         names: names.clone()?,
-        input,
-    }))
-}
-
-fn explain_line(args: &[String]) -> Result<Option<Line>, NoMemory>
-    ensures line { IfOk result (λ line. option_map asked line
-        ≡ explain_line_of (map string_bytes args.now)) }
-    ensures numbers { IfOk result (λ line. IfSome line (λ line. HasShortNumbers (asked line))) }
-{
-    match args {
-        [file, heap, deep, fuel] => explain_with(file, heap, deep, fuel, None),
-        [file, heap, deep, fuel, input] => {
-            explain_with(file, heap, deep, fuel, Some(input.clone()?))
-        }
-        _ => Ok(None),
-    }
-}
-
-fn explain_with(
-    file: &String,
-    heap: &String,
-    deep: &String,
-    fuel: &String,
-    input: Option<String>,
-) -> Result<Option<Line>, NoMemory>
-    ensures line { IfOk result (λ line. option_map asked line
-        ≡ explain_asked (string_bytes file.now) (number_of (string_bytes heap.now))
-        (number_of (string_bytes deep.now)) (number_of (string_bytes fuel.now))
-        (option_map string_bytes input)) }
-    ensures numbers { IfOk result (λ line. IfSome line (λ line. HasShortNumbers (asked line))) }
-{
-    let Some(heap) = read_number(heap.as_str()) else {
-        return Ok(None);
-    };
-    let Some(deep) = read_number(deep.as_str()) else {
-        return Ok(None);
-    };
-    let Some(fuel) = read_number(fuel.as_str()) else {
-        return Ok(None);
-    };
-    Ok(Some(Line::Explain {
-        file: file.clone()?,
-        heap,
-        deep,
-        fuel,
         input,
     }))
 }
@@ -675,6 +669,18 @@ fn read_items(word: &str) -> Option<u32>
     } else {
         None
     }
+}
+
+// The sizes of a run that three words are: the order of the heap, the depth, and the number of steps.
+fn read_sizes(heap: &String, deep: &String, steps: &String) -> Option<Sizes>
+    ensures value { result ≡ sizes_of (string_bytes heap.now) (string_bytes deep.now)
+        (string_bytes steps.now) }
+    ensures short { IfSome result HasShortSizes }
+{
+    let heap = read_number(heap.as_str())?;
+    let deep = read_number(deep.as_str())?;
+    let bound = read_number(steps.as_str())?;
+    Some(Sizes { heap, deep, bound })
 }
 
 // The number that 1 to 18 decimal digits are.
