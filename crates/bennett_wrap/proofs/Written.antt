@@ -15,6 +15,7 @@ use Rattle.rpp_words.specs.Words.{IsWord}
 use Rattle.pisa_isa.specs.declared.cell.Cell.{Cell}
 use Rattle.pisa_isa.specs.declared.image.SealError.{SealError}
 use Rattle.pisa_isa.specs.declared.image.TheConstants.{MOST_CELLS}
+use Rattle.bennett_wrap.specs.declared.wrapping.TheConstants.{MOST_WRAPPED, MOST_COPIED}
 use Rattle.pisa_isa.specs.Table.{IsInRange}
 use Rattle.pisa_isa.specs.Image.{Segments, IsImage, first_seal_refusal}
 use Rattle.pisa_isa.specs.Flipped.{flipped}
@@ -105,7 +106,7 @@ pub linked_row : (row : List Cell) (main : List Symbol) (code : List Cell) → c
 linked_row row main code e m = e ∙ ap (λ p. link_code p []) m
     ∙ ap (λ l. start ∷ (l ++ finish ∷ [])) (linked_own [] 1 row)
 
-pub small_row : (cs : List ℕ) (row : List Cell) (main : List Symbol) → length cs ≤ 64 → row ≡ copy_cells cs
+pub small_row : (cs : List ℕ) (row : List Cell) (main : List Symbol) → length cs ≤ MOST_COPIED → row ≡ copy_cells cs
     → main ≡ map own row → link_size main [] ≤ MOST_CELLS
 small_row cs row main few e m = let a : length main ≡ 11 + 8 * length cs = ap length m ∙ length-map row own
     ∙ ap length e ∙ length-copy cs in omega arith
@@ -124,13 +125,14 @@ inner_is row =
 -- the wrapped code
 
 pub accepted : (image : Segments) (cs : List ℕ) (all : List Cell) → IsImage image → All IsWord cs
-    → length image.code ≤ 4008192 → length cs ≤ 64 → all ≡ wrapped_code image.code cs → first_seal_refusal all ≡ None
+    → length image.code ≤ MOST_WRAPPED → length cs ≤ MOST_COPIED → all ≡ wrapped_code image.code cs
+    → first_seal_refusal all ≡ None
 accepted image cs all i words small few e = ap first_seal_refusal e
     ∙ accepted_by_seal (record image { code = wrapped_code image.code cs })
     (IsImage-joined image (finish_of image.code) cs i words (omega arith))
 
 pub in_range : (image : Segments) (cs : List ℕ) (all : List Cell) → IsImage image → All IsWord cs
-    → length image.code ≤ 4008192 → length cs ≤ 64 → all ≡ wrapped_code image.code cs → All IsInRange all
+    → length image.code ≤ MOST_WRAPPED → length cs ≤ MOST_COPIED → all ≡ wrapped_code image.code cs → All IsInRange all
 in_range image cs all i words small few e =
     subst (All IsInRange) (sym e) (λ k d l. ((IsImage-joined image (finish_of image.code) cs i words
     (omega arith)).is_code.cells k d l).in_range)
@@ -139,12 +141,13 @@ pub size_is : (code : List Cell) (cs : List ℕ) (all : List Cell) → all ≡ w
     → length all ≡ 2 * length code + 13 + 8 * length cs
 size_is code cs all e = ap length e ∙ length-joined code (length code) (finish_of code) cs refl (length-flipped code)
 
-pub small_all : (code : List Cell) (cs : List ℕ) (all : List Cell) → length code ≤ 4008192 → length cs ≤ 64
+pub small_all : (code : List Cell) (cs : List ℕ) (all : List Cell) → length code ≤ MOST_WRAPPED
+    → length cs ≤ MOST_COPIED
     → all ≡ wrapped_code code cs → length all ≤ MOST_CELLS
 small_all code cs all small few e = let s = size_is code cs all e in omega arith
 
-pub wraps_all : (image : Segments) (cs : List ℕ) (all : List Cell) → IsImage image → length image.code ≤ 4008192
-    → length cs ≤ 64 → all ≡ wrapped_code image.code cs → Wrapped image.code cs all
+pub wraps_all : (image : Segments) (cs : List ℕ) (all : List Cell) → IsImage image → length image.code ≤ MOST_WRAPPED
+    → length cs ≤ MOST_COPIED → all ≡ wrapped_code image.code cs → Wrapped image.code cs all
 wraps_all image cs all i small few e = subst (λ (x : List Cell). Wrapped image.code cs x) (sym e)
     (wraps image i cs (omega arith))
 

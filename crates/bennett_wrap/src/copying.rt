@@ -3,6 +3,7 @@ ghost use Rattle.std.specs.Prelude.{◌≡◌, ◌≤◌, ◌++◌, ◌+◌, ◌
 ghost use Rattle.rpp_words.specs.Words.{negated};
 ghost use Rattle.paired_code.specs.Cells.{start, finish};
 ghost use Rattle.paired_code.specs.Code.{unmarked};
+ghost use Rattle.bennett_wrap.specs.declared.wrapping.TheConstants.{MOST_COPIED};
 ghost use Rattle.bennett_wrap.specs.Copying.{find_cells, copy_one, copies, ending_cells, copy_cells, own, IsPlain};
 
 use code_conventions::cells::{add, addi, exch, sub, xor};
@@ -28,7 +29,7 @@ pub const COPY: u8 = 4;
 
 /// START, the copy code and FINISH.
 pub(crate) fn copy_image(alloc: Global, cells: &[u32]) -> Result<Image, NoMemory>
-    requires { length cells.now ≤ 64 }
+    requires { length cells.now ≤ MOST_COPIED }
     ensures code { IfOk result (λ image. image.code ≡ start ∷ (copy_cells cells.now ++ finish ∷ [])) }
 {
     let row = copy_row(alloc, cells)?;
@@ -51,7 +52,7 @@ fn line(alloc: Global, row: &[Cell]) -> Result<Piece, NoMemory>
 
 /// The instructions of the copy code.
 fn copy_row(alloc: Global, cells: &[u32]) -> Result<Vec<Cell>, NoMemory>
-    requires { length cells.now ≤ 64 }
+    requires { length cells.now ≤ MOST_COPIED }
     ensures row { IfOk result (λ row. row.items ≡ copy_cells cells.now) }
     ensures plain { IfOk result (λ row. All IsPlain row.items) }
 {

@@ -13,11 +13,11 @@ use pisa_isa::{Cell, Image, Op};
 use rpp_words::NoMemory;
 use std::alloc::Global;
 
-/// The most code cells of an image that is wrapped.
-pub const MOST_WRAPPED: usize = 4_008_192;
-
 /// The most cells that are copied.
 pub const MOST_COPIED: usize = 64;
+
+/// The most code cells of an image that is wrapped: as many as the largest compiled image has.
+pub const MOST_WRAPPED: usize = 4_008_192;
 
 /// An image that computes, copies and computes back: it has the code of the image, with a branch in
 /// the place of FINISH, the copy code, and the flipped code, with a branch in the place of START.
