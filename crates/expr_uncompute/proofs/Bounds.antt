@@ -50,7 +50,7 @@ operand_most (Variable name) = omega arith
 operand_most (Element name index) = omega arith
 operand_most (Binary at o left right) = omega arith
 
-open_most : (e : Expression) → open_steps e ≤ 33
+open_most : (e : Expression) → open_steps e ≤ 28
 open_most (Number at word) = omega arith
 open_most (Null at) = omega arith
 open_most (Variable name) = omega arith
@@ -91,7 +91,7 @@ pub place_less : (target : Lvalue) → place_steps target ≤ 81 * index_nodes t
 place_less (Whole name) = omega arith
 place_less (Item name index) = let a = operand_most index in let b = prepare_most index in omega arith
 
-compare_is : (e : Expression) → compare_steps e ≡ 24 * length (elements e)
+compare_is : (e : Expression) → compare_steps e ≡ 21 * length (elements e)
 compare_is (Number at word) = refl
 compare_is (Null at) = refl
 compare_is (Variable name) = refl
@@ -101,13 +101,13 @@ compare_is (Binary at op left right) =
     let b = compare_is right in
     omega (arith, length-append (elements left) (elements right))
 
-index_compare_is : (target : Lvalue) → compare_steps (index_of target) ≡ 24 * length (index_elements target)
+index_compare_is : (target : Lvalue) → compare_steps (index_of target) ≡ 21 * length (index_elements target)
 index_compare_is (Whole name) = refl
 index_compare_is (Item name index) = compare_is index
 
 -- what an update compares, by what the source counts
 apart_is : (target : Lvalue) (e : Expression) → apart_steps target (index_of target) e
-    ≡ 24 * read_cost (own_element target) (index_elements target ++ elements e)
+    ≡ 21 * read_cost (own_element target) (index_elements target ++ elements e)
 apart_is (Whole name) e = refl
 apart_is (Item name index) e =
     let a = compare_is index in
@@ -115,7 +115,7 @@ apart_is (Item name index) e =
     omega (arith, length-append (elements index) (elements e))
 
 -- and what a swap compares: twice so much where both places are elements
-both_apart_most : (left right : Lvalue) → both_apart_steps left right ≤ 48 * read_cost
+both_apart_most : (left right : Lvalue) → both_apart_steps left right ≤ 42 * read_cost
     (own_element left ++ own_element right) (index_elements left ++ index_elements right)
 both_apart_most (Whole name) (Whole other) = omega arith
 both_apart_most (Whole name) (Item other index) =
@@ -246,13 +246,13 @@ module _ (spot : List ℕ → Spot) (free : ℕ) where
   operator_cells op.NotEqual = omega arith
   operator_cells _ = omega arith
 
-  nil_cells : length Code.nil_check ≡ 9
+  nil_cells : length Code.nil_check ≡ 7
   nil_cells = refl
 
-  index_cells : length Code.index_check ≡ 13
+  index_cells : length Code.index_check ≡ 10
   index_cells = refl
 
-  checked_cells : (name : List ℕ) (index : Expression) (i : ℕ) → length (Code.checked_cells spot free name index i) ≤ 32
+  checked_cells : (name : List ℕ) (index : Expression) (i : ℕ) → length (Code.checked_cells spot free name index i) ≤ 27
   checked_cells name index i =
       let a = operand_cells index i Code.left_operand in
       let c = copy_cells (spot name) Code.right_operand in
@@ -267,9 +267,9 @@ module _ (spot : List ℕ → Spot) (free : ℕ) where
         index_cells,
       )
 
-  -- an element has at most 35 cells open, an operator 15, a leaf 2
+  -- an element has at most 30 cells open, an operator 15, a leaf 2
   abbrev open_bound : Expression → ℕ
-  open_bound (Element name index) = 35
+  open_bound (Element name index) = 30
   open_bound (Binary at o left right) = 15
   open_bound _ = 2
 
@@ -414,16 +414,16 @@ module _ (spot : List ℕ → Spot) (free : ℕ) where
         length-append (Code.checked_cells spot free name.text index i) Code.point_cells,
       )
 
-  -- two arrays compared, 25 cells: an element has three tokens and those of its index
-  compare_length : (x y : Spot) → length (Code.compare_cells x y) ≡ 25
+  -- two arrays compared, 22 cells: an element has three tokens and those of its index
+  compare_length : (x y : Spot) → length (Code.compare_cells x y) ≡ 22
   compare_length x y =
       let w = Code.copy_cells x Code.left_operand in
-      let r = Code.reach_cells y ++ Code.sltx Code.outcome Code.left_operand Code.content
+      let r = Code.sltx Code.outcome Code.left_operand Code.content
       ∷ Code.sltx Code.outcome Code.content Code.left_operand ∷ Code.xori Code.outcome 1 ∷ [] in
       omega (
         arith,
-        length_around (w ++ r) (check_cells Code.outcome 16),
-        length-append w r,
+        length_around (w ++ Code.reach_cells y) (r ++ check_cells Code.outcome 16),
+        length-append w (Code.reach_cells y),
         copy_cells x Code.left_operand,
       )
 

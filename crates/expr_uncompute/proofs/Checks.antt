@@ -12,7 +12,8 @@ use Rattle.expr_uncompute.specs.Code.{nil_check, index_check, point_cells}
 use Rattle.expr_uncompute.specs.Number.{Bases}
 use Rattle.expr_uncompute.proofs.Comparing.{not_less, above, not_above, past_end}
 use Rattle.expr_uncompute.proofs.Goes.{Goes, Traps, goes_cons, goes_around, goes_to, goes_xor, goes_set, goes_xor_to}
-use Rattle.expr_uncompute.proofs.Goes.{goes_add, goes_addi, goes_exch, goes_check, traps_check, traps_mid}
+use Rattle.expr_uncompute.proofs.Goes.{goes_add, goes_addi, goes_exch, goes_check, goes_seq, traps_check, traps_mid}
+use Rattle.expr_uncompute.proofs.Goes.{traps_then}
 use Rattle.expr_uncompute.proofs.Scratch.{Scratch, mem}
 use Rattle.expr_uncompute.proofs.Operators.{operands}
 
@@ -27,12 +28,12 @@ module _ (m p q : ℕ) (b : Bases) (f : ℕ → ℕ) (cells : List ℕ) (x y : �
       (goes_xor_to _ put _ 1 _ (not_less (is_less 0 y) ∙ ap (λ t. truth_word (not t)) e) refl (omega arith)
       (λ z. refl) (λ z. refl))
 
-  pub nil_goes : y < 2 ^ 31 → y ≢ 0 → Goes nil_check 8 (mem b f (operands m p q x y) cells)
+  pub nil_goes : y < 2 ^ 31 → y ≢ 0 → Goes nil_check 6 (mem b f (operands m p q x y) cells)
       (mem b f (operands m p q x y) cells)
-  nil_goes h n = goes_around (nil_row true (above y h n)) (goes_check outcome 5 _ refl) (nil_row true (above y h n))
+  nil_goes h n = goes_seq (nil_row true (above y h n)) (goes_check outcome 5 _ refl)
 
   pub nil_traps : y ≡ 0 → Traps nil_check 6 5 (mem b f (operands m p q x y) cells)
-  nil_traps e = traps_mid (nil_row false (ap (is_less 0) e ∙ not_above)) (traps_check outcome 5 _ one_is_not)
+  nil_traps e = traps_then (nil_row false (ap (is_less 0) e ∙ not_above)) (traps_check outcome 5 _ one_is_not)
     where
       one_is_not : ◌≡◌ {A = ℕ} 1 0 → ⊥
       one_is_not e = omega arith
@@ -59,19 +60,20 @@ module _ (m p q : ℕ) (b : Bases) (f : ℕ → ℕ) (cells : List ℕ) (x y : �
       (λ z. refl)) (goes_xor_to _ put _ 1 _ (past_end x n h k) refl (omega arith) (λ z. refl) (λ z. refl)))
 
   pub index_goes : (n : ℕ) → y < length cells → slice_index cells y ≡ n → n < 2 ^ 31 → x < n
-      → Goes index_check 12 (mem b f (operands m p q x y) cells) (mem b f (operands m p q x y) cells)
+      → Goes index_check 9 (mem b f (operands m p q x y) cells) (mem b f (operands m p q x y) cells)
   index_goes n h e k l =
       let t : nat_lt x n ≡ true = grind (arith, nat_tests) in
       let row = index_row n (slice_set cells y 0) (omega arith) k in
-      goes_around (length_goes n h e) (goes_around row (goes_check outcome 9 _ (ap (λ z. truth_word (not z)) t)) row)
-      (length_goes n h e)
+      let passed = goes_to refl refl (ap (λ z. mem b f (record (measured n) { outcome = truth_word (not z) })
+      (slice_set cells y 0)) t) row in
+      goes_around (length_goes n h e) (goes_seq passed (goes_check outcome 9 _ refl)) (length_goes n h e)
 
   pub index_traps : (n : ℕ) → x < 2 ^ 32 → y < length cells → slice_index cells y ≡ n → n < 2 ^ 31 → n ≤ x
       → Traps index_check 8 9 (mem b f (operands m p q x y) cells)
   index_traps n w h e k l =
       let t : nat_lt x n ≡ false = grind (arith, nat_tests) in
       let nz : truth_word (not (nat_lt x n)) ≢ 0 = λ z. one_is_not (sym (ap (λ z. truth_word (not z)) t) ∙ z) in
-      traps_mid (length_goes n h e) (traps_mid (index_row n (slice_set cells y 0) w k) (traps_check outcome 9 _ nz))
+      traps_mid (length_goes n h e) (traps_then (index_row n (slice_set cells y 0) w k) (traps_check outcome 9 _ nz))
     where
       one_is_not : ◌≡◌ {A = ℕ} 1 0 → ⊥
       one_is_not e = omega arith

@@ -79,39 +79,42 @@ module _ (spot : List ℕ → Spot) (b : Bases) (low : ℕ) where
 
     -- ---- two words
 
-    compare_row : (x y : Spot) (t : Bool) → address_of b x < length zs → address_of b y < length zs
+    abbrev compared : (x y : Spot) (o : ℕ) → Memory
+    compared x y o = mem (moved b y) f (record (keeping v p q)
+        { a = slice_index zs (address_of b x); content = slice_index zs (address_of b y); outcome = o })
+        (slice_set zs (address_of b y) 0)
+
+    both_there : (x y : Spot) → address_of b x < length zs → address_of b y < length zs
+        → Goes (copy_cells x left_operand ++ reach_cells y) 7 (mem b f (keeping v p q) zs) (compared x y 0)
+    both_there x y h k =
+        let u : ℕ = slice_index zs (address_of b x) in
+        goes_seq (copy_goes b zs x h small refl (left_takes b f (keeping v p q) u))
+        (reach_goes b f (record (keeping v p q) { a = u }) zs y k small)
+
+    same_row : (x y : Spot) (t : Bool)
         → nat_eq (slice_index zs (address_of b x)) (slice_index zs (address_of b y)) ≡ t
-        → Goes (copy_cells x left_operand ++ (reach_cells y ++ sltx outcome left_operand content
-        ∷ sltx outcome content left_operand ∷ xori outcome 1 ∷ [])) 10 (mem b f (keeping v p q) zs)
-        (mem (moved b y) f (record (keeping v p q) {
-          a = slice_index zs (address_of b x);
-          content = slice_index zs (address_of b y);
-          outcome = truth_word t;
-        })
-        (slice_set zs (address_of b y) 0))
-    compare_row x y t h k e =
+        → Goes (sltx outcome left_operand content ∷ sltx outcome content left_operand ∷ xori outcome 1 ∷ []) 3
+        (compared x y 0) (compared x y (truth_word t))
+    same_row x y t e =
         let u : ℕ = slice_index zs (address_of b x) in
         let w : ℕ = slice_index zs (address_of b y) in
-        let put : ℕ → Memory = λ z. mem (moved b y) f (record (keeping v p q)
-        { a = u; content = w; outcome = z }) (slice_set zs (address_of b y) 0) in
-        goes_seq (copy_goes b zs x h small refl (left_takes b f (keeping v p q) u))
-        (goes_seq (reach_goes b f (record (keeping v p q) { a = u }) zs y k small)
-        (goes_cons (goes_set _ put (word_of_truth (is_less u w)) refl (omega arith) (λ z. refl) (λ z. refl))
-        (goes_cons (goes_xor _ put (word_of_truth (is_less u w)) (word_of_truth (is_less w u)) refl (omega arith)
-        (λ z. refl) (λ z. refl))
-        (goes_xor_to _ put _ 1 _ (equal u w (words (address_of b x)) (words (address_of b y)) ∙ ap truth_word e) refl
-        (omega arith) (λ z. refl) (λ z. refl)))))
+        goes_cons (goes_set _ (compared x y) (word_of_truth (is_less u w)) refl (omega arith) (λ z. refl) (λ z. refl))
+        (goes_cons (goes_xor _ (compared x y) (word_of_truth (is_less u w)) (word_of_truth (is_less w u)) refl
+        (omega arith) (λ z. refl) (λ z. refl)) (goes_xor_to _ (compared x y) _ 1 _
+        (equal u w (words (address_of b x)) (words (address_of b y)) ∙ ap truth_word e) refl (omega arith)
+        (λ z. refl) (λ z. refl)))
 
     compare_goes : (x y : Spot) → address_of b x < length zs → address_of b y < length zs
         → nat_eq (slice_index zs (address_of b x)) (slice_index zs (address_of b y)) ≡ false
-        → Goes (compare_cells x y) 24 (mem b f (keeping v p q) zs) (mem b f (keeping v p q) zs)
-    compare_goes x y h k e = goes_around (compare_row x y false h k e) (goes_check outcome 16 _ refl)
-        (compare_row x y false h k e)
+        → Goes (compare_cells x y) 21 (mem b f (keeping v p q) zs) (mem b f (keeping v p q) zs)
+    compare_goes x y h k e = goes_around (both_there x y h k)
+        (goes_seq (same_row x y false e) (goes_check outcome 16 _ refl)) (both_there x y h k)
 
     compare_traps : (x y : Spot) → address_of b x < length zs → address_of b y < length zs
         → nat_eq (slice_index zs (address_of b x)) (slice_index zs (address_of b y)) ≡ true
         → Traps (compare_cells x y) 14 16 (mem b f (keeping v p q) zs)
-    compare_traps x y h k e = traps_mid (compare_row x y true h k e) (traps_check outcome 16 _ one_is_not)
+    compare_traps x y h k e = traps_mid (both_there x y h k)
+        (traps_then (same_row x y true e) (traps_check outcome 16 _ one_is_not))
 
     -- ---- all elements that an expression reads
 
@@ -136,7 +139,7 @@ module _ (spot : List ℕ → Spot) (b : Bases) (low : ℕ) where
           → (t || reads_array spot b zs (slice_index zs (address_of b x)) rest) ≡ true
           → (reads_array spot b zs (slice_index zs (address_of b x)) rest ≡ true
           → Traps (compare_all spot x rest) (compare_steps rest) 16 (mem b f (keeping v p q) zs))
-          → Traps (compare_cells x y ++ compare_all spot x rest) (24 + compare_steps rest) 16
+          → Traps (compare_cells x y ++ compare_all spot x rest) (21 + compare_steps rest) 16
           (mem b f (keeping v p q) zs)
       element_by y rest k true e h r = traps_more (omega arith)
           (traps_first (compare_all spot x rest) (compare_traps x y there k e))

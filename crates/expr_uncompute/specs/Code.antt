@@ -12,6 +12,7 @@ use Rattle.pisa_isa.specs.declared.cell.Op.TheVariants.{Exch}
 use Rattle.paired_code.specs.declared.part.Symbol.{Symbol}
 use Rattle.paired_code.specs.declared.part.Symbol.TheVariants.{Own}
 use Rattle.paired_code.specs.Layout.{mirror_cells, check_cells}
+use Rattle.code_conventions.specs.declared.faults.TheConstants.{NIL, INDEX, SHARED_ARRAY}
 use Rattle.refine_form.specs.declared.spot.Spot.{Spot}
 use Rattle.refine_form.specs.declared.spot.Spot.TheVariants.{Field, Frame}
 use Rattle.code_scope.specs.Visible.{offset_of}
@@ -186,23 +187,23 @@ operator_result op.Sub = left_operand
 operator_result op.Xor = left_operand
 operator_result _ = outcome
 
+-- a check that passed leaves its flag 0, so that nothing is to be undone after it
+
 -- fault 5 where the array is nil
 abbrev pub nil_check : List Symbol
-nil_check = around (sltx outcome nought right_operand ∷ xori outcome 1 ∷ []) (check_cells outcome 5)
+nil_check = sltx outcome nought right_operand ∷ xori outcome 1 ∷ [] ++ check_cells outcome NIL
 
 -- fault 9 where the index, without sign, is not below the array's length
 abbrev pub index_check : List Symbol
 index_check =
-    around (exch content right_operand ∷ [])
-    (around (sltx outcome left_operand content ∷ sltx outcome left_operand nought
-    ∷ xori outcome 1 ∷ []) (check_cells outcome 9))
+    around (exch content right_operand ∷ []) (sltx outcome left_operand content
+    ∷ sltx outcome left_operand nought ∷ xori outcome 1 ∷ [] ++ check_cells outcome INDEX)
 
 -- fault 16 where the words of two spots are the same
 abbrev pub compare_cells : (x y : Spot) → List Symbol
 compare_cells x y =
-    around (copy_cells x left_operand
-    ++ (reach_cells y ++ sltx outcome left_operand content ∷ sltx outcome content left_operand
-    ∷ xori outcome 1 ∷ [])) (check_cells outcome 16)
+    around (copy_cells x left_operand ++ reach_cells y) (sltx outcome left_operand content
+    ∷ sltx outcome content left_operand ∷ xori outcome 1 ∷ [] ++ check_cells outcome SHARED_ARRAY)
 
 -- the address of the element in the array's register
 abbrev pub point_cells : List Symbol

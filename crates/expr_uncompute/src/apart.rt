@@ -39,11 +39,11 @@ fn compare(alloc: Global, x: Spot, y: Spot) -> Result<Piece, NoMemory>
 {
     let array = copy(alloc, x, LEFT)?;
     let other = reached(alloc, y)?;
+    let both = seq(array, other)?;
     let test = same_row(alloc)?;
-    let rest = seq(other, test)?;
-    let outer = seq(array, rest)?;
     let stop = check_zero(alloc, OUTCOME, SHARED_ARRAY)?;
-    enclosed(alloc, outer, stop)
+    let check = seq(test, stop)?;
+    enclosed(alloc, both, check)
 }
 
 // A changed element's array compared with that of each element that an expression reads.

@@ -186,9 +186,9 @@ fn nil_row(alloc: Global) -> Result<Piece, NoMemory>
 pub fn nil_check(alloc: Global) -> Result<Piece, NoMemory>
     ensures { IfOk result (λ p. p ≡ unmarked nil_cells) }
 {
-    let outer = nil_row(alloc)?;
-    let middle = check_zero(alloc, OUTCOME, NIL)?;
-    enclosed(alloc, outer, middle)
+    let row = nil_row(alloc)?;
+    let check = check_zero(alloc, OUTCOME, NIL)?;
+    seq(row, check)
 }
 
 fn index_row(alloc: Global) -> Result<Piece, NoMemory>
@@ -208,7 +208,7 @@ pub fn index_check(alloc: Global) -> Result<Piece, NoMemory>
 {
     let row = index_row(alloc)?;
     let check = check_zero(alloc, OUTCOME, INDEX)?;
-    let middle = enclosed(alloc, row, check)?;
+    let middle = seq(row, check)?;
     let outer = exch(alloc, CONTENT, RIGHT)?;
     enclosed(alloc, outer, middle)
 }

@@ -2,7 +2,7 @@
 ghost use Rattle.std.specs.Prelude.{◌≡◌, ◌≢◌, ◌<◌, ◌≤◌, ◌⊎◌, ◌+◌, ◌*◌, ◌++◌, length, IfOk};
 ghost use Rattle.rpp_tree.specs.Views.{expression_of, lvalue_of};
 ghost use Rattle.paired_code.specs.Code.{unmarked};
-ghost use Rattle.expr_uncompute.specs.Code.{Target, words as words_of, place_words as words_of_place, operand_cells, checked_cells as checked_of, open_cells, prepare_cells, parts_cells, value_cells, test_cells, result_of, nil_check as nil_cells, index_check as index_cells};
+ghost use Rattle.expr_uncompute.specs.Code.{Target, words as words_of, place_words as words_of_place, copy_cells, operand_cells, checked_cells as checked_of, open_cells, prepare_cells, parts_cells, value_cells, test_cells, result_of, nil_check as nil_cells, index_check as index_cells};
 ghost use Rattle.expr_uncompute.specs.Number.{read_of};
 ghost use Rattle.expr_uncompute.specs.Promises.{ValueLaw, TestLaw};
 ghost use Rattle.expr_uncompute.specs.Steps.{tokens};
@@ -116,6 +116,16 @@ fn both_checks(alloc: Global) -> Result<Piece, NoMemory>
     seq(first, second)
 }
 
+fn array_checked(alloc: Global, names: &Names, name: &Text) -> Result<Piece, NoMemory>
+    ensures { IfOk result (λ p.
+        p ≡ unmarked (copy_cells (spot_of_name (known_by names.now) name.now) RIGHT ++
+        (nil_cells ++ index_cells))) }
+{
+    let array = copy(alloc, spot_of(names, name), RIGHT)?;
+    let checks = both_checks(alloc)?;
+    seq(array, checks)
+}
+
 /// An element's index and array, both checked.
 pub fn checked(
     alloc: Global,
@@ -130,9 +140,7 @@ pub fn checked(
         name.now (expression_of index.now) i)) }
 {
     let first = operand(alloc, names, index, i, LEFT)?;
-    let array = copy(alloc, spot_of(names, name), RIGHT)?;
-    let checks = both_checks(alloc)?;
-    let rest = seq(array, checks)?;
+    let rest = array_checked(alloc, names, name)?;
     seq(first, rest)
 }
 
