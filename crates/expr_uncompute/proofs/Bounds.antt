@@ -15,7 +15,8 @@ use Rattle.expr_uncompute.specs.Code
 use Rattle.expr_uncompute.specs.Sizes.{swap_size}
 use Rattle.expr_uncompute.specs.Steps.{operator_steps, operand_steps, open_steps, prepare_steps, parts_steps}
 use Rattle.expr_uncompute.specs.Steps.{value_steps, test_steps, fetch_steps, place_steps, compare_steps, apart_steps}
-use Rattle.expr_uncompute.specs.Steps.{both_apart_steps, update_steps, swap_steps, tokens, place_tokens}
+use Rattle.expr_uncompute.specs.Steps.{both_apart_steps, found_update_steps, update_steps, swap_steps, tokens}
+use Rattle.expr_uncompute.specs.Steps.{place_tokens}
 use Rattle.expr_uncompute.specs.Found.{found_place_steps, found_value_steps, found_places_steps}
 
 -- ---- steps
@@ -141,9 +142,19 @@ both_apart_least (Item name index) right =
     omega (arith, length-append (elements index) (index_elements right))
 
 -- a statement counts 1 beside its nodes, and 1 for each element that it reads where it changes one
+found_update_most : (target : Lvalue) (e : Expression) → found_update_steps target e ≤ 162 *
+    (1 + index_nodes target + nodes e + read_cost (own_element target) (index_elements target ++ elements e))
+found_update_most target e = let a = place_less target in let b = fetch_most e in let c = apart_is target e in
+    omega arith
+
 pub update_most : (target : Lvalue) (e : Expression) → update_steps target e ≤ 162 *
     (1 + index_nodes target + nodes e + read_cost (own_element target) (index_elements target ++ elements e))
-update_most target e = let a = place_less target in let b = fetch_most e in let c = apart_is target e in omega arith
+update_most (Whole name) (Number at word) = omega arith
+update_most (Whole name) (Variable other) = omega arith
+update_most (Whole name) (Null at) = found_update_most (Whole name) (Null at)
+update_most (Whole name) (Element array index) = found_update_most (Whole name) (Element array index)
+update_most (Whole name) (Binary at o left right) = found_update_most (Whole name) (Binary at o left right)
+update_most (Item name index) e = found_update_most (Item name index) e
 
 pub swap_most : (left right : Lvalue) → swap_steps left right ≤ 304 *
     (1 + index_nodes left + index_nodes right + read_cost (own_element left ++ own_element right)
@@ -498,9 +509,9 @@ module _ (spot : List ℕ → Spot) (free : ℕ) where
       let u = index_tokens target in
       omega (arith, length_around ((p ++ v) ++ k) mid, length-append (p ++ v) k, length-append p v)
 
-  pub update_cells : (o : UpdateOp) (target : Lvalue) (e : Expression)
-      → length (Code.update_cells spot free o target e) ≤ 80 * (place_tokens target + 1 + tokens e)
-  update_cells o target e =
+  found_update_cells : (o : UpdateOp) (target : Lvalue) (e : Expression)
+      → length (Code.found_update_cells spot free o target e) ≤ 80 * (place_tokens target + 1 + tokens e)
+  found_update_cells o target e =
       let p = Code.place_cells spot free target 0 Code.place in
       let v = Code.fetch_cells spot free e (Code.place_words target) Code.amount in
       let mid = Code.exch Code.content Code.place ∷ Code.update_cell o Code.content Code.amount
@@ -511,6 +522,22 @@ module _ (spot : List ℕ → Spot) (free : ℕ) where
       let d = apart_cells target (index_of target) e in
       let t = index_tokens target in
       omega (arith, length_around ((p ++ v) ++ k) mid, length-append (p ++ v) k, length-append p v)
+
+  pub update_cells : (o : UpdateOp) (target : Lvalue) (e : Expression)
+      → length (Code.update_cells spot free o target e) ≤ 80 * (place_tokens target + 1 + tokens e)
+  update_cells o (Whole name) (Number at word) = omega (
+    arith,
+    length_around (Code.reach_cells (spot name.text)) (Code.number_cell o Code.content word ∷ []),
+  )
+  update_cells o (Whole name) (Variable other) = omega (
+    arith,
+    length_around (Code.both_reached (spot other.text) (spot name.text))
+        (Code.update_cell o Code.content Code.amount ∷ []),
+  )
+  update_cells o (Whole name) (Null at) = found_update_cells o (Whole name) (Null at)
+  update_cells o (Whole name) (Element array index) = found_update_cells o (Whole name) (Element array index)
+  update_cells o (Whole name) (Binary at p left right) = found_update_cells o (Whole name) (Binary at p left right)
+  update_cells o (Item name index) e = found_update_cells o (Item name index) e
 
   pub swap_cells : (left right : Lvalue) → length (Code.swap_cells spot free left right) ≤ swap_size left right
   swap_cells (Whole name) right =
@@ -571,9 +598,19 @@ pub place_least : (target : Lvalue) → index_nodes target ≤ place_steps targe
 place_least (Whole name) = omega arith
 place_least (Item name index) = let a = prepare_least index in omega arith
 
+found_update_least : (target : Lvalue) (e : Expression) → 1 + index_nodes target + nodes e + read_cost
+    (own_element target) (index_elements target ++ elements e) ≤ found_update_steps target e
+found_update_least target e = let a = place_least target in let b = parts_least e in let c = apart_is target e in
+    omega arith
+
 pub update_least : (target : Lvalue) (e : Expression) → 1 + index_nodes target + nodes e + read_cost
     (own_element target) (index_elements target ++ elements e) ≤ update_steps target e
-update_least target e = let a = place_least target in let b = parts_least e in let c = apart_is target e in omega arith
+update_least (Whole name) (Number at word) = omega arith
+update_least (Whole name) (Variable other) = omega arith
+update_least (Whole name) (Null at) = found_update_least (Whole name) (Null at)
+update_least (Whole name) (Element array index) = found_update_least (Whole name) (Element array index)
+update_least (Whole name) (Binary at o left right) = found_update_least (Whole name) (Binary at o left right)
+update_least (Item name index) e = found_update_least (Item name index) e
 
 -- what is found around a middle
 pub found_place_least : (target : Lvalue) → index_nodes target + read_cost (own_element target) (index_elements target)

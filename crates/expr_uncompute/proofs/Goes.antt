@@ -207,15 +207,22 @@ pub goes_xor_to : (c : Cell) (put : ℕ → Memory) (x y z : ℕ) → bit_xor x 
     → ((x : ℕ) → outcome_of true c (put x) ≡ Done (put (bit_xor x y)) 1) → Goes (Own c ∷ []) 1 (put x) (put z)
 goes_xor_to c put x y z h s w e e' = goes_to refl refl (ap put h) (goes_xor c put x y s w e e')
 
+pub goes_addi_word : (c : Cell) (put : ℕ → Memory) (x i : ℕ) → x < 2 ^ 32 → i < 2 ^ 32 → is_single c ≡ true
+    → c.imm < 2 ^ 32
+    → ((x : ℕ) → outcome_of false c (put x) ≡ Done (put (sum_of x i)) 1)
+    → ((x : ℕ) → outcome_of true c (put x) ≡ Done (put (sum_of x (negated i))) 1)
+    → Goes (Own c ∷ []) 1 (put x) (put (sum_of x i))
+goes_addi_word c put x i h k s w e e' = goes_cell c (put x) (put (sum_of x i)) s w (e x)
+    (e' (sum_of x i) ∙ ap (λ z. Done (put z) 1) (sum_of-negated x i h k))
+
+-- where nothing wraps
 pub goes_addi : (c : Cell) (put : ℕ → Memory) (x i : ℕ) → x + i < 2 ^ 32 → is_single c ≡ true → c.imm < 2 ^ 32
     → ((x : ℕ) → outcome_of false c (put x) ≡ Done (put (sum_of x i)) 1)
     → ((x : ℕ) → outcome_of true c (put x) ≡ Done (put (sum_of x (negated i))) 1)
     → Goes (Own c ∷ []) 1 (put x) (put (x + i))
 goes_addi c put x i h s w e e' =
     let there : sum_of x i ≡ x + i = omega arith in
-    goes_cell c (put x) (put (x + i)) s w (e x ∙ ap (λ z. Done (put z) 1) there)
-    (e' (x + i) ∙ ap (λ z. Done (put (sum_of z (negated i))) 1) (sym there)
-    ∙ ap (λ z. Done (put z) 1) (sum_of-negated x i (omega arith) (omega arith)))
+    goes_to refl refl (ap put there) (goes_addi_word c put x i (omega arith) (omega arith) s w e e')
 
 pub goes_add : (c : Cell) (put : ℕ → Memory) (x y : ℕ) → x < 2 ^ 32 → y < 2 ^ 32 → is_single c ≡ true → c.imm < 2 ^ 32
     → ((x : ℕ) → outcome_of false c (put x) ≡ Done (put (sum_of x y)) 1)

@@ -16,6 +16,8 @@ pub mod Whole
 pub mod PlaceLaws
 pub mod Written
 pub mod KeptApart
+pub mod Standing
+pub mod Leaves
 pub mod Updates
 pub mod Statements
 pub mod Bounds

@@ -3,10 +3,11 @@ use Rattle.std.proofs.Common.{◌≡◌, ℕ, ◌+◌, ◌^◌, ◌<◌, ◌≤�
 use Rattle.std.specs.Prelude.{slice_index, slice_set}
 use Rattle.std.proofs.lemmas.List.{get_or-set_same, set-set}
 use Rattle.pisa_isa.specs.Machine.{Memory}
+use Rattle.paired_code.specs.declared.part.Symbol.{Symbol}
 use Rattle.refine_form.specs.declared.spot.Spot.{Spot}
 use Rattle.refine_form.specs.declared.spot.Spot.TheVariants.{Field, Frame}
 use Rattle.expr_uncompute.specs.Code.{content, left_operand, right_operand, item, outcome, truth, xor, xori}
-use Rattle.expr_uncompute.specs.Code.{base_of, reach_cells, copy_cells, store_cells}
+use Rattle.expr_uncompute.specs.Code.{around, base_of, reach_cells, copy_cells, store_cells}
 use Rattle.code_scope.specs.Visible.{offset_of}
 use Rattle.expr_uncompute.specs.Number.{Bases, address_of}
 use Rattle.expr_uncompute.proofs.Goes.{Goes, goes_seq, goes_cons, goes_around, goes_to, goes_set, goes_addi, goes_exch}
@@ -88,6 +89,25 @@ module _ (b : Bases) where
       (reach_goes g r cells sp h k) in
       goes_around (there f s) (t.by_content (moved sp) emptied) (there f' s')
 
+  -- a word of memory changed in `content`
+  pub changed_goes : {mid : List Symbol} {n : ℕ} (x y : ℕ) (f : ℕ → ℕ) (s : Scratch) (cells : List ℕ) (sp : Spot)
+      → address_of b sp < length cells → length cells ≤ 2 ^ 31 → slice_index cells (address_of b sp) ≡ x
+      → ((c : Bases) (zs : List ℕ) → Goes mid n (mem c f (record s { content = x }) zs)
+      (mem c f (record s { content = y }) zs))
+      → Goes (around (reach_cells sp) mid) (2 + (n + 2)) (mem b f (record s { content = 0 }) cells)
+      (mem b f (record s { content = 0 }) (slice_set cells (address_of b sp) y))
+  changed_goes x y f s cells sp h k e change =
+      let a : ℕ = address_of b sp in
+      let first = goes_to refl refl (ap (λ z. mem (moved sp) f (record s { content = z }) (slice_set cells a 0)) e)
+      (reach_goes f s cells sp h k) in
+      let h' : a < length (slice_set cells a y) = rw (length-set cells a y) h in
+      let k' : length (slice_set cells a y) ≤ 2 ^ 31 = rw (length-set cells a y) k in
+      let last = goes_to refl refl (ap (λ z. mem (moved sp) f (record s { content = z })
+      (slice_set (slice_set cells a y) a 0)) (get_or-set_same cells a y 0 h)
+      ∙ ap (λ z. mem (moved sp) f (record s { content = y }) z) (set-set cells a y 0))
+      (reach_goes f s (slice_set cells a y) sp h' k') in
+      goes_around first (change (moved sp) (slice_set cells a 0)) last
+
   -- a register xored into a word of memory that is 0
   pub store_goes : (r v : ℕ) (f : ℕ → ℕ) (s : Scratch) (cells : List ℕ) (sp : Spot) → address_of b sp < length cells
       → length cells ≤ 2 ^ 31 → slice_index cells (address_of b sp) ≡ 0
@@ -95,14 +115,4 @@ module _ (b : Bases) where
       (mem c f (record s { content = v }) zs))
       → Goes (store_cells sp r) 5 (mem b f (record s { content = 0 }) cells)
       (mem b f (record s { content = 0 }) (slice_set cells (address_of b sp) v))
-  store_goes r v f s cells sp h k e sink =
-      let a : ℕ = address_of b sp in
-      let first = goes_to refl refl (ap (λ z. mem (moved sp) f (record s { content = z }) (slice_set cells a 0)) e)
-      (reach_goes f s cells sp h k) in
-      let h' : a < length (slice_set cells a v) = rw (length-set cells a v) h in
-      let k' : length (slice_set cells a v) ≤ 2 ^ 31 = rw (length-set cells a v) k in
-      let last = goes_to refl refl (ap (λ z. mem (moved sp) f (record s { content = z })
-      (slice_set (slice_set cells a v) a 0)) (get_or-set_same cells a v 0 h)
-      ∙ ap (λ z. mem (moved sp) f (record s { content = v }) z) (set-set cells a v 0))
-      (reach_goes f s (slice_set cells a v) sp h' k') in
-      goes_around first (sink (moved sp) (slice_set cells a 0)) last
+  store_goes r v f s cells sp h k e sink = changed_goes 0 v f s cells sp h k e sink

@@ -16,7 +16,7 @@ use Rattle.paired_code.specs.Pieces.{Done, Trapped, Runs}
 use Rattle.paired_code.specs.declared.part.Symbol.{Symbol}
 use Rattle.roopl_semantics.specs.Operators.{updated}
 use Rattle.refine_form.specs.declared.spot.Spot.{Spot}
-use Rattle.expr_uncompute.specs.Code.{words, place_words, update_middle, swap_middle, update_cells, swap_cells}
+use Rattle.expr_uncompute.specs.Code.{words, place_words, swap_middle, update_cells, swap_cells}
 use Rattle.expr_uncompute.specs.Number.{Bases, number, read_of, index_of, place_address, update_shares, swap_shares}
 use Rattle.expr_uncompute.specs.Number.{Sees, SamePlace}
 use Rattle.expr_uncompute.specs.Steps.{place_steps, fetch_steps, apart_steps, both_apart_steps, update_steps}
@@ -28,8 +28,8 @@ use Rattle.expr_uncompute.proofs.Numbers.{words_set, number_word}
 use Rattle.expr_uncompute.proofs.Stored.{same_number}
 use Rattle.expr_uncompute.proofs.Whole.{as_mem}
 use Rattle.expr_uncompute.proofs.Written.{FitFrom, same_turned, place_turned}
-use Rattle.expr_uncompute.proofs.Updates.{place_low, update_goes, found_traps_place, found_traps_value}
-use Rattle.expr_uncompute.proofs.Updates.{found_traps_sharing, swap_goes, both_traps_first, both_traps_second}
+use Rattle.expr_uncompute.proofs.Updates.{place_low, update_goes, update_traps_place, update_traps_value}
+use Rattle.expr_uncompute.proofs.Updates.{update_traps_sharing, swap_goes, both_traps_first, both_traps_second}
 use Rattle.expr_uncompute.proofs.Updates.{swap_traps_sharing}
 
 updated_word : (op : UpdateOp) (x v : ℕ) → x < 2 ^ 32 → v < 2 ^ 32 → updated op x v < 2 ^ 32
@@ -197,14 +197,14 @@ module _ (spot : List ℕ → Spot) (free : ℕ) (m : Memory) where
     pub update_place_fault : (d : Bool) (c : ℕ) → place_address spot (bases_of m) m.cells target ≡ Err c
         → (k : ℕ) × (k ≤ place_steps target) × Runs im (update_cells spot free op target value) d m (Trapped c k)
     update_place_fault d c n = run_traps (place_words target + words value) ready im d _ _ c
-        (found_traps_place spot free (bases_of m) (reg m) target value _ (update_middle op) m.cells c
+        (update_traps_place spot free (bases_of m) (reg m) op target value m.cells c
         (fit_from target (words value) ready place_sees) n)
 
     pub update_value_fault : (d : Bool) (a c : ℕ) → place_address spot (bases_of m) m.cells target ≡ Ok a
         → number spot (bases_of m) m.cells value ≡ Err c → (k : ℕ) × (k ≤ place_steps target + fetch_steps value)
         × Runs im (update_cells spot free op target value) d m (Trapped c k)
     update_value_fault d a c na n = run_traps (place_words target + words value) ready im d _ _ c
-        (found_traps_value spot free (bases_of m) (reg m) target value _ (update_middle op) m.cells a c
+        (update_traps_value spot free (bases_of m) (reg m) op target value m.cells a c
         (fit_from target (words value) ready place_sees) value_sees na n)
 
     -- and then one of a shared array
@@ -213,7 +213,7 @@ module _ (spot : List ℕ → Spot) (free : ℕ) (m : Memory) where
         → (k : ℕ) × (k ≤ place_steps target + fetch_steps value + apart_steps target (index_of target) value)
         × Runs im (update_cells spot free op target value) d m (Trapped 16 k)
     update_sharing_fault d a v na nv shared = run_traps (place_words target + words value) ready im d _ _ 16
-        (found_traps_sharing spot free (bases_of m) (reg m) target value (update_middle op) m.cells a v
+        (update_traps_sharing spot free (bases_of m) (reg m) op target value m.cells a v
         (fit_from target (words value) ready place_sees) value_sees na nv shared)
 
   module _ (left right : Lvalue) (ready : Ready free (place_words left + place_words right) m)

@@ -6,18 +6,19 @@ use Rattle.std.proofs.lemmas.List.{get_or-set_same, get_or-set_other, set_comm, 
 use Rattle.std.proofs.lemmas.Bool.{cases_eq}
 use Rattle.rpp_tree.specs.declared.tree.UpdateOp.{UpdateOp}
 use Rattle.rpp_tree.specs.declared.tree.UpdateOp.TheVariants as update
-use Rattle.rpp_tree.specs.Tree.{Expression, Lvalue, Whole, Item}
+use Rattle.rpp_tree.specs.declared.tree.Ident.{Ident}
+use Rattle.rpp_tree.specs.Tree.{Expression, Number, Null, Variable, Element, Binary, Lvalue, Whole, Item}
 use Rattle.pisa_isa.specs.Machine.{Memory}
 use Rattle.paired_code.specs.declared.part.Symbol.{Symbol}
 use Rattle.roopl_semantics.specs.Operators.{updated}
 use Rattle.refine_form.specs.declared.spot.Spot.{Spot}
 use Rattle.expr_uncompute.specs.Code.{around, words, content, amount, place, other_place, first_word, second_word, exch}
 use Rattle.expr_uncompute.specs.Code.{update_cell, place_words, place_cells, fetch_cells, apart_cells, both_apart_cells}
-use Rattle.expr_uncompute.specs.Code.{update_cells, swap_cells}
-use Rattle.expr_uncompute.specs.Number.{Bases, number, word_of, element_at, read_of, index_of, place_address}
-use Rattle.expr_uncompute.specs.Number.{update_shares, swap_shares, Sees, Same, SamePlace}
+use Rattle.expr_uncompute.specs.Code.{update_middle, found_update_cells, update_cells, swap_cells}
+use Rattle.expr_uncompute.specs.Number.{Bases, address_of, number, word_of, element_at, read_of, index_of}
+use Rattle.expr_uncompute.specs.Number.{place_address, update_shares, swap_shares, Sees, Same, SamePlace}
 use Rattle.expr_uncompute.specs.Steps.{place_steps, fetch_steps, apart_steps, both_apart_steps, update_steps}
-use Rattle.expr_uncompute.specs.Steps.{swap_steps}
+use Rattle.expr_uncompute.specs.Steps.{found_update_steps, swap_steps}
 use Rattle.expr_uncompute.proofs.Goes.{Goes, Traps, TrapsBoth, goes_seq, goes_cons, goes_to, goes_around, goes_xor}
 use Rattle.expr_uncompute.proofs.Goes.{goes_add, goes_sub, goes_exch, traps_first, traps_then, traps_around}
 use Rattle.expr_uncompute.proofs.Scratch.{keeping, mem}
@@ -25,6 +26,7 @@ use Rattle.expr_uncompute.proofs.Numbers.{Agree, AllWords, number_same, number_w
 use Rattle.expr_uncompute.proofs.Stored.{stored_length, stored_below}
 use Rattle.expr_uncompute.proofs.KeptApart.{shares_same, index_seen, swap_shares_same, apart_goes, apart_traps}
 use Rattle.expr_uncompute.proofs.KeptApart.{both_apart_go, both_apart_traps}
+use Rattle.expr_uncompute.proofs.Leaves.{number_goes, variable_goes}
 use Rattle.expr_uncompute.proofs.Ways.{ok_is, inside_of}
 use Rattle.expr_uncompute.proofs.Prepare.{PartsDone, stored_words, parts_done}
 use Rattle.expr_uncompute.proofs.PlaceLaws.{placed, place_points, other_points, place_goes, place_traps, fetch_goes}
@@ -259,17 +261,44 @@ module _ (spot : List ℕ → Spot) (free : ℕ) (b : Bases) where
     found_traps_sharing mid zs a v h s na nv shared = traps_around mid
         (traps_then (found_goes zs a v h s na nv) (sharing_traps zs a v h s shared))
 
-  module _ (f : ℕ → ℕ) (op : UpdateOp) (target : Lvalue) (e : Expression) where
-    -- forward: the word at the place is updated
-    pub update_goes : (zs zs' : List ℕ) (a v : ℕ) → FitFrom spot free b target (words e) zs
+  module _ (f : ℕ → ℕ) (op : UpdateOp) where
+    -- forward: the word at the place is updated, by these cells in so many steps
+    abbrev pub Updates : Lvalue → Expression → List Symbol → (steps : ℕ) → Type 0
+    Updates target e code steps = (zs zs' : List ℕ) (a v : ℕ) → FitFrom spot free b target (words e) zs
         → FitFrom spot free b target (words e) zs' → Sees spot b low zs e → Sees spot b low zs' e
         → place_address spot b zs target ≡ Ok a → place_address spot b zs' target ≡ Ok a → number spot b zs e ≡ Ok v
         → number spot b zs' e ≡ Ok v → SamePlace spot b zs zs' target → Same spot b zs zs' e
         → update_shares spot b zs target e ≡ false → update_shares spot b zs' target e ≡ false
         → zs' ≡ slice_set zs a (updated op (slice_index zs a) v)
-        → Goes (update_cells spot free op target e) (update_steps target e) (mem b f (keeping 0 0 0) zs)
-        (mem b f (keeping 0 0 0) zs')
-    update_goes zs zs' a v h h' s s' na na' nv nv' sp sv apart apart' q =
+        → Goes code steps (mem b f (keeping 0 0 0) zs) (mem b f (keeping 0 0 0) zs')
+
+    by_number : (name : Ident) (at word : ℕ) → Updates (Whole name) (Number at word)
+        (update_cells spot free op (Whole name) (Number at word)) 5
+    by_number name at word zs zs' a v h h' s s' na na' nv nv' sp sv apart apart' q =
+        let l = h.sees in
+        let fits = h.fits in
+        let cells = ap (λ i. slice_set zs i (updated op (slice_index zs i) word)) (ok_is na)
+        ∙ ap (λ z. slice_set zs a (updated op (slice_index zs a) z)) (ok_is nv) ∙ sym q in
+        goes_to refl refl (ap (mem b f (keeping 0 0 0)) cells)
+        (number_goes b f op (spot name.text) word zs h.all (omega arith) h.small s)
+
+    by_variable : (name other : Ident) → Updates (Whole name) (Variable other)
+        (update_cells spot free op (Whole name) (Variable other)) 9
+    by_variable name other zs zs' a v h h' s s' na na' nv nv' sp sv apart apart' q =
+        let l = h.sees in
+        let fits = h.fits in
+        let y : ℕ = address_of b (spot name.text) in
+        let x : ℕ = address_of b (spot other.text) in
+        let cells : slice_set zs y (updated op (slice_index zs y) (slice_index zs x)) ≡ zs' =
+        ap (λ i. slice_set zs i (updated op (slice_index zs i) (slice_index zs x))) (ok_is na)
+        ∙ ap (λ z. slice_set zs a (updated op (slice_index zs a) z)) (ok_is nv) ∙ sym q in
+        goes_to refl refl (ap (mem b f (keeping 0 0 0)) cells)
+        (variable_goes b f op (spot other.text) (spot name.text) zs h.all (omega arith) (omega arith) h.small
+        (ap (λ z. slice_index z x) cells ∙ sv))
+
+    found_update_goes : (target : Lvalue) (e : Expression)
+        → Updates target e (found_update_cells spot free op target e) (found_update_steps target e)
+    found_update_goes target e zs zs' a v h h' s s' na na' nv nv' sp sv apart apart' q =
         let ys : List ℕ = filled spot free b target e zs in
         let x : ℕ = slice_index zs a in
         let y : ℕ = updated op x v in
@@ -287,6 +316,48 @@ module _ (spot : List ℕ → Spot) (free : ℕ) (b : Bases) where
         s (subst (λ z. Sees spot b low z e) q s') (subst (λ z. Same spot b zs z e) q sv) in
         goes_around (held_goes f target e zs a v h s na nv apart) mid
         (goes_to refl refl (ap (mem b f (keeping v a 0)) over) (held_goes f target e zs' a v h' s' na' nv' apart'))
+
+    pub update_goes : (target : Lvalue) (e : Expression)
+        → Updates target e (update_cells spot free op target e) (update_steps target e)
+    update_goes (Whole name) (Number at word) = by_number name at word
+    update_goes (Whole name) (Variable other) = by_variable name other
+    update_goes (Whole name) (Null at) = found_update_goes (Whole name) (Null at)
+    update_goes (Whole name) (Element array index) = found_update_goes (Whole name) (Element array index)
+    update_goes (Whole name) (Binary at o left right) = found_update_goes (Whole name) (Binary at o left right)
+    update_goes (Item name index) e = found_update_goes (Item name index) e
+
+    -- the faults of an update: a variable has none as a place, nor has a leaf as a value
+    pub update_traps_place : (target : Lvalue) (e : Expression) (zs : List ℕ) (c : ℕ)
+        → FitFrom spot free b target (words e) zs → place_address spot b zs target ≡ Err c
+        → TrapsBoth (update_cells spot free op target e) (place_steps target) c (mem b f (keeping 0 0 0) zs)
+    update_traps_place (Whole name) e zs c h n = absurd (cc)
+    update_traps_place (Item name index) e zs c h n =
+        found_traps_place f (Item name index) e (apart_cells spot (Item name index) index e) (update_middle op) zs c h n
+
+    pub update_traps_value : (target : Lvalue) (e : Expression) (zs : List ℕ) (a c : ℕ)
+        → FitFrom spot free b target (words e) zs → Sees spot b low zs e → place_address spot b zs target ≡ Ok a
+        → number spot b zs e ≡ Err c → TrapsBoth (update_cells spot free op target e)
+        (place_steps target + fetch_steps e) c (mem b f (keeping 0 0 0) zs)
+    update_traps_value (Whole name) (Number at word) zs a c h s na n = absurd (cc)
+    update_traps_value (Whole name) (Null at) zs a c h s na n = absurd (cc)
+    update_traps_value (Whole name) (Variable other) zs a c h s na n = absurd (cc)
+    update_traps_value (Whole name) (Element array index) zs a c h s na n =
+        found_traps_value f (Whole name) (Element array index) [] (update_middle op) zs a c h s na n
+    update_traps_value (Whole name) (Binary at o left right) zs a c h s na n =
+        found_traps_value f (Whole name) (Binary at o left right) [] (update_middle op) zs a c h s na n
+    update_traps_value (Item name index) e zs a c h s na n =
+        found_traps_value f (Item name index) e (apart_cells spot (Item name index) index e) (update_middle op) zs a c h
+        s na n
+
+    pub update_traps_sharing : (target : Lvalue) (e : Expression) (zs : List ℕ) (a v : ℕ)
+        → FitFrom spot free b target (words e) zs → Sees spot b low zs e → place_address spot b zs target ≡ Ok a
+        → number spot b zs e ≡ Ok v → update_shares spot b zs target e ≡ true
+        → TrapsBoth (update_cells spot free op target e)
+        (place_steps target + fetch_steps e + apart_steps target (index_of target) e) 16
+        (mem b f (keeping 0 0 0) zs)
+    update_traps_sharing (Whole name) e zs a v h s na nv shared = absurd (cc)
+    update_traps_sharing (Item name index) e zs a v h s na nv shared =
+        found_traps_sharing f (Item name index) e (update_middle op) zs a v h s na nv shared
 
   -- ---- swaps
 

@@ -2,6 +2,8 @@
 use Rattle.std.specs.Prelude.{ℕ, ◌+◌, ◌<◌, ◌⊎◌, List, [], ◌∷◌, ◌++◌}
 use Rattle.rpp_tree.specs.declared.tree.BinOp.{BinOp}
 use Rattle.rpp_tree.specs.declared.tree.BinOp.TheVariants as op
+use Rattle.rpp_words.specs.Words.{difference_of}
+use Rattle.rpp_tree.specs.declared.tree.Ident.{Ident}
 use Rattle.rpp_tree.specs.declared.tree.UpdateOp.{UpdateOp}
 use Rattle.rpp_tree.specs.declared.tree.UpdateOp.TheVariants as update
 use Rattle.rpp_tree.specs.Tree.{Expression, Number, Null, Variable, Element, Binary, Lvalue, Whole}
@@ -225,6 +227,31 @@ update_cell update.Add d s = add d s
 update_cell update.Sub d s = sub d s
 update_cell update.Xor d s = xor d s
 
+-- the same by a number
+abbrev pub number_cell : UpdateOp → (d word : ℕ) → Symbol
+number_cell update.Add d word = addi d word
+number_cell update.Sub d word = addi d (difference_of 0 word)
+number_cell update.Xor d word = xori d word
+
+-- from an offset at which a base stands, it goes to a spot, or the other base does
+abbrev pub from_object : (from : ℕ) → Spot → Symbol
+from_object from (Field i) = addi object (difference_of (offset_of (Field i)) from)
+from_object from (Frame i) = addi frame i
+
+abbrev pub from_frame : (from : ℕ) → Spot → Symbol
+from_frame from (Field i) = addi object (offset_of (Field i))
+from_frame from (Frame i) = addi frame (difference_of i from)
+
+-- the same from a spot at which its base stands
+abbrev pub onward : (x y : Spot) → Symbol
+onward (Field i) y = from_object (offset_of (Field i)) y
+onward (Frame i) y = from_frame i y
+
+-- the word of one spot in `amount`, and that of another in `content`
+abbrev pub both_reached : (x y : Spot) → List Symbol
+both_reached x y = addi (base_of x) (offset_of x) ∷ exch amount (base_of x) ∷ onward x y
+    ∷ exch content (base_of y) ∷ []
+
 -- the word of a place updated by the value, and the words of two places swapped
 abbrev pub update_middle : UpdateOp → List Symbol
 update_middle op = exch content place ∷ update_cell op content amount ∷ exch content place ∷ []
@@ -347,9 +374,21 @@ module _ (spot : List ℕ → Spot) (free : ℕ) where
       ++ apart_cells spot target (index_of source) (index_of target)
 
   -- an update of a place by a value
-  abbrev pub update_cells : UpdateOp → Lvalue → Expression → List Symbol
-  update_cells op target value =
+  abbrev pub found_update_cells : UpdateOp → Lvalue → Expression → List Symbol
+  found_update_cells op target value =
       around (found_value_cells target value) (update_middle op)
+
+  -- of a variable: by a number or another variable it needs no address in a register
+  abbrev pub whole_update_cells : UpdateOp → Ident → Expression → List Symbol
+  whole_update_cells op name (Number at word) =
+      around (reach_cells (spot name.text)) (number_cell op content word ∷ [])
+  whole_update_cells op name (Variable other) =
+      around (both_reached (spot other.text) (spot name.text)) (update_cell op content amount ∷ [])
+  whole_update_cells op name value = found_update_cells op (Whole name) value
+
+  abbrev pub update_cells : UpdateOp → Lvalue → Expression → List Symbol
+  update_cells op (Whole name) value = whole_update_cells op name value
+  update_cells op (Item name index) value = found_update_cells op (Item name index) value
 
   -- the words of two places swapped; where they are one, it stays as it is
   abbrev pub swap_cells : Lvalue → Lvalue → List Symbol

@@ -1,21 +1,25 @@
 // The code of updates and swaps.
-ghost use Rattle.std.specs.Prelude.{◌≡◌, ◌≤◌, ◌+◌, ◌*◌, [], ◌∷◌, length, IfOk};
+ghost use Rattle.std.specs.Prelude.{◌≡◌, ◌<◌, ◌≤◌, ◌+◌, ◌*◌, ◌^◌, [], ◌∷◌, length, IfOk};
+ghost use Rattle.rpp_tree.specs.Tree.{Whole};
 ghost use Rattle.rpp_tree.specs.Views.{expression_of, lvalue_of};
 ghost use Rattle.paired_code.specs.Code.{unmarked};
-ghost use Rattle.expr_uncompute.specs.Code.{exch as exch_cell, words as words_of, place_words as words_of_place, update_cell as cell_of_update, update_cells, swap_cells};
+ghost use Rattle.expr_uncompute.specs.Code.{exch as exch_cell, words as words_of, place_words as words_of_place, around, reach_cells, update_cell as cell_of_update, number_cell as cell_of_number, onward as onward_cell, from_object as onward_from_object, from_frame as onward_from_frame_cell, both_reached as both_reached_cells, found_update_cells, whole_update_cells, update_cells, swap_cells};
+ghost use Rattle.expr_uncompute.specs.Number.{read_of};
 ghost use Rattle.expr_uncompute.specs.Promises.{UpdateLaw, SwapLaw};
 ghost use Rattle.expr_uncompute.specs.Sizes.{swap_size};
 ghost use Rattle.expr_uncompute.specs.Steps.{tokens, place_tokens};
-ghost use Rattle.code_scope.specs.Visible.{spot_of as spot_of_name, free_of, known_by};
+ghost use Rattle.code_scope.specs.Visible.{offset_of, spot_of as spot_of_name, free_of, known_by};
 
 use crate::apart::both_apart;
-use crate::cells::{add, enclosed, exch, sub, xor};
+use crate::cells::{add, addi, enclosed, exch, sub, xor, xori};
 use crate::found::{AMOUNT, OTHER_PLACE, PLACE, both_places, found_value};
-use code_conventions::registers::CONTENT;
-use code_scope::Names;
+use crate::rows::{base, offset, reached};
+use code_conventions::registers::{CONTENT, FRAME, OBJECT};
+use code_scope::{Names, spot_of};
 use paired_code::{Piece, seq};
+use refine_form::Spot;
 use rpp_tree::tree::{Expr, Place, UpdateOp};
-use rpp_words::NoMemory;
+use rpp_words::{NoMemory, wrap_sub};
 use std::alloc::Global;
 
 const FIRST_WORD: u8 = 22;
@@ -29,6 +33,174 @@ fn update_cell(alloc: Global, op: UpdateOp) -> Result<Piece, NoMemory>
         UpdateOp::Add => add(alloc, CONTENT, AMOUNT),
         UpdateOp::Sub => sub(alloc, CONTENT, AMOUNT),
         UpdateOp::Xor => xor(alloc, CONTENT, AMOUNT),
+    }
+}
+
+fn number_cell(alloc: Global, op: UpdateOp, word: u32) -> Result<Piece, NoMemory>
+    ensures { IfOk result (λ p. p ≡ unmarked (cell_of_number op CONTENT word ∷ [])) }
+{
+    match op {
+        UpdateOp::Add => addi(alloc, CONTENT, word),
+        UpdateOp::Sub => addi(alloc, CONTENT, wrap_sub(0, word)),
+        UpdateOp::Xor => xori(alloc, CONTENT, word),
+    }
+}
+
+// A variable updated by a number.
+fn by_number(alloc: Global, op: UpdateOp, spot: Spot, word: u32) -> Result<Piece, NoMemory>
+    requires { offset_of spot < 2 ^ 32 }
+    ensures { IfOk result (λ p.
+        p ≡ unmarked (around (reach_cells spot) (cell_of_number op CONTENT word ∷ []))) }
+{
+    let outer = reached(alloc, spot)?;
+    let middle = number_cell(alloc, op, word)?;
+    enclosed(alloc, outer, middle)
+}
+
+fn onward_from_field(alloc: Global, from: u32, y: Spot) -> Result<Piece, NoMemory>
+    requires { offset_of y < 2 ^ 32 }
+    ensures { IfOk result (λ p. p ≡ unmarked (onward_from_object from y ∷ [])) }
+{
+    match y {
+        Spot::Field(_) => addi(alloc, OBJECT, wrap_sub(offset(y), from)),
+        Spot::Frame(_) => addi(alloc, FRAME, offset(y)),
+    }
+}
+
+fn onward_from_frame(alloc: Global, from: u32, y: Spot) -> Result<Piece, NoMemory>
+    requires { offset_of y < 2 ^ 32 }
+    ensures { IfOk result (λ p. p ≡ unmarked (onward_from_frame_cell from y ∷ [])) }
+{
+    match y {
+        Spot::Field(_) => addi(alloc, OBJECT, offset(y)),
+        Spot::Frame(_) => addi(alloc, FRAME, wrap_sub(offset(y), from)),
+    }
+}
+
+// A base that stands at the first spot, or the other base, goes to the second.
+fn onward(alloc: Global, x: Spot, y: Spot) -> Result<Piece, NoMemory>
+    requires first { offset_of x < 2 ^ 32 }
+    requires second { offset_of y < 2 ^ 32 }
+    ensures { IfOk result (λ p. p ≡ unmarked (onward_cell x y ∷ [])) }
+{
+    match x {
+        Spot::Field(_) => onward_from_field(alloc, offset(x), y),
+        Spot::Frame(_) => onward_from_frame(alloc, offset(x), y),
+    }
+}
+
+fn both_reached(alloc: Global, x: Spot, y: Spot) -> Result<Piece, NoMemory>
+    requires first { offset_of x < 2 ^ 32 }
+    requires second { offset_of y < 2 ^ 32 }
+    ensures { IfOk result (λ p. p ≡ unmarked (both_reached_cells x y)) }
+{
+    let there = addi(alloc, base(x), offset(x))?;
+    let value = exch(alloc, AMOUNT, base(x))?;
+    let on = onward(alloc, x, y)?;
+    let word = exch(alloc, CONTENT, base(y))?;
+    let front = seq(there, value)?;
+    let rest = seq(on, word)?;
+    seq(front, rest)
+}
+
+// A variable, the second, updated by another.
+fn by_variable(alloc: Global, op: UpdateOp, x: Spot, y: Spot) -> Result<Piece, NoMemory>
+    requires first { offset_of x < 2 ^ 32 }
+    requires second { offset_of y < 2 ^ 32 }
+    ensures { IfOk result (λ p.
+        p ≡ unmarked (around (both_reached_cells x y) (cell_of_update op CONTENT AMOUNT ∷ []))) }
+{
+    let outer = both_reached(alloc, x, y)?;
+    let middle = update_cell(alloc, op)?;
+    enclosed(alloc, outer, middle)
+}
+
+// Any place updated by any value.
+fn by_value(
+    alloc: Global,
+    op: UpdateOp,
+    place: &Place,
+    value: &Expr,
+    names: &Names,
+) -> Result<Piece, NoMemory>
+    requires { words_of_place (lvalue_of place.now) + words_of (expression_of value.now) ≤ 1000 }
+    ensures { IfOk result (λ p.
+        p ≡ unmarked (found_update_cells (spot_of_name (known_by names.now))
+        (free_of (known_by names.now)) op (lvalue_of place.now) (expression_of value.now))) }
+{
+    let outer = found_value(alloc, place, value, names)?;
+    let alter = update_cell(alloc, op)?;
+    let there = exch(alloc, CONTENT, PLACE)?;
+    let middle = enclosed(alloc, there, alter)?;
+    enclosed(alloc, outer, middle)
+}
+
+// A variable updated by a place that is read.
+fn whole_by_place(
+    alloc: Global,
+    op: UpdateOp,
+    place: &Place,
+    read: &Place,
+    value: &Expr,
+    names: &Names,
+) -> Result<Piece, NoMemory>
+    requires room { words_of (expression_of value.now) ≤ 1000 }
+    requires whole { lvalue_of place.now ≡ Whole place.now.name }
+    requires reads { expression_of value.now ≡ read_of (lvalue_of read.now) }
+    ensures { IfOk result (λ p.
+        p ≡ unmarked (whole_update_cells (spot_of_name (known_by names.now))
+        (free_of (known_by names.now)) op place.now.name (expression_of value.now))) }
+{
+    match &read.index {
+        None => by_variable(
+            alloc,
+            op,
+            spot_of(names, &read.name.text),
+            spot_of(names, &place.name.text),
+        ),
+        Some(_) => by_value(alloc, op, place, value, names),
+    }
+}
+
+fn whole_update(
+    alloc: Global,
+    op: UpdateOp,
+    place: &Place,
+    value: &Expr,
+    names: &Names,
+) -> Result<Piece, NoMemory>
+    requires room { words_of (expression_of value.now) ≤ 1000 }
+    requires whole { lvalue_of place.now ≡ Whole place.now.name }
+    ensures { IfOk result (λ p.
+        p ≡ unmarked (whole_update_cells (spot_of_name (known_by names.now))
+        (free_of (known_by names.now)) op place.now.name (expression_of value.now))) }
+{
+    match value {
+        Expr::Number { word, .. } => {
+            by_number(alloc, op, spot_of(names, &place.name.text), *word)
+        }
+        Expr::Nil { .. } => by_value(alloc, op, place, value, names),
+        Expr::Read(read) => whole_by_place(alloc, op, place, read, value, names),
+        Expr::Binary { .. } => by_value(alloc, op, place, value, names),
+    }
+}
+
+// The form that a place and a value have.
+fn update_by_form(
+    alloc: Global,
+    op: UpdateOp,
+    place: &Place,
+    value: &Expr,
+    names: &Names,
+) -> Result<Piece, NoMemory>
+    requires { words_of_place (lvalue_of place.now) + words_of (expression_of value.now) ≤ 1000 }
+    ensures { IfOk result (λ p.
+        p ≡ unmarked (update_cells (spot_of_name (known_by names.now))
+        (free_of (known_by names.now)) op (lvalue_of place.now) (expression_of value.now))) }
+{
+    match &place.index {
+        None => whole_update(alloc, op, place, value, names),
+        Some(_) => by_value(alloc, op, place, value, names),
     }
 }
 
@@ -51,11 +223,7 @@ pub fn update_piece(
         length p.cells ≤ 80 * (place_tokens (lvalue_of place.now) + 1 + tokens
         (expression_of value.now))) }
 {
-    let outer = found_value(alloc, place, value, names)?;
-    let alter = update_cell(alloc, op)?;
-    let there = exch(alloc, CONTENT, PLACE)?;
-    let middle = enclosed(alloc, there, alter)?;
-    enclosed(alloc, outer, middle)
+    update_by_form(alloc, op, place, value, names)
 }
 
 fn four_exchanges(alloc: Global) -> Result<Piece, NoMemory>
