@@ -1,5 +1,7 @@
 -- How many steps and cells code of expressions has at most.
-use Rattle.std.proofs.Common.{◌≡◌, ℕ, ◌+◌, ◌*◌, ◌≤◌, List, [], ◌∷◌, ◌++◌, length, length-append, refl, arith}
+use Rattle.std.proofs.Common.{◌≡◌, ℕ, ◌+◌, ◌*◌, ◌≤◌, Bool, true, false, List, [], ◌∷◌, ◌++◌, length, length-append}
+use Rattle.std.proofs.Common.{refl, arith}
+use Rattle.std.specs.Prelude.{if◌then◌else◌}
 use Rattle.rpp_tree.specs.declared.tree.BinOp.{BinOp}
 use Rattle.rpp_tree.specs.declared.tree.BinOp.TheVariants as op
 use Rattle.rpp_tree.specs.declared.tree.UpdateOp.{UpdateOp}
@@ -9,14 +11,15 @@ use Rattle.paired_code.specs.declared.part.Symbol.{Symbol}
 use Rattle.paired_code.specs.Layout.{mirror_cells, check_cells}
 use Rattle.paired_code.proofs.Mirrored.{length_mirror}
 use Rattle.refine_form.specs.declared.spot.Spot.{Spot}
+use Rattle.code_scope.specs.Visible.{offset_of}
 use Rattle.roopl_semantics.specs.Elements.{elements, index_elements, own_element, read_cost}
 use Rattle.expr_uncompute.specs.Number.{index_of}
 use Rattle.expr_uncompute.specs.Code
 use Rattle.expr_uncompute.specs.Sizes.{swap_size}
 use Rattle.expr_uncompute.specs.Steps.{operator_steps, operand_steps, open_steps, prepare_steps, parts_steps}
 use Rattle.expr_uncompute.specs.Steps.{value_steps, test_steps, fetch_steps, place_steps, compare_steps, apart_steps}
-use Rattle.expr_uncompute.specs.Steps.{both_apart_steps, found_update_steps, update_steps, swap_steps, tokens}
-use Rattle.expr_uncompute.specs.Steps.{place_tokens}
+use Rattle.expr_uncompute.specs.Steps.{both_apart_steps, found_update_steps, update_steps, found_swap_steps}
+use Rattle.expr_uncompute.specs.Steps.{swap_steps, tokens, place_tokens}
 use Rattle.expr_uncompute.specs.Found.{found_place_steps, found_value_steps, found_places_steps}
 
 -- ---- steps
@@ -156,11 +159,18 @@ update_most (Whole name) (Element array index) = found_update_most (Whole name) 
 update_most (Whole name) (Binary at o left right) = found_update_most (Whole name) (Binary at o left right)
 update_most (Item name index) e = found_update_most (Item name index) e
 
+found_swap_most : (left right : Lvalue) → found_swap_steps left right ≤ 304 *
+    (1 + index_nodes left + index_nodes right + read_cost (own_element left ++ own_element right)
+    (index_elements left ++ index_elements right))
+found_swap_most left right =
+    let a = place_most left in let b = place_most right in let c = both_apart_most left right in omega arith
+
 pub swap_most : (left right : Lvalue) → swap_steps left right ≤ 304 *
     (1 + index_nodes left + index_nodes right + read_cost (own_element left ++ own_element right)
     (index_elements left ++ index_elements right))
-swap_most left right = let a = place_most left in let b = place_most right in let c = both_apart_most left right in
-    omega arith
+swap_most (Whole name) (Whole other) = omega arith
+swap_most (Whole name) (Item other index) = found_swap_most (Whole name) (Item other index)
+swap_most (Item name index) right = found_swap_most (Item name index) right
 
 -- what is found around a middle, there and back
 pub found_place_most : (target : Lvalue) → 2 * found_place_steps target ≤ 162 *
@@ -539,8 +549,8 @@ module _ (spot : List ℕ → Spot) (free : ℕ) where
   update_cells o (Whole name) (Binary at p left right) = found_update_cells o (Whole name) (Binary at p left right)
   update_cells o (Item name index) e = found_update_cells o (Item name index) e
 
-  pub swap_cells : (left right : Lvalue) → length (Code.swap_cells spot free left right) ≤ swap_size left right
-  swap_cells (Whole name) right =
+  found_swap_cells : (left right : Lvalue) → length (Code.found_swap_cells spot free left right) ≤ swap_size left right
+  found_swap_cells (Whole name) right =
       let p = Code.place_cells spot free (Whole name) 0 Code.place in
       let v = Code.place_cells spot free right (Code.place_words (Whole name)) Code.other_place in
       let mid = Code.exch Code.first_word Code.place ∷ Code.exch Code.second_word Code.other_place
@@ -550,7 +560,7 @@ module _ (spot : List ℕ → Spot) (free : ℕ) where
       let e = apart_cells right (index_of (Whole name)) (index_of right) in
       let u = index_tokens right in
       omega (arith, length_around ((p ++ v) ++ ([] ++ l)) mid, length-append (p ++ v) ([] ++ l), length-append p v)
-  swap_cells (Item name index) right =
+  found_swap_cells (Item name index) right =
       let left : Lvalue = Item name index in
       let p = Code.place_cells spot free left 0 Code.place in
       let v = Code.place_cells spot free right (Code.place_words left) Code.other_place in
@@ -571,6 +581,37 @@ module _ (spot : List ℕ → Spot) (free : ℕ) where
         length-append p v,
         length-append k l,
       )
+
+  beyond_length : (x y : Spot) → length (Code.beyond x y) ≡ 4
+  beyond_length x y = length_around (Code.onward x y ∷ []) (Code.exch Code.second_word (Code.base_of y)
+      ∷ Code.exch Code.first_word (Code.base_of y) ∷ [])
+
+  by_one_length : (x y : Spot) → length (Code.swap_by_one x y) ≡ 8
+  by_one_length x y =
+      let w = Code.exch Code.first_word (Code.base_of x) ∷ Code.beyond x y in
+      let last = Code.exch Code.second_word (Code.base_of x) ∷ [] in
+      omega (
+        arith,
+        length_around (Code.addi (Code.base_of x) (offset_of x) ∷ []) (w ++ last),
+        length-append w last,
+        beyond_length x y,
+      )
+
+  at_length : (x y : Spot) → length (Code.swap_at x y) ≡ 8
+  at_length x y = length_around (Code.addi (Code.base_of x) (offset_of x) ∷ Code.onward x y ∷ [])
+      (Code.four_exchanges (Code.base_of x) (Code.base_of y))
+
+  spots_length : (t : Bool) (x y : Spot) → length (if t then Code.swap_by_one x y else Code.swap_at x y) ≡ 8
+  spots_length true x y = by_one_length x y
+  spots_length false x y = at_length x y
+
+  pub swap_cells : (left right : Lvalue) → length (Code.swap_cells spot free left right) ≤ swap_size left right
+  swap_cells (Whole name) (Whole other) =
+      let x = spot name.text in
+      let y = spot other.text in
+      omega (arith, spots_length (Code.have_one_base x y) x y)
+  swap_cells (Whole name) (Item other index) = found_swap_cells (Whole name) (Item other index)
+  swap_cells (Item name index) right = found_swap_cells (Item name index) right
 
 -- ---- and how many at least: a step stands for three counts at most
 
@@ -634,7 +675,14 @@ found_places_least source (Item name index) =
     let d = compare_is index in
     omega (arith, length-append (index_elements source) (elements index))
 
+found_swap_least : (left right : Lvalue) → 1 + index_nodes left + index_nodes right + read_cost
+    (own_element left ++ own_element right) (index_elements left ++ index_elements right) ≤ found_swap_steps left right
+found_swap_least left right = let a = place_least left in let b = place_least right in let c =
+    both_apart_least left right in
+    omega arith
+
 pub swap_least : (left right : Lvalue) → 1 + index_nodes left + index_nodes right + read_cost
     (own_element left ++ own_element right) (index_elements left ++ index_elements right) ≤ swap_steps left right
-swap_least left right = let a = place_least left in let b = place_least right in let c = both_apart_least left right in
-    omega arith
+swap_least (Whole name) (Whole other) = omega arith
+swap_least (Whole name) (Item other index) = found_swap_least (Whole name) (Item other index)
+swap_least (Item name index) right = found_swap_least (Item name index) right

@@ -1,6 +1,6 @@
 -- A piece that leads from one memory to another, and back; and a piece that traps.
 use Rattle.std.proofs.Common.{◌≡◌, ◌≢◌, ℕ, ◌+◌, ◌^◌, ◌<◌, ◌≤◌, Bool, true, false, List, [], ◌∷◌, ◌++◌, length}
-use Rattle.std.proofs.Common.{length-set, refl, sym, ap, ◌∙◌, subst, arith}
+use Rattle.std.proofs.Common.{length-set, refl, ap, ◌∙◌, subst, arith}
 use Rattle.std.specs.Prelude.{bit_xor, nat_lt, if◌then◌else◌, slice_index, slice_set}
 use Rattle.std.specs.Int.Bits.{xor_zero_l}
 use Rattle.std.proofs.lemmas.List.{get_or-set_same, set-set, set-get_or}

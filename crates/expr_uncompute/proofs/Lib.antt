@@ -18,6 +18,7 @@ pub mod Written
 pub mod KeptApart
 pub mod Standing
 pub mod Leaves
+pub mod Exchanged
 pub mod Updates
 pub mod Statements
 pub mod Bounds

@@ -16,7 +16,7 @@ use Rattle.paired_code.specs.Pieces.{Done, Trapped, Runs}
 use Rattle.paired_code.specs.declared.part.Symbol.{Symbol}
 use Rattle.roopl_semantics.specs.Operators.{updated}
 use Rattle.refine_form.specs.declared.spot.Spot.{Spot}
-use Rattle.expr_uncompute.specs.Code.{words, place_words, swap_middle, update_cells, swap_cells}
+use Rattle.expr_uncompute.specs.Code.{words, place_words, update_cells, swap_cells}
 use Rattle.expr_uncompute.specs.Number.{Bases, number, read_of, index_of, place_address, update_shares, swap_shares}
 use Rattle.expr_uncompute.specs.Number.{Sees, SamePlace}
 use Rattle.expr_uncompute.specs.Steps.{place_steps, fetch_steps, apart_steps, both_apart_steps, update_steps}
@@ -29,7 +29,7 @@ use Rattle.expr_uncompute.proofs.Stored.{same_number}
 use Rattle.expr_uncompute.proofs.Whole.{as_mem}
 use Rattle.expr_uncompute.proofs.Written.{FitFrom, same_turned, place_turned}
 use Rattle.expr_uncompute.proofs.Updates.{place_low, update_goes, update_traps_place, update_traps_value}
-use Rattle.expr_uncompute.proofs.Updates.{update_traps_sharing, swap_goes, both_traps_first, both_traps_second}
+use Rattle.expr_uncompute.proofs.Updates.{update_traps_sharing, swap_goes, swap_traps_first, swap_traps_second}
 use Rattle.expr_uncompute.proofs.Updates.{swap_traps_sharing}
 
 updated_word : (op : UpdateOp) (x v : ℕ) → x < 2 ^ 32 → v < 2 ^ 32 → updated op x v < 2 ^ 32
@@ -264,7 +264,7 @@ module _ (spot : List ℕ → Spot) (free : ℕ) (m : Memory) where
     pub swap_left_fault : (d : Bool) (c : ℕ) → place_address spot (bases_of m) m.cells left ≡ Err c
         → (k : ℕ) × (k ≤ place_steps left) × Runs im (swap_cells spot free left right) d m (Trapped c k)
     swap_left_fault d c n = run_traps (place_words left + place_words right) ready im d _ _ c
-        (both_traps_first spot free (bases_of m) (reg m) left right _ swap_middle m.cells c
+        (swap_traps_first spot free (bases_of m) (reg m) left right m.cells c
         (fit_from left (place_words right) ready left_sees) n)
 
     pub swap_right_fault : (d : Bool) (p c : ℕ) → place_address spot (bases_of m) m.cells left ≡ Ok p
@@ -272,7 +272,7 @@ module _ (spot : List ℕ → Spot) (free : ℕ) (m : Memory) where
         → (k : ℕ) × (k ≤ place_steps left + place_steps right)
         × Runs im (swap_cells spot free left right) d m (Trapped c k)
     swap_right_fault d p c np n = run_traps (place_words left + place_words right) ready im d _ _ c
-        (both_traps_second spot free (bases_of m) (reg m) left right _ swap_middle m.cells p c
+        (swap_traps_second spot free (bases_of m) (reg m) left right m.cells p c
         (fit_from left (place_words right) ready left_sees) right_sees np n)
 
     pub swap_sharing_fault : (d : Bool) (p q : ℕ) → place_address spot (bases_of m) m.cells left ≡ Ok p

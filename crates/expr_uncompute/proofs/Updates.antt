@@ -1,9 +1,8 @@
 -- Updates of a place by a value, and swaps of two places.
-use Rattle.std.proofs.Common.{◌≡◌, ◌≢◌, ℕ, ◌+◌, ◌^◌, ◌<◌, true, false, List, [], ◌∷◌, ◌++◌, length, length-set, refl}
-use Rattle.std.proofs.Common.{sym, ap, ◌∙◌, subst, arith, ⊎_elim}
+use Rattle.std.proofs.Common.{◌≡◌, ℕ, ◌+◌, ◌^◌, ◌<◌, true, false, List, [], ◌∷◌, ◌++◌, length, length-set, refl}
+use Rattle.std.proofs.Common.{sym, ap, ◌∙◌, subst, arith}
 use Rattle.std.specs.Prelude.{slice_index, slice_set, Ok, Err}
-use Rattle.std.proofs.lemmas.List.{get_or-set_same, get_or-set_other, set_comm, set-set}
-use Rattle.std.proofs.lemmas.Bool.{cases_eq}
+use Rattle.std.proofs.lemmas.List.{get_or-set_same, set-set}
 use Rattle.rpp_tree.specs.declared.tree.UpdateOp.{UpdateOp}
 use Rattle.rpp_tree.specs.declared.tree.UpdateOp.TheVariants as update
 use Rattle.rpp_tree.specs.declared.tree.Ident.{Ident}
@@ -14,11 +13,13 @@ use Rattle.roopl_semantics.specs.Operators.{updated}
 use Rattle.refine_form.specs.declared.spot.Spot.{Spot}
 use Rattle.expr_uncompute.specs.Code.{around, words, content, amount, place, other_place, first_word, second_word, exch}
 use Rattle.expr_uncompute.specs.Code.{update_cell, place_words, place_cells, fetch_cells, apart_cells, both_apart_cells}
-use Rattle.expr_uncompute.specs.Code.{update_middle, found_update_cells, update_cells, swap_cells}
+use Rattle.expr_uncompute.specs.Code.{update_middle, four_exchanges, swap_middle, found_update_cells, update_cells}
+use Rattle.expr_uncompute.specs.Code.{found_swap_cells, swap_cells}
 use Rattle.expr_uncompute.specs.Number.{Bases, address_of, number, word_of, element_at, read_of, index_of}
 use Rattle.expr_uncompute.specs.Number.{place_address, update_shares, swap_shares, Sees, Same, SamePlace}
+use Rattle.expr_uncompute.specs.Laws.{swapped_at}
 use Rattle.expr_uncompute.specs.Steps.{place_steps, fetch_steps, apart_steps, both_apart_steps, update_steps}
-use Rattle.expr_uncompute.specs.Steps.{found_update_steps, swap_steps}
+use Rattle.expr_uncompute.specs.Steps.{found_update_steps, found_swap_steps, swap_steps}
 use Rattle.expr_uncompute.proofs.Goes.{Goes, Traps, TrapsBoth, goes_seq, goes_cons, goes_to, goes_around, goes_xor}
 use Rattle.expr_uncompute.proofs.Goes.{goes_add, goes_sub, goes_exch, traps_first, traps_then, traps_around}
 use Rattle.expr_uncompute.proofs.Scratch.{keeping, mem}
@@ -27,6 +28,7 @@ use Rattle.expr_uncompute.proofs.Stored.{stored_length, stored_below}
 use Rattle.expr_uncompute.proofs.KeptApart.{shares_same, index_seen, swap_shares_same, apart_goes, apart_traps}
 use Rattle.expr_uncompute.proofs.KeptApart.{both_apart_go, both_apart_traps}
 use Rattle.expr_uncompute.proofs.Leaves.{number_goes, variable_goes}
+use Rattle.expr_uncompute.proofs.Exchanged.{four_swap, spots_go}
 use Rattle.expr_uncompute.proofs.Ways.{ok_is, inside_of}
 use Rattle.expr_uncompute.proofs.Prepare.{PartsDone, stored_words, parts_done}
 use Rattle.expr_uncompute.proofs.PlaceLaws.{placed, place_points, other_points, place_goes, place_traps, fetch_goes}
@@ -69,72 +71,15 @@ module _ (b : Bases) (f : ℕ → ℕ) (p q : ℕ) where
   abbrev both : (x y : ℕ) → List ℕ → Memory
   both x y ws = mem b f (record (keeping 0 p q) { first = x; second = y }) ws
 
-  abbrev four : List Symbol
-  four = exch first_word place ∷ exch second_word other_place ∷ exch second_word place ∷ exch first_word other_place
-      ∷ []
-
-  -- whatever stands there
-  four_go : (ys ws1 ws2 ws3 ws4 : List ℕ) (x y y' x' : ℕ) → p < length ys → q < length ys
-      → slice_index ys p ≡ x → slice_set ys p 0 ≡ ws1 → slice_index ws1 q ≡ y → slice_set ws1 q 0 ≡ ws2
-      → slice_index ws2 p ≡ y' → slice_set ws2 p y ≡ ws3 → slice_index ws3 q ≡ x' → slice_set ws3 q x ≡ ws4
-      → Goes (exch first_word place ∷ exch second_word other_place ∷ exch second_word place
-      ∷ exch first_word other_place ∷ []) 4 (mem b f (keeping 0 p q) ys)
-      (mem b f (record (keeping 0 p q) { first = x'; second = y' }) ws4)
-  four_go ys ws1 ws2 ws3 ws4 x y y' x' h k e1 s1 e2 s2 e3 s3 e4 s4 =
-      let l1 : length ws1 ≡ length ys = ap length (sym s1) ∙ length-set ys p 0 in
-      let l2 : length ws2 ≡ length ys = ap length (sym s2) ∙ length-set ws1 q 0 ∙ l1 in
-      let l3 : length ws3 ≡ length ys = ap length (sym s3) ∙ length-set ws2 p y ∙ l2 in
-      goes_cons (goes_to refl refl (ap (λ z. both z 0 (slice_set ys p 0)) e1 ∙ ap (both x 0) s1)
-      (goes_exch _ (λ z zs. both z 0 zs) p 0 ys h refl (omega arith) (λ z zs. refl) (λ z zs. refl)))
-      (goes_cons (goes_to refl refl (ap (λ z. both x z (slice_set ws1 q 0)) e2 ∙ ap (both x y) s2)
-      (goes_exch _ (λ z zs. both x z zs) q 0 ws1 (omega arith) refl (omega arith) (λ z zs. refl)
-      (λ z zs. refl)))
-      (goes_cons (goes_to refl refl (ap (λ z. both x z (slice_set ws2 p y)) e3 ∙ ap (both x y') s3)
-      (goes_exch _ (λ z zs. both x z zs) p y ws2 (omega arith) refl (omega arith) (λ z zs. refl)
-      (λ z zs. refl)))
-      (goes_to refl refl (ap (λ z. both z y' (slice_set ws3 q x)) e4 ∙ ap (both x' y') s4)
-      (goes_exch _ (λ z zs. both z y' zs) q x ws3 (omega arith) refl (omega arith) (λ z zs. refl)
-      (λ z zs. refl)))))
-
   pub swap_mid : (ys : List ℕ) → p < length ys → q < length ys
-      → Goes (exch first_word place ∷ exch second_word other_place ∷ exch second_word place
-      ∷ exch first_word other_place ∷ []) 4 (mem b f (keeping 0 p q) ys)
-      (mem b f (keeping 0 p q) (slice_set (slice_set ys p (slice_index ys q)) q (slice_index ys p)))
-  swap_mid ys h k = ⊎_elim (λ e. one e) (λ n. two n) (cases_eq p q)
-    where
-      two : p ≢ q → Goes (exch first_word place ∷ exch second_word other_place ∷ exch second_word place
-          ∷ exch first_word other_place ∷ []) 4 (mem b f (keeping 0 p q) ys)
-          (mem b f (keeping 0 p q) (slice_set (slice_set ys p (slice_index ys q)) q (slice_index ys p)))
-      two n =
-          let x : ℕ = slice_index ys p in
-          let y : ℕ = slice_index ys q in
-          let n' : q ≢ p = λ e. n (sym e) in
-          let ws1 : List ℕ = slice_set ys p 0 in
-          let ws2 : List ℕ = slice_set ws1 q 0 in
-          let ws3 : List ℕ = slice_set ws2 p y in
-          let k1 : q < length ws1 = rw (length-set ys p 0) k in
-          let last : slice_set ws3 q x ≡ slice_set (slice_set ys p y) q x =
-          ap (λ z. slice_set z q x) (set_comm ws1 q p 0 y n' ∙ ap (λ z. slice_set z q 0) (set-set ys p 0 y))
-          ∙ set-set (slice_set ys p y) q 0 x in
-          four_go ys ws1 ws2 ws3 _ x y 0 0 h k refl refl (get_or-set_other ys p q 0 0 n') refl
-          (get_or-set_other ws1 q p 0 0 n ∙ get_or-set_same ys p 0 0 h) refl
-          (get_or-set_other ws2 p q y 0 n' ∙ get_or-set_same ws1 q 0 0 k1) last
-
-      one : p ≡ q → Goes (exch first_word place ∷ exch second_word other_place ∷ exch second_word place
-          ∷ exch first_word other_place ∷ []) 4 (mem b f (keeping 0 p q) ys)
-          (mem b f (keeping 0 p q) (slice_set (slice_set ys p (slice_index ys q)) q (slice_index ys p)))
-      one e =
-          let x : ℕ = slice_index ys p in
-          let y : ℕ = slice_index ys q in
-          let ws1 : List ℕ = slice_set ys p 0 in
-          let at : (z : List ℕ) → slice_index z q ≡ slice_index z p = λ z. ap (slice_index z) (sym e) in
-          let on : (z : List ℕ) (w : ℕ) → slice_set z q w ≡ slice_set z p w =
-          λ z w. ap (λ i. slice_set z i w) (sym e) in
-          let zero : slice_index ws1 p ≡ 0 = get_or-set_same ys p 0 0 h in
-          let last : slice_set ws1 q x ≡ slice_set (slice_set ys p y) q x =
-          on ws1 x ∙ set-set ys p 0 x ∙ sym (on (slice_set ys p y) x ∙ set-set ys p y x) in
-          four_go ys ws1 ws1 ws1 _ x 0 0 0 h k refl refl (at ws1 ∙ zero) (on ws1 0 ∙ set-set ys p 0 0) zero
-          (set-set ys p 0 0) (at ws1 ∙ zero) last
+      → Goes (four_exchanges place other_place) 4 (mem b f (keeping 0 p q) ys)
+      (mem b f (keeping 0 p q) (swapped_at p q ys))
+  swap_mid ys h k = four_swap both p q (exch first_word place) (exch second_word other_place) (exch second_word place)
+      (exch first_word other_place)
+      (λ x y ws l. goes_exch _ (λ z zs. both z y zs) p x ws l refl (omega arith) (λ z zs. refl) (λ z zs. refl))
+      (λ x y ws l. goes_exch _ (λ z zs. both x z zs) q y ws l refl (omega arith) (λ z zs. refl) (λ z zs. refl))
+      (λ x y ws l. goes_exch _ (λ z zs. both x z zs) p y ws l refl (omega arith) (λ z zs. refl) (λ z zs. refl))
+      (λ x y ws l. goes_exch _ (λ z zs. both z y zs) q x ws l refl (omega arith) (λ z zs. refl) (λ z zs. refl)) ys h k
 
 -- ---- whole statements
 
@@ -452,16 +397,18 @@ module _ (spot : List ℕ → Spot) (free : ℕ) (b : Bases) where
         other) (mem b f (keeping 0 0 0) zs) (mem b f (keeping 0 p q) (both_placed spot free b target other zs))
     both_held zs p q h s np nq apart = goes_seq (both_found zs p q h s np nq) (both_apart_on zs p q h s apart)
 
-    pub swap_goes : (zs zs' : List ℕ) (p q : ℕ) → FitFrom spot free b target (place_words other) zs
+    abbrev pub Swaps : List Symbol → (steps : ℕ) → Type 0
+    Swaps code steps = (zs zs' : List ℕ) (p q : ℕ) → FitFrom spot free b target (place_words other) zs
         → FitFrom spot free b target (place_words other) zs' → Sees spot b low zs (read_of other)
         → Sees spot b low zs' (read_of other) → place_address spot b zs target ≡ Ok p
         → place_address spot b zs' target ≡ Ok p → place_address spot b zs other ≡ Ok q
         → place_address spot b zs' other ≡ Ok q → SamePlace spot b zs zs' target → SamePlace spot b zs zs' other
         → swap_shares spot b zs target other ≡ false → swap_shares spot b zs' target other ≡ false
-        → zs' ≡ slice_set (slice_set zs p (slice_index zs q)) q (slice_index zs p)
-        → Goes (swap_cells spot free target other) (swap_steps target other) (mem b f (keeping 0 0 0) zs)
-        (mem b f (keeping 0 0 0) zs')
-    swap_goes zs zs' p q h h' s s' np np' nq nq' st so apart apart' e =
+        → zs' ≡ swapped_at p q zs
+        → Goes code steps (mem b f (keeping 0 0 0) zs) (mem b f (keeping 0 0 0) zs')
+
+    found_swap_goes : Swaps (found_swap_cells spot free target other) (found_swap_steps target other)
+    found_swap_goes zs zs' p q h h' s s' np np' nq nq' st so apart apart' e =
         let ys : List ℕ = both_placed spot free b target other zs in
         let pl : p < low = place_low target p zs h.sees np in
         let ql : q < low = place_low other q zs s nq in
@@ -509,12 +456,63 @@ module _ (spot : List ℕ → Spot) (free : ℕ) (b : Bases) where
         (other_fits spot free b target other zs h s) (address_same other zs zs1
         (placed_below spot free b target zs) s ∙ n))))
 
-    pub swap_traps_sharing : (zs : List ℕ) (p q : ℕ) → FitFrom spot free b target (place_words other) zs
+    found_swap_traps_sharing : (zs : List ℕ) (p q : ℕ) → FitFrom spot free b target (place_words other) zs
         → Sees spot b low zs (read_of other) → place_address spot b zs target ≡ Ok p
         → place_address spot b zs other ≡ Ok q → swap_shares spot b zs target other ≡ true
-        → TrapsBoth (swap_cells spot free target other) (place_steps target + place_steps other + both_apart_steps
+        → TrapsBoth (found_swap_cells spot free target other) (place_steps target + place_steps other + both_apart_steps
         target other) 16 (mem b f (keeping 0 0 0) zs)
-    swap_traps_sharing zs p q h s np nq shared =
+    found_swap_traps_sharing zs p q h s np nq shared =
         traps_around (exch first_word place ∷ exch second_word other_place ∷ exch second_word place
         ∷ exch first_word other_place ∷ []) (traps_then (both_found zs p q h s np nq)
         (both_sharing_traps zs p q h s shared))
+
+  module _ (f : ℕ → ℕ) where
+    whole_swap_goes : (name other : Ident) → Swaps f (Whole name) (Whole other)
+        (swap_cells spot free (Whole name) (Whole other)) 8
+    whole_swap_goes name other zs zs' p q h h' s s' np np' nq nq' st so apart apart' e =
+        let l = h.sees in
+        let fits = h.fits in
+        let x : ℕ = address_of b (spot name.text) in
+        let y : ℕ = address_of b (spot other.text) in
+        let cells : swapped_at x y zs ≡ zs' = ap (λ i. swapped_at i y zs) (ok_is np)
+        ∙ ap (λ i. swapped_at p i zs) (ok_is nq)
+        ∙ sym e in
+        goes_to refl refl (ap (mem b f (keeping 0 0 0)) cells)
+        (spots_go b f (spot name.text) (spot other.text) zs (omega arith) (omega arith) h.small)
+
+    pub swap_goes : (target other : Lvalue) → Swaps f target other (swap_cells spot free target other)
+        (swap_steps target other)
+    swap_goes (Whole name) (Whole other) = whole_swap_goes name other
+    swap_goes (Whole name) (Item other index) = found_swap_goes f (Whole name) (Item other index)
+    swap_goes (Item name index) other = found_swap_goes f (Item name index) other
+
+    -- the faults of a swap: a variable has none as a place
+    pub swap_traps_first : (target other : Lvalue) (zs : List ℕ) (c : ℕ)
+        → FitFrom spot free b target (place_words other) zs → place_address spot b zs target ≡ Err c
+        → TrapsBoth (swap_cells spot free target other) (place_steps target) c (mem b f (keeping 0 0 0) zs)
+    swap_traps_first (Whole name) other zs c h n = absurd (cc)
+    swap_traps_first (Item name index) other zs c h n = both_traps_first f (Item name index) other
+        (both_apart_cells spot (Item name index) other) swap_middle zs c h n
+
+    pub swap_traps_second : (target other : Lvalue) (zs : List ℕ) (p c : ℕ)
+        → FitFrom spot free b target (place_words other) zs → Sees spot b low zs (read_of other)
+        → place_address spot b zs target ≡ Ok p → place_address spot b zs other ≡ Err c
+        → TrapsBoth (swap_cells spot free target other) (place_steps target + place_steps other) c
+        (mem b f (keeping 0 0 0) zs)
+    swap_traps_second (Whole name) (Whole other) zs p c h s np n = absurd (cc)
+    swap_traps_second (Whole name) (Item other index) zs p c h s np n = both_traps_second f (Whole name)
+        (Item other index) (both_apart_cells spot (Whole name) (Item other index)) swap_middle zs p c h s np n
+    swap_traps_second (Item name index) other zs p c h s np n = both_traps_second f (Item name index) other
+        (both_apart_cells spot (Item name index) other) swap_middle zs p c h s np n
+
+    pub swap_traps_sharing : (target other : Lvalue) (zs : List ℕ) (p q : ℕ)
+        → FitFrom spot free b target (place_words other) zs → Sees spot b low zs (read_of other)
+        → place_address spot b zs target ≡ Ok p → place_address spot b zs other ≡ Ok q
+        → swap_shares spot b zs target other ≡ true
+        → TrapsBoth (swap_cells spot free target other) (place_steps target + place_steps other + both_apart_steps
+        target other) 16 (mem b f (keeping 0 0 0) zs)
+    swap_traps_sharing (Whole name) (Whole other) zs p q h s np nq shared = absurd (cc)
+    swap_traps_sharing (Whole name) (Item other index) zs p q h s np nq shared =
+        found_swap_traps_sharing f (Whole name) (Item other index) zs p q h s np nq shared
+    swap_traps_sharing (Item name index) other zs p q h s np nq shared =
+        found_swap_traps_sharing f (Item name index) other zs p q h s np nq shared

@@ -1,5 +1,6 @@
 -- The cells of value code, in its linear form.
-use Rattle.std.specs.Prelude.{ℕ, ◌+◌, ◌<◌, ◌⊎◌, List, [], ◌∷◌, ◌++◌}
+use Rattle.std.specs.Prelude.{ℕ, ◌+◌, ◌<◌, ◌⊎◌, nat_eq, Bool, ◌&&◌, not, if◌then◌else◌, List, []}
+use Rattle.std.specs.Prelude.{◌∷◌, ◌++◌}
 use Rattle.rpp_tree.specs.declared.tree.BinOp.{BinOp}
 use Rattle.rpp_tree.specs.declared.tree.BinOp.TheVariants as op
 use Rattle.rpp_words.specs.Words.{difference_of}
@@ -256,9 +257,33 @@ both_reached x y = addi (base_of x) (offset_of x) ∷ exch amount (base_of x) �
 abbrev pub update_middle : UpdateOp → List Symbol
 update_middle op = exch content place ∷ update_cell op content amount ∷ exch content place ∷ []
 
+-- at two addresses in registers; where the two are one, its word stays
+abbrev pub four_exchanges : (p q : ℕ) → List Symbol
+four_exchanges p q =
+    exch first_word p ∷ exch second_word q ∷ exch second_word p ∷ exch first_word q ∷ []
+
 abbrev pub swap_middle : List Symbol
-swap_middle = exch first_word place ∷ exch second_word other_place ∷ exch second_word place
-    ∷ exch first_word other_place ∷ []
+swap_middle = four_exchanges place other_place
+
+-- of two spots that have two bases or are one: both bases stand there
+abbrev pub swap_at : (x y : Spot) → List Symbol
+swap_at x y = around (addi (base_of x) (offset_of x) ∷ onward x y ∷ [])
+    (four_exchanges (base_of x) (base_of y))
+
+-- of two spots of one base: while the first word is out, it goes to the second spot and back
+abbrev pub beyond : (x y : Spot) → List Symbol
+beyond x y = around (onward x y ∷ []) (exch second_word (base_of y) ∷ exch first_word (base_of y)
+    ∷ [])
+
+abbrev pub swap_by_one : (x y : Spot) → List Symbol
+swap_by_one x y = around (addi (base_of x) (offset_of x) ∷ [])
+    ((exch first_word (base_of x) ∷ beyond x y) ++ exch second_word (base_of x) ∷ [])
+
+abbrev pub have_one_base : (x y : Spot) → Bool
+have_one_base x y = nat_eq (base_of x) (base_of y) && not (nat_eq (offset_of x) (offset_of y))
+
+abbrev pub swap_spots : (x y : Spot) → List Symbol
+swap_spots x y = if have_one_base x y then swap_by_one x y else swap_at x y
 
 module _ (spot : List ℕ → Spot) where
   -- a changed element's array, by its spot, compared with those of which an expression reads
@@ -391,7 +416,16 @@ module _ (spot : List ℕ → Spot) (free : ℕ) where
   update_cells op (Item name index) value = found_update_cells op (Item name index) value
 
   -- the words of two places swapped; where they are one, it stays as it is
-  abbrev pub swap_cells : Lvalue → Lvalue → List Symbol
-  swap_cells left right =
+  abbrev pub found_swap_cells : Lvalue → Lvalue → List Symbol
+  found_swap_cells left right =
       around ((place_cells left 0 place ++ place_cells right (place_words left) other_place)
       ++ both_apart_cells spot left right) swap_middle
+
+  -- those of two variables need no addresses in registers
+  abbrev pub whole_swap_cells : Ident → Lvalue → List Symbol
+  whole_swap_cells name (Whole other) = swap_spots (spot name.text) (spot other.text)
+  whole_swap_cells name (Item other index) = found_swap_cells (Whole name) (Item other index)
+
+  abbrev pub swap_cells : Lvalue → Lvalue → List Symbol
+  swap_cells (Whole name) right = whole_swap_cells name right
+  swap_cells (Item name index) right = found_swap_cells (Item name index) right

@@ -3,7 +3,7 @@ ghost use Rattle.std.specs.Prelude.{◌≡◌, ◌<◌, ◌≤◌, ◌+◌, ◌*
 ghost use Rattle.rpp_tree.specs.Tree.{Whole};
 ghost use Rattle.rpp_tree.specs.Views.{expression_of, lvalue_of};
 ghost use Rattle.paired_code.specs.Code.{unmarked};
-ghost use Rattle.expr_uncompute.specs.Code.{exch as exch_cell, words as words_of, place_words as words_of_place, around, reach_cells, update_cell as cell_of_update, number_cell as cell_of_number, onward as onward_cell, from_object as onward_from_object, from_frame as onward_from_frame_cell, both_reached as both_reached_cells, found_update_cells, whole_update_cells, update_cells, swap_cells};
+ghost use Rattle.expr_uncompute.specs.Code.{words as words_of, place_words as words_of_place, around, reach_cells, update_cell as cell_of_update, number_cell as cell_of_number, onward as onward_cell, from_object as onward_from_object, from_frame as onward_from_frame_cell, both_reached as both_reached_cells, found_update_cells, whole_update_cells, update_cells, four_exchanges as four_of, swap_at as swap_at_cells, beyond as beyond_cells, swap_by_one as swap_by_one_cells, have_one_base as one_base, swap_spots as swap_spots_cells, found_swap_cells, whole_swap_cells, swap_cells};
 ghost use Rattle.expr_uncompute.specs.Number.{read_of};
 ghost use Rattle.expr_uncompute.specs.Promises.{UpdateLaw, SwapLaw};
 ghost use Rattle.expr_uncompute.specs.Sizes.{swap_size};
@@ -226,18 +226,126 @@ pub fn update_piece(
     update_by_form(alloc, op, place, value, names)
 }
 
-fn four_exchanges(alloc: Global) -> Result<Piece, NoMemory>
-    ensures { IfOk result (λ p.
-        p ≡ unmarked (exch_cell FIRST_WORD PLACE ∷ exch_cell SECOND_WORD OTHER_PLACE ∷ exch_cell
-        SECOND_WORD PLACE ∷ exch_cell FIRST_WORD OTHER_PLACE ∷ [])) }
+// The words at two addresses exchanged.
+fn four_exchanges(alloc: Global, p: u8, q: u8) -> Result<Piece, NoMemory>
+    requires first { p < FIRST_WORD }
+    requires second { q < FIRST_WORD }
+    ensures { IfOk result (λ x. x ≡ unmarked (four_of p q)) }
 {
-    let first = exch(alloc, FIRST_WORD, PLACE)?;
-    let second = exch(alloc, SECOND_WORD, OTHER_PLACE)?;
-    let third = exch(alloc, SECOND_WORD, PLACE)?;
-    let fourth = exch(alloc, FIRST_WORD, OTHER_PLACE)?;
+    let first = exch(alloc, FIRST_WORD, p)?;
+    let second = exch(alloc, SECOND_WORD, q)?;
+    let third = exch(alloc, SECOND_WORD, p)?;
+    let fourth = exch(alloc, FIRST_WORD, q)?;
     let front = seq(first, second)?;
     let front = seq(front, third)?;
     seq(front, fourth)
+}
+
+fn swap_at(alloc: Global, x: Spot, y: Spot) -> Result<Piece, NoMemory>
+    requires first { offset_of x < 2 ^ 32 }
+    requires second { offset_of y < 2 ^ 32 }
+    ensures { IfOk result (λ p. p ≡ unmarked (swap_at_cells x y)) }
+{
+    let there = addi(alloc, base(x), offset(x))?;
+    let on = onward(alloc, x, y)?;
+    let outer = seq(there, on)?;
+    let middle = four_exchanges(alloc, base(x), base(y))?;
+    enclosed(alloc, outer, middle)
+}
+
+fn beyond(alloc: Global, x: Spot, y: Spot) -> Result<Piece, NoMemory>
+    requires first { offset_of x < 2 ^ 32 }
+    requires second { offset_of y < 2 ^ 32 }
+    ensures { IfOk result (λ p. p ≡ unmarked (beyond_cells x y)) }
+{
+    let on = onward(alloc, x, y)?;
+    let second = exch(alloc, SECOND_WORD, base(y))?;
+    let first = exch(alloc, FIRST_WORD, base(y))?;
+    let middle = seq(second, first)?;
+    enclosed(alloc, on, middle)
+}
+
+fn swap_by_one(alloc: Global, x: Spot, y: Spot) -> Result<Piece, NoMemory>
+    requires first { offset_of x < 2 ^ 32 }
+    requires second { offset_of y < 2 ^ 32 }
+    ensures { IfOk result (λ p. p ≡ unmarked (swap_by_one_cells x y)) }
+{
+    let there = addi(alloc, base(x), offset(x))?;
+    let first = exch(alloc, FIRST_WORD, base(x))?;
+    let over = beyond(alloc, x, y)?;
+    let front = seq(first, over)?;
+    let last = exch(alloc, SECOND_WORD, base(x))?;
+    let middle = seq(front, last)?;
+    enclosed(alloc, there, middle)
+}
+
+fn have_one_base(x: Spot, y: Spot) -> bool
+    requires first { offset_of x < 2 ^ 32 }
+    requires second { offset_of y < 2 ^ 32 }
+    ensures { result ≡ one_base x y }
+{
+    base(x) == base(y) && offset(x) != offset(y)
+}
+
+// Two variables swapped.
+fn swap_spots(alloc: Global, x: Spot, y: Spot) -> Result<Piece, NoMemory>
+    requires first { offset_of x < 2 ^ 32 }
+    requires second { offset_of y < 2 ^ 32 }
+    ensures { IfOk result (λ p. p ≡ unmarked (swap_spots_cells x y)) }
+{
+    if have_one_base(x, y) {
+        swap_by_one(alloc, x, y)
+    } else {
+        swap_at(alloc, x, y)
+    }
+}
+
+// Any two places swapped.
+fn swap_found(alloc: Global, left: &Place, right: &Place, names: &Names) -> Result<Piece, NoMemory>
+    requires { words_of_place (lvalue_of left.now) + words_of_place (lvalue_of right.now) ≤ 1000 }
+    ensures { IfOk result (λ p.
+        p ≡ unmarked (found_swap_cells (spot_of_name (known_by names.now))
+        (free_of (known_by names.now)) (lvalue_of left.now) (lvalue_of right.now))) }
+{
+    let places = both_places(alloc, left, right, names)?;
+    let check = both_apart(alloc, names, left, right)?;
+    let found = seq(places, check)?;
+    let middle = four_exchanges(alloc, PLACE, OTHER_PLACE)?;
+    enclosed(alloc, found, middle)
+}
+
+fn whole_swap(alloc: Global, left: &Place, right: &Place, names: &Names) -> Result<Piece, NoMemory>
+    requires room { words_of_place (lvalue_of right.now) ≤ 1000 }
+    requires whole { lvalue_of left.now ≡ Whole left.now.name }
+    ensures { IfOk result (λ p.
+        p ≡ unmarked (whole_swap_cells (spot_of_name (known_by names.now))
+        (free_of (known_by names.now)) left.now.name (lvalue_of right.now))) }
+{
+    match &right.index {
+        None => swap_spots(
+            alloc,
+            spot_of(names, &left.name.text),
+            spot_of(names, &right.name.text),
+        ),
+        Some(_) => swap_found(alloc, left, right, names),
+    }
+}
+
+fn swap_by_form(
+    alloc: Global,
+    left: &Place,
+    right: &Place,
+    names: &Names,
+) -> Result<Piece, NoMemory>
+    requires { words_of_place (lvalue_of left.now) + words_of_place (lvalue_of right.now) ≤ 1000 }
+    ensures { IfOk result (λ p.
+        p ≡ unmarked (swap_cells (spot_of_name (known_by names.now)) (free_of (known_by names.now))
+        (lvalue_of left.now) (lvalue_of right.now))) }
+{
+    match &left.index {
+        None => whole_swap(alloc, left, right, names),
+        Some(_) => swap_found(alloc, left, right, names),
+    }
 }
 
 /// A swap of two places.
@@ -257,9 +365,5 @@ pub fn swap_piece(
     ensures size { IfOk result (λ p.
         length p.cells ≤ swap_size (lvalue_of left.now) (lvalue_of right.now)) }
 {
-    let places = both_places(alloc, left, right, names)?;
-    let check = both_apart(alloc, names, left, right)?;
-    let found = seq(places, check)?;
-    let middle = four_exchanges(alloc)?;
-    enclosed(alloc, found, middle)
+    swap_by_form(alloc, left, right, names)
 }
