@@ -1,12 +1,13 @@
 -- The laws as contracts state them.
-use Rattle.std.proofs.Common.{◌≡◌, ℕ, suc, ◌+◌, ◌*◌, ◌≤◌, Bool, false, List, [], ◌∷◌, ◌++◌, length, map, refl, sym, ap}
+use Rattle.std.proofs.Common.{◌≡◌, ℕ, suc, ◌+◌, ◌*◌, ◌^◌, ◌<◌, ◌≤◌, Bool, false, List, [], ◌∷◌, ◌++◌, length, map}
+use Rattle.std.proofs.Common.{refl, sym, ap}
 use Rattle.std.proofs.Common.{◌∙◌, subst, arith, length-append}
 use Rattle.std.specs.Prelude.{None, Some}
 use Rattle.std.proofs.lemmas.List.{length-map}
 use Rattle.rpp_tree.specs.declared.tree.Ident.{Ident}
 use Rattle.rpp_tree.specs.Tree.{Whole, Item, Local, Construct, Call}
 use Rattle.paired_code.specs.declared.part.Symbol.{Symbol}
-use Rattle.paired_code.specs.Layout.{mirror_cells, check_cells, enter_at_cells}
+use Rattle.paired_code.specs.Layout.{mirror_cells, check_cells, enter_at_cells, code_line, Stands}
 use Rattle.paired_code.specs.Pieces.{Will}
 use Rattle.paired_code.specs.Does.{Meets}
 use Rattle.paired_code.specs.Rows.{line}
@@ -29,6 +30,7 @@ use Rattle.method_calls.specs.CallCode.{local_code, save_row, store_code}
 use Rattle.method_calls.specs.Facts.{Known, FrameFacts}
 use Rattle.method_calls.specs.Names.{known_of, receivers_of, slot_of}
 use Rattle.method_calls.specs.Laws.{LocalCode, OwnCallCode, CallOnCode, MethodCode, MainCode, AreVariables, quiet}
+use Rattle.method_calls.specs.Laws.{EntersMain}
 use Rattle.method_calls.proofs.Moves.{AllVariables}
 use Rattle.method_calls.proofs.Methods.{method_law}
 use Rattle.method_calls.proofs.OwnCalls.{call_law}
@@ -36,6 +38,7 @@ use Rattle.method_calls.proofs.ApartCells.{moves_alike}
 use Rattle.method_calls.proofs.OnCalls.{call_on_law}
 use Rattle.method_calls.proofs.LocalBlocks.{local_law, construct_law, element_call_law}
 use Rattle.method_calls.proofs.MainPiece.{main_does}
+use Rattle.method_calls.proofs.MainEntry.{main_enters}
 
 some_counts : (n : ℕ) → 1 ≤ n + 64
 some_counts n = omega arith
@@ -121,6 +124,11 @@ method_clause p = record {
 pub main_clause : (number : ℕ) → MainCode number (main_cells number)
 unfolding main_cells
 main_clause number = record {
+  enters = λ place routine input f main is.
+      subst (λ k. (i : ℕ) → i + length (main_code k) < 2 ^ 30 → Stands place.im code_line i (main_code k)
+      → EntersMain (world_of place) place.statics input main i (main_code k)) is
+      (λ i short stands. main_enters (world_of place) (known_of place routine) f place.statics input main i short
+      stands);
   law = λ place routine input f main is laws n.
       subst (λ k. Will place.im (main_code k) false (quiet (loaded place.statics place.setting.limits input))
       (Meets (λ st m. m ≡ quiet (layout place.setting.program place.setting.limits place.statics st.store st.log))

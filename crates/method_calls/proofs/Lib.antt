@@ -9,4 +9,5 @@ pub mod ReceiverParts
 pub mod OnCalls
 pub mod LocalBlocks
 pub mod MainPiece
+pub mod MainEntry
 pub mod Clauses

@@ -1,6 +1,7 @@
 -- What the code of calls, methods, main and blocks with a local variable does, from what their
 -- parts do.
-use Rattle.std.specs.Prelude.{◌≡◌, ◌≢◌, ℕ, Bool, false, List, [], ◌∷◌, map, Some, None}
+use Rattle.std.specs.Prelude.{◌≡◌, ◌≢◌, ℕ, ◌+◌, ◌^◌, ◌<◌, Bool, false, List, [], ◌∷◌, length, map}
+use Rattle.std.specs.Prelude.{Some, None}
 use Rattle.rpp_words.specs.declared.input.FieldWord.{FieldWord}
 use Rattle.rpp_tree.specs.declared.tree.Ident.{Ident}
 use Rattle.rpp_tree.specs.declared.tree.Var.{Var}
@@ -9,7 +10,8 @@ use Rattle.rpp_tree.specs.Tree.{Procedure}
 use Rattle.pisa_isa.specs.Loaded.{loaded}
 use Rattle.pisa_isa.specs.Machine.{Memory}
 use Rattle.paired_code.specs.declared.part.Symbol.{Symbol}
-use Rattle.paired_code.specs.Pieces.{Will}
+use Rattle.paired_code.specs.Layout.{at, code_line, Stands}
+use Rattle.paired_code.specs.Pieces.{Path, Way, Will}
 use Rattle.paired_code.specs.Does.{Meets}
 use Rattle.roopl_semantics.specs.Store.{State}
 use Rattle.roopl_semantics.specs.Value.{Cell}
@@ -18,7 +20,7 @@ use Rattle.roopl_semantics.specs.Source.{starting, main_body}
 use Rattle.roopl_semantics.specs.Layout.{layout}
 use Rattle.refine_form.specs.declared.spot.Spot.{Spot}
 use Rattle.refine_form.specs.Form.{World, Scope, with_var, ValueLaw, BlockLaw, StmtLaw}
-use Rattle.refine_form.specs.Form.{MethodLaw, AllMethods, registers, told}
+use Rattle.refine_form.specs.Form.{Entered, MethodLaw, AllMethods, registers, told}
 use Rattle.refine_form.specs.Stands.{spot_in}
 use Rattle.refine_form.specs.Worlds.{Place, rates_of, world_of}
 use Rattle.method_calls.specs.Facts.{Known, FrameFacts, ReceiverFacts, LocalFacts, MainFacts}
@@ -120,9 +122,51 @@ pub record MethodCode (p all : List Symbol) : Type 0 where
 abbrev pub quiet : List ℕ → Memory
 quiet cells = record { regs = registers 0 0 0 0 0 0 0 0; cells = cells }
 
--- The main piece, from the loaded memory: it does what the source says of `main`, and leaves the
--- layout with zero registers.
+-- the main piece begins with the loaded memory
+abbrev pub main_start : World → List ℕ → List FieldWord → Memory
+main_start w statics input = quiet (loaded statics w.setting.limits input)
+
+-- where the body of a routine begins in the code
+abbrev pub body_start : World → ℕ → ℕ
+body_start w r = w.routines.top r + 1 + 1 + 1
+
+-- the place behind it
+abbrev pub body_end : World → ℕ → ℕ
+body_end w r = body_start w r + length (w.routines.body r)
+
+-- The main piece, from cell i on: nine steps lead from its start to the first cell of main's body,
+-- where the first frame is open in the state with which the source starts; and wherever the body
+-- leaves that frame open behind it, ten more lead behind the piece, with the layout and zero
+-- registers.
+pub record EntersMain (w : World) (statics : List ℕ) (input : List FieldWord)
+    (main : MainFacts w statics input) (i : ℕ) (all : List Symbol) : Type 0 where
+  -- the word by which the body returns, and the memory in which it begins
+  pub link : ℕ
+  pub is_place : 0 < link
+  pub is_word : link < 2 ^ 32
+  pub first : Memory
+  pub entered : Entered w (w.routines.scope main.main) main.first link 0
+      (starting w.setting.program input) first
+  pub enters : Path w.im code_line i (i + length all) 9
+      0 (at code_line false i (main_start w statics input))
+      1 (at code_line false (body_start w main.main) first)
+  pub returns : (st : State) (m : Memory) (k : ℕ)
+      → Entered w (w.routines.scope main.main) main.first link 0 st m
+      → Way w.im code_line false (body_start w main.main) (body_end w main.main) k
+      (body_start w main.main) first (body_end w main.main) m
+      → Way w.im code_line false i (i + length all) (9 + k + 10)
+      i (main_start w statics input) (i + length all)
+      (quiet (layout w.setting.program w.setting.limits statics st.store st.log))
+
+-- The main piece, from the loaded memory: it runs main's body in the first frame, so does what the
+-- source says of `main`, and leaves the layout with zero registers.
 pub record MainCode (number : ℕ) (all : List Symbol) : Type 0 where
+  pub enters : (place : Place) (routine : ℕ → Ident → ℕ) (input : List FieldWord)
+      → FrameFacts (world_of place) (known_of place routine)
+      → (main : MainFacts (world_of place) place.statics input)
+      → place.routines.number main.main ≡ number
+      → (i : ℕ) → i + length all < 2 ^ 30 → Stands place.im code_line i all
+      → EntersMain (world_of place) place.statics input main i all
   pub law : (place : Place) (routine : ℕ → Ident → ℕ) (input : List FieldWord)
       → FrameFacts (world_of place) (known_of place routine)
       → (main : MainFacts (world_of place) place.statics input)
