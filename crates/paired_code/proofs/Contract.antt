@@ -50,25 +50,20 @@ branch_law r p q = record {
 
 -- ---- what the code builds
 
-pub if_ok_is : {A E : Type 0} (r : Result A E) (x y : A) → IfOk r (λ p. p ≡ x) → x ≡ y → IfOk r (λ p. p ≡ y)
-if_ok_is (Ok a) x y h e = h ∙ e
-if_ok_is (Err a) x y h e = tt
-
 pub if_ok_law : {A E : Type 0} (P : A → Type 0) (r : Result A E) (x : A) → IfOk r (λ p. p ≡ x) → P x → IfOk r P
 if_ok_law P (Ok a) x h q = subst P (sym h) q
 if_ok_law P (Err a) x h q = tt
 
-pub branch_built : (r n s x y z : ℕ) (p q c0 c1 c2 c3 c4 c5 c6 c7 c8 : List Symbol) → n ≡ length q → s ≡ length p
-    → length q < 2 ^ 28 → length p < 2 ^ 28 → x ≡ 2 ^ 32 - (3 + n) → y ≡ 2 ^ 32 - (5 + s) → z ≡ 2 ^ 32 - 3 → c0 ≡ []
-    → c1 ≡ c0 ++ fork r (3 + n) [] → c2 ≡ c1 ++ q → c3 ≡ c2 ++ Own (bra (5 + s)) ∷ [] → c4 ≡ c3 ++ fork r x []
-    → c5 ≡ c4 ++ p → c6 ≡ c5 ++ fork r 3 [] → c7 ≡ c6 ++ Own (bra y) ∷ [] → c8 ≡ c7 ++ fork r z []
+pub branch_built : (r n s x x' y y' z : ℕ) (p q c0 c1 c2 c3 c4 c5 c6 c7 c8 : List Symbol) → n ≡ length q → s ≡ length p
+    → x ≡ between 0 (3 + n) → x' ≡ between (3 + n) 0 → y ≡ between 0 (5 + s) → y' ≡ between (5 + s) 0 → z ≡ between 3 0
+    → c0 ≡ [] → c1 ≡ c0 ++ fork r x [] → c2 ≡ c1 ++ q → c3 ≡ c2 ++ Own (bra y) ∷ [] → c4 ≡ c3 ++ fork r x' []
+    → c5 ≡ c4 ++ p → c6 ≡ c5 ++ fork r 3 [] → c7 ≡ c6 ++ Own (bra y') ∷ [] → c8 ≡ c7 ++ fork r z []
     → c8 ≡ branch_cells r p q
-branch_built r n s x y z p q c0 c1 c2 c3 c4 c5 c6 c7 c8 en es hq hp ex ey ez e0 e1 e2 e3 e4 e5 e6 e7 e8 =
-    let a : 3 + n ≡ between 0 (3 + length q) = omega arith in
-    let a' : x ≡ between (3 + length q) 0 = omega arith in
-    let b : 5 + s ≡ between 0 (5 + length p) = omega arith in
-    let b' : y ≡ between (5 + length p) 0 = omega arith in
-    let d : z ≡ between 3 0 = omega arith in
+branch_built r n s x x' y y' z p q c0 c1 c2 c3 c4 c5 c6 c7 c8 en es ex ex' ey ey' ez e0 e1 e2 e3 e4 e5 e6 e7 e8 =
+    let a : x ≡ between 0 (3 + length q) = ex ∙ ap (λ k. between 0 (3 + k)) en in
+    let a' : x' ≡ between (3 + length q) 0 = ex' ∙ ap (λ k. between (3 + k) 0) en in
+    let b : y ≡ between 0 (5 + length p) = ey ∙ ap (λ k. between 0 (5 + k)) es in
+    let b' : y' ≡ between (5 + length p) 0 = ey' ∙ ap (λ k. between (5 + k) 0) es in
     let all : c8 ≡ (((((((fork r (between 0 (3 + length q)) []) ++ q) ++ Own (bra (between 0 (5 + length p))) ∷ [])
     ++ fork r (between (3 + length q) 0) []) ++ p) ++ fork r (between 0 3) [])
     ++ Own (bra (between (5 + length p) 0)) ∷ []) ++ fork r (between 3 0) [] = cc in

@@ -14,11 +14,12 @@ use Rattle.paired_code.specs.Cells.{swapbr, bgtz, bltz, data_word}
 use Rattle.paired_code.specs.declared.part.Symbol.{Symbol}
 use Rattle.paired_code.specs.declared.part.Symbol.TheVariants.{Own, Enter, Fixed, Aim, Turn}
 use Rattle.pisa_isa.specs.declared.notes.Mark.{Mark}
+use Rattle.pisa_isa.specs.declared.notes.TheConstants.{LAST_PLACE}
 use Rattle.paired_code.specs.Machine.{reversed, is_end_op, is_single}
 use Rattle.paired_code.specs.Layout.{between, fork, branch_cells, loop_cells, check_cells, place_register}
 use Rattle.paired_code.specs.Layout.{enter_at_cells, mirror_cells, inverse_sym}
 use Rattle.paired_code.specs.Fit.{IsInner, IsFit, AllFit}
-use Rattle.paired_code.specs.Code.{Code, Kept, AllWithin, moved_on, shift}
+use Rattle.paired_code.specs.Code.{Code, AllWithin, moved_on, shift}
 use Rattle.paired_code.proofs.Steps.{reversed_is, single_own}
 
 pub fit_append : (p q : List Symbol) → AllFit p → AllFit q → AllFit (p ++ q)
@@ -185,6 +186,9 @@ within_shift n k (x ∷ a) h = (
   within_shift n k a h.2,
 )
 
+pub moved : (a n m : ℕ) (ks : List Mark) → a + n ≤ m → AllWithin n ks → AllWithin m (shift a ks)
+moved a n m ks l h = within_more (a + n) m (shift a ks) l (within_shift n a ks h)
+
 pub within_seq : (p q : List Symbol) (a b : List Mark) → AllWithin (length p) a → AllWithin (length q) b
     → AllWithin (length (p ++ q)) (a ++ shift (length p) b)
 within_seq p q a b h k =
@@ -200,11 +204,23 @@ within_two n i j k l a b h g ha hb = within_append n (shift i a) (shift j b)
 
 -- ---- what loops over marks do
 
-pub within_at : (n : ℕ) (xs : List Mark) (i : ℕ) (d : Mark) → AllWithin n xs → i < length xs
-    → ((get_or xs i d).first ≤ (get_or xs i d).end) × ((get_or xs i d).end ≤ n)
-within_at n [] i d h l = absurd (omega arith)
-within_at n (x ∷ xs) zero d h l = (h.0, h.1.0)
-within_at n (x ∷ xs) (suc i) d h l = within_at n xs i d h.2 (omega arith)
+shifted_at : (n k : ℕ) (xs : List Mark) (i : ℕ) (d : Mark) → AllWithin n (shift k xs) → i < length xs
+    → (k + (get_or xs i d).first ≤ k + (get_or xs i d).end) × (k + (get_or xs i d).end ≤ n)
+shifted_at n k [] i d h l = absurd (omega arith)
+shifted_at n k (x ∷ xs) zero d h l = (h.0, h.1.0)
+shifted_at n k (x ∷ xs) (suc i) d h l = shifted_at n k xs i d h.2 (omega arith)
+
+-- the mark that comes next has room
+pub room_first : (n k : ℕ) (xs : List Mark) (i : ℕ) (x : Mark) → AllWithin n (shift k xs) → i < length xs
+    → x ≡ get_or xs i x → k + x.first ≤ n
+room_first n k xs i x h l e =
+    let r = shifted_at n k xs i x h l in
+    let m : k + (get_or xs i x).first ≤ n = omega arith in
+    subst (λ (z : Mark). k + z.first ≤ n) (sym e) m
+
+pub room_end : (n k : ℕ) (xs : List Mark) (i : ℕ) (x : Mark) → AllWithin n (shift k xs) → i < length xs
+    → x ≡ get_or xs i x → k + x.end ≤ n
+room_end n k xs i x h l e = subst (λ (z : Mark). k + z.end ≤ n) (sym e) (shifted_at n k xs i x h l).1
 
 shift_suc : (k : ℕ) (xs : List Mark) (i : ℕ) (d : Mark) → i < length xs
     → shift k (take (suc i) xs) ≡ shift k (take i xs) ++ moved_on k (get_or xs i d) ∷ []
@@ -222,15 +238,40 @@ pub code_is : (a a' : List Symbol) (b b' : List Mark) → a ≡ a' → b ≡ b'
 code_is a a' b b' p q = ap (λ (z : List Symbol). let x : Code = record { cells = z; marks = b } in x) p
     ∙ ap (λ (z : List Mark). let x : Code = record { cells = a'; marks = z } in x) q
 
-pub marks_step : (new now old rest later : List Mark) (x : Mark) → new ≡ now ++ x ∷ [] → now ≡ old ++ rest
+marks_step : (new now old rest later : List Mark) (x : Mark) → new ≡ now ++ x ∷ [] → now ≡ old ++ rest
     → later ≡ rest ++ x ∷ [] → new ≡ old ++ later
 marks_step new now old rest later x p q r = p ∙ ap (λ z. z ++ x ∷ []) q ∙ append_assoc old rest (x ∷ [])
     ∙ ap (λ z. old ++ z) (sym r)
 
-pub kept_within : {cells : List Symbol} {marks : List Mark} (now : List Mark) → now ≡ marks → Kept cells marks
-    → AllWithin (2 ^ 28) now
-kept_within {cells = cells} {marks = marks} now e h = let s = h.small in
-    subst (λ z. AllWithin (2 ^ 28) z) (sym e) (within_more (length cells) (2 ^ 28) marks (omega arith) h.within)
+-- one mark more is moved on
+pub marks_on : (k : ℕ) (xs : List Mark) (i : ℕ) (x y : Mark) (new now old : List Mark) → new ≡ now ++ y ∷ []
+    → y ≡ moved_on k x → x ≡ get_or xs i x → i < length xs → now ≡ old ++ shift k (take i xs)
+    → new ≡ old ++ shift k (take (i + 1) xs)
+marks_on k xs i x y new now old p m e l q =
+    marks_step new now old (shift k (take i xs)) (shift k (take (i + 1) xs)) y p q
+    (shift_take k xs i x l
+    ∙ ap (λ (z : Mark). shift k (take i xs) ++ moved_on k z ∷ []) (sym e)
+    ∙ ap (λ (z : Mark). shift k (take i xs) ++ z ∷ []) (sym m))
+
+-- marks have room where those that they are have it
+pub room_at : (n j j' : ℕ) (b b' : List Mark) → j' ≡ j → b' ≡ b → AllWithin n (shift j b) → AllWithin n (shift j' b')
+room_at n j j' b b' e f h = subst (λ z. AllWithin n (shift z b')) (sym e)
+    (subst (λ (z : List Mark). AllWithin n (shift j z)) (sym f) h)
+
+pub seq_room : (m : ℕ) (p q all : List Symbol) (b b' : List Mark) (n : ℕ) → all ≡ p ++ q → length all ≤ m → n ≡ length p
+    → b' ≡ b → AllWithin (length q) b → AllWithin m (shift n b')
+seq_room m p q all b b' n e l j k h =
+    let g : length all ≡ length p + length q = ap length e ∙ length-append p q in
+    room_at m (length p) n b b' j k (moved (length p) (length q) m b (omega arith) h)
+
+pub marked_within : (cells : List Symbol) (a marks : List Mark) (k : Mark) (n at : ℕ) → marks ≡ a ++ k ∷ []
+    → k ≡ record { first = 0; end = n; at = at } → n ≡ length cells → at ≤ LAST_PLACE → AllWithin (length cells) a
+    → AllWithin (length cells) marks
+marked_within cells a marks k n at e m j l h =
+    let one : AllWithin (length cells) (record { first = 0; end = n; at = at } ∷ []) =
+    (omega arith, (omega arith, l), tt) in
+    subst (λ (z : List Mark). AllWithin (length cells) z) (sym e) (within_append (length cells) a (k ∷ []) h
+    (subst (λ (z : Mark). AllWithin (length cells) (z ∷ [])) (sym m) one))
 
 pub seq_within : (p q all : List Symbol) (a b b' marks : List Mark) (n : ℕ) → all ≡ p ++ q → marks ≡ a ++ shift n b'
     → n ≡ length p → b' ≡ b → AllWithin (length p) a → AllWithin (length q) b → AllWithin (length all) marks
@@ -269,18 +310,38 @@ loop_within r p q all a b marks e m ha hb =
     (within_two (length (loop_cells r p q)) 3 (5 + length q) (length q) (length p) b a (omega arith) (omega arith)
     hb ha))
 
-pub loop_built : (r n n2 s x y z : ℕ) (p q c0 c1 c2 c3 c4 c5 c6 c7 c8 : List Symbol) → n ≡ length q → n2 ≡ length q
-    → s ≡ length p → length q < 2 ^ 28 → length p < 2 ^ 28 → x ≡ 2 ^ 32 - (3 + n) → y ≡ 2 ^ 32 - (5 + n2 + s)
-    → z ≡ 2 ^ 32 - 3 → c0 ≡ [] → c1 ≡ c0 ++ fork r (3 + n) [] → c2 ≡ c1 ++ Own (bra (5 + n2 + s)) ∷ [] → c3 ≡ c2 ++ q
-    → c4 ≡ c3 ++ fork r x [] → c5 ≡ c4 ++ p → c6 ≡ c5 ++ fork r 3 [] → c7 ≡ c6 ++ Own (bra y) ∷ []
+pub loop_built : (r n s x x' y y' z : ℕ) (p q c0 c1 c2 c3 c4 c5 c6 c7 c8 : List Symbol) → n ≡ length q → s ≡ length p
+    → x ≡ between 0 (3 + n) → x' ≡ between (3 + n) 0 → y ≡ between 0 (5 + n + s) → y' ≡ between (5 + n + s) 0
+    → z ≡ between 3 0 → c0 ≡ [] → c1 ≡ c0 ++ fork r x [] → c2 ≡ c1 ++ Own (bra y) ∷ [] → c3 ≡ c2 ++ q
+    → c4 ≡ c3 ++ fork r x' [] → c5 ≡ c4 ++ p → c6 ≡ c5 ++ fork r 3 [] → c7 ≡ c6 ++ Own (bra y') ∷ []
     → c8 ≡ c7 ++ fork r z [] → c8 ≡ loop_cells r p q
-loop_built r n n2 s x y z p q c0 c1 c2 c3 c4 c5 c6 c7 c8 en en2 es hq hp ex ey ez e0 e1 e2 e3 e4 e5 e6 e7 e8 =
-    let a : 3 + n ≡ between 0 (3 + length q) = omega arith in
-    let a' : x ≡ between (3 + length q) 0 = omega arith in
-    let b : 5 + n2 + s ≡ between 0 (5 + length q + length p) = omega arith in
-    let b' : y ≡ between (5 + length q + length p) 0 = omega arith in
-    let d : z ≡ between 3 0 = omega arith in
+loop_built r n s x x' y y' z p q c0 c1 c2 c3 c4 c5 c6 c7 c8 en es ex ex' ey ey' ez e0 e1 e2 e3 e4 e5 e6 e7 e8 =
+    let a : x ≡ between 0 (3 + length q) = ex ∙ ap (λ k. between 0 (3 + k)) en in
+    let a' : x' ≡ between (3 + length q) 0 = ex' ∙ ap (λ k. between (3 + k) 0) en in
+    let b : y ≡ between 0 (5 + length q + length p) = ey ∙ ap (λ k. between 0 (5 + k + s)) en
+    ∙ ap (λ k. between 0 (5 + length q + k)) es in
+    let b' : y' ≡ between (5 + length q + length p) 0 = ey' ∙ ap (λ k. between (5 + k + s) 0) en
+    ∙ ap (λ k. between (5 + length q + k) 0) es in
     let all : c8 ≡ (((((((fork r (between 0 (3 + length q)) []) ++ Own (bra (between 0 (5 + length q + length p))) ∷ [])
     ++ q) ++ fork r (between (3 + length q) 0) []) ++ p) ++ fork r (between 0 3) [])
     ++ Own (bra (between (5 + length q + length p) 0)) ∷ []) ++ fork r (between 3 0) [] = cc in
     all ∙ simp append_assoc
+
+-- there is room for the marks where there is room for the cells
+pub branch_room : (r n : ℕ) (p q all : List Symbol) (a b : List Mark) → all ≡ branch_cells r p q → length all ≤ n
+    → AllWithin (length p) a → AllWithin (length q) b → AllWithin n (shift 2 b) × AllWithin n (shift (5 + length q) a)
+branch_room r n p q all a b e l ha hb =
+    let k = length_branch r p q in
+    let g = ap length e in (
+      moved 2 (length q) n b (omega arith) hb,
+      moved (5 + length q) (length p) n a (omega arith) ha,
+    )
+
+pub loop_room : (r n : ℕ) (p q all : List Symbol) (a b : List Mark) → all ≡ loop_cells r p q → length all ≤ n
+    → AllWithin (length p) a → AllWithin (length q) b → AllWithin n (shift 3 b) × AllWithin n (shift (5 + length q) a)
+loop_room r n p q all a b e l ha hb =
+    let k = length_loop r p q in
+    let g = ap length e in (
+      moved 3 (length q) n b (omega arith) hb,
+      moved (5 + length q) (length p) n a (omega arith) ha,
+    )

@@ -16,9 +16,9 @@ use Rattle.pisa_isa.specs.Notes.{NoteLists, is_within, mark_fits, fits}
 use Rattle.pisa_isa.proofs.Noting.{fits_by}
 use Rattle.paired_code.specs.Link.{routines_size, link_code, link_size}
 use Rattle.paired_code.specs.declared.part.Symbol.{Symbol}
-use Rattle.paired_code.specs.Code.{Code, Kept, AllWithin, EachWithin, shift, bodies, routine_marks, link_marks}
+use Rattle.paired_code.specs.Code.{Code, AllWithin, EachWithin, shift, bodies, routine_marks, link_marks}
 use Rattle.paired_code.specs.Code.{marks_size}
-use Rattle.paired_code.proofs.Fits.{kept_within, within_append, within_more, within_shift}
+use Rattle.paired_code.proofs.Fits.{within_append, moved}
 use Rattle.paired_code.proofs.Writing.{code_length}
 
 -- one routine more
@@ -66,6 +66,13 @@ room_next xs i x top next l e t room =
     ap (λ z. routines_size (bodies z)) (drop_next xs i x l e) in
     omega arith
 
+pub room_here : (xs : List Code) (i : ℕ) (x : Code) (top : ℕ) → i < length xs → x ≡ get_or xs i x
+    → top + routines_size (bodies (drop i xs)) ≤ 8050000 → top + 3 + length x.cells ≤ 8050000
+room_here xs i x top l e room =
+    let size : routines_size (bodies (drop i xs)) ≡ length x.cells + 4 + routines_size (bodies (drop (i + 1) xs)) =
+    ap (λ z. routines_size (bodies z)) (drop_next xs i x l e) in
+    omega arith
+
 -- so many marks
 
 length-shift : (n : ℕ) (ks : List Mark) → length (shift n ks) ≡ length ks
@@ -92,9 +99,6 @@ marks_counted main bs =
     )
 
 -- they are within the code
-
-moved : (a n m : ℕ) (ks : List Mark) → a + n ≤ m → AllWithin n ks → AllWithin m (shift a ks)
-moved a n m ks l h = within_more (a + n) m (shift a ks) l (within_shift n a ks h)
 
 routines_within : (t m : ℕ) (bs : List Code) → t + routines_size (bodies bs) ≤ m → EachWithin bs
     → AllWithin m (routine_marks t bs)
@@ -150,10 +154,3 @@ linked_fits main bs image marks names code few same none h k =
       few_names = refl;
       names = refl;
     }))
-
--- the marks of a piece are within what a piece may have
-pub kept_few : {cells : List Symbol} {marks : List Mark} (view : Code)
-    → (let x : Code = record { cells = cells; marks = marks } in x) ≡ view → Kept cells marks
-    → AllWithin (2 ^ 28) view.marks
-kept_few {cells = cells} {marks = marks} view e h = subst (λ (z : Code). AllWithin (2 ^ 28) z.marks) e
-    (kept_within marks refl h)

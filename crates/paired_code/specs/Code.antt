@@ -1,5 +1,5 @@
 -- What a piece is: its cells and its marks; and how the calls put them together.
-use Rattle.std.specs.Prelude.{ℕ, ◌+◌, ◌-◌, ◌^◌, ◌<◌, ◌≤◌, List, [], ◌∷◌, ◌++◌, length, take, drop}
+use Rattle.std.specs.Prelude.{ℕ, ◌+◌, ◌-◌, ◌≤◌, List, [], ◌∷◌, ◌++◌, length, take, drop}
 use Rattle.paired_code.specs.declared.part.Symbol.{Symbol}
 use Rattle.pisa_isa.specs.declared.notes.TheConstants.{LAST_PLACE}
 use Rattle.pisa_isa.specs.declared.notes.Mark.{Mark}
@@ -15,9 +15,8 @@ abbrev pub AllWithin : ℕ → List Mark → Type 0
 AllWithin n [] = Unit {0}
 AllWithin n (k ∷ ks) = (k.first ≤ k.end) × ((k.end ≤ n) × (k.at ≤ LAST_PLACE)) × AllWithin n ks
 
--- what each piece keeps: few cells, each of which an image may hold, and marks on them
+-- what each piece keeps: cells each of which an image may hold, and marks on them
 pub record Kept (cells : List Symbol) (marks : List Mark) : Type 0 where
-  pub small : length cells < 2 ^ 28
   pub fit : AllFit cells
   pub within : AllWithin (length cells) marks
 

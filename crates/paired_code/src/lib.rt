@@ -7,6 +7,7 @@
 mod marking;
 mod part;
 mod piece;
+mod span;
 mod writer;
 
 pub use part::{StaticWord, Symbol};
@@ -14,4 +15,5 @@ pub use piece::{
     Piece, branch_if, cells_of, check_zero, empty, enter, enter_at, marked, marks_in, mirror,
     plain, seq, turn_while,
 };
+pub use span::Span;
 pub use writer::link;

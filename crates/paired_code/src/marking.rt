@@ -5,7 +5,8 @@ ghost use Rattle.std.specs.List.Sorted.{IsPermutation, IsNonDecreasingBy};
 ghost use Rattle.paired_code.specs.Link.{routines_size, link_size};
 ghost use Rattle.paired_code.specs.Code.{bodies, routine_marks, link_marks, EachWithin, AllWithin};
 
-use crate::piece::{Piece, cells_of, marks_in, put_marks};
+use crate::piece::{Piece, cells_of, marks_in};
+use crate::span::put_marks;
 use pisa_isa::{MOST_CELLS, Mark};
 use rpp_words::NoMemory;
 use std::alloc::Global;

@@ -5,28 +5,28 @@ ghost use Rattle.pisa_isa.specs.Table.{IsCell};
 ghost use Rattle.code_conventions.specs.Cells.{bra};
 ghost use Rattle.paired_code.specs.Cells.{swapbr, bgtz, bltz, data_word};
 ghost use Rattle.paired_code.specs.Machine.{reversed, is_single};
-ghost use Rattle.paired_code.specs.Layout.{between, fork, mirror_cells, inverse_sym, check_cells, place_register, enter_at_cells};
+ghost use Rattle.paired_code.specs.Layout.{between, fork, branch_cells, loop_cells, mirror_cells, inverse_sym, check_cells, place_register, enter_at_cells};
 ghost use Rattle.paired_code.specs.Laws.{SeqLaw, MirrorLaw, BranchLaw, WhileLaw, PlainLaw, CheckLaw, EmptyLaw, EnterLaw, EnterAtLaw};
 ghost use Rattle.paired_code.specs.Fit.{AllFit};
 ghost use Rattle.paired_code.specs.Code.{Code, Kept, AllWithin, shift, unmarked, seq_code, branch_code, loop_code, marked_code, parts};
 
 use crate::part::Symbol;
+use crate::span::{Span, cover, put_spans};
 use code_conventions::cells::{add, with_word};
 use code_conventions::registers::LINK;
-use pisa_isa::{Cell, LAST_PLACE, Mark, Op};
-use rpp_words::NoMemory;
+use pisa_isa::{Cell, LAST_PLACE, Op};
+use rpp_words::{NoMemory, wrap_add};
 use std::alloc::Global;
 use std::marker::Model;
 
-// A piece has fewer cells.
-const MOST: usize = 0x1000_0000;
+// There are so many words.
+const WORDS: usize = 0x1_0000_0000;
 
-/// Closed code, with the places of the source that made it. It has fewer than 2^28 cells: a call
-/// that would make more answers want of memory.
+/// Closed code of any number of cells, with the places of the source that made it.
 #[derive(Drop)]
 pub struct Piece {
     cells: Vec<Symbol>,
-    marks: Vec<Mark>,
+    marks: Vec<Span>,
 }
 
 impl Model for Piece {
@@ -59,9 +59,10 @@ pub fn seq(first: Piece, second: Piece) -> Result<Piece, NoMemory>
     let mut cells = first.cells;
     let mut marks = first.marks;
     let mut more = second.cells;
-    put_marks(&mut marks, &second.marks, cells.len() as u32)?;
+    let front = cells.len();
     cells.append(&mut more)?;
-    sealed(cells, marks)
+    put_spans(&mut marks, &second.marks, front)?;
+    Ok(sealed(cells, marks))
 }
 
 /// Runs `yes` where the flag is not 0, else `no`; neither may leave another value in it.
@@ -71,23 +72,12 @@ pub fn branch_if(alloc: Global, flag: u8, yes: Piece, no: Piece) -> Result<Piece
     ensures marks { IfOk result (λ p. parts p ≡ parts no ++ parts yes) }
     ensures law { IfOk result (λ p. BranchLaw flag yes.cells no.cells p.cells) }
 {
-    let over_no = 3 + no.cells.len() as u32;
-    let over_yes = 5 + yes.cells.len() as u32;
+    let no_size = no.cells.len();
+    let cells = branch_row(alloc, flag, yes.cells, no.cells)?;
     let mut marks = Vec::new(alloc);
-    put_marks(&mut marks, &no.marks, 2)?;
-    put_marks(&mut marks, &yes.marks, over_no + 2)?;
-    let mut cells = Vec::new(alloc);
-    let mut yes = yes.cells;
-    let mut no = no.cells;
-    put_fork(&mut cells, flag, over_no)?;
-    cells.append(&mut no)?;
-    put_jump(&mut cells, over_yes)?;
-    put_fork(&mut cells, flag, negated(over_no))?;
-    cells.append(&mut yes)?;
-    put_fork(&mut cells, flag, 3)?;
-    put_jump(&mut cells, negated(over_yes))?;
-    put_fork(&mut cells, flag, negated(3))?;
-    sealed(cells, marks)
+    put_spans(&mut marks, &no.marks, 2)?;
+    put_spans(&mut marks, &yes.marks, 5 + no_size)?;
+    Ok(sealed(cells, marks))
 }
 
 /// Entered with the flag not 0: runs `head` and leaves where the flag is not 0, else runs `tail`,
@@ -98,23 +88,12 @@ pub fn turn_while(alloc: Global, flag: u8, head: Piece, tail: Piece) -> Result<P
     ensures marks { IfOk result (λ p. parts p ≡ parts tail ++ parts head) }
     ensures law { IfOk result (λ p. WhileLaw flag head.cells tail.cells p.cells) }
 {
-    let over_tail = 3 + tail.cells.len() as u32;
-    let over_both = 5 + tail.cells.len() as u32 + head.cells.len() as u32;
+    let tail_size = tail.cells.len();
+    let cells = loop_row(alloc, flag, head.cells, tail.cells)?;
     let mut marks = Vec::new(alloc);
-    put_marks(&mut marks, &tail.marks, 3)?;
-    put_marks(&mut marks, &head.marks, over_tail + 2)?;
-    let mut cells = Vec::new(alloc);
-    let mut head = head.cells;
-    let mut tail = tail.cells;
-    put_fork(&mut cells, flag, over_tail)?;
-    put_jump(&mut cells, over_both)?;
-    cells.append(&mut tail)?;
-    put_fork(&mut cells, flag, negated(over_tail))?;
-    cells.append(&mut head)?;
-    put_fork(&mut cells, flag, 3)?;
-    put_jump(&mut cells, negated(over_both))?;
-    put_fork(&mut cells, flag, negated(3))?;
-    sealed(cells, marks)
+    put_spans(&mut marks, &tail.marks, 3)?;
+    put_spans(&mut marks, &head.marks, 5 + tail_size)?;
+    Ok(sealed(cells, marks))
 }
 
 /// One instruction that is no branch, SWAPBR, START, FINISH or DATA.
@@ -126,7 +105,7 @@ pub fn plain(alloc: Global, cell: Cell) -> Result<Piece, NoMemory>
 {
     let mut cells = Vec::new(alloc);
     cells.push(Symbol::Own(cell))?;
-    sealed(cells, Vec::new(alloc))
+    Ok(sealed(cells, Vec::new(alloc)))
 }
 
 /// A stop with the code where the register is not 0.
@@ -138,10 +117,10 @@ pub fn check_zero(alloc: Global, reg: u8, code: u32) -> Result<Piece, NoMemory>
     let mut cells = Vec::new(alloc);
     cells.push(Symbol::Own(bra(2)))?;
     cells.push(Symbol::Own(data_word(code)))?;
-    cells.push(Symbol::Own(bra(negated(2))))?;
-    cells.push(Symbol::Own(bgtz(reg, negated(2))))?;
-    cells.push(Symbol::Own(bltz(reg, negated(3))))?;
-    sealed(cells, Vec::new(alloc))
+    cells.push(Symbol::Own(bra(behind(2, 0))))?;
+    cells.push(Symbol::Own(bgtz(reg, behind(2, 0))))?;
+    cells.push(Symbol::Own(bltz(reg, behind(3, 0))))?;
+    Ok(sealed(cells, Vec::new(alloc)))
 }
 
 /// A call of a routine by its number.
@@ -151,7 +130,7 @@ pub fn enter(alloc: Global, routine: u32, back: bool) -> Result<Piece, NoMemory>
 {
     let mut cells = Vec::new(alloc);
     cells.push(Symbol::Enter(routine, back))?;
-    sealed(cells, Vec::new(alloc))
+    Ok(sealed(cells, Vec::new(alloc)))
 }
 
 /// A call of the routine whose code place is in the register. Where that is `$2`, which holds 0
@@ -170,7 +149,7 @@ pub fn enter_at(alloc: Global, reg: u8, back: bool) -> Result<Piece, NoMemory>
     cells.push(Symbol::Aim(true))?;
     cells.push(Symbol::Fixed(add(LINK, from)))?;
     cells.push(Symbol::Turn(false, true, back))?;
-    sealed(cells, Vec::new(alloc))
+    Ok(sealed(cells, Vec::new(alloc)))
 }
 
 /// The piece with one mark more, over all its cells.
@@ -182,12 +161,8 @@ pub fn marked(at: u32, piece: Piece) -> Result<Piece, NoMemory>
 {
     let cells = piece.cells;
     let mut marks = piece.marks;
-    marks.push(Mark {
-        first: 0,
-        end: cells.len() as u32,
-        at,
-    })?;
-    sealed(cells, marks)
+    marks.push(cover(0, cells.len(), at))?;
+    Ok(sealed(cells, marks))
 }
 
 /// The piece run the other way, with no marks.
@@ -196,41 +171,23 @@ pub fn mirror(alloc: Global, piece: &Piece) -> Result<Piece, NoMemory>
     ensures law { IfOk result (λ p. MirrorLaw piece.now.cells p.cells) }
 {
     let cells = mirrored(alloc, &piece.cells)?;
-    sealed(cells, Vec::new(alloc))
+    Ok(sealed(cells, Vec::new(alloc)))
 }
 
 /// Its cells.
 pub fn cells_of(piece: &Piece) -> &[Symbol]
     ensures cells { result.now ≡ piece.now.cells }
     ensures fit { AllFit piece.now.cells }
-    ensures few { length piece.now.cells < 2 ^ 28 }
 {
     &piece.cells
 }
 
 /// Its marks.
-pub fn marks_in(piece: &Piece) -> &[Mark]
+pub fn marks_in(piece: &Piece) -> &[Span]
     ensures marks { result.now ≡ piece.now.marks }
     ensures within { AllWithin (length piece.now.cells) piece.now.marks }
-    ensures few { AllWithin (2 ^ 28) piece.now.marks }
 {
     &piece.marks
-}
-
-// The marks of a part that begins at cell `by`.
-pub(crate) fn put_marks(marks: &mut Vec<Mark>, more: &[Mark], by: u32) -> Result<(), NoMemory>
-    requires within { AllWithin (2 ^ 28) more.now }
-    requires few { by < 2 ^ 30 }
-    ensures { OnOk result (marks.new.items ≡ marks.old.items ++ shift by more.now) }
-{
-    for mark in more {
-        marks.push(Mark {
-            first: by + mark.first,
-            end: by + mark.end,
-            at: mark.at,
-        })?;
-    }
-    Ok(())
 }
 
 fn mirrored(alloc: Global, cells: &[Symbol]) -> Result<Vec<Symbol>, NoMemory>
@@ -255,23 +212,79 @@ fn turned(cell: Symbol) -> Symbol
     }
 }
 
-// A piece of these cells and marks, where they are not too many.
-fn sealed(cells: Vec<Symbol>, marks: Vec<Mark>) -> Result<Piece, NoMemory>
+fn sealed(cells: Vec<Symbol>, marks: Vec<Span>) -> Piece
     requires fit { AllFit cells.items }
     requires within { AllWithin (length cells.items) marks.items }
-    ensures { IfOk result (λ p. p ≡ record { cells = cells.items; marks = marks.items }) }
+    ensures { result ≡ record { cells = cells.items; marks = marks.items } }
 {
-    if cells.len() >= MOST {
-        return Err(NoMemory);
-    }
-    Ok(Piece { cells, marks })
+    Piece { cells, marks }
 }
 
-fn negated(word: u32) -> u32
-    requires { 0 < word }
-    ensures { result ≡ 2 ^ 32 - word }
+// The cells of a choice.
+fn branch_row(
+    alloc: Global,
+    flag: u8,
+    mut yes: Vec<Symbol>,
+    mut no: Vec<Symbol>,
+) -> Result<Vec<Symbol>, NoMemory>
+    ensures { IfOk result (λ v. v.items ≡ branch_cells flag yes.items no.items) }
 {
-    u32::MAX - word + 1
+    let no_size = no.len();
+    let yes_size = yes.len();
+    let mut cells = Vec::new(alloc);
+    put_fork(&mut cells, flag, ahead(3, no_size))?;
+    cells.append(&mut no)?;
+    put_jump(&mut cells, ahead(5, yes_size))?;
+    put_fork(&mut cells, flag, behind(3, no_size))?;
+    cells.append(&mut yes)?;
+    put_fork(&mut cells, flag, 3)?;
+    put_jump(&mut cells, behind(5, yes_size))?;
+    put_fork(&mut cells, flag, behind(3, 0))?;
+    Ok(cells)
+}
+
+// The cells of a loop.
+fn loop_row(
+    alloc: Global,
+    flag: u8,
+    mut head: Vec<Symbol>,
+    mut tail: Vec<Symbol>,
+) -> Result<Vec<Symbol>, NoMemory>
+    ensures { IfOk result (λ v. v.items ≡ loop_cells flag head.items tail.items) }
+{
+    let tail_size = tail.len();
+    let head_size = head.len();
+    let mut cells = Vec::new(alloc);
+    put_fork(&mut cells, flag, ahead(3, tail_size))?;
+    put_jump(&mut cells, ahead(5 + tail_size, head_size))?;
+    cells.append(&mut tail)?;
+    put_fork(&mut cells, flag, behind(3, tail_size))?;
+    cells.append(&mut head)?;
+    put_fork(&mut cells, flag, 3)?;
+    put_jump(&mut cells, behind(5 + tail_size, head_size))?;
+    put_fork(&mut cells, flag, behind(3, 0))?;
+    Ok(cells)
+}
+
+// The offset to a cell so many cells on; from 2^32 on it is cut to a word.
+fn ahead(front: usize, more: usize) -> u32
+    ensures { result ≡ between 0 (front + more) }
+{
+    wrap_add((front % WORDS) as u32, (more % WORDS) as u32)
+}
+
+// The offset to a cell so many cells before.
+fn behind(front: usize, more: usize) -> u32
+    ensures { result ≡ between (front + more) 0 }
+{
+    if front >= WORDS || more >= WORDS {
+        return 0;
+    }
+    let both = front + more;
+    if both == 0 || both >= WORDS {
+        return 0;
+    }
+    (WORDS - both) as u32
 }
 
 fn put_fork(cells: &mut Vec<Symbol>, flag: u8, word: u32) -> Result<(), NoMemory>

@@ -2,8 +2,8 @@ use Rattle.std.proofs.Common.{◌∙◌, ap, sym, subst}
 use Rattle.paired_code.specs.Layout.{mirror_cells}
 use Rattle.paired_code.specs.Laws.{MirrorLaw}
 use Rattle.paired_code.specs.Fit.{AllFit}
-use Rattle.paired_code.specs.Code.{Code, unmarked}
-use Rattle.paired_code.proofs.Contract.{if_ok_is, if_ok_law, mirror_law, mirrored_is}
+use Rattle.paired_code.specs.Code.{Code}
+use Rattle.paired_code.proofs.Contract.{mirror_law, mirrored_is}
 use Rattle.paired_code.proofs.Fits.{fit_mirror, code_is}
 use Rattle.paired_code.proofs.piece.mirror.Goals as goal
 
@@ -12,10 +12,10 @@ sealed-requires-clause-fit c = subst AllFit (sym (c.in_ok-cells.ensures ∙ mirr
     ∙ ap mirror_cells c.deref.ensures.value)) (fit_mirror _ c.piece.invariant.fit)
 
 pub returns-clause-code : goal.returns-clause-code
-returns-clause-code c = if_ok_is _ _ _ c.sealed.ensures
-    (code_is _ _ _ _ (c.in_ok-cells.ensures ∙ mirrored_is c.deref.result.now
-    ∙ ap mirror_cells (c.deref.ensures.value ∙ ap (λ (z : Code). z.cells) c.piece.view_is)) c.new.ensures.items)
+returns-clause-code c = c.sealed.ensures
+    ∙ code_is _ _ _ _ (c.in_ok-cells.ensures ∙ mirrored_is c.deref.result.now
+    ∙ ap mirror_cells (c.deref.ensures.value ∙ ap (λ (z : Code). z.cells) c.piece.view_is)) c.new.ensures.items
 
 pub returns-clause-law : goal.returns-clause-law
-returns-clause-law c = if_ok_law (λ p. MirrorLaw c.args.piece.now.cells p.cells) _
-    (unmarked (mirror_cells c.args.piece.now.cells)) (returns-clause-code c) (mirror_law c.args.piece.now.cells)
+returns-clause-law c = subst (λ (p : Code). MirrorLaw c.args.piece.now.cells p.cells) (sym (returns-clause-code c))
+    (mirror_law c.args.piece.now.cells)

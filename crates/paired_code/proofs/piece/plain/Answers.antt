@@ -2,9 +2,8 @@ use Rattle.std.proofs.Common.{List, ◌∷◌, [], ◌++◌, ◌∙◌, sym, ap,
 use Rattle.paired_code.specs.declared.part.Symbol.{Symbol}
 use Rattle.paired_code.specs.declared.part.Symbol.TheVariants.{Own}
 use Rattle.paired_code.specs.Laws.{PlainLaw}
-use Rattle.paired_code.specs.Code.{unmarked}
+use Rattle.paired_code.specs.Code.{Code}
 use Rattle.paired_code.proofs.Small.{runs_single}
-use Rattle.paired_code.proofs.Contract.{if_ok_law}
 use Rattle.paired_code.specs.Fit.{AllFit}
 use Rattle.paired_code.proofs.Fits.{inner_single}
 use Rattle.pisa_isa.proofs.Ranges.{imm_word}
@@ -19,6 +18,5 @@ pub returns-clause-code : goal.returns-clause-code
 returns-clause-code c = search rules
 
 pub returns-clause-law : goal.returns-clause-law
-returns-clause-law c = if_ok_law (λ p. PlainLaw c.args.cell p.cells) _ (unmarked (Own c.args.cell ∷ []))
-    (returns-clause-code c) (λ im d m. runs_single im c.args.cell d m c.requires.single
-    (imm_word c.args.cell c.requires.cell.in_range))
+returns-clause-law c = subst (λ (p : Code). PlainLaw c.args.cell p.cells) (sym (returns-clause-code c))
+    (λ im d m. runs_single im c.args.cell d m c.requires.single (imm_word c.args.cell c.requires.cell.in_range))
