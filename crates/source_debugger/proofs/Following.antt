@@ -1,7 +1,8 @@
 -- Commands that are carried out one after the other.
 use Rattle.std.proofs.Common.{◌≡◌, ℕ, zero, suc, ◌+◌, ◌-◌, ◌<◌, ◌≤◌, refl, sym, ap, subst, ◌∙◌, arith, append-nil}
-use Rattle.std.proofs.Common.{append_assoc, List, [], ◌∷◌, ◌++◌, length, drop, get_or, Option, Some, None}
+use Rattle.std.proofs.Common.{append_assoc, List, [], ◌∷◌, ◌++◌, length, get_or, take, Option, Some, None}
 use Rattle.std.specs.Prelude.{Result, Ok, Err, IfOk}
+use Rattle.std.proofs.lemmas.List.{take_more, take_all}
 use Rattle.rpp_words.specs.declared.input.FieldWord.{FieldWord}
 use Rattle.rpp_words.specs.declared.input.Limits.{Limits}
 use Rattle.rpp_tree.specs.declared.tree.Program.{Program}
@@ -14,7 +15,7 @@ use Rattle.two_way_debugger.specs.declared.command.Command.{Command}
 use Rattle.source_debugger.specs.declared.running.TheConstants.{MOST_COST}
 use Rattle.source_debugger.specs.Named.{object_lines, objects_from}
 use Rattle.source_debugger.specs.Shown.{Told, told_by, behind_text, and_told, told}
-use Rattle.source_debugger.specs.Standing.{Standing, run_of, Leads}
+use Rattle.source_debugger.specs.Standing.{Standing, run_of, Leads, IsAlong}
 
 abbrev told_at : ℕ → Text → Option Told
 told_at position text = Some (record { position = position; text = text })
@@ -118,6 +119,52 @@ following_over first now script left text is e = record {
   same = is.same;
 }
 
+-- these commands have been carried out: whatever is left is told behind their text
+pub record IsFollowed (first : Standing) (done : List Command) (now : Standing) (text : Text) : Type 0 where
+  pub follows : (left : List Command) → IsFollowing first (done ++ left) left now text
+
+pub followed_first : (first : Standing) → IsFollowed first [] first []
+followed_first first = record { follows = λ left. following_first first left }
+
+pub followed_next : (first now next : Standing) (done : List Command) (command : Command) (before text after : Text)
+    → IsFollowed first done now before → Leads now (command ∷ []) next text → after ≡ before ++ text
+    → IsFollowed first (done ++ command ∷ []) next after
+followed_next first now next done command before text after is leads more = record {
+  follows = λ left. subst (λ commands. IsFollowing first commands left next after)
+      (sym (append_assoc done (command ∷ []) left))
+      (following_next first now next (done ++ command ∷ left) (command ∷ left) left command before text after
+      (is.follows (command ∷ left)) refl leads more);
+}
+
+-- the command at an index as well
+pub followed_more : (first now next : Standing) (script : List Command) (i : ℕ) (d : Command)
+    (before text after : Text) → i < length script → IsFollowed first (take i script) now before
+    → Leads now (get_or script i d ∷ []) next text → after ≡ before ++ text
+    → IsFollowed first (take (i + 1) script) next after
+followed_more first now next script i d before text after h is leads more =
+    subst (λ done. IsFollowed first done next after) (sym (take_more script i d h))
+    (followed_next first now next (take i script) (get_or script i d) before text after is leads more)
+
+pub followed_leads : (first now : Standing) (done : List Command) (text : Text) → IsFollowed first done now text
+    → Leads first done now text
+followed_leads first now done text is =
+    subst (λ commands. Leads first commands now text) (append-nil done)
+    (following_over first now (done ++ []) [] text (is.follows []) refl)
+
+pub followed_along : (first now : Standing) (script : List Command) (i : ℕ) (text : Text)
+    → IsFollowed first (take i script) now text → IsAlong first script now
+followed_along first now script i text is = record {
+  made = i;
+  text = text;
+  leads = followed_leads first now (take i script) text is;
+}
+
+pub followed_over : (first now : Standing) (script : List Command) (i : ℕ) (text : Text) → length script ≤ i
+    → IsFollowed first (take i script) now text → Leads first script now text
+followed_over first now script i text h is =
+    subst (λ commands. Leads first commands now text) (take_all i script h)
+    (followed_leads first now (take i script) text is)
+
 -- ---- names one after the other
 
 pub objects_next : (program : Source) (store : Store) (from at count : ℕ) (before line : Text) → at < count
@@ -138,11 +185,3 @@ pub within_as : {A E : Type 0} (r : Result A E) (f : A → ℕ) (k bound : ℕ) 
     → IfOk r (λ a. f a ≤ bound)
 within_as (Ok a) f k bound h e = omega arith
 within_as (Err x) f k bound h e = tt
-
--- the command that comes next
-pub drop_next : (xs : List Command) (i : ℕ) (d : Command) → i < length xs → drop i xs ≡ get_or xs i d ∷ drop (i + 1) xs
-drop_next [] i d h = absurd (omega arith)
-drop_next (x ∷ xs) zero d h = refl
-drop_next (x ∷ xs) (suc i) d h =
-    let next : suc i + 1 ≡ suc (i + 1) = omega arith in
-    drop_next xs i d (omega arith) ∙ ap (λ k. get_or xs i d ∷ drop k (x ∷ xs)) (sym next)

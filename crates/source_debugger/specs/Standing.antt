@@ -1,5 +1,5 @@
 -- A debugger as contracts see it.
-use Rattle.std.specs.Prelude.{◌≡◌, ℕ, List, Some}
+use Rattle.std.specs.Prelude.{◌≡◌, ℕ, List, Some, take}
 use Rattle.rpp_words.specs.declared.input.FieldWord.{FieldWord}
 use Rattle.rpp_words.specs.declared.input.Limits.{Limits}
 use Rattle.rpp_tree.specs.declared.tree.Program.{Program}
@@ -30,6 +30,12 @@ pub record Leads (before : Standing) (commands : List Command) (after : Standing
   pub told : told (source_of before.program) (run_of before) commands before.position
       ≡ Some (record { position = after.position; text = text })
   pub same : after ≡ record before { position = after.position }
+
+-- so many of the commands were carried out, and no others
+pub record IsAlong (before : Standing) (commands : List Command) (after : Standing) : Type 0 where
+  pub made : ℕ
+  pub text : Text
+  pub leads : Leads before (take made commands) after text
 
 -- a program with a valid input and limits in range
 pub record IsValidRun (program : Source) (limits : Limits) (input : List FieldWord) : Type 0 where

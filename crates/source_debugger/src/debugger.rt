@@ -5,7 +5,7 @@ ghost use Rattle.meaning_points.specs.Trail.{trail};
 ghost use Rattle.source_debugger.specs.declared.running.TheConstants.{MOST_COST};
 ghost use Rattle.source_debugger.specs.declared.moves.TheConstants.{LAST_POSITION};
 ghost use Rattle.source_debugger.specs.Shown.{told_by, walked};
-ghost use Rattle.source_debugger.specs.Standing.{IsValidRun, Leads};
+ghost use Rattle.source_debugger.specs.Standing.{IsValidRun, Leads, IsAlong};
 
 use crate::moves::{Walk, backward, forward};
 use crate::running::Run;
@@ -166,7 +166,7 @@ impl SourceDebugger {
     }
 
     /// Carries out commands, one after the other, and adds what they print to a text. After want of
-    /// memory the text is as before.
+    /// memory some first commands were carried out, and the text is as before.
     pub fn follow(
         &mut self,
         alloc: Global,
@@ -176,6 +176,7 @@ impl SourceDebugger {
         ensures told { OnOk result ((text : List ℕ) × Leads self.old script.now self.new text
             × (string_bytes out.new ≡ string_bytes out.old ++ text)) }
         ensures kept { OnErr result (string_bytes out.new ≡ string_bytes out.old) }
+        ensures along { OnErr result (IsAlong self.old script.now self.new) }
     {
         let mut text = String::new(alloc);
         for command in script {
