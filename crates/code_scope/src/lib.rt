@@ -6,8 +6,6 @@
 mod known;
 mod names;
 mod scope;
-#[cfg(test)]
-mod tests;
 
 pub use known::Names;
 pub use names::{free_word, spot_of};

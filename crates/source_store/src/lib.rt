@@ -7,8 +7,6 @@ mod changes;
 mod heap;
 mod object;
 mod requests;
-#[cfg(test)]
-mod tests;
 mod value;
 
 pub use heap::Heap;
