@@ -192,17 +192,22 @@ class Writer:
 
     def call(self, scope, depth):
         way, receiver = self.random.choice(('call', 'uncall')), self.random.choice(scope.receivers)
-        if scope.ints and self.random.random() < 0.5:
+        method = self.method(scope)
+        if scope.ints and method == 'add' and self.random.random() < 0.5:
             return [f'{way} {receiver}::add({self.random.choice(scope.ints)})']
-        return self.with_argument(lambda name: [f'{way} {receiver}::add({name})'])
+        return self.with_argument(lambda name: [f'{way} {receiver}::{method}({name})'])
 
-    def calls(self, receiver):
+    def method(self, scope):
+        """A method of Cell that takes an int; Cell's own methods do not call `add`, so that no recursion is without an end."""
+        return 'down' if scope.own == 'down' else self.random.choice(('add', 'down'))
+
+    def calls(self, scope, receiver):
         """Two calls on a receiver that undo one another."""
-        method = self.random.choice(('add', 'down'))
+        method = self.method(scope)
         return self.with_argument(lambda name: [f'{way} {receiver}::{method}({name})' for way in self.ways()])
 
     def call_pair(self, scope, depth):
-        return self.calls(self.random.choice(scope.receivers))
+        return self.calls(scope, self.random.choice(scope.receivers))
 
     def own_call(self, scope, depth):
         if set(scope.kept) & set(scope.fields) and not self.slips():
@@ -212,7 +217,7 @@ class Writer:
 
     def element_call(self, scope, depth):
         place, made = f'{self.random.choice(scope.shelves)}[{self.index(scope, 4)}]', self.random.choice(('Cell', 'Wide'))
-        return [f'new {made} {place}', *self.calls(place), *([] if self.slips() else [f'delete {made} {place}'])]
+        return [f'new {made} {place}', *self.calls(scope, place), *([] if self.slips() else [f'delete {made} {place}'])]
 
     def call_of_many(self, scope, depth):
         """Calls with an array of ints, an array of objects, and an object."""
@@ -234,7 +239,8 @@ class Writer:
         name, made = self.fresh(), self.random.choice(('Cell', 'Wide'))
         inner = scope.with_more(cells=[name], receivers=[name]) if self.random.random() < 0.1 else scope
         body = [] if depth >= DEEPEST else self.block(inner, depth + 1)
-        return self.with_local('Cell', name, [f'new {made} {name}', *self.calls(name), *body, f'delete {made} {name}'])
+        gone = self.random.choice(('Cell', 'Wide')) if self.slips() else made
+        return self.with_local('Cell', name, [f'new {made} {name}', *self.calls(scope, name), *body, f'delete {gone} {name}'])
 
     def row(self, scope, depth):
         name, length = self.fresh(), self.random.randint(1, 9)
@@ -245,7 +251,7 @@ class Writer:
 
     def shelf(self, scope, depth):
         name, length = self.fresh(), self.random.randint(1, 5)
-        inside = self.element_call(Scope((), shelves=(name,)), depth) if length > 3 else ['skip']
+        inside = self.element_call(Scope((), shelves=(name,), own=scope.own), depth) if length > 3 else ['skip']
         return self.with_local('Cell[]', name, [f'new Cell[{length}] {name}', *inside, f'delete Cell[{length}] {name}'])
 
     def alias(self, scope, depth):
@@ -268,6 +274,7 @@ class Writer:
         place = f'{self.random.choice(scope.shelves)}[{self.random.randrange(4)}]' if in_element else name
         inner = scope if in_element else scope.with_more(cells=[name], receivers=[name])
         body = [] if depth >= DEEPEST else self.block(inner, depth + 1)
+        body = [*body, f'delete Cell {cell}'] if self.slips() else body
         lines = [f'copy Cell {cell} {place}', *body, f'uncopy Cell {self.random.choice(scope.cells)} {place}']
         return lines if in_element else self.with_local('Cell', name, lines)
 
@@ -275,15 +282,15 @@ class Writer:
         name, cell = self.fresh(), self.random.choice(scope.cells)
         if scope.shelves and self.random.random() < 0.4:
             place = f'{self.random.choice(scope.shelves)}[{self.random.randrange(4)}]'
-            return [f'new Cell {place}', f'{place} <=> {cell}', *self.calls(cell), f'{cell} <=> {place}', f'delete Cell {place}']
-        inside = [f'new Cell {name}', f'{name} <=> {cell}', *self.calls(cell), f'{cell} <=> {name}', f'delete Cell {name}']
+            return [f'new Cell {place}', f'{place} <=> {cell}', *self.calls(scope, cell), f'{cell} <=> {place}', f'delete Cell {place}']
+        inside = [f'new Cell {name}', f'{name} <=> {cell}', *self.calls(scope, cell), f'{cell} <=> {name}', f'delete Cell {name}']
         return self.with_local('Cell', name, inside)
 
     def construct(self, scope, depth):
         name, made = self.fresh(), self.random.choice(('Cell', 'Wide'))
         body = ['skip'] if depth >= DEEPEST else self.block(scope, depth + 1)
         links = [f'call {name}::link({scope.cells[0]})', f'uncall {name}::link({scope.cells[0]})'] if scope.cells else []
-        return [f'construct {made} {name}', *['  ' + it for it in [*self.calls(name), *links]], *body, f'destruct {name}']
+        return [f'construct {made} {name}', *['  ' + it for it in [*self.calls(scope, name), *links]], *body, f'destruct {name}']
 
     def careless(self, scope):
         """A statement that most often meets a fault, with one cause or more."""
@@ -315,10 +322,10 @@ def program(seed, refused=REFUSED):
     cell = {'receivers': (), 'own': 'down', 'fields': ('value',)}
     main = {'cells': ('head',), 'receivers': ('head', 'wide'), 'rows': ('xs',), 'shelves': ('cells',)}
     blocks = {
-        'add': writer.block(Scope(('value', 'n'), **cell).keeping(['n']), 3),
-        'each': writer.block(Scope(('value',), ('one',), ('one',), ('row',), ('shelf',), 'down', ('value',)), 3),
-        'wide': writer.block(Scope(('value', 'more', 'n'), **cell).keeping(['n']), 3),
-        'part': writer.block(Scope(('a', 'b', 'c', 'n'), **main).keeping(['n']), 3),
+        'add': writer.block(Scope(('value', 'n'), **cell).keeping(['n']), 2),
+        'each': writer.block(Scope(('value',), ('one',), ('one',), ('row',), ('shelf',), 'down', ('value',)), 2),
+        'wide': writer.block(Scope(('value', 'more', 'n'), **cell).keeping(['n']), 2),
+        'part': writer.block(Scope(('a', 'b', 'c', 'n'), **main).keeping(['n']), 2),
     }
     body = [line for _ in range(3) for line in writer.block(Scope(('a', 'b', 'c'), own='part', fields=('a', 'b', 'c'), **main), 0)]
     text = HEAD.format(seed=seed, main=indented(body, 2), **{name: indented(lines, 2) for name, lines in blocks.items()})
