@@ -3,6 +3,7 @@ import os
 import pty
 import re
 import select
+import signal
 import subprocess
 import sys
 import time
@@ -183,10 +184,11 @@ class Terminal(Case):
 
     @staticmethod
     def own_terminal(follower):
-        """Makes the terminal the session's own, so that ^C reaches it."""
+        """Makes the terminal the session's own, and lets ^C end what it reaches, as where the tests themselves ignore it."""
         def take():
             import fcntl
             import termios
+            signal.signal(signal.SIGINT, signal.SIG_DFL)
             fcntl.ioctl(follower, termios.TIOCSCTTY, 0)
         return take
 
