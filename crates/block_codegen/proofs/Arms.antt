@@ -4,6 +4,7 @@ use Rattle.std.specs.Prelude.{Option, Some, None, Result, Ok, Err, IfOk, nat_eq,
 use Rattle.std.specs.declared.alloc.Global.{Global}
 use Rattle.std.specs.Option.{option_map, is_none}
 use Rattle.std.proofs.lemmas.Bool.{eqb-true}
+use Rattle.code_conventions.specs.declared.memory.TheConstants.{MOST_VARIABLES}
 use Rattle.rpp_tree.specs.declared.tree.Ident.{Ident}
 use Rattle.rpp_tree.specs.declared.tree.Expr.{Expr}
 use Rattle.rpp_tree.specs.declared.tree.Place.{Place}
@@ -120,9 +121,10 @@ some_each (first ∷ second ∷ rest) = let a = some_each (second ∷ rest) in o
 
 pub element_free : (v : Visible) (at : ℕ) (back : Bool) (element : Lvalue) (array : Ident) (index : Expression)
     (method : Ident) (args : List Ident) → element ≡ Item array index
-    → StatementStands v (Call at back (Some element) method args) → length v.variables < 48
+    → StatementStands v (Call at back (Some element) method args) → length v.variables < MOST_VARIABLES
 element_free v at back element array index method args is h =
-    let f : length v.variables + 1 ≤ 48 = subst (λ e. length v.variables + receiver_locals (Some e) ≤ 48) is
+    let f : length v.variables + 1 ≤ MOST_VARIABLES = subst
+    (λ e. length v.variables + receiver_locals (Some e) ≤ MOST_VARIABLES) is
     h.allowed.few_locals in
     omega (arith, f)
 

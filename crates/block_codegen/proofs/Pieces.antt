@@ -2,12 +2,12 @@
 use Rattle.std.proofs.Common.{◌≡◌, ℕ, ◌+◌, ◌*◌, ◌<◌, ◌≤◌, List, [], ◌++◌, length, refl, sym, ap, ◌∙◌, subst, arith}
 use Rattle.std.proofs.Common.{length-append, append_assoc, append-nil}
 use Rattle.std.proofs.lemmas.List.Sorted.{length_permutation}
+use Rattle.code_conventions.specs.declared.memory.TheConstants.{MOST_VARIABLES}
 use Rattle.rpp_tree.specs.declared.tree.Ident.{Ident}
 use Rattle.rpp_tree.specs.declared.tree.Var.{Var}
 use Rattle.rpp_tree.specs.declared.tree.VarType.TheVariants as type
 use Rattle.rpp_tree.specs.Tree.{Expression, Number, Null, Variable, Element, Binary, Lvalue, Whole, Item, Object}
-use Rattle.rpp_tree.specs.Tree.{Statement, Statements, Update, Swap, If, From, Construct, Local, New, Delete, Copy}
-use Rattle.rpp_tree.specs.Tree.{Uncopy, Call, Skip, End, Then}
+use Rattle.rpp_tree.specs.Tree.{Statement, Statements, Update, If, From, Construct, Local, New, End, Then}
 use Rattle.rpp_tree.specs.Places.{statement_place}
 use Rattle.rpp_tree.specs.Views.{source_of}
 use Rattle.rpp_tree.specs.Parts.{expression_tokens, lvalue_tokens, statement_tokens, block_tokens}
@@ -137,7 +137,7 @@ module _ (v : Visible) where
       → InnerPiece v (Construct at class name body end) p
   construct_inner at class name body end making inside p allowed made held size small new a = record {
     law = made.law class body end refl (let f = allowed.few_locals in
-        let q : length v.variables < 48 = omega (arith, f) in q) new a.law;
+        let q : length v.variables < MOST_VARIABLES = omega (arith, f) in q) new a.law;
     marks = marks_in Law (block_rows (scope_of (with_variable v (record { kind = type.Class class; name = name })))
         body) inside p held a.marks;
     size = let s = a.size in omega (arith, size, small, s);
@@ -214,7 +214,6 @@ mutual
 
   inner_few : (s : Scope) (x : Statement) → length (inner_rows s x) + 1 ≤ statement_tokens x
   inner_few s (Update at op target value) = omega arith
-  inner_few s (Swap at left right) = omega arith
   inner_few s (If at test taken other after) = let a = rows_few s taken in let b = rows_few s other in
       omega (arith, a, b, length-append (block_rows s taken) (block_rows s other))
   inner_few s (From at entry first again exit) = let a = rows_few s first in let b = rows_few s again in
@@ -222,12 +221,7 @@ mutual
   inner_few s (Construct at class name body end) = let a =
       rows_few (with_var s (record { kind = type.Class class; name = name })) body in omega (arith, a)
   inner_few s (Local at var value body end_var end_value) = let a = rows_few (with_var s var) body in omega (arith, a)
-  inner_few s (New at made target) = omega arith
-  inner_few s (Delete at made target) = omega arith
-  inner_few s (Copy at kind source target) = omega arith
-  inner_few s (Uncopy at kind source target) = omega arith
-  inner_few s (Call at back receiver method args) = omega arith
-  inner_few s (Skip at) = omega arith
+  inner_few s _ = omega arith
 
 pub marks_few : (v : Visible) (body : Statements) (p : Code) → HaveMarks v body p → length p.marks ≤ block_tokens body
 marks_few v body p h =

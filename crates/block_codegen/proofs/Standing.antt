@@ -6,8 +6,7 @@ use Rattle.std.proofs.lemmas.List.Elements.{All-take, All-drop}
 use Rattle.rpp_tree.specs.declared.tree.Ident.{Ident}
 use Rattle.rpp_tree.specs.declared.tree.Var.{Var}
 use Rattle.rpp_tree.specs.declared.tree.VarType.TheVariants as type
-use Rattle.rpp_tree.specs.Tree.{Expression, Statement, Statements, Update, Swap, If, From, Construct, Local, New}
-use Rattle.rpp_tree.specs.Tree.{Delete, Copy, Uncopy, Call, Skip, Then}
+use Rattle.rpp_tree.specs.Tree.{Expression, Statement, Statements, Update, If, From, Construct, Local, Then}
 use Rattle.rpp_tree.specs.Places.{statement_place}
 use Rattle.rpp_tree.specs.Views.{source_of}
 use Rattle.rpp_tree.specs.Parts.{expression_places, var_places, statement_places, block_places}
@@ -31,17 +30,7 @@ right P xs ys all = subst (All P) (drop_at xs ys (length xs) refl) (All-drop P (
 
 pub own_place : (x : Statement) → All IsPlace (statement_places x) → IsPlace (statement_place x)
 own_place (Update at op target value) all = all 0 0 (omega arith)
-own_place (Swap at left right) all = all 0 0 (omega arith)
-own_place (If at test taken other after) all = all 0 0 (omega arith)
-own_place (From at entry first again exit) all = all 0 0 (omega arith)
-own_place (Construct at class name body end) all = all 0 0 (omega arith)
-own_place (Local at var value body end_var end_value) all = all 0 0 (omega arith)
-own_place (New at made target) all = all 0 0 (omega arith)
-own_place (Delete at made target) all = all 0 0 (omega arith)
-own_place (Copy at kind source target) all = all 0 0 (omega arith)
-own_place (Uncopy at kind source target) all = all 0 0 (omega arith)
-own_place (Call at back receiver method args) all = all 0 0 (omega arith)
-own_place (Skip at) all = all 0 0 (omega arith)
+own_place _ all = all 0 0 (omega arith)
 
 -- the places of two blocks between others
 first_of_two : (before one two after : List ℕ) → All IsPlace (before ++ one ++ two ++ after) → All IsPlace one

@@ -1,8 +1,7 @@
 -- The statements of a block in the order of the text, each in its scope.
 use Rattle.std.specs.Prelude.{ℕ, List, [], ◌∷◌, ◌++◌, length}
 use Rattle.rpp_tree.specs.declared.tree.VarType.TheVariants as type
-use Rattle.rpp_tree.specs.Tree.{Statement, Statements, Update, Swap, If, From, Construct, Local}
-use Rattle.rpp_tree.specs.Tree.{New, Delete, Copy, Uncopy, Call, Skip, End, Then}
+use Rattle.rpp_tree.specs.Tree.{Statement, Statements, Walk, walk, walk_block}
 use Rattle.refine_form.specs.Form.{Scope, with_var}
 
 -- a statement, the scope in which it stands, and how many statements stand in it
@@ -15,24 +14,21 @@ pub record Row : Type 0 where
 abbrev pub row_before : Scope → Statement → List Row → List Row
 row_before s x inner = record { scope = s; statement = x; inside = length inner } ∷ inner
 
-abbrev mutual
-  -- those that stand in a statement
-  pub inner_rows : Scope → Statement → List Row
-  inner_rows s (Update at op target value) = []
-  inner_rows s (Swap at left right) = []
-  inner_rows s (If at test taken other after) = block_rows s taken ++ block_rows s other
-  inner_rows s (From at entry first again exit) = block_rows s first ++ block_rows s again
-  inner_rows s (Construct at class name body end) =
-      block_rows (with_var s (record { kind = type.Class class; name = name })) body
-  inner_rows s (Local at var value body end_var end_value) = block_rows (with_var s var) body
-  inner_rows s (New at made target) = []
-  inner_rows s (Delete at made target) = []
-  inner_rows s (Copy at kind source target) = []
-  inner_rows s (Uncopy at kind source target) = []
-  inner_rows s (Call at back receiver method args) = []
-  inner_rows s (Skip at) = []
+abbrev pub rows : Walk (Scope → List Row)
+rows = record {
+  plain = λ at parts s. [];
+  forked = λ at before first second after s. first s ++ second s;
+  construct = λ at class name body end s.
+      body (with_var s (record { kind = type.Class class; name = name }));
+  local = λ at var value body end_var end_value s. body (with_var s var);
+  none = λ s. [];
+  next = λ first said rest s. row_before s first (said s) ++ rest s;
+}
 
-  -- the statements of a block, and those that stand in them
-  pub block_rows : Scope → Statements → List Row
-  block_rows s End = []
-  block_rows s (Then first rest) = row_before s first (inner_rows s first) ++ block_rows s rest
+-- those that stand in a statement
+abbrev pub inner_rows : Scope → Statement → List Row
+inner_rows s x = walk rows x s
+
+-- the statements of a block, and those that stand in them
+abbrev pub block_rows : Scope → Statements → List Row
+block_rows s body = walk_block rows body s

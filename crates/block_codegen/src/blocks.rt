@@ -10,10 +10,11 @@ ghost use Rattle.block_codegen.specs.Ranges.{IsCovered};
 ghost use Rattle.block_codegen.specs.Pieces.{StatementStands, StandsIn, HaveMarks, cells_a_token, InnerPiece, BlockPiece};
 
 use crate::objects::{making_piece, object_var};
-use crate::plain::{place_of, plain_piece};
+use crate::plain::plain_piece;
 use branch_codegen::{from_code, if_code};
 use code_scope::Scope;
 use paired_code::{Piece, empty, marked, seq};
+use rpp_tree::place_of;
 use rpp_tree::tree::{Block, Stmt};
 use rpp_words::NoMemory;
 use statement_codegen::{construct_code, local_code};

@@ -1,6 +1,5 @@
 // The code of statements that hold no others.
 ghost use Rattle.std.specs.Prelude.{◌≡◌, ◌≤◌, Some, length, IfOk, OnOk};
-ghost use Rattle.rpp_tree.specs.Places.{statement_place};
 ghost use Rattle.rpp_tree.specs.Views.{lvalue_of, optional_lvalue_of, statement_of};
 ghost use Rattle.block_codegen.specs.Pieces.{call_on, StatementStands, HoldsNoBlock, InnerPiece};
 
@@ -12,26 +11,6 @@ use rpp_tree::tree::{Place, Stmt};
 use rpp_words::NoMemory;
 use statement_codegen::{CallParts, call_code, element_call_code, skip_code};
 use std::alloc::Global;
-
-/// The place of a statement in its source.
-pub fn place_of(s: &Stmt) -> u32
-    ensures { result ≡ statement_place (statement_of s.now) }
-{
-    match s {
-        Stmt::Update { at, .. } => *at,
-        Stmt::Swap { at, .. } => *at,
-        Stmt::If { at, .. } => *at,
-        Stmt::From { at, .. } => *at,
-        Stmt::Construct { at, .. } => *at,
-        Stmt::Local { at, .. } => *at,
-        Stmt::New { at, .. } => *at,
-        Stmt::Delete { at, .. } => *at,
-        Stmt::Copy { at, .. } => *at,
-        Stmt::Uncopy { at, .. } => *at,
-        Stmt::Call { at, .. } => *at,
-        Stmt::Skip { at } => *at,
-    }
-}
 
 // A call or uncall on the object of a variable, or on an element.
 fn call_piece_on(

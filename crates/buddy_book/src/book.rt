@@ -104,7 +104,6 @@ impl Book {
 #[cfg(test)]
 mod tests {
     use super::*;
-    use std::process::Abort;
     use std::test::Fail;
 
     #[test]
@@ -129,6 +128,21 @@ mod tests {
         assert_eq!(rt; book.head(1), None, "both halves merged");
         assert_eq!(rt; book.head(2), Some(40), "the whole heap is free again");
         Ok(())
+    }
+
+    /// The order of the taken block at an address, if there is one.
+    fn order_at(book: &Book, at: u32) -> Option<u32>
+        ensures { IfSome result (λ k. IsTaken book.now at k) }
+    {
+        if at < book.base || (at - book.base) % 2 != 0 {
+            return None;
+        }
+        let entry = ((at - book.base) / 2) as usize;
+        if entry >= book.orders.len() {
+            return None;
+        }
+        let order = book.orders[entry];
+        if order == 0 { None } else { Some(order) }
     }
 
     /// Gives the taken block at an address back, where there is one.
@@ -159,165 +173,6 @@ mod tests {
         give_at(&mut other, 40);
         assert_eq!(rt; other.head(1), Some(40), "the one that came back last");
         assert_eq!(rt; other.head(2), None, "no whole block is free");
-        Ok(())
-    }
-
-    /// The plain lists of an empty heap of order 10, the head of each last.
-    fn plain_start(alloc: Global) -> Result<Vec<Vec<u32>>, Fail> {
-        let mut lists = Vec::new(alloc);
-        for _ in 1..10 {
-            lists.push(Vec::new(alloc))?;
-        }
-        lists.push(vec![in alloc; 0; 1]?)?;
-        Ok(lists)
-    }
-
-    /// Halves a block of a higher order down to order `k`: the lower halves become free.
-    fn plain_halve<R: Abort>(
-        rt: &R,
-        lists: &mut Vec<Vec<u32>>,
-        k: u32,
-        order: u32,
-        block: u32,
-    ) -> Result<u32, Fail> {
-        let mut upper = block;
-        for step in k..order {
-            let lower = order.wrapping_sub(1).wrapping_sub(step.wrapping_sub(k));
-            assert!(rt; 1 <= lower && lower <= 10 && (lower as usize) <= lists.len());
-            lists[(lower - 1) as usize].push(upper)?;
-            upper = upper.wrapping_add(1 << lower);
-        }
-        Ok(upper)
-    }
-
-    /// Takes a block from plain lists: the first free one of the least order from `k` on, halved.
-    fn plain_take<R: Abort>(
-        rt: &R,
-        lists: &mut Vec<Vec<u32>>,
-        k: u32,
-    ) -> Result<Option<u32>, Fail> {
-        for order in k..11 {
-            assert!(rt; 1 <= order && (order as usize) <= lists.len());
-            match lists[(order - 1) as usize].pop() {
-                None => {}
-                Some(block) => return Ok(Some(plain_halve(rt, lists, k, order, block)?)),
-            }
-        }
-        Ok(None)
-    }
-
-    /// Gives a block back to plain lists: it merges while its list holds its lower half alone.
-    fn plain_give<R: Abort>(
-        rt: &R,
-        lists: &mut Vec<Vec<u32>>,
-        k: u32,
-        block: u32,
-    ) -> Result<(), Fail> {
-        let mut given = block;
-        for order in k..11 {
-            assert!(rt; 1 <= order && order <= 10 && (order as usize) <= lists.len());
-            let low = given.wrapping_sub(1 << order);
-            let aligned = low & (2u32 << order).wrapping_sub(1) == 0;
-            let list = &mut lists[(order - 1) as usize];
-            if !aligned || list.len() != 1 || list[0] != low {
-                list.push(given)?;
-                return Ok(());
-            }
-            list.clear();
-            given = low;
-        }
-        Ok(())
-    }
-
-    /// The order of the taken block at an address, if there is one.
-    fn order_at(book: &Book, at: u32) -> Option<u32>
-        ensures { IfSome result (λ k. IsTaken book.now at k) }
-    {
-        if at < book.base || (at - book.base) % 2 != 0 {
-            return None;
-        }
-        let entry = ((at - book.base) / 2) as usize;
-        if entry >= book.orders.len() {
-            return None;
-        }
-        let order = book.orders[entry];
-        if order == 0 { None } else { Some(order) }
-    }
-
-    /// The book and the plain lists take the same block.
-    fn take_both<R: Abort>(
-        rt: &R,
-        book: &mut Book,
-        lists: &mut Vec<Vec<u32>>,
-        k: u32,
-    ) -> Result<Option<u32>, Fail> {
-        assert!(rt; 1 <= k);
-        let plain = plain_take(rt, lists, k)?;
-        let taken = book.take(k);
-        match plain {
-            None => assert_eq!(rt; taken, None),
-            Some(block) => assert_eq!(rt; taken, Some(block.wrapping_add(1024))),
-        }
-        assert!(rt; book.lists == *lists);
-        Ok(taken)
-    }
-
-    /// The block is given back to the book and to the plain lists; the answer is its order.
-    fn give_both<R: Abort>(
-        rt: &R,
-        book: &mut Book,
-        lists: &mut Vec<Vec<u32>>,
-        at: u32,
-    ) -> Result<u32, Fail> {
-        let order = order_at(book, at);
-        match order {
-            None => {
-                assert!(rt; false);
-                Ok(0)
-            }
-            Some(k) => {
-                plain_give(rt, lists, k, at.wrapping_sub(1024))?;
-                book.give(k, at);
-                assert!(rt; book.lists == *lists);
-                Ok(k)
-            }
-        }
-    }
-
-    #[test]
-    fn mixed_takes_and_gives_lead_back(rt: HostRuntime) -> Result<(), Fail> {
-        let alloc = rt.alloc();
-        let mut book = Book::new(alloc, 10, 1024)?;
-        let mut lists = plain_start(alloc)?;
-        let mut held = Vec::new(alloc);
-        let mut log = Vec::new(alloc);
-        let mut number = 7u32;
-        for _ in 0..4000 {
-            number = number.wrapping_mul(1664525).wrapping_add(1013904223);
-            if held.is_empty() || (number >> 20) % 2 == 0 {
-                let order = 1 + (number >> 16) % 4;
-                if let Some(at) = take_both(&rt, &mut book, &mut lists, order)? {
-                    held.push(at)?;
-                    log.push((order, at, true))?;
-                }
-            } else {
-                let at = held.swap_remove((number >> 8) as usize % held.len());
-                let order = give_both(&rt, &mut book, &mut lists, at)?;
-                log.push((order, at, false))?;
-            }
-        }
-        assert!(rt; log.len() > 2000);
-        for _ in 0..4000 {
-            if let Some((order, at, took)) = log.pop() {
-                if took {
-                    assert_eq!(rt; give_both(&rt, &mut book, &mut lists, at)?, order);
-                } else {
-                    assert_eq!(rt; take_both(&rt, &mut book, &mut lists, order)?, Some(at));
-                }
-            }
-        }
-        assert!(rt; book.lists == plain_start(alloc)?);
-        assert!(rt; book.orders == zeros(alloc, 10)?);
         Ok(())
     }
 }

@@ -1,10 +1,10 @@
 // Where things stand in the memory of a program. How many cells the machine itself has, and the words
-// of a frame, are `FIXED_CELLS` and `FRAME_WORDS` of rpp_words, which the loader shares.
+// of a frame and of an object's header, are constants of rpp_words, which the loader shares.
 use rpp_words::FIXED_CELLS;
 
 /// The words in front of an object's fields, or of an array's elements: its class's table's address
 /// or its length, and its count.
-pub const HEADER_WORDS: u32 = 2;
+pub const HEADER_WORDS: u32 = rpp_words::HEADER_WORDS;
 /// The word of an object that counts the cells that refer to it.
 pub const COUNT_WORD: u32 = 1;
 /// The address of the main object: behind the machine's own cells.

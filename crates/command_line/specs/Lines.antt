@@ -1,13 +1,18 @@
 -- What the words ask for, with lists of bytes for texts.
-use Rattle.std.specs.Prelude.{ℕ, Bool, true, false, ◌+◌, ◌-◌, ◌*◌, ◌^◌, ◌<◌, List, [], ◌∷◌, length}
+use Rattle.std.specs.Prelude.{ℕ, ◌+◌, ◌-◌, ◌*◌, ◌^◌, ◌<◌, List, [], ◌∷◌, length}
 use Rattle.std.specs.Prelude.{None, Some, option_map, if◌then◌else◌, nat_le, nat_lt, ◌&&◌}
 use Rattle.std.specs.Prelude.{string_bytes, codes, ◌≤◌, map}
 use Rattle.std.specs.Char.{is_ascii_digit}
 use Rattle.std.specs.declared.option.Option.{Option}
 use Rattle.std.specs.Str.{bytes_eq}
 use Rattle.command_line.specs.declared.line.Line.{Line}
-use Rattle.command_line.specs.declared.line.TwoFiles.{TwoFiles}
-use Rattle.command_line.specs.declared.line.ProgramWords.{ProgramWords}
+use Rattle.command_line.specs.declared.line.FilesCommand.{FilesCommand}
+use Rattle.command_line.specs.declared.line.FilesCommand.TheVariants as files
+use Rattle.command_line.specs.declared.line.ProgramCommand.{ProgramCommand}
+use Rattle.command_line.specs.declared.line.ProgramCommand.TheVariants as program
+use Rattle.command_line.specs.declared.line.TheConstants.{MOST_ITEMS, MOST_COMMON}
+use Rattle.command_line.specs.declared.line.TheConstants.{MOST_PROCESSORS, MOST_DIGITS}
+use Rattle.command_plan.specs.declared.plan.Room.{Room}
 use Rattle.command_plan.specs.declared.plan.Sizes.{Sizes}
 use Rattle.command_plan.specs.Files.{state_named, state_of_names, save_of_names}
 use Rattle.command_line.specs.declared.line.Line.TheVariants as line
@@ -64,54 +69,55 @@ digits_after n (c ∷ cs) = if is_ascii_digit c then digits_after (10 * n + (c -
 
 -- the number that 1 to 18 decimal digits are
 abbrev pub number_of : List ℕ → Option ℕ
-number_of word = if nat_lt 0 (length word) && nat_le (length word) 18 then digits_after 0 word else
-    None
+number_of word = if nat_lt 0 (length word) && nat_le (length word) MOST_DIGITS
+    then digits_after 0 word else None
 
--- the sizes of a run that three words are: the order of the heap, the depth, and the number of steps
-abbrev pub sizes_with : (heap deep steps : Option ℕ) → Option Sizes
-sizes_with (Some heap) (Some deep) (Some steps) =
-    Some (record { heap = heap; deep = deep; bound = steps })
-sizes_with _ _ _ = None
+-- a number from 1 to so many
+abbrev pub up_to : (most : ℕ) → Option ℕ → Option ℕ
+up_to most None = None
+up_to most (Some n) = if nat_lt 0 n && nat_le n most then Some n else None
+
+-- the sizes of a memory that two words are: the order of the heap, and the depth of the stack
+abbrev pub room_with : (heap deep : Option ℕ) → Option Room
+room_with (Some heap) (Some deep) = Some (record { heap = heap; deep = deep })
+room_with _ _ = None
+
+abbrev pub room_of : (heap deep : List ℕ) → Option Room
+room_of heap deep = room_with (number_of heap) (number_of deep)
+
+-- the sizes of a run that three words are: those of its memory, and the number of steps
+abbrev pub sizes_with : Option Room → (steps : Option ℕ) → Option Sizes
+sizes_with (Some room) (Some steps) = Some (record { room = room; bound = steps })
+sizes_with _ _ = None
 
 abbrev pub sizes_of : (heap deep steps : List ℕ) → Option Sizes
-sizes_of heap deep steps = sizes_with (number_of heap) (number_of deep) (number_of steps)
+sizes_of heap deep steps = sizes_with (room_of heap deep) (number_of steps)
 
--- what a program is run with: its file, the sizes of the run, and the file of an input, if there is
--- one
-pub record ProgramAsked : Type 0 where
-  pub file : List ℕ
-  pub sizes : Sizes
-  pub input : Option (List ℕ)
+-- a file, the sizes of a run, and the file of an input, if there is one
+abbrev pub program_with : (List ℕ → (heap deep steps : ℕ) → Option (List ℕ) → Asked)
+    → List ℕ → Option Sizes → Option (List ℕ) → Option Asked
+program_with make file (Some sizes) input =
+    Some (make file sizes.room.heap sizes.room.deep sizes.bound input)
+program_with make file None input = None
 
-abbrev pub program_seen : ProgramWords → ProgramAsked
-program_seen words = record {
-  file = string_bytes words.file;
-  sizes = words.sizes;
-  input = option_map string_bytes words.input;
-}
-
-abbrev pub program_with : List ℕ → Option Sizes → Option (List ℕ) → Option ProgramAsked
-program_with file (Some sizes) input =
-    Some (record { file = file; sizes = sizes; input = input })
-program_with file None input = None
-
-abbrev pub program_words_of : List (List ℕ) → Option ProgramAsked
-program_words_of (file ∷ heap ∷ deep ∷ steps ∷ []) =
-    program_with file (sizes_of heap deep steps) None
-program_words_of (file ∷ heap ∷ deep ∷ steps ∷ input ∷ []) =
-    program_with file (sizes_of heap deep steps) (Some input)
-program_words_of _ = None
-
--- a line of these words
 abbrev pub program_line_of : (List ℕ → (heap deep steps : ℕ) → Option (List ℕ) → Asked)
     → List (List ℕ) → Option Asked
-program_line_of make args = option_map
-    (λ words. make words.file words.sizes.heap words.sizes.deep words.sizes.bound words.input)
-    (program_words_of args)
+program_line_of make (file ∷ heap ∷ deep ∷ steps ∷ []) =
+    program_with make file (sizes_of heap deep steps) None
+program_line_of make (file ∷ heap ∷ deep ∷ steps ∷ input ∷ []) =
+    program_with make file (sizes_of heap deep steps) (Some input)
+program_line_of make _ = None
+
+-- the line of each command of these words
+abbrev pub line_of_program : ProgramCommand → List ℕ → (heap deep steps : ℕ) → Option (List ℕ)
+    → Asked
+line_of_program program.Go = Go
+line_of_program program.Turn = Turn
+line_of_program program.Explain = Explain
 
 -- a file, and the sizes of a run
 abbrev pub profile_with : List ℕ → Option Sizes → Option Asked
-profile_with file (Some sizes) = Some (Profile file sizes.heap sizes.deep sizes.bound)
+profile_with file (Some sizes) = Some (Profile file sizes.room.heap sizes.room.deep sizes.bound)
 profile_with file None = None
 
 abbrev pub profile_line_of : List (List ℕ) → Option Asked
@@ -121,7 +127,7 @@ profile_line_of _ = None
 -- a file, the sizes of a run, the names of results, and the file of an input, if there is one
 abbrev pub wrap_with : List ℕ → Option Sizes → (names : List ℕ) → Option (List ℕ) → Option Asked
 wrap_with file (Some sizes) names input =
-    Some (Wrap file sizes.heap sizes.deep sizes.bound names input)
+    Some (Wrap file sizes.room.heap sizes.room.deep sizes.bound names input)
 wrap_with file None names input = None
 
 abbrev pub wrap_line_of : List (List ℕ) → Option Asked
@@ -134,7 +140,7 @@ wrap_line_of _ = None
 -- an image, the sizes of a run, and the files of two states, if there are such
 abbrev pub run_with : List ℕ → Option Sizes → (state save : Option (List ℕ)) → Option Asked
 run_with image (Some sizes) state save =
-    Some (RunImage image sizes.heap sizes.deep sizes.bound state save)
+    Some (RunImage image sizes.room.heap sizes.room.deep sizes.bound state save)
 run_with image None state save = None
 
 abbrev pub run_line_of : List (List ℕ) → Option Asked
@@ -144,11 +150,6 @@ run_line_of (image ∷ heap ∷ deep ∷ steps ∷ state ∷ save ∷ []) =
     run_with image (sizes_of heap deep steps) (state_named state) (Some save)
 run_line_of _ = None
 
--- a number of items
-abbrev pub items_of : Option ℕ → Option ℕ
-items_of None = None
-items_of (Some n) = if nat_lt 0 n && nat_le n 800 then Some n else None
-
 -- a seed, a number of items, and a file
 abbrev pub generate_with : Option ℕ → Option ℕ → List ℕ → Option Asked
 generate_with (Some seed) (Some size) out = Some (Generate seed size out)
@@ -156,63 +157,59 @@ generate_with _ _ out = None
 
 abbrev pub generate_line_of : List (List ℕ) → Option Asked
 generate_line_of (seed ∷ size ∷ out ∷ []) = generate_with (number_of seed)
-    (items_of (number_of size)) out
+    (up_to MOST_ITEMS (number_of size)) out
 generate_line_of _ = None
 
--- a number of cells that several processors have in common
-abbrev pub common_of : Option ℕ → Option ℕ
-common_of None = None
-common_of (Some n) = if nat_lt 0 n && nat_le n 65536 then Some n else None
-
--- a script, a number of cells, and images, of which there are one to eight
+-- a script, a number of cells that processors have in common, and images, of which there are one
+-- to eight
 abbrev pub cluster_with : List ℕ → Option ℕ → List (List ℕ) → Option Asked
-cluster_with script (Some cells) images = if nat_lt 0 (length images) && nat_le (length images) 8
+cluster_with script (Some cells) images =
+    if nat_lt 0 (length images) && nat_le (length images) MOST_PROCESSORS
     then Some (Cluster script cells images) else None
 cluster_with script None images = None
 
 abbrev pub cluster_line_of : List (List ℕ) → Option Asked
-cluster_line_of (script ∷ cells ∷ images) = cluster_with script (common_of (number_of cells)) images
+cluster_line_of (script ∷ cells ∷ images) =
+    cluster_with script (up_to MOST_COMMON (number_of cells)) images
 cluster_line_of _ = None
 
--- an image, an order of the heap, a depth, and the file of a script
-abbrev pub debug_with : List ℕ → Option ℕ → Option ℕ → List ℕ → Option Asked
-debug_with image (Some heap) (Some deep) script = Some (Debug image heap deep script)
-debug_with image _ _ script = None
+-- an image, the sizes of a memory, and the file of a script
+abbrev pub debug_with : List ℕ → Option Room → List ℕ → Option Asked
+debug_with image (Some room) script = Some (Debug image room.heap room.deep script)
+debug_with image None script = None
 
 abbrev pub debug_line_of : List (List ℕ) → Option Asked
-debug_line_of (image ∷ heap ∷ deep ∷ script ∷ []) =
-    debug_with image (number_of heap) (number_of deep) script
+debug_line_of (image ∷ heap ∷ deep ∷ script ∷ []) = debug_with image (room_of heap deep) script
 debug_line_of _ = None
 
--- a program, an order of the heap, a depth, the file of a script, and that of an input, if there is
--- one
-abbrev pub trace_with : List ℕ → Option ℕ → Option ℕ → (script : List ℕ) → Option (List ℕ)
-    → Option Asked
-trace_with file (Some heap) (Some deep) script input = Some (Trace file heap deep script input)
-trace_with file _ _ script input = None
+-- a program, the sizes of a memory, the file of a script, and that of an input, if there is one
+abbrev pub trace_with : List ℕ → Option Room → (script : List ℕ) → Option (List ℕ) → Option Asked
+trace_with file (Some room) script input = Some (Trace file room.heap room.deep script input)
+trace_with file None script input = None
 
 abbrev pub trace_line_of : List (List ℕ) → Option Asked
 trace_line_of (file ∷ heap ∷ deep ∷ script ∷ []) =
-    trace_with file (number_of heap) (number_of deep) script None
+    trace_with file (room_of heap deep) script None
 trace_line_of (file ∷ heap ∷ deep ∷ script ∷ input ∷ []) =
-    trace_with file (number_of heap) (number_of deep) script (Some input)
+    trace_with file (room_of heap deep) script (Some input)
 trace_line_of _ = None
 
 abbrev pub check_line_of : List (List ℕ) → Option Asked
 check_line_of (file ∷ []) = Some (Check file)
 check_line_of _ = None
 
--- two files
-abbrev pub files_seen : TwoFiles → List ℕ × List ℕ
-files_seen files = (string_bytes files.from, string_bytes files.to)
-
-abbrev pub two_files_of : List (List ℕ) → Option (List ℕ × List ℕ)
-two_files_of (from ∷ to ∷ []) = Some (from, to)
-two_files_of _ = None
-
--- a line of two files
+-- a file that is read, and one that is written
 unfoldable pub files_line_of : (List ℕ → List ℕ → Asked) → List (List ℕ) → Option Asked
-files_line_of make args = option_map (λ files. make files.0 files.1) (two_files_of args)
+files_line_of make (from ∷ to ∷ []) = Some (make from to)
+files_line_of make _ = None
+
+-- the line of each command of these words
+abbrev pub line_of_files : FilesCommand → List ℕ → List ℕ → Asked
+line_of_files files.Compile = Compile
+line_of_files files.Asm = Asm
+line_of_files files.List = ListImage
+line_of_files files.Flip = Flip
+line_of_files files.ShowInverse = ShowInverse
 
 -- the line of a command on sources
 unfoldable pub source_line_of : (name : List ℕ) → List (List ℕ) → Option Asked
@@ -241,9 +238,14 @@ line_of (name ∷ args) =
     else if bytes_eq name (codes "cluster") then cluster_line_of args
     else source_line_of name args
 
--- the sizes of a run have at most 18 digits
+-- the sizes of a memory have at most 18 digits each
+abbrev pub HasShortRoom : Room → Type 0
+HasShortRoom room = (room.heap < 10 ^ 18) × (room.deep < 10 ^ 18)
+
+-- and so has the number of steps of a run
 abbrev pub HasShortSizes : Sizes → Type 0
-HasShortSizes sizes = (sizes.heap < 10 ^ 18) × (sizes.deep < 10 ^ 18) × (sizes.bound < 10 ^ 18)
+HasShortSizes sizes = (sizes.room.heap < 10 ^ 18) × (sizes.room.deep < 10 ^ 18)
+    × (sizes.bound < 10 ^ 18)
 
 -- the numbers of a line that are no sizes of texts have at most 18 digits; those of `cluster` are
 -- in their ranges

@@ -1,9 +1,10 @@
 // What the words ask for.
 ghost use Rattle.std.specs.Prelude.{◌≡◌, ◌<◌, ◌≤◌, ◌^◌, map, option_map, IfOk, IfSome, string_bytes};
-ghost use Rattle.command_line.specs.Lines.{asked, line_of, source_line_of, check_line_of, files_seen, two_files_of, files_line_of, Compile, Asm, ListImage, Flip, ShowInverse, generate_line_of, generate_with as generate_asked, items_of, cluster_line_of, cluster_with as cluster_asked, common_of, run_line_of, run_with as run_asked, debug_line_of, debug_with as debug_asked, trace_line_of, trace_with as trace_asked, program_seen, program_with as program_asked, program_words_of, program_line_of, Go, Turn, Explain, profile_line_of, profile_with as profile_asked, wrap_line_of, wrap_with as wrap_asked, sizes_of, number_of, HasShortSizes, HasShortNumbers};
+ghost use Rattle.command_line.specs.Lines.{asked, line_of, source_line_of, check_line_of, files_line_of, line_of_files, generate_line_of, cluster_line_of, run_line_of, run_with as run_asked, debug_line_of, trace_line_of, trace_with as trace_asked, program_with as program_asked, program_line_of, line_of_program, profile_line_of, wrap_line_of, wrap_with as wrap_asked, room_of, sizes_of, up_to, number_of, HasShortRoom, HasShortSizes, HasShortNumbers};
+ghost use Rattle.command_line.specs.declared.line.TheConstants.{MOST_ITEMS, MOST_COMMON};
 ghost use Rattle.command_plan.specs.Files.{state_of_names, save_of_names};
 
-use command_plan::{Sizes, StateNames};
+use command_plan::{Room, Sizes, StateNames};
 use rpp_words::NoMemory;
 use std::alloc::Global;
 
@@ -78,8 +79,8 @@ pub enum Line {
         script: String,
         input: Option<String>,
     },
-    /// Compiles and runs a program: its file, the order of the heap, the depth, the number of steps,
-    /// and the file of its input, if there is one.
+    /// Compiles and runs a program: its file, the order of the heap, the depth, the number of
+    /// steps, and the file of its input, if there is one.
     Go {
         file: String,
         heap: u64,
@@ -127,16 +128,17 @@ pub enum Line {
 /// The line that the words are, if they are one.
 #[tactic(auto, unfolding(crate::specs::Lines::line_of))]
 pub fn read_words(alloc: Global, words: &[String]) -> Result<Option<Line>, NoMemory>
-    ensures line { IfOk result (λ line. option_map asked line ≡ line_of (map string_bytes words.now)) }
+    ensures line { IfOk result (λ line. option_map asked line
+        ≡ line_of (map string_bytes words.now)) }
     ensures numbers { IfOk result (λ line. IfSome line (λ line. HasShortNumbers (asked line))) }
 {
     let Some((name, args)) = words.split_first() else {
         return Ok(None);
     };
     match name.as_str() {
-        "asm" => asm_line(args),
-        "list" => list_line(args),
-        "flip" => flip_line(args),
+        "asm" => files_line(FilesCommand::Asm, args),
+        "list" => files_line(FilesCommand::List, args),
+        "flip" => files_line(FilesCommand::Flip, args),
         "run" => run_line(args),
         "debug" => debug_line(args),
         "cluster" => cluster_line(alloc, args),
@@ -153,14 +155,14 @@ fn source_line(name: &str, args: &[String]) -> Result<Option<Line>, NoMemory>
 {
     match name {
         "check" => check_line(args),
-        "compile" => compile_line(args),
-        "show-inverse" => show_inverse_line(args),
+        "compile" => files_line(FilesCommand::Compile, args),
+        "show-inverse" => files_line(FilesCommand::ShowInverse, args),
         "generate" => generate_line(args),
-        "go" => go_line(args),
-        "turn" => turn_line(args),
+        "go" => program_line(ProgramCommand::Go, args),
+        "turn" => program_line(ProgramCommand::Turn, args),
         "profile" => profile_line(args),
         "wrap" => wrap_line(args),
-        "explain" => explain_line(args),
+        "explain" => program_line(ProgramCommand::Explain, args),
         "trace" => trace_line(args),
         _ => Ok(None),
     }
@@ -179,100 +181,56 @@ fn check_line(args: &[String]) -> Result<Option<Line>, NoMemory>
     }))
 }
 
-// A file that is read, and one that is written.
-#[derive(Drop)]
-struct TwoFiles {
-    from: String,
-    to: String,
+// A command whose words are a file that it reads and one that it writes.
+#[derive(Clone, Copy)]
+enum FilesCommand {
+    Compile,
+    Asm,
+    List,
+    Flip,
+    ShowInverse,
 }
 
-// The two files that the words are.
-fn two_files(args: &[String]) -> Result<Option<TwoFiles>, NoMemory>
-    ensures { IfOk result (λ files. option_map files_seen files
-        ≡ two_files_of (map string_bytes args.now)) }
+#[tactic(auto, unfolding(crate::specs::Lines::files_line_of))]
+fn files_line(command: FilesCommand, args: &[String]) -> Result<Option<Line>, NoMemory>
+    ensures line { IfOk result (λ line. option_map asked line
+        ≡ files_line_of (line_of_files command) (map string_bytes args.now)) }
+    ensures numbers { IfOk result (λ line. IfSome line (λ line. HasShortNumbers (asked line))) }
 {
     let [from, to] = args else {
         return Ok(None);
     };
-    Ok(Some(TwoFiles {
-        from: from.clone()?,
-        to: to.clone()?,
-    }))
+    let from = from.clone()?;
+    let to = to.clone()?;
+    Ok(Some(with_files(command, from, to)))
 }
 
-#[tactic(auto, unfolding(crate::specs::Lines::files_line_of))]
-fn compile_line(args: &[String]) -> Result<Option<Line>, NoMemory>
-    ensures line { IfOk result (λ line. option_map asked line
-        ≡ files_line_of Compile (map string_bytes args.now)) }
-    ensures numbers { IfOk result (λ line. IfSome line (λ line. HasShortNumbers (asked line))) }
+fn with_files(command: FilesCommand, from: String, to: String) -> Line
+    ensures line { asked result ≡ line_of_files command (string_bytes from) (string_bytes to) }
+    ensures numbers { HasShortNumbers (asked result) }
 {
-    let Some(files) = two_files(args)? else {
-        return Ok(None);
-    };
-    Ok(Some(Line::Compile {
-        file: files.from,
-        image: files.to,
-    }))
-}
-
-#[tactic(auto, unfolding(crate::specs::Lines::files_line_of))]
-fn asm_line(args: &[String]) -> Result<Option<Line>, NoMemory>
-    ensures line { IfOk result (λ line. option_map asked line
-        ≡ files_line_of Asm (map string_bytes args.now)) }
-    ensures numbers { IfOk result (λ line. IfSome line (λ line. HasShortNumbers (asked line))) }
-{
-    let Some(files) = two_files(args)? else {
-        return Ok(None);
-    };
-    Ok(Some(Line::Asm {
-        text: files.from,
-        image: files.to,
-    }))
-}
-
-#[tactic(auto, unfolding(crate::specs::Lines::files_line_of))]
-fn list_line(args: &[String]) -> Result<Option<Line>, NoMemory>
-    ensures line { IfOk result (λ line. option_map asked line
-        ≡ files_line_of ListImage (map string_bytes args.now)) }
-    ensures numbers { IfOk result (λ line. IfSome line (λ line. HasShortNumbers (asked line))) }
-{
-    let Some(files) = two_files(args)? else {
-        return Ok(None);
-    };
-    Ok(Some(Line::List {
-        image: files.from,
-        text: files.to,
-    }))
-}
-
-#[tactic(auto, unfolding(crate::specs::Lines::files_line_of))]
-fn flip_line(args: &[String]) -> Result<Option<Line>, NoMemory>
-    ensures line { IfOk result (λ line. option_map asked line
-        ≡ files_line_of Flip (map string_bytes args.now)) }
-    ensures numbers { IfOk result (λ line. IfSome line (λ line. HasShortNumbers (asked line))) }
-{
-    let Some(files) = two_files(args)? else {
-        return Ok(None);
-    };
-    Ok(Some(Line::Flip {
-        image: files.from,
-        flipped: files.to,
-    }))
-}
-
-#[tactic(auto, unfolding(crate::specs::Lines::files_line_of))]
-fn show_inverse_line(args: &[String]) -> Result<Option<Line>, NoMemory>
-    ensures line { IfOk result (λ line. option_map asked line
-        ≡ files_line_of ShowInverse (map string_bytes args.now)) }
-    ensures numbers { IfOk result (λ line. IfSome line (λ line. HasShortNumbers (asked line))) }
-{
-    let Some(files) = two_files(args)? else {
-        return Ok(None);
-    };
-    Ok(Some(Line::ShowInverse {
-        file: files.from,
-        out: files.to,
-    }))
+    match command {
+        FilesCommand::Compile => Line::Compile {
+            file: from,
+            image: to,
+        },
+        FilesCommand::Asm => Line::Asm {
+            text: from,
+            image: to,
+        },
+        FilesCommand::List => Line::List {
+            image: from,
+            text: to,
+        },
+        FilesCommand::Flip => Line::Flip {
+            image: from,
+            flipped: to,
+        },
+        FilesCommand::ShowInverse => Line::ShowInverse {
+            file: from,
+            out: to,
+        },
+    }
 }
 
 fn generate_line(args: &[String]) -> Result<Option<Line>, NoMemory>
@@ -280,22 +238,13 @@ fn generate_line(args: &[String]) -> Result<Option<Line>, NoMemory>
         ≡ generate_line_of (map string_bytes args.now)) }
     ensures numbers { IfOk result (λ line. IfSome line (λ line. HasShortNumbers (asked line))) }
 {
-    match args {
-        [seed, size, out] => generate_with(seed, size, out),
-        _ => Ok(None),
-    }
-}
-
-fn generate_with(seed: &String, size: &String, out: &String) -> Result<Option<Line>, NoMemory>
-    ensures line { IfOk result (λ line. option_map asked line
-        ≡ generate_asked (number_of (string_bytes seed.now))
-        (items_of (number_of (string_bytes size.now))) (string_bytes out.now)) }
-    ensures numbers { IfOk result (λ line. IfSome line (λ line. HasShortNumbers (asked line))) }
-{
+    let [seed, size, out] = args else {
+        return Ok(None);
+    };
     let Some(seed) = read_number(seed.as_str()) else {
         return Ok(None);
     };
-    let Some(size) = read_items(size.as_str()) else {
+    let Some(size) = read_up_to(size.as_str(), MOST_ITEMS) else {
         return Ok(None);
     };
     Ok(Some(Line::Generate {
@@ -313,21 +262,7 @@ fn cluster_line(alloc: Global, args: &[String]) -> Result<Option<Line>, NoMemory
     let [script, cells, images @ ..] = args else {
         return Ok(None);
     };
-    cluster_with(alloc, script, cells, images)
-}
-
-fn cluster_with(
-    alloc: Global,
-    script: &String,
-    cells: &String,
-    images: &[String],
-) -> Result<Option<Line>, NoMemory>
-    ensures line { IfOk result (λ line. option_map asked line
-        ≡ cluster_asked (string_bytes script.now) (common_of (number_of (string_bytes cells.now)))
-        (map string_bytes images.now)) }
-    ensures numbers { IfOk result (λ line. IfSome line (λ line. HasShortNumbers (asked line))) }
-{
-    let Some(cells) = read_common(cells.as_str()) else {
+    let Some(cells) = read_up_to(cells.as_str(), MOST_COMMON) else {
         return Ok(None);
     };
     if images.is_empty() || images.len() > MOST_PROCESSORS {
@@ -352,7 +287,8 @@ fn copies(alloc: Global, words: &[String]) -> Result<Vec<String>, NoMemory>
 }
 
 fn run_line(args: &[String]) -> Result<Option<Line>, NoMemory>
-    ensures line { IfOk result (λ line. option_map asked line ≡ run_line_of (map string_bytes args.now)) }
+    ensures line { IfOk result (λ line. option_map asked line
+        ≡ run_line_of (map string_bytes args.now)) }
     ensures numbers { IfOk result (λ line. IfSome line (λ line. HasShortNumbers (asked line))) }
 {
     match args {
@@ -383,8 +319,8 @@ fn run_with(
     };
     Ok(Some(Line::Run {
         image: image.clone()?,
-        heap: sizes.heap,
-        deep: sizes.deep,
+        heap: sizes.room.heap,
+        deep: sizes.room.deep,
         steps: sizes.bound,
         states,
     }))
@@ -395,130 +331,94 @@ fn debug_line(args: &[String]) -> Result<Option<Line>, NoMemory>
         ≡ debug_line_of (map string_bytes args.now)) }
     ensures numbers { IfOk result (λ line. IfSome line (λ line. HasShortNumbers (asked line))) }
 {
-    match args {
-        [image, heap, deep, script] => debug_with(image, heap, deep, script),
-        _ => Ok(None),
-    }
-}
-
-fn debug_with(
-    image: &String,
-    heap: &String,
-    deep: &String,
-    script: &String,
-) -> Result<Option<Line>, NoMemory>
-    ensures line { IfOk result (λ line. option_map asked line
-        ≡ debug_asked (string_bytes image.now) (number_of (string_bytes heap.now))
-        (number_of (string_bytes deep.now)) (string_bytes script.now)) }
-    ensures numbers { IfOk result (λ line. IfSome line (λ line. HasShortNumbers (asked line))) }
-{
-    let Some(heap) = read_number(heap.as_str()) else {
+    let [image, heap, deep, script] = args else {
         return Ok(None);
     };
-    let Some(deep) = read_number(deep.as_str()) else {
+    let Some(room) = read_room(heap, deep) else {
         return Ok(None);
     };
     Ok(Some(Line::Debug {
         image: image.clone()?,
-        heap,
-        deep,
+        heap: room.heap,
+        deep: room.deep,
         script: script.clone()?,
     }))
 }
 
-// What a program is run with: its file, the sizes of the run, and the file of its input, if there is
-// one.
-#[derive(Drop)]
-struct ProgramWords {
-    file: String,
-    sizes: Sizes,
-    input: Option<String>,
+// A command whose words are the file of a program, the sizes of a run, and the file of an input, if
+// there is one.
+#[derive(Clone, Copy)]
+enum ProgramCommand {
+    Go,
+    Turn,
+    Explain,
 }
 
-// What of this the words are.
-fn program_words(args: &[String]) -> Result<Option<ProgramWords>, NoMemory>
-    ensures words { IfOk result (λ words. option_map program_seen words
-        ≡ program_words_of (map string_bytes args.now)) }
-    ensures numbers { IfOk result (λ words. IfSome words (λ words. HasShortSizes words.sizes)) }
+fn program_line(command: ProgramCommand, args: &[String]) -> Result<Option<Line>, NoMemory>
+    ensures line { IfOk result (λ line. option_map asked line
+        ≡ program_line_of (line_of_program command) (map string_bytes args.now)) }
+    ensures numbers { IfOk result (λ line. IfSome line (λ line. HasShortNumbers (asked line))) }
 {
     match args {
-        [file, heap, deep, steps] => program_with(file, read_sizes(heap, deep, steps), None),
+        [file, heap, deep, steps] => {
+            program_with(command, file, read_sizes(heap, deep, steps), None)
+        }
         [file, heap, deep, steps, input] => {
-            program_with(file, read_sizes(heap, deep, steps), Some(input.clone()?))
+            let input = input.clone()?;
+            program_with(command, file, read_sizes(heap, deep, steps), Some(input))
         }
         _ => Ok(None),
     }
 }
 
 fn program_with(
+    command: ProgramCommand,
     file: &String,
     sizes: Option<Sizes>,
     input: Option<String>,
-) -> Result<Option<ProgramWords>, NoMemory>
+) -> Result<Option<Line>, NoMemory>
     requires { IfSome sizes HasShortSizes }
-    ensures words { IfOk result (λ words. option_map program_seen words
-        ≡ program_asked (string_bytes file.now) sizes (option_map string_bytes input)) }
-    ensures numbers { IfOk result (λ words. IfSome words (λ words. HasShortSizes words.sizes)) }
+    ensures line { IfOk result (λ line. option_map asked line
+        ≡ program_asked (line_of_program command) (string_bytes file.now) sizes
+        (option_map string_bytes input)) }
+    ensures numbers { IfOk result (λ line. IfSome line (λ line. HasShortNumbers (asked line))) }
 {
     let Some(sizes) = sizes else {
         return Ok(None);
     };
-    Ok(Some(ProgramWords {
-        file: file.clone()?,
-        sizes,
-        input,
-    }))
+    let file = file.clone()?;
+    Ok(Some(with_sizes(command, file, sizes, input)))
 }
 
-fn go_line(args: &[String]) -> Result<Option<Line>, NoMemory>
-    ensures line { IfOk result (λ line. option_map asked line
-        ≡ program_line_of Go (map string_bytes args.now)) }
-    ensures numbers { IfOk result (λ line. IfSome line (λ line. HasShortNumbers (asked line))) }
+fn with_sizes(command: ProgramCommand, file: String, sizes: Sizes, input: Option<String>) -> Line
+    requires { HasShortSizes sizes }
+    ensures line { asked result ≡ line_of_program command (string_bytes file) sizes.room.heap
+        sizes.room.deep sizes.bound (option_map string_bytes input) }
+    ensures numbers { HasShortNumbers (asked result) }
 {
-    let Some(words) = program_words(args)? else {
-        return Ok(None);
-    };
-    Ok(Some(Line::Go {
-        file: words.file,
-        heap: words.sizes.heap,
-        deep: words.sizes.deep,
-        steps: words.sizes.bound,
-        input: words.input,
-    }))
-}
-
-fn turn_line(args: &[String]) -> Result<Option<Line>, NoMemory>
-    ensures line { IfOk result (λ line. option_map asked line
-        ≡ program_line_of Turn (map string_bytes args.now)) }
-    ensures numbers { IfOk result (λ line. IfSome line (λ line. HasShortNumbers (asked line))) }
-{
-    let Some(words) = program_words(args)? else {
-        return Ok(None);
-    };
-    Ok(Some(Line::Turn {
-        file: words.file,
-        heap: words.sizes.heap,
-        deep: words.sizes.deep,
-        steps: words.sizes.bound,
-        input: words.input,
-    }))
-}
-
-fn explain_line(args: &[String]) -> Result<Option<Line>, NoMemory>
-    ensures line { IfOk result (λ line. option_map asked line
-        ≡ program_line_of Explain (map string_bytes args.now)) }
-    ensures numbers { IfOk result (λ line. IfSome line (λ line. HasShortNumbers (asked line))) }
-{
-    let Some(words) = program_words(args)? else {
-        return Ok(None);
-    };
-    Ok(Some(Line::Explain {
-        file: words.file,
-        heap: words.sizes.heap,
-        deep: words.sizes.deep,
-        fuel: words.sizes.bound,
-        input: words.input,
-    }))
+    match command {
+        ProgramCommand::Go => Line::Go {
+            file,
+            heap: sizes.room.heap,
+            deep: sizes.room.deep,
+            steps: sizes.bound,
+            input,
+        },
+        ProgramCommand::Turn => Line::Turn {
+            file,
+            heap: sizes.room.heap,
+            deep: sizes.room.deep,
+            steps: sizes.bound,
+            input,
+        },
+        ProgramCommand::Explain => Line::Explain {
+            file,
+            heap: sizes.room.heap,
+            deep: sizes.room.deep,
+            fuel: sizes.bound,
+            input,
+        },
+    }
 }
 
 fn profile_line(args: &[String]) -> Result<Option<Line>, NoMemory>
@@ -526,25 +426,16 @@ fn profile_line(args: &[String]) -> Result<Option<Line>, NoMemory>
         ≡ profile_line_of (map string_bytes args.now)) }
     ensures numbers { IfOk result (λ line. IfSome line (λ line. HasShortNumbers (asked line))) }
 {
-    match args {
-        [file, heap, deep, steps] => profile_with(file, read_sizes(heap, deep, steps)),
-        _ => Ok(None),
-    }
-}
-
-fn profile_with(file: &String, sizes: Option<Sizes>) -> Result<Option<Line>, NoMemory>
-    requires { IfSome sizes HasShortSizes }
-    ensures line { IfOk result (λ line. option_map asked line
-        ≡ profile_asked (string_bytes file.now) sizes) }
-    ensures numbers { IfOk result (λ line. IfSome line (λ line. HasShortNumbers (asked line))) }
-{
-    let Some(sizes) = sizes else {
+    let [file, heap, deep, steps] = args else {
+        return Ok(None);
+    };
+    let Some(sizes) = read_sizes(heap, deep, steps) else {
         return Ok(None);
     };
     Ok(Some(Line::Profile {
         file: file.clone()?,
-        heap: sizes.heap,
-        deep: sizes.deep,
+        heap: sizes.room.heap,
+        deep: sizes.room.deep,
         steps: sizes.bound,
     }))
 }
@@ -587,8 +478,8 @@ fn wrap_with(
     };
     Ok(Some(Line::Wrap {
         file: file.clone()?,
-        heap: sizes.heap,
-        deep: sizes.deep,
+        heap: sizes.room.heap,
+        deep: sizes.room.deep,
         steps: sizes.bound,
         names: names.clone()?,
         input,
@@ -601,9 +492,9 @@ fn trace_line(args: &[String]) -> Result<Option<Line>, NoMemory>
     ensures numbers { IfOk result (λ line. IfSome line (λ line. HasShortNumbers (asked line))) }
 {
     match args {
-        [file, heap, deep, script] => trace_with(file, heap, deep, script, None),
+        [file, heap, deep, script] => trace_with(file, read_room(heap, deep), script, None),
         [file, heap, deep, script, input] => {
-            trace_with(file, heap, deep, script, Some(input.clone()?))
+            trace_with(file, read_room(heap, deep), script, Some(input.clone()?))
         }
         _ => Ok(None),
     }
@@ -611,76 +502,71 @@ fn trace_line(args: &[String]) -> Result<Option<Line>, NoMemory>
 
 fn trace_with(
     file: &String,
-    heap: &String,
-    deep: &String,
+    room: Option<Room>,
     script: &String,
     input: Option<String>,
 ) -> Result<Option<Line>, NoMemory>
+    requires { IfSome room HasShortRoom }
     ensures line { IfOk result (λ line. option_map asked line
-        ≡ trace_asked (string_bytes file.now) (number_of (string_bytes heap.now))
-        (number_of (string_bytes deep.now)) (string_bytes script.now)
+        ≡ trace_asked (string_bytes file.now) room (string_bytes script.now)
         (option_map string_bytes input)) }
     ensures numbers { IfOk result (λ line. IfSome line (λ line. HasShortNumbers (asked line))) }
 {
-    let Some(heap) = read_number(heap.as_str()) else {
-        return Ok(None);
-    };
-    let Some(deep) = read_number(deep.as_str()) else {
+    let Some(room) = room else {
         return Ok(None);
     };
     Ok(Some(Line::Trace {
         file: file.clone()?,
-        heap,
-        deep,
+        heap: room.heap,
+        deep: room.deep,
         script: script.clone()?,
         input,
     }))
 }
 
+// The most digits of a number.
 const MOST_DIGITS: usize = 18;
 
-const MOST_ITEMS: u64 = 800;
+// The most items of a generated source.
+const MOST_ITEMS: u32 = 800;
 
 // The most processors of a cluster, and the most cells that they have in common.
 const MOST_PROCESSORS: usize = 8;
 
-const MOST_COMMON: u64 = 65_536;
+const MOST_COMMON: u32 = 65_536;
 
-// The number of cells of a cluster, from 1 to 65,536, that a word is.
-fn read_common(word: &str) -> Option<u32>
-    ensures value { result ≡ common_of (number_of word.now) }
-    ensures within { IfSome result (λ cells. (1 ≤ cells) × (cells ≤ 65536)) }
+// The number from 1 to `most` that a word is.
+fn read_up_to(word: &str, most: u32) -> Option<u32>
+    ensures value { result ≡ up_to most (number_of word.now) }
+    ensures within { IfSome result (λ number. (1 ≤ number) × (number ≤ most)) }
 {
     let number = read_number(word)?;
-    if number > 0 && number <= MOST_COMMON {
+    if number > 0 && number <= most as u64 {
         Some(number as u32)
     } else {
         None
     }
 }
 
-// The number of items, from 1 to 800, that a word is.
-fn read_items(word: &str) -> Option<u32>
-    ensures { result ≡ items_of (number_of word.now) }
-{
-    let number = read_number(word)?;
-    if number > 0 && number <= MOST_ITEMS {
-        Some(number as u32)
-    } else {
-        None
-    }
-}
-
-// The sizes of a run that three words are: the order of the heap, the depth, and the number of steps.
+// The sizes of a run that three words are: those of its memory, and the number of steps.
 fn read_sizes(heap: &String, deep: &String, steps: &String) -> Option<Sizes>
     ensures value { result ≡ sizes_of (string_bytes heap.now) (string_bytes deep.now)
         (string_bytes steps.now) }
     ensures short { IfSome result HasShortSizes }
 {
+    let room = read_room(heap, deep)?;
+    let bound = read_number(steps.as_str())?;
+    Some(Sizes { room, bound })
+}
+
+// The sizes of a memory that two words are: the order of the heap, and the depth of the stack.
+fn read_room(heap: &String, deep: &String) -> Option<Room>
+    ensures value { result ≡ room_of (string_bytes heap.now) (string_bytes deep.now) }
+    ensures short { IfSome result HasShortRoom }
+{
     let heap = read_number(heap.as_str())?;
     let deep = read_number(deep.as_str())?;
-    let bound = read_number(steps.as_str())?;
-    Some(Sizes { heap, deep, bound })
+    Some(Room { heap, deep })
 }
 
 // The number that 1 to 18 decimal digits are.

@@ -106,10 +106,16 @@ impl<T: Drop> From<AllocFailed<T>> for NoPlan {
     }
 }
 
-/// The sizes of a run: the order of the heap, the depth of the stack, and the number of steps.
+/// The sizes of a memory: the order of the heap, and the depth of the stack.
 #[derive(Clone, Copy, Debug, PartialEq, Eq)]
-pub struct Sizes {
+pub struct Room {
     pub heap: u64,
     pub deep: u64,
+}
+
+/// The sizes of a run: those of its memory, and the number of steps.
+#[derive(Clone, Copy, Debug, PartialEq, Eq)]
+pub struct Sizes {
+    pub room: Room,
     pub bound: u64,
 }

@@ -8,44 +8,26 @@ use Rattle.rpp_tree.specs.declared.tree.UpdateOp.{UpdateOp}
 use Rattle.rpp_tree.specs.Tree.{Expression, Number, Null, Variable, Element, Binary, Lvalue, Whole, Item, nodes}
 use Rattle.rpp_tree.specs.Tree.{index_nodes}
 use Rattle.paired_code.specs.declared.part.Symbol.{Symbol}
-use Rattle.paired_code.specs.Layout.{mirror_cells, check_cells}
-use Rattle.paired_code.proofs.Mirrored.{length_mirror}
+use Rattle.paired_code.specs.Layout.{check_cells}
 use Rattle.refine_form.specs.declared.spot.Spot.{Spot}
 use Rattle.code_scope.specs.Visible.{offset_of}
 use Rattle.roopl_semantics.specs.Elements.{elements, index_elements, own_element, read_cost}
 use Rattle.expr_uncompute.specs.Number.{index_of}
 use Rattle.expr_uncompute.specs.Code
 use Rattle.expr_uncompute.specs.Sizes.{swap_size}
-use Rattle.expr_uncompute.specs.Steps.{operator_steps, operand_steps, open_steps, prepare_steps, parts_steps}
+use Rattle.expr_uncompute.specs.Steps.{operand_steps, open_steps, prepare_steps, parts_steps}
+use Rattle.expr_uncompute.specs.Steps.{prepared_value_steps, prepared_test_steps, held_value_steps, held_test_steps}
 use Rattle.expr_uncompute.specs.Steps.{value_steps, test_steps, fetch_steps, place_steps, compare_steps, apart_steps}
 use Rattle.expr_uncompute.specs.Steps.{both_apart_steps, found_update_steps, update_steps, found_swap_steps}
 use Rattle.expr_uncompute.specs.Steps.{swap_steps, tokens, place_tokens}
+use Rattle.expr_uncompute.specs.Held.{is_held}
+use Rattle.expr_uncompute.specs.Steps.{around_steps, held_steps}
+use Rattle.expr_uncompute.proofs.HeldBounds.{held_few, some_nodes, operator_most, length_around, held_value_most}
+use Rattle.expr_uncompute.proofs.HeldBounds.{held_test_most, held_most, held_least, held_length}
+use Rattle.expr_uncompute.proofs.HeldBounds.{held_value_least, held_test_least, held_value_length, held_test_length}
 use Rattle.expr_uncompute.specs.Found.{found_place_steps, found_value_steps, found_places_steps}
 
 -- ---- steps
-
-some_nodes : (e : Expression) → 1 ≤ nodes e
-some_nodes (Number at word) = omega arith
-some_nodes (Null at) = omega arith
-some_nodes (Variable name) = omega arith
-some_nodes (Element name index) = omega arith
-some_nodes (Binary at o left right) = omega arith
-
-operator_most : (o : BinOp) → operator_steps o ≤ 5
-operator_most op.Add = omega arith
-operator_most op.Sub = omega arith
-operator_most op.Xor = omega arith
-operator_most op.And = omega arith
-operator_most op.Or = omega arith
-operator_most op.AndAlso = omega arith
-operator_most op.OrElse = omega arith
-operator_most op.Less = omega arith
-operator_most op.Greater = omega arith
-operator_most op.AtMost = omega arith
-operator_most op.AtLeast = omega arith
-operator_most op.Equal = omega arith
-operator_most op.NotEqual = omega arith
-operator_most _ = omega arith
 
 operand_most : (e : Expression) → operand_steps e ≤ 5
 operand_most (Number at word) = omega arith
@@ -77,11 +59,25 @@ parts_most (Variable name) = omega arith
 parts_most (Element name index) = let b = prepare_most index in omega arith
 parts_most (Binary at o left right) = let b = prepare_most left in let c = prepare_most right in omega arith
 
+prepared_value_most : (e : Expression) → prepared_value_steps e ≤ 162 * nodes e
+prepared_value_most e = let a = parts_most e in let b = open_most e in omega arith
+
 pub value_most : (e : Expression) → value_steps e ≤ 162 * nodes e
-value_most e = let a = parts_most e in let b = open_most e in omega arith
+value_most e = by (is_held e)
+  where
+    by : (t : Bool) → (if t then held_value_steps e else prepared_value_steps e) ≤ 162 * nodes e
+    by true = held_value_most e
+    by false = prepared_value_most e
+
+prepared_test_most : (e : Expression) → prepared_test_steps e ≤ 162 * nodes e
+prepared_test_most e = let a = parts_most e in let b = open_most e in omega arith
 
 pub test_most : (e : Expression) → test_steps e ≤ 162 * nodes e
-test_most e = let a = parts_most e in let b = open_most e in omega arith
+test_most e = by (is_held e)
+  where
+    by : (t : Bool) → (if t then held_test_steps e else prepared_test_steps e) ≤ 162 * nodes e
+    by true = held_test_most e
+    by false = prepared_test_most e
 
 pub fetch_most : (e : Expression) → fetch_steps e ≤ 81 * nodes e
 fetch_most e = let a = parts_most e in let b = open_most e in omega arith
@@ -156,7 +152,13 @@ update_most (Whole name) (Number at word) = omega arith
 update_most (Whole name) (Variable other) = omega arith
 update_most (Whole name) (Null at) = found_update_most (Whole name) (Null at)
 update_most (Whole name) (Element array index) = found_update_most (Whole name) (Element array index)
-update_most (Whole name) (Binary at o left right) = found_update_most (Whole name) (Binary at o left right)
+update_most (Whole name) (Binary at o left right) = by (Binary at o left right) (is_held (Binary at o left right))
+  where
+    by : (e : Expression) (t : Bool) → (if t then around_steps (held_steps e) 5 else found_update_steps (Whole name) e)
+        ≤ 162 * (1 + index_nodes (Whole name) + nodes e
+        + read_cost (own_element (Whole name)) (index_elements (Whole name) ++ elements e))
+    by e true = let a = held_most e in let c = some_nodes e in omega arith
+    by e false = found_update_most (Whole name) e
 update_most (Item name index) e = found_update_most (Item name index) e
 
 found_swap_most : (left right : Lvalue) → found_swap_steps left right ≤ 304 *
@@ -229,14 +231,6 @@ tokens_most (Element name index) = let a = tokens_most index in omega arith
 tokens_most (Binary at o left right) = let a = tokens_most left in let b = tokens_most right in omega arith
 
 -- ---- cells
-
-pub length_around : (w mid : List Symbol) → length (Code.around w mid) ≡ length w + (length mid + length w)
-length_around w mid = omega (
-  arith,
-  length-append w (mid ++ mirror_cells w),
-  length-append mid (mirror_cells w),
-  length_mirror w,
-)
 
 module _ (spot : List ℕ → Spot) (free : ℕ) where
   copy_cells : (s : Spot) (into : ℕ) → length (Code.copy_cells s into) ≡ 5
@@ -369,8 +363,9 @@ module _ (spot : List ℕ → Spot) (free : ℕ) where
             (Code.prepare_cells spot free right (i + 1 + Code.words left)),
       )
 
-  pub value_cells : (e : Expression) (into : ℕ) → length (Code.value_cells spot free e into) ≤ 58 * tokens e
-  value_cells e into =
+  prepared_value_cells : (e : Expression) (into : ℕ) → length (Code.prepared_value_cells spot free e into) ≤ 58 * tokens
+      e
+  prepared_value_cells e into =
       let mid = Code.around (Code.open_cells spot free e 0) (Code.xor into (Code.result_of e) ∷ []) in
       omega (
         arith,
@@ -379,8 +374,16 @@ module _ (spot : List ℕ → Spot) (free : ℕ) where
         length_around (Code.open_cells spot free e 0) (Code.xor into (Code.result_of e) ∷ []),
       )
 
-  pub test_cells : (e : Expression) (into : ℕ) → length (Code.test_cells spot free e into) ≤ 58 * tokens e
-  test_cells e into =
+  pub value_cells : (e : Expression) (into : ℕ) → length (Code.value_cells spot free e into) ≤ 58 * tokens e
+  value_cells e into = by (is_held e)
+    where
+      by : (t : Bool) → length (if t then Code.held_value_cells spot e into
+          else Code.prepared_value_cells spot free e into) ≤ 58 * tokens e
+      by true = held_value_length spot e into
+      by false = prepared_value_cells e into
+
+  prepared_test_cells : (e : Expression) (into : ℕ) → length (Code.prepared_test_cells spot free e into) ≤ 58 * tokens e
+  prepared_test_cells e into =
       let w = Code.open_cells spot free e 0 ++ Code.truth_cells Code.truth (Code.result_of e) in
       let mid = Code.around w (Code.xor into Code.truth ∷ []) in
       omega (
@@ -391,6 +394,14 @@ module _ (spot : List ℕ → Spot) (free : ℕ) where
         length-append (Code.open_cells spot free e 0)
             (Code.truth_cells Code.truth (Code.result_of e)),
       )
+
+  pub test_cells : (e : Expression) (into : ℕ) → length (Code.test_cells spot free e into) ≤ 58 * tokens e
+  test_cells e into = by (is_held e)
+    where
+      by : (t : Bool) → length (if t then Code.held_test_cells spot e into
+          else Code.prepared_test_cells spot free e into) ≤ 58 * tokens e
+      by true = held_test_length spot e into
+      by false = prepared_test_cells e into
 
   -- and where it is opened twice
   twice_open : (e : Expression) (i : ℕ) → length (Code.parts_cells spot free e i) +
@@ -546,7 +557,20 @@ module _ (spot : List ℕ → Spot) (free : ℕ) where
   )
   update_cells o (Whole name) (Null at) = found_update_cells o (Whole name) (Null at)
   update_cells o (Whole name) (Element array index) = found_update_cells o (Whole name) (Element array index)
-  update_cells o (Whole name) (Binary at p left right) = found_update_cells o (Whole name) (Binary at p left right)
+  update_cells o (Whole name) (Binary at p left right) =
+      by (Binary at p left right) (is_held (Binary at p left right))
+    where
+      by : (e : Expression) (t : Bool) → length (if t then Code.held_update_cells spot o (spot name.text) e
+          else Code.found_update_cells spot free o (Whole name) e) ≤ 80 * (place_tokens (Whole name) + 1 + tokens e)
+      by e true =
+          let alter = Code.update_cell o Code.content (Code.part 0) ∷ [] in
+          let a = held_length spot e 0 in
+          omega (
+            arith,
+            length_around (Code.held_cells spot e 0) (Code.around (Code.reach_cells (spot name.text)) alter),
+            length_around (Code.reach_cells (spot name.text)) alter,
+          )
+      by e false = found_update_cells o (Whole name) e
   update_cells o (Item name index) e = found_update_cells o (Item name index) e
 
   found_swap_cells : (left right : Lvalue) → length (Code.found_swap_cells spot free left right) ≤ swap_size left right
@@ -629,11 +653,25 @@ parts_least (Variable name) = omega arith
 parts_least (Element name index) = let a = prepare_least index in omega arith
 parts_least (Binary at o left right) = let a = prepare_least left in let b = prepare_least right in omega arith
 
+prepared_value_least : (e : Expression) → nodes e ≤ 3 * prepared_value_steps e
+prepared_value_least e = let a = parts_least e in omega arith
+
 pub value_least : (e : Expression) → nodes e ≤ 3 * value_steps e
-value_least e = let a = parts_least e in omega arith
+value_least e = by (is_held e) refl
+  where
+    by : (t : Bool) → is_held e ≡ t → nodes e ≤ 3 * (if t then held_value_steps e else prepared_value_steps e)
+    by true q = let few = held_few e q in let a = held_value_least e few in omega arith
+    by false q = prepared_value_least e
+
+prepared_test_least : (e : Expression) → nodes e ≤ prepared_test_steps e
+prepared_test_least e = let a = parts_least e in omega arith
 
 pub test_least : (e : Expression) → nodes e ≤ test_steps e
-test_least e = let a = parts_least e in omega arith
+test_least e = by (is_held e) refl
+  where
+    by : (t : Bool) → is_held e ≡ t → nodes e ≤ (if t then held_test_steps e else prepared_test_steps e)
+    by true q = let few = held_few e q in let a = held_test_least e few in omega arith
+    by false q = prepared_test_least e
 
 pub place_least : (target : Lvalue) → index_nodes target ≤ place_steps target
 place_least (Whole name) = omega arith
@@ -650,7 +688,14 @@ update_least (Whole name) (Number at word) = omega arith
 update_least (Whole name) (Variable other) = omega arith
 update_least (Whole name) (Null at) = found_update_least (Whole name) (Null at)
 update_least (Whole name) (Element array index) = found_update_least (Whole name) (Element array index)
-update_least (Whole name) (Binary at o left right) = found_update_least (Whole name) (Binary at o left right)
+update_least (Whole name) (Binary at o left right) =
+    by (Binary at o left right) (is_held (Binary at o left right)) refl
+  where
+    by : (e : Expression) (t : Bool) → is_held e ≡ t → 1 + index_nodes (Whole name) + nodes e
+        + read_cost (own_element (Whole name)) (index_elements (Whole name) ++ elements e)
+        ≤ (if t then around_steps (held_steps e) 5 else found_update_steps (Whole name) e)
+    by e true q = let few = held_few e q in let a = held_least e few in let c = apart_is (Whole name) e in omega arith
+    by e false q = found_update_least (Whole name) e
 update_least (Item name index) e = found_update_least (Item name index) e
 
 -- what is found around a middle

@@ -3,6 +3,7 @@ use Rattle.std.proofs.Common.{◌≡◌, ◌≢◌, ℕ, Bool, true, false, ◌+
 use Rattle.std.proofs.Common.{refl, sym, ap, ◌∙◌, arith}
 use Rattle.std.specs.Prelude.{slice_index, slice_set, nat_lt, not}
 use Rattle.std.proofs.lemmas.Bool.Decides.{nat_tests}
+use Rattle.code_conventions.specs.declared.memory.TheConstants.{HEADER_WORDS}
 use Rattle.pisa_isa.specs.Machine.{Memory}
 use Rattle.pisa_isa.specs.Table.{word_of}
 use Rattle.rpp_words.specs.Words.{is_less, sum_of}
@@ -79,10 +80,10 @@ module _ (m p q : ℕ) (b : Bases) (f : ℕ → ℕ) (cells : List ℕ) (x y : �
       one_is_not e = omega arith
 
   -- the element's address in the array's register
-  pub point_goes : x < 2 ^ 31 → y + x + 2 < 2 ^ 32 → Goes point_cells 2 (mem b f (operands m p q x y) cells)
-      (mem b f (operands m p q x (y + x + 2)) cells)
+  pub point_goes : x < 2 ^ 31 → y + x + HEADER_WORDS < 2 ^ 32 → Goes point_cells 2 (mem b f (operands m p q x y) cells)
+      (mem b f (operands m p q x (y + x + HEADER_WORDS)) cells)
   point_goes h k =
       let put : ℕ → Memory = λ z. mem b f (operands m p q x z) cells in
       let e : sum_of y x ≡ y + x = omega arith in
       goes_cons (goes_to refl refl (ap put e) (goes_add _ put y x (omega arith) (omega arith) refl (omega arith)
-      (λ z. refl) (λ z. refl))) (goes_addi _ put (y + x) 2 k refl (omega arith) (λ z. refl) (λ z. refl))
+      (λ z. refl) (λ z. refl))) (goes_addi _ put (y + x) HEADER_WORDS k refl (omega arith) (λ z. refl) (λ z. refl))

@@ -6,6 +6,7 @@ use Rattle.std.specs.Prelude.{slice_index, slice_set, nat_eq, not, if◌then◌e
 use Rattle.std.proofs.lemmas.List.{get_or-set_same, get_or-set_other, set_comm, set-set}
 use Rattle.std.proofs.lemmas.Bool.{cases_eq}
 use Rattle.std.proofs.lemmas.Bool.Decides.{nat_tests}
+use Rattle.code_conventions.specs.declared.memory.TheConstants.{HEADER_WORDS}
 use Rattle.pisa_isa.specs.Machine.{Memory}
 use Rattle.paired_code.specs.declared.part.Symbol.{Symbol}
 use Rattle.refine_form.specs.declared.spot.Spot.{Spot}
@@ -180,7 +181,7 @@ module _ (b : Bases) (f : ℕ → ℕ) where
   differ : (x y : Spot) → have_one_base x y ≡ true → address_of b x ≢ address_of b y
   differ (Field i) (Field j) e q =
       let same : i ≡ j = omega arith in
-      no_true (nat_eq (2 + i) (2 + j)) (grind (arith, nat_tests)) e
+      no_true (nat_eq (HEADER_WORDS + i) (HEADER_WORDS + j)) (grind (arith, nat_tests)) e
   differ (Frame i) (Frame j) e q =
       let same : i ≡ j = omega arith in
       no_true (nat_eq i j) (grind (arith, nat_tests)) e
@@ -189,7 +190,8 @@ module _ (b : Bases) (f : ℕ → ℕ) where
 
   meet : (x y : Spot) → have_one_base x y ≡ false → stand (onto b x y) x ≡ address_of b x
   meet (Field i) (Field j) e = ⊎_elim (λ same. (let l : i ≡ j = same in omega arith))
-      (λ n. absurd (no_false (nat_eq (2 + i) (2 + j)) (grind (arith, nat_tests)) e)) (cases_eq i j)
+      (λ n. absurd (no_false (nat_eq (HEADER_WORDS + i) (HEADER_WORDS + j)) (grind (arith, nat_tests)) e))
+      (cases_eq i j)
   meet (Frame i) (Frame j) e = ⊎_elim (λ same. (let l : i ≡ j = same in omega arith))
       (λ n. absurd (no_false (nat_eq i j) (grind (arith, nat_tests)) e)) (cases_eq i j)
   meet (Field i) (Frame j) e = refl

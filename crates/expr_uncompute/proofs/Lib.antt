@@ -12,6 +12,12 @@ pub mod Opening
 pub mod Nodes
 pub mod Prepare
 pub mod ValueLaws
+pub mod HeldBounds
+pub mod Known
+pub mod Giving
+pub mod Opened
+pub mod HeldLaws
+pub mod HeldUpdates
 pub mod Whole
 pub mod PlaceLaws
 pub mod Written

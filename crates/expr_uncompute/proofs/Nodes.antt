@@ -3,6 +3,7 @@ use Rattle.std.proofs.Common.{◌≡◌, ◌≢◌, ℕ, ◌+◌, ◌^◌, ◌<�
 use Rattle.std.proofs.Common.{arith}
 use Rattle.std.specs.Prelude.{slice_index, slice_set, Result, Ok, Err}
 use Rattle.std.proofs.lemmas.List.{get_or-set_other, set_comm}
+use Rattle.code_conventions.specs.declared.memory.TheConstants.{HEADER_WORDS}
 use Rattle.rpp_tree.specs.declared.tree.BinOp.{BinOp}
 use Rattle.rpp_tree.specs.declared.tree.BinOp.TheVariants as op
 use Rattle.rpp_tree.specs.declared.tree.Ident.{Ident}
@@ -131,8 +132,8 @@ module _ (spot : List ℕ → Spot) (free : ℕ) (b : Bases) where
         (number_same spot b low zs zs2 agrees whole s ∙ e) in
         let arr : word_of spot b zs2 name.text ≡ word_of spot b zs name.text = agrees _ s.0 in
         let pl2 : element_place spot free b zs2 name.text index ≡ pl =
-        ap (λ y. y + given (number spot b zs2 index) + 2) arr
-        ∙ ap (λ x. word_of spot b zs name.text + x + 2) (value_after index s.2) in
+        ap (λ y. y + given (number spot b zs2 index) + HEADER_WORDS) arr
+        ∙ ap (λ x. word_of spot b zs name.text + x + HEADER_WORDS) (value_after index s.2) in
         let same : opened spot free b m p q zs2 whole ≡ opened spot free b m p q zs whole =
         ap (λ x. record (operands m p q x (element_place spot free b zs2 name.text index))
         { item = slice_index zs2 (element_place spot free b zs2 name.text index) }) (value_after index s.2)

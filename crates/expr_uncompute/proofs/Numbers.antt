@@ -7,6 +7,7 @@ use Rattle.std.proofs.lemmas.Nat.{xor_lt, or_lt}
 use Rattle.std.proofs.lemmas.List.{get_or-set_same, get_or-set_other, set_past}
 use Rattle.std.proofs.lemmas.Bool.{cases_lt, cases_eq}
 use Rattle.std.proofs.lemmas.Bool.Decides.{nat_tests}
+use Rattle.code_conventions.specs.declared.memory.TheConstants.{HEADER_WORDS}
 use Rattle.rpp_tree.specs.declared.tree.BinOp.{BinOp}
 use Rattle.rpp_tree.specs.declared.tree.BinOp.TheVariants as op
 use Rattle.rpp_tree.specs.Tree.{Expression, Number, Null, Variable, Element, Binary}
@@ -46,7 +47,7 @@ operated_word op.Rem x y h k = omega arith
 pub element_nil : (zs : List ℕ) (array i : ℕ) → array ≡ 0 → element_address zs array i ≡ Err 5
 element_nil zs array i e =
     let t : nat_eq array 0 ≡ true = grind (arith, nat_tests) in
-    ap (λ t. if t then Err 5 else (if nat_lt i (slice_index zs array) then Ok (array + i + 2) else Err 9)) t
+    ap (λ t. if t then Err 5 else (if nat_lt i (slice_index zs array) then Ok (array + i + HEADER_WORDS) else Err 9)) t
 
 picked : (t u : Bool) (x : Result ℕ ℕ) (p q : Bool) → t ≡ p → u ≡ q
     → (if t then Err 5 else (if u then x else Err 9)) ≡ (if p then Err 5 else (if q then x else Err 9))
@@ -54,13 +55,15 @@ picked t u x p q e f = ap (λ t. if t then Err 5 else (if u then x else Err 9)) 
     ∙ ap (λ u. if p then Err 5 else (if u then x else Err 9)) f
 
 pub element_inside : (zs : List ℕ) (array i : ℕ) → array ≢ 0 → i < slice_index zs array
-    → element_address zs array i ≡ Ok (array + i + 2)
-element_inside zs array i n l = picked (nat_eq array 0) (nat_lt i (slice_index zs array)) (Ok (array + i + 2)) false
+    → element_address zs array i ≡ Ok (array + i + HEADER_WORDS)
+element_inside zs array i n l = picked (nat_eq array 0) (nat_lt i (slice_index zs array))
+    (Ok (array + i + HEADER_WORDS)) false
     true (grind (arith, nat_tests)) (grind (arith, nat_tests))
 
 pub element_past : (zs : List ℕ) (array i : ℕ) → array ≢ 0 → slice_index zs array ≤ i
     → element_address zs array i ≡ Err 9
-element_past zs array i n l = picked (nat_eq array 0) (nat_lt i (slice_index zs array)) (Ok (array + i + 2)) false false
+element_past zs array i n l = picked (nat_eq array 0) (nat_lt i (slice_index zs array)) (Ok (array + i + HEADER_WORDS))
+    false false
     (grind (arith, nat_tests)) (grind (arith, nat_tests))
 
 -- the three ways an element can go
@@ -82,7 +85,7 @@ module _ (spot : List ℕ → Spot) (b : Bases) (low : ℕ) where
       let r = k.room n in
       let head : slice_index zs' array ≡ slice_index zs array = ag array (omega arith) in
       let l' : i < slice_index zs' array = rw head l in
-      ap (word_in zs') (element_inside zs' array i n l') ∙ ap Ok (ag (array + i + 2) (omega arith))
+      ap (word_in zs') (element_inside zs' array i n l') ∙ ap Ok (ag (array + i + HEADER_WORDS) (omega arith))
       ∙ sym (ap (word_in zs) (element_inside zs array i n l))
   element_same_by zs zs' ag array i k (past n l) =
       let r = k.room n in

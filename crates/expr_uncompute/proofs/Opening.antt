@@ -1,6 +1,7 @@
 -- The value of a node in its register, where its parts are prepared.
 use Rattle.std.proofs.Common.{◌≡◌, ◌≢◌, ℕ, ◌+◌, ◌^◌, ◌<◌, ◌≤◌, List, [], ◌∷◌, length, refl, sym, ap, ◌∙◌, subst, arith}
 use Rattle.std.specs.Prelude.{slice_index, slice_set, Result, Ok, Err}
+use Rattle.code_conventions.specs.declared.memory.TheConstants.{HEADER_WORDS}
 use Rattle.rpp_tree.specs.Tree.{Expression, Number, Null, Variable, Element, Binary}
 use Rattle.paired_code.specs.Machine.{reg}
 use Rattle.roopl_semantics.specs.Operators.{operated}
@@ -96,7 +97,7 @@ module _ (spot : List ℕ → Spot) (free : ℕ) (b : Bases) where
     -- the element's address
     pub pointed_goes : word_of spot b zs name ≢ 0 → x < slice_index zs (word_of spot b zs name)
         → Goes point_cells 2 (mem b f (operands m p q x (word_of spot b zs name)) zs)
-        (mem b f (operands m p q x (word_of spot b zs name + x + 2)) zs)
+        (mem b f (operands m p q x (word_of spot b zs name + x + HEADER_WORDS)) zs)
     pointed_goes n l =
         let r = array.room n in
         let s = array.short n in
@@ -116,7 +117,7 @@ module _ (spot : List ℕ → Spot) (free : ℕ) (b : Bases) where
 
   -- the address of an element, where it has one
   abbrev pub element_place : List ℕ → List ℕ → Expression → ℕ
-  element_place zs name index = word_of spot b zs name + given (number spot b zs index) + 2
+  element_place zs name index = word_of spot b zs name + given (number spot b zs index) + HEADER_WORDS
 
   -- the bases while a node is open
   abbrev pub based : Expression → Bases
@@ -204,7 +205,7 @@ module _ (spot : List ℕ → Spot) (free : ℕ) (b : Bases) where
           let a = address_of_word zs (element_at zs (word_of spot b zs name.text) (number spot b zs index)) v e in
           let n = inside_of zs (word_of spot b zs name.text) (number spot b zs index) a.0 a.1 in
           let same : n.x ≡ given (number spot b zs index) = ok_is (sym n.index ∙ given_ok _ n.x n.index) in
-          ap (slice_index zs) (ap (λ z. word_of spot b zs name.text + z + 2) (sym same) ∙ n.at) ∙ a.2
+          ap (slice_index zs) (ap (λ z. word_of spot b zs name.text + z + HEADER_WORDS) (sym same) ∙ n.at) ∙ a.2
       open_gives (Binary at o left right) v zs zs' e =
           let n = both_ok o (number spot b zs left) (number spot b zs right) v e in
           let ex : n.x ≡ given (number spot b zs left) = ok_is (sym n.left ∙ given_ok _ n.x n.left) in

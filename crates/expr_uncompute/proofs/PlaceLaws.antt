@@ -2,6 +2,7 @@
 use Rattle.std.proofs.Common.{◌≡◌, ◌≢◌, ℕ, ◌+◌, ◌^◌, ◌<◌, ◌≤◌, List, [], ◌∷◌, ◌++◌, length, refl, sym, ap, ◌∙◌, subst}
 use Rattle.std.proofs.Common.{arith}
 use Rattle.std.specs.Prelude.{slice_index, Ok, Err}
+use Rattle.code_conventions.specs.declared.memory.TheConstants.{HEADER_WORDS}
 use Rattle.rpp_tree.specs.declared.tree.Ident.{Ident}
 use Rattle.rpp_tree.specs.Tree.{Expression, Number, Null, Variable, Element, Binary, Lvalue, Whole, Item}
 use Rattle.paired_code.specs.Layout.{mirror_cells}
@@ -56,7 +57,8 @@ module _ (spot : List ℕ → Spot) (free : ℕ) (b : Bases) where
       → Goes (xor place (base_of sp) ∷ addi place (offset_of sp) ∷ []) 2 (mem b f (keeping m 0 q) zs)
       (mem b f (keeping m (address_of b sp) q) zs)
   place_base f m q zs (Field i) h = goes_cons (goes_set _ (λ z. mem b f (keeping m z q) zs) b.object refl (omega arith)
-      (λ z. refl) (λ z. refl)) (goes_addi _ (λ z. mem b f (keeping m z q) zs) b.object (2 + i) h refl (omega arith)
+      (λ z. refl) (λ z. refl)) (goes_addi _ (λ z. mem b f (keeping m z q) zs) b.object (HEADER_WORDS + i) h refl
+      (omega arith)
       (λ z. refl) (λ z. refl))
   place_base f m q zs (Frame i) h = goes_cons (goes_set _ (λ z. mem b f (keeping m z q) zs) b.frame refl (omega arith)
       (λ z. refl) (λ z. refl)) (goes_addi _ (λ z. mem b f (keeping m z q) zs) b.frame i h refl (omega arith)
@@ -66,7 +68,8 @@ module _ (spot : List ℕ → Spot) (free : ℕ) (b : Bases) where
       → Goes (xor other_place (base_of sp) ∷ addi other_place (offset_of sp) ∷ []) 2 (mem b f (keeping m p 0) zs)
       (mem b f (keeping m p (address_of b sp)) zs)
   other_base f m p zs (Field i) h = goes_cons (goes_set _ (λ z. mem b f (keeping m p z) zs) b.object refl (omega arith)
-      (λ z. refl) (λ z. refl)) (goes_addi _ (λ z. mem b f (keeping m p z) zs) b.object (2 + i) h refl (omega arith)
+      (λ z. refl) (λ z. refl)) (goes_addi _ (λ z. mem b f (keeping m p z) zs) b.object (HEADER_WORDS + i) h refl
+      (omega arith)
       (λ z. refl) (λ z. refl))
   other_base f m p zs (Frame i) h = goes_cons (goes_set _ (λ z. mem b f (keeping m p z) zs) b.frame refl (omega arith)
       (λ z. refl) (λ z. refl)) (goes_addi _ (λ z. mem b f (keeping m p z) zs) b.frame i h refl (omega arith)
@@ -136,7 +139,8 @@ module _ (spot : List ℕ → Spot) (free : ℕ) (b : Bases) where
           let head : slice_index zs1 (word_of spot b zs name.text) ≡ slice_index zs (word_of spot b zs name.text) =
           stored_below spot free b index i zs _ (omega arith) in
           let inside : n.x < slice_index zs1 (word_of spot b zs1 name.text) = rw arr (rw head n.below) in
-          let at : word_of spot b zs1 name.text + n.x + 2 ≡ a = ap (λ y. y + n.x + 2) arr ∙ n.at in
+          let at : word_of spot b zs1 name.text + n.x + HEADER_WORDS ≡ a = ap (λ y. y + n.x + HEADER_WORDS) arr
+          ∙ n.at in
           let open_by : (m p q : ℕ) → Goes (checked_cells spot free name.text index i ++ point_cells)
           (checked_steps index + 2) (mem b f (keeping m p q) zs1) (mem b f (operands m p q n.x a) zs1) =
           λ m p q. goes_to refl refl (ap (λ y. mem b f (operands m p q n.x y) zs1) at)

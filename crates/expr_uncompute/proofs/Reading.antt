@@ -2,15 +2,14 @@
 use Rattle.std.proofs.Common.{◌≡◌, ℕ, ◌+◌, ◌^◌, ◌<◌, ◌≤◌, List, [], ◌∷◌, length, length-set, refl, sym, ap, ◌∙◌, arith}
 use Rattle.std.specs.Prelude.{slice_index, slice_set}
 use Rattle.std.proofs.lemmas.List.{get_or-set_same, set-set}
-use Rattle.pisa_isa.specs.Machine.{Memory}
+use Rattle.code_conventions.specs.declared.memory.TheConstants.{HEADER_WORDS}
 use Rattle.paired_code.specs.declared.part.Symbol.{Symbol}
 use Rattle.refine_form.specs.declared.spot.Spot.{Spot}
 use Rattle.refine_form.specs.declared.spot.Spot.TheVariants.{Field, Frame}
 use Rattle.expr_uncompute.specs.Code.{content, left_operand, right_operand, item, outcome, truth, xor, xori}
-use Rattle.expr_uncompute.specs.Code.{around, base_of, reach_cells, copy_cells, store_cells}
-use Rattle.code_scope.specs.Visible.{offset_of}
+use Rattle.expr_uncompute.specs.Code.{around, reach_cells, copy_cells, store_cells}
 use Rattle.expr_uncompute.specs.Number.{Bases, address_of}
-use Rattle.expr_uncompute.proofs.Goes.{Goes, goes_seq, goes_cons, goes_around, goes_to, goes_set, goes_addi, goes_exch}
+use Rattle.expr_uncompute.proofs.Goes.{Goes, goes_cons, goes_around, goes_to, goes_set, goes_addi, goes_exch}
 use Rattle.expr_uncompute.proofs.Scratch.{Scratch, mem}
 
 -- the registers that have a result
@@ -34,7 +33,8 @@ module _ (b : Bases) where
       (slice_set cells (address_of b sp) 0))
   reach_goes f s cells (Field i) h k =
       let a : ℕ = address_of b (Field i) in
-      goes_cons (goes_addi _ (λ z. mem (record b { object = z }) f (record s { content = 0 }) cells) b.object (2 + i)
+      goes_cons (goes_addi _ (λ z. mem (record b { object = z }) f (record s { content = 0 }) cells) b.object
+      (HEADER_WORDS + i)
       (omega arith) refl (omega arith) (λ z. refl) (λ z. refl))
       (goes_exch _ (λ z zs. mem (record b { object = a }) f (record s { content = z }) zs) a 0 cells h refl
       (omega arith) (λ z zs. refl) (λ z zs. refl))

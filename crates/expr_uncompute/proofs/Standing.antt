@@ -1,6 +1,7 @@
 -- A base that goes to a spot and on to another, and exchanges the word there with a register.
 use Rattle.std.proofs.Common.{◌≡◌, ℕ, ◌+◌, ◌^◌, ◌<◌, List, [], ◌∷◌, length, refl, ap, subst, arith}
 use Rattle.std.specs.Prelude.{slice_index, slice_set}
+use Rattle.code_conventions.specs.declared.memory.TheConstants.{HEADER_WORDS}
 use Rattle.rpp_words.specs.Words.{sum_of, difference_of}
 use Rattle.pisa_isa.specs.Machine.{Memory}
 use Rattle.refine_form.specs.declared.spot.Spot.{Spot}
@@ -42,7 +43,7 @@ module _ (b : Bases) where
   module _ (f : ℕ → ℕ) (s : Scratch) (zs : List ℕ) where
     pub there_goes : (x : Spot) → address_of b x < 2 ^ 32
         → Goes (addi (base_of x) (offset_of x) ∷ []) 1 (mem b f s zs) (mem (moved b x) f s zs)
-    there_goes (Field i) h = goes_addi _ (λ z. mem (record b { object = z }) f s zs) b.object (2 + i) h refl
+    there_goes (Field i) h = goes_addi _ (λ z. mem (record b { object = z }) f s zs) b.object (HEADER_WORDS + i) h refl
         (omega arith) (λ z. refl) (λ z. refl)
     there_goes (Frame i) h = goes_addi _ (λ z. mem (record b { frame = z }) f s zs) b.frame i h refl (omega arith)
         (λ z. refl) (λ z. refl)
@@ -51,8 +52,10 @@ module _ (b : Bases) where
         → Goes (onward x y ∷ []) 1 (mem (moved b x) f s zs) (mem (onto x y) f s zs)
     on_goes (Field i) (Field j) h k =
         let put : ℕ → Memory = λ z. mem (record b { object = z }) f s zs in
-        goes_to refl refl (ap put (far b.object (2 + i) (2 + j) h k)) (goes_addi_word _ put (b.object + (2 + i))
-        (difference_of (2 + j) (2 + i)) h (omega arith) refl (omega arith) (λ z. refl) (λ z. refl))
+        goes_to refl refl (ap put (far b.object (HEADER_WORDS + i) (HEADER_WORDS + j) h k))
+        (goes_addi_word _ put (b.object + (HEADER_WORDS + i))
+        (difference_of (HEADER_WORDS + j) (HEADER_WORDS + i)) h (omega arith) refl (omega arith) (λ z. refl)
+        (λ z. refl))
     on_goes (Frame i) (Frame j) h k =
         let put : ℕ → Memory = λ z. mem (record b { frame = z }) f s zs in
         goes_to refl refl (ap put (far b.frame i j h k)) (goes_addi_word _ put (b.frame + i) (difference_of j i) h
@@ -60,7 +63,7 @@ module _ (b : Bases) where
     on_goes (Field i) (Frame j) h k = goes_addi _ (λ z. mem (record { object = address_of b (Field i); frame = z }) f s
         zs) b.frame j k refl (omega arith) (λ z. refl) (λ z. refl)
     on_goes (Frame i) (Field j) h k = goes_addi _ (λ z. mem (record { object = z; frame = address_of b (Frame i) }) f s
-        zs) b.object (2 + j) k refl (omega arith) (λ z. refl) (λ z. refl)
+        zs) b.object (HEADER_WORDS + j) k refl (omega arith) (λ z. refl) (λ z. refl)
 
 module _ (f : ℕ → ℕ) where
   -- a register that is exchanged with the word at a base, by what stands in it

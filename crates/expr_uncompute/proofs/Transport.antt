@@ -1,6 +1,7 @@
 -- What a relation gives of the state after a write, it gives by the addresses of the state before.
 use Rattle.std.proofs.Common.{◌≡◌, ℕ, ◌+◌, false, List, ◌++◌, refl, sym, ap, ◌∙◌}
 use Rattle.std.specs.Prelude.{slice_index, slice_set, Result, Ok, Err}
+use Rattle.code_conventions.specs.declared.memory.TheConstants.{HEADER_WORDS}
 use Rattle.pisa_isa.specs.Machine.{Memory}
 use Rattle.rpp_tree.specs.declared.tree.BinOp.{BinOp}
 use Rattle.rpp_tree.specs.declared.tree.UpdateOp.{UpdateOp}
@@ -29,7 +30,7 @@ module _ (address slot address' slot' : ℕ → ℕ) (sa : (n : ℕ) → address
 
     cell_by : (cell : Cell) → cell_address address slot cell ≡ cell_address address' slot' cell
     cell_by (Slot i) = ss i
-    cell_by (Part n i) = ap (λ a. a + i + 2) (sa n)
+    cell_by (Part n i) = ap (λ a. a + i + HEADER_WORDS) (sa n)
 
     operands_by : (o : BinOp) (l r : Value) → AreOperands address slot o l r → AreOperands address' slot' o l r
     operands_by o l r (both_words a b) = both_words (a ∙ shown_by l) (b ∙ shown_by r)
@@ -54,7 +55,8 @@ module _ (address slot address' slot' : ℕ → ℕ) (sa : (n : ℕ) → address
       array_by (Name n) h = (
         λ e. h.0 (sa n ∙ e),
         ap (slice_index cells) (sym (sa n)) ∙ h.1,
-        λ i l. ap (λ a. slice_index cells (a + i + 2)) (sym (sa n)) ∙ h.2 i l ∙ shown_by (read st (Part n i)),
+        λ i l. ap (λ a. slice_index cells (a + i + HEADER_WORDS)) (sym (sa n)) ∙ h.2 i l
+            ∙ shown_by (read st (Part n i)),
       )
 
       pub means_by : (e : Expression) → Means address slot program st spot b cells e

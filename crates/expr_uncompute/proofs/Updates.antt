@@ -1,7 +1,7 @@
 -- Updates of a place by a value, and swaps of two places.
-use Rattle.std.proofs.Common.{◌≡◌, ℕ, ◌+◌, ◌^◌, ◌<◌, true, false, List, [], ◌∷◌, ◌++◌, length, length-set, refl}
+use Rattle.std.proofs.Common.{◌≡◌, ℕ, ◌+◌, ◌^◌, ◌<◌, Bool, true, false, List, [], ◌∷◌, ◌++◌, length, length-set, refl}
 use Rattle.std.proofs.Common.{sym, ap, ◌∙◌, subst, arith}
-use Rattle.std.specs.Prelude.{slice_index, slice_set, Ok, Err}
+use Rattle.std.specs.Prelude.{slice_index, slice_set, if◌then◌else◌, Ok, Err}
 use Rattle.std.proofs.lemmas.List.{get_or-set_same, set-set}
 use Rattle.rpp_tree.specs.declared.tree.UpdateOp.{UpdateOp}
 use Rattle.rpp_tree.specs.declared.tree.UpdateOp.TheVariants as update
@@ -15,11 +15,17 @@ use Rattle.expr_uncompute.specs.Code.{around, words, content, amount, place, oth
 use Rattle.expr_uncompute.specs.Code.{update_cell, place_words, place_cells, fetch_cells, apart_cells, both_apart_cells}
 use Rattle.expr_uncompute.specs.Code.{update_middle, four_exchanges, swap_middle, found_update_cells, update_cells}
 use Rattle.expr_uncompute.specs.Code.{found_swap_cells, swap_cells}
-use Rattle.expr_uncompute.specs.Number.{Bases, address_of, number, word_of, element_at, read_of, index_of}
+use Rattle.expr_uncompute.specs.Code.{held_update_cells, operated_update_cells}
+use Rattle.expr_uncompute.specs.Held.{is_held}
+use Rattle.expr_uncompute.specs.Number.{Bases, address_of, given, number, word_of, element_at, read_of, index_of}
 use Rattle.expr_uncompute.specs.Number.{place_address, update_shares, swap_shares, Sees, Same, SamePlace}
 use Rattle.expr_uncompute.specs.Laws.{swapped_at}
 use Rattle.expr_uncompute.specs.Steps.{place_steps, fetch_steps, apart_steps, both_apart_steps, update_steps}
-use Rattle.expr_uncompute.specs.Steps.{found_update_steps, found_swap_steps, swap_steps}
+use Rattle.expr_uncompute.specs.Steps.{found_update_steps, found_swap_steps, swap_steps, around_steps, held_steps}
+use Rattle.expr_uncompute.specs.Steps.{operated_update_steps}
+use Rattle.expr_uncompute.proofs.HeldBounds.{held_few}
+use Rattle.expr_uncompute.proofs.HeldUpdates.{held_update_goes}
+use Rattle.expr_uncompute.proofs.Opened.{is_number}
 use Rattle.expr_uncompute.proofs.Goes.{Goes, Traps, TrapsBoth, goes_seq, goes_cons, goes_to, goes_around, goes_xor}
 use Rattle.expr_uncompute.proofs.Goes.{goes_add, goes_sub, goes_exch, traps_first, traps_then, traps_around}
 use Rattle.expr_uncompute.proofs.Scratch.{keeping, mem}
@@ -262,13 +268,28 @@ module _ (spot : List ℕ → Spot) (free : ℕ) (b : Bases) where
         goes_around (held_goes f target e zs a v h s na nv apart) mid
         (goes_to refl refl (ap (mem b f (keeping v a 0)) over) (held_goes f target e zs' a v h' s' na' nv' apart'))
 
+    by_operator : (name : Ident) (e : Expression) → Updates (Whole name) e (operated_update_cells spot free op name e)
+        (operated_update_steps (Whole name) e)
+    by_operator name e = by (is_held e) refl
+      where
+        by : (t : Bool) → is_held e ≡ t → Updates (Whole name) e (if t then held_update_cells spot op (spot name.text) e
+            else found_update_cells spot free op (Whole name) e)
+            (if t then around_steps (held_steps e) 5 else found_update_steps (Whole name) e)
+        by false q = found_update_goes (Whole name) e
+        by true t = λ zs zs' a v h h' s s' na na' nv nv' sp sv apart apart' q.
+            let l = h.sees in
+            let fits = h.fits in
+            let made = q ∙ ap (λ i. slice_set zs i (updated op (slice_index zs i) v)) (sym (ok_is na)) in
+            held_update_goes b f spot low op (spot name.text) e zs zs' v (held_few e t) h.all h.small (omega arith)
+            (omega arith) s sv nv made
+
     pub update_goes : (target : Lvalue) (e : Expression)
         → Updates target e (update_cells spot free op target e) (update_steps target e)
     update_goes (Whole name) (Number at word) = by_number name at word
     update_goes (Whole name) (Variable other) = by_variable name other
     update_goes (Whole name) (Null at) = found_update_goes (Whole name) (Null at)
     update_goes (Whole name) (Element array index) = found_update_goes (Whole name) (Element array index)
-    update_goes (Whole name) (Binary at o left right) = found_update_goes (Whole name) (Binary at o left right)
+    update_goes (Whole name) (Binary at o left right) = by_operator name (Binary at o left right)
     update_goes (Item name index) e = found_update_goes (Item name index) e
 
     -- the faults of an update: a variable has none as a place, nor has a leaf as a value
@@ -289,7 +310,17 @@ module _ (spot : List ℕ → Spot) (free : ℕ) (b : Bases) where
     update_traps_value (Whole name) (Element array index) zs a c h s na n =
         found_traps_value f (Whole name) (Element array index) [] (update_middle op) zs a c h s na n
     update_traps_value (Whole name) (Binary at o left right) zs a c h s na n =
-        found_traps_value f (Whole name) (Binary at o left right) [] (update_middle op) zs a c h s na n
+        by (Binary at o left right) (is_held (Binary at o left right)) refl h s n
+      where
+        by : (e : Expression) (t : Bool) → is_held e ≡ t → FitFrom spot free b (Whole name) (words e) zs
+            → Sees spot b low zs e → number spot b zs e ≡ Err c
+            → TrapsBoth (if t then held_update_cells spot op (spot name.text) e
+            else found_update_cells spot free op (Whole name) e) (place_steps (Whole name) + fetch_steps e) c
+            (mem b f (keeping 0 0 0) zs)
+        by e false q h s n = found_traps_value f (Whole name) e [] (update_middle op) zs a c h s na n
+        by e true q h s n = let no : Ok (given (number spot b zs e)) ≡ Err c =
+            sym (is_number spot b zs e (held_few e q))
+            ∙ n in absurd (cc)
     update_traps_value (Item name index) e zs a c h s na n =
         found_traps_value f (Item name index) e (apart_cells spot (Item name index) index e) (update_middle op) zs a c h
         s na n

@@ -12,7 +12,7 @@ use Rattle.refine_form.specs.declared.spot.Spot.{Spot}
 use Rattle.expr_uncompute.specs.Code.{truth, around, xor, truth_cells, open_cells, parts_cells, result_of}
 use Rattle.expr_uncompute.specs.Code.{operator_result}
 use Rattle.expr_uncompute.specs.Number.{Bases, number}
-use Rattle.expr_uncompute.specs.Steps.{open_steps, parts_steps, value_steps, test_steps}
+use Rattle.expr_uncompute.specs.Steps.{open_steps, parts_steps, prepared_value_steps, prepared_test_steps}
 use Rattle.expr_uncompute.proofs.Goes.{Goes, goes_seq, goes_to, goes_around, traps_first, TrapsBoth, traps_around}
 use Rattle.expr_uncompute.proofs.Goes.{traps_inside, both_more}
 use Rattle.expr_uncompute.proofs.Scratch.{Scratch, keeping, mem}
@@ -86,7 +86,7 @@ module _ (spot : List ℕ → Spot) (free : ℕ) (b : Bases) where
       f' = written f into (bit_xor (f into) v)
 
       pub value_into : Goes (around (parts_cells spot free e i)
-          (around (open_cells spot free e i) (xor into (result_of e) ∷ []))) (value_steps e)
+          (around (open_cells spot free e i) (xor into (result_of e) ∷ []))) (prepared_value_steps e)
           (mem b f (keeping m p q) zs) (mem b (written f into (bit_xor (f into) v)) (keeping m p q) zs)
       value_into =
           let sink = into_goes (based spot free b e) f (opened spot free b m p q whole_parts e)
@@ -125,7 +125,8 @@ module _ (spot : List ℕ → Spot) (free : ℕ) (b : Bases) where
           no_truth (Binary at o left right) = refl
 
       pub test_into : Goes (around (parts_cells spot free e i)
-          (around (open_cells spot free e i ++ truth_cells truth (result_of e)) (xor into truth ∷ []))) (test_steps e)
+          (around (open_cells spot free e i ++ truth_cells truth (result_of e)) (xor into truth ∷ [])))
+          (prepared_test_steps e)
           (mem b f (keeping m p q) zs) (mem b (written f into (bit_xor (f into) (truth_word (is_true v))))
           (keeping m p q) zs)
       test_into =

@@ -1,6 +1,7 @@
 -- How a number comes from those of its parts.
 use Rattle.std.proofs.Common.{◌≡◌, ◌≢◌, ℕ, ◌+◌, ◌<◌, ◌≤◌, ◌⊎◌, inl, inr, List, refl, sym, ◌∙◌}
 use Rattle.std.specs.Prelude.{slice_index, Result, Ok, Err}
+use Rattle.code_conventions.specs.declared.memory.TheConstants.{HEADER_WORDS}
 use Rattle.rpp_tree.specs.declared.tree.BinOp.{BinOp}
 use Rattle.roopl_semantics.specs.Operators.{operated}
 use Rattle.expr_uncompute.specs.Number.{element_address, element_at, word_in, combined}
@@ -36,7 +37,7 @@ pub record IsInside (zs : List ℕ) (array : ℕ) (k : Result ℕ ℕ) (a : ℕ)
   pub index : k ≡ Ok x
   pub array_is : array ≢ 0
   pub below : x < slice_index zs array
-  pub at : array + x + 2 ≡ a
+  pub at : array + x + HEADER_WORDS ≡ a
 
 pub data IsFault (zs : List ℕ) (array : ℕ) (k : Result ℕ ℕ) (c : ℕ) : Type 0 where
   by_index : k ≡ Err c → IsFault zs array k c

@@ -1,7 +1,8 @@
 -- The laws of values and tests, over memories.
-use Rattle.std.proofs.Common.{◌≡◌, ℕ, zero, suc, ◌+◌, inl, inr, Bool, List, [], ◌∷◌, length, refl, sym, ap, ◌∙◌, subst}
+use Rattle.std.proofs.Common.{◌≡◌, ℕ, ◌+◌, inl, inr, Bool, true, false, List, [], ◌∷◌, refl, sym, ap}
+use Rattle.std.proofs.Common.{◌∙◌, subst}
 use Rattle.std.proofs.Common.{arith}
-use Rattle.std.specs.Prelude.{slice_index, bit_xor, Result, Ok, Err}
+use Rattle.std.specs.Prelude.{slice_index, bit_xor, if◌then◌else◌, Result, Ok, Err}
 use Rattle.rpp_tree.specs.Tree.{Expression}
 use Rattle.pisa_isa.specs.Machine.{Memory}
 use Rattle.paired_code.specs.Machine.{Image, reg, with_reg}
@@ -10,10 +11,16 @@ use Rattle.paired_code.specs.declared.part.Symbol.{Symbol}
 use Rattle.roopl_semantics.specs.Operators.{is_true, truth_word}
 use Rattle.refine_form.specs.declared.spot.Spot.{Spot}
 use Rattle.expr_uncompute.specs.Code.{Target, words, truth, xor, truth_cells, value_cells, test_cells, result_of}
+use Rattle.expr_uncompute.specs.Code.{prepared_value_cells, prepared_test_cells, held_value_cells, held_test_cells}
+use Rattle.expr_uncompute.specs.Held.{is_held}
+use Rattle.expr_uncompute.proofs.HeldBounds.{held_few}
 use Rattle.expr_uncompute.specs.Number.{Bases, number, Sees}
-use Rattle.expr_uncompute.specs.Steps.{value_steps, test_steps}
+use Rattle.expr_uncompute.specs.Steps.{value_steps, test_steps, prepared_value_steps, prepared_test_steps}
+use Rattle.expr_uncompute.specs.Steps.{held_value_steps, held_test_steps}
 use Rattle.expr_uncompute.specs.Laws.{Temporary, bases_of, Ready, Xored, truth_of}
 use Rattle.expr_uncompute.proofs.Goes.{runs_along, TrapsBoth, both_more}
+use Rattle.expr_uncompute.proofs.HeldLaws
+use Rattle.expr_uncompute.proofs.Known.{tabulated, tabulated_is}
 use Rattle.expr_uncompute.proofs.Scratch.{Scratch, keeping, registers, mem}
 use Rattle.expr_uncompute.proofs.Results.{IsTarget, at0, at1, at11, at12, at13, at14, at15, at25, at26, at27, at28}
 use Rattle.expr_uncompute.proofs.Results.{at29, at30, at31, target_is, written}
@@ -21,16 +28,6 @@ use Rattle.expr_uncompute.proofs.Prepare.{Fit}
 use Rattle.expr_uncompute.proofs.ValueLaws.{value_into, test_into, into_traps, value_traps, written_twice}
 
 -- ---- a memory by its registers
-
-abbrev tabulated : ℕ → (ℕ → ℕ) → List ℕ
-tabulated zero f = []
-tabulated (suc n) f = f zero ∷ tabulated n (λ j. f (suc j))
-
-tabulated_is : (n : ℕ) (l : List ℕ) → length l ≡ n → l ≡ tabulated n (slice_index l)
-tabulated_is zero [] h = refl
-tabulated_is zero (x ∷ l) h = absurd (omega arith)
-tabulated_is (suc n) [] h = absurd (omega arith)
-tabulated_is (suc n) (x ∷ l) h = ap (λ z. x ∷ z) (tabulated_is n l (omega arith))
 
 full : (f : ℕ → ℕ) → tabulated 32 f ≡ f 0 ∷ f 1 ∷ f 2 ∷ f 3 ∷ f 4 ∷ f 5 ∷ f 6 ∷ f 7 ∷ f 8 ∷ f 9 ∷ f 10 ∷ f 11 ∷ f 12
     ∷ f 13 ∷ f 14 ∷ f 15 ∷ f 16 ∷ f 17 ∷ f 18 ∷ f 19 ∷ f 20 ∷ f 21 ∷ f 22 ∷ f 23 ∷ f 24 ∷ f 25 ∷ f 26 ∷ f 27 ∷ f 28
@@ -112,43 +109,66 @@ module _ (spot : List ℕ → Spot) (free into : ℕ) (e : Expression) (m : Memo
         (subst (λ z. Runs im p d seen (Done z k)) (sym t) r)
 
     value_by : (r : Result ℕ ℕ) → number spot (bases_of m) m.cells e ≡ r
-        → Xored into (value_steps e) m r im (value_cells spot free e into) d
+        → Xored into (prepared_value_steps e) m r im (prepared_value_cells spot free e into) d
     value_by (Ok v) n =
         let t = target_is into target in
         let fit = fit_of spot free e m ready sees in
         let f' : ℕ → ℕ = written (reg m) into (bit_xor (reg m into) v) in
         let back = value_into spot free b 0 0 0 e 0 m.cells fit f' v into n t in
         let there = value_into spot free b 0 0 0 e 0 m.cells fit (reg m) v into n t in
-        run_of (value_cells spot free e into) _ (value_steps e)
+        run_of (prepared_value_cells spot free e into) _ (prepared_value_steps e)
         (runs_along there (Rattle.expr_uncompute.proofs.Goes.goes_to refl refl
         (written_twice b (reg m) (keeping 0 0 0) m.cells into v t) back) im d)
     value_by (Err c) n =
         let a = (both_more (omega arith) (value_traps spot free b 0 0 0 e 0 m.cells (fit_of spot free e m ready sees)
         (reg m) c (xor into (result_of e) ∷ []) n)).runs im d in
-        (a.0, a.1, subst (λ z. Runs im (value_cells spot free e into) d z (Trapped c a.0)) (sym same) a.2)
+        (a.0, a.1, subst (λ z. Runs im (prepared_value_cells spot free e into) d z (Trapped c a.0)) (sym same) a.2)
 
-    -- the code of an expression xors its number into a register, or traps, in either direction, and
+    -- the code of an expression with words of the frame xors its number into a register, or traps, in either direction,
+    -- and
     -- nothing else differs
-    pub value_law : Xored into (value_steps e) m (number spot (bases_of m) m.cells e) im (value_cells spot free e into)
+    prepared_value : Xored into (prepared_value_steps e) m (number spot (bases_of m) m.cells e) im
+        (prepared_value_cells spot free e into)
         d
-    value_law = value_by (number spot (bases_of m) m.cells e) refl
+    prepared_value = value_by (number spot (bases_of m) m.cells e) refl
 
     test_by : (r : Result ℕ ℕ) → number spot (bases_of m) m.cells e ≡ r
-        → Xored into (test_steps e) m (truth_of r) im (test_cells spot free e into) d
+        → Xored into (prepared_test_steps e) m (truth_of r) im (prepared_test_cells spot free e into) d
     test_by (Ok v) n =
         let t = target_is into target in
         let fit = fit_of spot free e m ready sees in
         let f' : ℕ → ℕ = written (reg m) into (bit_xor (reg m into) (truth_word (is_true v))) in
         let back = test_into spot free b 0 0 0 e 0 m.cells fit f' v into n t in
         let there = test_into spot free b 0 0 0 e 0 m.cells fit (reg m) v into n t in
-        run_of (test_cells spot free e into) _ (test_steps e)
+        run_of (prepared_test_cells spot free e into) _ (prepared_test_steps e)
         (runs_along there (Rattle.expr_uncompute.proofs.Goes.goes_to refl refl
         (written_twice b (reg m) (keeping 0 0 0) m.cells into (truth_word (is_true v)) t) back) im d)
     test_by (Err c) n =
         let a = (both_more (omega arith) (into_traps spot free b 0 0 0 e 0 m.cells (fit_of spot free e m ready sees)
         (reg m) c (truth_cells truth (result_of e)) (xor into truth ∷ []) n)).runs im d in
-        (a.0, a.1, subst (λ z. Runs im (test_cells spot free e into) d z (Trapped c a.0)) (sym same) a.2)
+        (a.0, a.1, subst (λ z. Runs im (prepared_test_cells spot free e into) d z (Trapped c a.0)) (sym same) a.2)
+
+    prepared_test : Xored into (prepared_test_steps e) m (truth_of (number spot (bases_of m) m.cells e)) im
+        (prepared_test_cells spot free e into) d
+    prepared_test = test_by (number spot (bases_of m) m.cells e) refl
+
+    -- and with its parts in registers, where there are enough
+    pub value_law : Xored into (value_steps e) m (number spot (bases_of m) m.cells e) im (value_cells spot free e into)
+        d
+    value_law = by (is_held e) refl
+      where
+        by : (t : Bool) → is_held e ≡ t → Xored into (if t then held_value_steps e else prepared_value_steps e) m
+            (number spot (bases_of m) m.cells e) im
+            (if t then held_value_cells spot e into else prepared_value_cells spot free e into) d
+        by true q = HeldLaws.held_value spot free into e m target ready sees (held_few e q) im d
+        by false q = prepared_value
 
     pub test_law : Xored into (test_steps e) m (truth_of (number spot (bases_of m) m.cells e)) im
         (test_cells spot free e into) d
-    test_law = test_by (number spot (bases_of m) m.cells e) refl
+    test_law = by (is_held e) refl
+      where
+        by : (t : Bool) → is_held e ≡ t → Xored into (if t then held_test_steps e else prepared_test_steps e) m
+            (truth_of (number spot (bases_of m) m.cells e)) im
+            (if t then held_test_cells spot e into else prepared_test_cells spot free e into) d
+        by true q = HeldLaws.held_test spot free into e m target ready sees (held_few e q) im d
+        by false q = prepared_test

@@ -1,5 +1,7 @@
 -- The cells of value code, in its linear form.
-use Rattle.std.specs.Prelude.{ℕ, ◌+◌, ◌<◌, ◌⊎◌, nat_eq, Bool, ◌&&◌, not, if◌then◌else◌, List, []}
+use Rattle.std.specs.Prelude.{ℕ, ◌+◌, ◌<◌, ◌⊎◌, nat_eq, Bool, true, false, ◌&&◌, not, if◌then◌else◌}
+use Rattle.std.specs.Prelude.{List}
+use Rattle.std.specs.Prelude.{[]}
 use Rattle.std.specs.Prelude.{◌∷◌, ◌++◌}
 use Rattle.rpp_tree.specs.declared.tree.BinOp.{BinOp}
 use Rattle.rpp_tree.specs.declared.tree.BinOp.TheVariants as op
@@ -15,11 +17,17 @@ use Rattle.pisa_isa.specs.declared.cell.Op.TheVariants.{Exch}
 use Rattle.paired_code.specs.declared.part.Symbol.{Symbol}
 use Rattle.paired_code.specs.declared.part.Symbol.TheVariants.{Own}
 use Rattle.paired_code.specs.Layout.{mirror_cells, check_cells}
+use Rattle.code_conventions.specs.declared.memory.TheConstants.{HEADER_WORDS}
 use Rattle.code_conventions.specs.declared.faults.TheConstants.{NIL, INDEX, SHARED_ARRAY}
 use Rattle.refine_form.specs.declared.spot.Spot.{Spot}
 use Rattle.refine_form.specs.declared.spot.Spot.TheVariants.{Field, Frame}
 use Rattle.code_scope.specs.Visible.{offset_of}
 use Rattle.expr_uncompute.specs.Number.{index_of}
+use Rattle.expr_uncompute.specs.declared.held.Kind.{Kind}
+use Rattle.expr_uncompute.specs.declared.held.Kind.TheVariants.{Changes, Gives, Joins, Neither}
+use Rattle.expr_uncompute.specs.Held.{kind, past, need, told_need, left_at, right_at, is_held}
+use Rattle.expr_uncompute.specs.Held.{is_variable, is_literal, literal_in, is_zero, spot_in}
+use Rattle.expr_uncompute.specs.Held.{is_truth}
 
 -- ---- the registers
 
@@ -210,7 +218,7 @@ compare_cells x y =
 
 -- the address of the element in the array's register
 abbrev pub point_cells : List Symbol
-point_cells = add right_operand left_operand ∷ addi right_operand 2 ∷ []
+point_cells = add right_operand left_operand ∷ addi right_operand HEADER_WORDS ∷ []
 
 -- the register that has the value of an opened expression
 abbrev pub result_of : Expression → ℕ
@@ -308,6 +316,130 @@ module _ (spot : List ℕ → Spot) where
   both_apart_cells left right = apart_cells left (index_of left) (index_of right)
       ++ apart_cells right (index_of left) (index_of right)
 
+-- ---- parts in registers, over memory that stays as it is
+
+-- the registers of parts, in order
+abbrev pub part : ℕ → ℕ
+part k = left_operand + k
+
+abbrev pub change_cells : BinOp → (d s : ℕ) → List Symbol
+change_cells op.Add d s = add d s ∷ []
+change_cells op.Sub d s = sub d s ∷ []
+change_cells _ d s = xor d s ∷ []
+
+-- the same by a number
+abbrev pub literal_cells : BinOp → (d word : ℕ) → List Symbol
+literal_cells op.Add d word = addi d word ∷ []
+literal_cells op.Sub d word = addi d (difference_of 0 word) ∷ []
+literal_cells _ d word = xori d word ∷ []
+
+-- the result xored into a register
+abbrev pub give_cells : BinOp → (d a s : ℕ) → List Symbol
+give_cells op.And d a s = andx d a s ∷ []
+give_cells op.Or d a s = orx d a s ∷ []
+give_cells op.AndAlso d a s = andx d a s ∷ []
+give_cells op.OrElse d a s = orx d a s ∷ []
+give_cells op.Less d a s = sltx d a s ∷ []
+give_cells op.Greater d a s = sltx d s a ∷ []
+give_cells op.AtMost d a s = sltx d s a ∷ xori d 1 ∷ []
+give_cells op.AtLeast d a s = sltx d a s ∷ xori d 1 ∷ []
+give_cells op.Equal d a s = sltx d a s ∷ sltx d s a ∷ xori d 1 ∷ []
+give_cells op.NotEqual d a s = sltx d a s ∷ sltx d s a ∷ []
+give_cells _ d a s = []
+
+-- what stands before an operator, by the cells that open its operands: whether the right one is a
+-- number that needs no register, and whether each is a variable
+abbrev pub before : (z l r : Bool) → (w v : List Symbol) → List Symbol
+before z l r w v = if z then (if l then [] else w)
+    else (if r then w else (if l then v else w ++ v))
+
+-- and the operator's cells with its operands: their spots and their registers
+abbrev pub core : (z l r : Bool) → (x y : Spot) → (a s : ℕ) → (ℕ → ℕ → List Symbol) → List Symbol
+core z l r x y a s mid =
+    if z then (if l then around (reach_cells x) (mid content nought) else mid a nought)
+    else (if r then around (reach_cells y) (mid a content)
+    else (if l then around (reach_cells x) (mid content s) else mid a s))
+
+-- the truth of what was opened past register k, in that register; a truth is in it already
+abbrev pub told_cells : Bool → List Symbol → (k : ℕ) → List Symbol
+told_cells true w k = w
+told_cells false w k = w ++ truth_cells (part k) (part (k + 1))
+
+-- what opens an operator's operands over register k, by their cells
+abbrev pub before_cells : Kind → (left right : Expression) → (w v : List Symbol) → (k : ℕ)
+    → List Symbol
+before_cells Changes left right w v k =
+    before (is_literal right) false (is_variable right) w v
+before_cells Gives left right w v k =
+    before (is_zero right) (is_variable left) (is_variable right) w v
+before_cells Joins left right w v k = told_cells (is_truth left) w (k + 1)
+    ++ told_cells (is_truth right) v (k + 1 + told_need left)
+before_cells Neither left right w v k = []
+
+abbrev pub operands_cells : Expression → (w v : List Symbol) → (k : ℕ) → List Symbol
+operands_cells (Binary at o left right) w v k = before_cells (kind o) left right w v k
+operands_cells _ w v k = []
+
+module _ (spot : List ℕ → Spot) where
+  -- the operator itself over register k
+  abbrev pub core_cells : Kind → BinOp → (left right : Expression) → (k : ℕ) → List Symbol
+  core_cells Changes o left right k =
+      if is_literal right then literal_cells o (part k) (literal_in right)
+      else core false false (is_variable right) (spot_in spot left) (spot_in spot right) (part k)
+      (part (k + need left)) (λ a s. change_cells o a s)
+  core_cells Gives o left right k = core (is_zero right) (is_variable left) (is_variable right)
+      (spot_in spot left) (spot_in spot right) (part (k + 1)) (part (k + 1 + need left))
+      (λ a s. give_cells o (part k) a s)
+  core_cells Joins o left right k =
+      give_cells o (part k) (part (k + 1)) (part (k + 1 + told_need left))
+  core_cells Neither o left right k = []
+
+  abbrev pub operated_cells : Kind → BinOp → (left right : Expression) → (w v : List Symbol)
+      → (k : ℕ) → List Symbol
+  operated_cells c o left right w v k = before_cells c left right w v k
+      ++ core_cells c o left right k
+
+  -- the value of an expression in register k, which was 0 as those above it
+  abbrev pub held_cells : Expression → (k : ℕ) → List Symbol
+  held_cells (Number at word) k = xori (part k) word ∷ []
+  held_cells (Null at) k = xori (part k) 0 ∷ []
+  held_cells (Variable name) k = copy_cells (spot name.text) (part k)
+  held_cells (Element name index) k = []
+  held_cells (Binary at o left right) k = operated_cells (kind o) o left right
+      (held_cells left (left_at (kind o) (is_truth left) k))
+      (held_cells right (right_at (kind o) (is_truth left) (is_truth right) (need left) k)) k
+
+  -- ---- the value xored into a register: what an operator gives goes there straight
+
+  abbrev pub given_cells : Kind → BinOp → (left right : Expression) → Expression → (into : ℕ)
+      → List Symbol
+  given_cells Gives o left right e into =
+      around (before (is_zero right) (is_variable left) (is_variable right) (held_cells left 0)
+      (held_cells right (need left)))
+      (core (is_zero right) (is_variable left) (is_variable right) (spot_in spot left)
+      (spot_in spot right) (part 0) (part (need left)) (λ a s. give_cells o into a s))
+  given_cells Joins o left right e into =
+      around (told_cells (is_truth left) (held_cells left (past (is_truth left) 0)) 0
+      ++ told_cells (is_truth right) (held_cells right (past (is_truth right) (told_need left)))
+      (told_need left)) (give_cells o into (part 0) (part (told_need left)))
+  given_cells _ o left right e into = around (held_cells e 0) (xor into (part 0) ∷ [])
+
+  abbrev pub held_value_cells : Expression → (into : ℕ) → List Symbol
+  held_value_cells (Binary at o left right) into =
+      given_cells (kind o) o left right (Binary at o left right) into
+  held_value_cells e into = around (held_cells e 0) (xor into (part 0) ∷ [])
+
+  -- and its truth
+  abbrev pub held_test_cells : Expression → (into : ℕ) → List Symbol
+  held_test_cells e into = if is_truth e then held_value_cells e into
+      else around (held_cells e 0) (truth_cells into (part 0))
+
+  -- ---- a word updated by the value, whose parts are opened once
+
+  abbrev pub held_update_cells : UpdateOp → Spot → Expression → List Symbol
+  held_update_cells op s e = around (held_cells e 0)
+      (around (reach_cells s) (update_cell op content (part 0) ∷ []))
+
 module _ (spot : List ℕ → Spot) (free : ℕ) where
   -- the value of an operand xored into a register: a word of the frame has it, from i on, where it
   -- is no leaf
@@ -362,15 +494,24 @@ module _ (spot : List ℕ → Spot) (free : ℕ) where
   -- ---- values, tests, updates and swaps
 
   -- the value of an expression xored into a register
-  abbrev pub value_cells : Expression → (into : ℕ) → List Symbol
-  value_cells e into = around (parts_cells e 0)
+  abbrev pub prepared_value_cells : Expression → (into : ℕ) → List Symbol
+  prepared_value_cells e into = around (parts_cells e 0)
       (around (open_cells e 0) (xor into (result_of e) ∷ []))
 
   -- whether it is true xored into a register
-  abbrev pub test_cells : Expression → (into : ℕ) → List Symbol
-  test_cells e into =
+  abbrev pub prepared_test_cells : Expression → (into : ℕ) → List Symbol
+  prepared_test_cells e into =
       around (parts_cells e 0) (around (open_cells e 0 ++ truth_cells truth (result_of e))
       (xor into truth ∷ []))
+
+  -- the same with parts in registers, where there are enough
+  abbrev pub value_cells : Expression → (into : ℕ) → List Symbol
+  value_cells e into = if is_held e then held_value_cells spot e into
+      else prepared_value_cells e into
+
+  abbrev pub test_cells : Expression → (into : ℕ) → List Symbol
+  test_cells e into = if is_held e then held_test_cells spot e into
+      else prepared_test_cells e into
 
   -- the address of a place in a register
   abbrev pub place_cells : Lvalue → (i into : ℕ) → List Symbol
@@ -403,12 +544,20 @@ module _ (spot : List ℕ → Spot) (free : ℕ) where
   found_update_cells op target value =
       around (found_value_cells target value) (update_middle op)
 
+  -- of a variable by a value with an operator
+  abbrev pub operated_update_cells : UpdateOp → Ident → Expression → List Symbol
+  operated_update_cells op name e = if is_held e
+      then held_update_cells spot op (spot name.text) e
+      else found_update_cells op (Whole name) e
+
   -- of a variable: by a number or another variable it needs no address in a register
   abbrev pub whole_update_cells : UpdateOp → Ident → Expression → List Symbol
   whole_update_cells op name (Number at word) =
       around (reach_cells (spot name.text)) (number_cell op content word ∷ [])
   whole_update_cells op name (Variable other) =
       around (both_reached (spot other.text) (spot name.text)) (update_cell op content amount ∷ [])
+  whole_update_cells op name (Binary at o left right) =
+      operated_update_cells op name (Binary at o left right)
   whole_update_cells op name value = found_update_cells op (Whole name) value
 
   abbrev pub update_cells : UpdateOp → Lvalue → Expression → List Symbol

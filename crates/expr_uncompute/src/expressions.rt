@@ -19,8 +19,8 @@ use std::alloc::Global;
 
 /// The value of an expression xored into the register `into`, in both directions, or a stop with
 /// the fault that its evaluation meets first: 5 where an array is nil, 9 where an index, a word
-/// without sign, is not below the length. No other register differs then, and no cell: each
-/// element and operator is computed once into its word of the frame behind the variables, and
+/// without sign, is not below the length. No other register differs then, and no cell: each part
+/// is computed once, into a register or into its word of the frame behind the variables, and
 /// uncomputed, as Axelsen does for values of reversible programs. Registers 5 to 10 and 16 to 24
 /// are 0 before and after. The only error is that memory ran out.
 pub fn value_code(alloc: Global, e: &Expr, scope: &Scope, into: u8) -> Result<Piece, NoMemory>

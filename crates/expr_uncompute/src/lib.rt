@@ -9,6 +9,7 @@ mod around;
 mod cells;
 mod expressions;
 mod found;
+mod held;
 mod middles;
 mod places;
 mod rows;

@@ -1,9 +1,10 @@
 // The code of updates and swaps.
-ghost use Rattle.std.specs.Prelude.{◌≡◌, ◌<◌, ◌≤◌, ◌+◌, ◌*◌, ◌^◌, [], ◌∷◌, length, IfOk};
+ghost use Rattle.std.specs.Prelude.{◌≡◌, ◌≢◌, ◌<◌, ◌≤◌, ◌+◌, ◌*◌, ◌^◌, [], ◌∷◌, length, IfOk};
 ghost use Rattle.rpp_tree.specs.Tree.{Whole};
 ghost use Rattle.rpp_tree.specs.Views.{expression_of, lvalue_of};
 ghost use Rattle.paired_code.specs.Code.{unmarked};
-ghost use Rattle.expr_uncompute.specs.Code.{words as words_of, place_words as words_of_place, around, reach_cells, update_cell as cell_of_update, number_cell as cell_of_number, onward as onward_cell, from_object as onward_from_object, from_frame as onward_from_frame_cell, both_reached as both_reached_cells, found_update_cells, whole_update_cells, update_cells, four_exchanges as four_of, swap_at as swap_at_cells, beyond as beyond_cells, swap_by_one as swap_by_one_cells, have_one_base as one_base, swap_spots as swap_spots_cells, found_swap_cells, whole_swap_cells, swap_cells};
+ghost use Rattle.expr_uncompute.specs.Code.{words as words_of, place_words as words_of_place, around, reach_cells, update_cell as cell_of_update, number_cell as cell_of_number, onward as onward_cell, from_object as onward_from_object, from_frame as onward_from_frame_cell, both_reached as both_reached_cells, found_update_cells, held_update_cells, operated_update_cells, whole_update_cells, update_cells, four_exchanges as four_of, swap_at as swap_at_cells, beyond as beyond_cells, swap_by_one as swap_by_one_cells, have_one_base as one_base, swap_spots as swap_spots_cells, found_swap_cells, whole_swap_cells, swap_cells};
+ghost use Rattle.expr_uncompute.specs.Held.{need as need_of};
 ghost use Rattle.expr_uncompute.specs.Number.{read_of};
 ghost use Rattle.expr_uncompute.specs.Promises.{UpdateLaw, SwapLaw};
 ghost use Rattle.expr_uncompute.specs.Sizes.{swap_size};
@@ -13,7 +14,8 @@ ghost use Rattle.code_scope.specs.Visible.{offset_of, spot_of as spot_of_name, f
 use crate::apart::both_apart;
 use crate::cells::{add, addi, enclosed, exch, sub, xor, xori};
 use crate::found::{AMOUNT, OTHER_PLACE, PLACE, both_places, found_value};
-use crate::rows::{base, offset, reached};
+use crate::held::{held, is_held};
+use crate::rows::{LEFT, base, offset, reached};
 use code_conventions::registers::{CONTENT, FRAME, OBJECT};
 use code_scope::{Names, spot_of};
 use paired_code::{Piece, seq};
@@ -26,13 +28,15 @@ const FIRST_WORD: u8 = 22;
 
 const SECOND_WORD: u8 = 23;
 
-fn update_cell(alloc: Global, op: UpdateOp) -> Result<Piece, NoMemory>
-    ensures { IfOk result (λ p. p ≡ unmarked (cell_of_update op CONTENT AMOUNT ∷ [])) }
+fn update_cell(alloc: Global, op: UpdateOp, by: u8) -> Result<Piece, NoMemory>
+    requires register { by < 32 }
+    requires apart { CONTENT ≢ by }
+    ensures { IfOk result (λ p. p ≡ unmarked (cell_of_update op CONTENT by ∷ [])) }
 {
     match op {
-        UpdateOp::Add => add(alloc, CONTENT, AMOUNT),
-        UpdateOp::Sub => sub(alloc, CONTENT, AMOUNT),
-        UpdateOp::Xor => xor(alloc, CONTENT, AMOUNT),
+        UpdateOp::Add => add(alloc, CONTENT, by),
+        UpdateOp::Sub => sub(alloc, CONTENT, by),
+        UpdateOp::Xor => xor(alloc, CONTENT, by),
     }
 }
 
@@ -111,7 +115,7 @@ fn by_variable(alloc: Global, op: UpdateOp, x: Spot, y: Spot) -> Result<Piece, N
         p ≡ unmarked (around (both_reached_cells x y) (cell_of_update op CONTENT AMOUNT ∷ []))) }
 {
     let outer = both_reached(alloc, x, y)?;
-    let middle = update_cell(alloc, op)?;
+    let middle = update_cell(alloc, op, AMOUNT)?;
     enclosed(alloc, outer, middle)
 }
 
@@ -129,10 +133,53 @@ fn by_value(
         (free_of (known_by names.now)) op (lvalue_of place.now) (expression_of value.now))) }
 {
     let outer = found_value(alloc, place, value, names)?;
-    let alter = update_cell(alloc, op)?;
+    let alter = update_cell(alloc, op, AMOUNT)?;
     let there = exch(alloc, CONTENT, PLACE)?;
     let middle = enclosed(alloc, there, alter)?;
     enclosed(alloc, outer, middle)
+}
+
+// A variable updated by a value whose parts stand in registers.
+fn by_held(
+    alloc: Global,
+    op: UpdateOp,
+    spot: Spot,
+    value: &Expr,
+    names: &Names,
+) -> Result<Piece, NoMemory>
+    requires small { offset_of spot < 2 ^ 32 }
+    requires room { words_of (expression_of value.now) ≤ 1000 }
+    requires few { need_of (expression_of value.now) < 10 }
+    ensures { IfOk result (λ p.
+        p ≡ unmarked (held_update_cells (spot_of_name (known_by names.now)) op spot
+        (expression_of value.now))) }
+{
+    let outer = held(alloc, names, value, 0)?;
+    let there = reached(alloc, spot)?;
+    let alter = update_cell(alloc, op, LEFT)?;
+    let middle = enclosed(alloc, there, alter)?;
+    enclosed(alloc, outer, middle)
+}
+
+// A variable updated by a value with an operator.
+fn whole_by_operator(
+    alloc: Global,
+    op: UpdateOp,
+    place: &Place,
+    value: &Expr,
+    names: &Names,
+) -> Result<Piece, NoMemory>
+    requires room { words_of (expression_of value.now) ≤ 1000 }
+    requires whole { lvalue_of place.now ≡ Whole place.now.name }
+    ensures { IfOk result (λ p.
+        p ≡ unmarked (operated_update_cells (spot_of_name (known_by names.now))
+        (free_of (known_by names.now)) op place.now.name (expression_of value.now))) }
+{
+    if is_held(value) {
+        by_held(alloc, op, spot_of(names, &place.name.text), value, names)
+    } else {
+        by_value(alloc, op, place, value, names)
+    }
 }
 
 // A variable updated by a place that is read.
@@ -181,7 +228,7 @@ fn whole_update(
         }
         Expr::Nil { .. } => by_value(alloc, op, place, value, names),
         Expr::Read(read) => whole_by_place(alloc, op, place, read, value, names),
-        Expr::Binary { .. } => by_value(alloc, op, place, value, names),
+        Expr::Binary { .. } => whole_by_operator(alloc, op, place, value, names),
     }
 }
 

@@ -2,13 +2,14 @@
 ghost use Rattle.std.specs.Prelude.{◌≡◌, ◌≢◌, ◌<◌, ◌≤◌, ◌⊎◌, ◌+◌, ◌*◌, ◌++◌, length, IfOk};
 ghost use Rattle.rpp_tree.specs.Views.{expression_of, lvalue_of};
 ghost use Rattle.paired_code.specs.Code.{unmarked};
-ghost use Rattle.expr_uncompute.specs.Code.{Target, words as words_of, place_words as words_of_place, copy_cells, operand_cells, checked_cells as checked_of, open_cells, prepare_cells, parts_cells, value_cells, test_cells, result_of, nil_check as nil_cells, index_check as index_cells};
+ghost use Rattle.expr_uncompute.specs.Code.{Target, words as words_of, place_words as words_of_place, copy_cells, operand_cells, checked_cells as checked_of, open_cells, prepare_cells, parts_cells, prepared_value_cells, prepared_test_cells, value_cells, test_cells, result_of, nil_check as nil_cells, index_check as index_cells};
 ghost use Rattle.expr_uncompute.specs.Number.{read_of};
 ghost use Rattle.expr_uncompute.specs.Promises.{ValueLaw, TestLaw};
 ghost use Rattle.expr_uncompute.specs.Steps.{tokens};
 ghost use Rattle.code_scope.specs.Visible.{spot_of as spot_of_name, free_of, known_by};
 
 use crate::cells::{enclosed, exch, xor, xori};
+use crate::held::{held_test, held_value, is_held};
 use crate::rows::{
     LEFT, RIGHT, copy, index_check, nil_check, operator, operator_register, point, reached, store,
     truth,
@@ -292,6 +293,50 @@ pub fn result_register(e: &Expr) -> u8
     }
 }
 
+fn prepared_value(alloc: Global, e: &Expr, names: &Names, into: u8) -> Result<Piece, NoMemory>
+    requires register { Target into }
+    requires room { words_of (expression_of e.now) ≤ 1000 }
+    ensures { IfOk result (λ p.
+        p ≡ unmarked (prepared_value_cells (spot_of_name (known_by names.now))
+        (free_of (known_by names.now)) (expression_of e.now) into)) }
+{
+    let outer = parts(alloc, names, e, 0)?;
+    let opened = open(alloc, names, e, 0)?;
+    let last = xor(alloc, into, result_register(e))?;
+    let middle = enclosed(alloc, opened, last)?;
+    enclosed(alloc, outer, middle)
+}
+
+fn prepared_test(alloc: Global, e: &Expr, names: &Names, into: u8) -> Result<Piece, NoMemory>
+    requires register { Target into }
+    requires room { words_of (expression_of e.now) ≤ 1000 }
+    ensures { IfOk result (λ p.
+        p ≡ unmarked (prepared_test_cells (spot_of_name (known_by names.now))
+        (free_of (known_by names.now)) (expression_of e.now) into)) }
+{
+    let outer = parts(alloc, names, e, 0)?;
+    let opened = open(alloc, names, e, 0)?;
+    let told = truth(alloc, TRUTH, result_register(e))?;
+    let opened = seq(opened, told)?;
+    let last = xor(alloc, into, TRUTH)?;
+    let middle = enclosed(alloc, opened, last)?;
+    enclosed(alloc, outer, middle)
+}
+
+fn chosen_value(alloc: Global, e: &Expr, names: &Names, into: u8) -> Result<Piece, NoMemory>
+    requires register { Target into }
+    requires room { words_of (expression_of e.now) ≤ 1000 }
+    ensures { IfOk result (λ p.
+        p ≡ unmarked (value_cells (spot_of_name (known_by names.now)) (free_of (known_by names.now))
+        (expression_of e.now) into)) }
+{
+    if is_held(e) {
+        held_value(alloc, e, names, into)
+    } else {
+        prepared_value(alloc, e, names, into)
+    }
+}
+
 /// The value of an expression xored into a register.
 pub fn value_piece(alloc: Global, e: &Expr, names: &Names, into: u8) -> Result<Piece, NoMemory>
     requires register { Target into }
@@ -304,11 +349,21 @@ pub fn value_piece(alloc: Global, e: &Expr, names: &Names, into: u8) -> Result<P
         (expression_of e.now) p.cells) }
     ensures size { IfOk result (λ p. length p.cells ≤ 58 * tokens (expression_of e.now)) }
 {
-    let outer = parts(alloc, names, e, 0)?;
-    let opened = open(alloc, names, e, 0)?;
-    let last = xor(alloc, into, result_register(e))?;
-    let middle = enclosed(alloc, opened, last)?;
-    enclosed(alloc, outer, middle)
+    chosen_value(alloc, e, names, into)
+}
+
+fn chosen_test(alloc: Global, e: &Expr, names: &Names, into: u8) -> Result<Piece, NoMemory>
+    requires register { Target into }
+    requires room { words_of (expression_of e.now) ≤ 1000 }
+    ensures { IfOk result (λ p.
+        p ≡ unmarked (test_cells (spot_of_name (known_by names.now)) (free_of (known_by names.now))
+        (expression_of e.now) into)) }
+{
+    if is_held(e) {
+        held_test(alloc, e, names, into)
+    } else {
+        prepared_test(alloc, e, names, into)
+    }
 }
 
 /// Whether it is true xored into a register.
@@ -323,11 +378,5 @@ pub fn test_piece(alloc: Global, e: &Expr, names: &Names, into: u8) -> Result<Pi
         (expression_of e.now) p.cells) }
     ensures size { IfOk result (λ p. length p.cells ≤ 58 * tokens (expression_of e.now)) }
 {
-    let outer = parts(alloc, names, e, 0)?;
-    let opened = open(alloc, names, e, 0)?;
-    let told = truth(alloc, TRUTH, result_register(e))?;
-    let opened = seq(opened, told)?;
-    let last = xor(alloc, into, TRUTH)?;
-    let middle = enclosed(alloc, opened, last)?;
-    enclosed(alloc, outer, middle)
+    chosen_test(alloc, e, names, into)
 }

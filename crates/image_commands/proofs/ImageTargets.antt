@@ -14,7 +14,8 @@ use Rattle.pisa_asm.specs.Passes.{noted_of_text}
 use Rattle.pisa_machine.specs.Position.{Position}
 use Rattle.pisa_isa.specs.Machine.{State}
 use Rattle.command_plan.specs.Plans.{Planned, WritesOnly}
-use Rattle.image_commands.specs.ImagePlans.{OfImage, IsAsmPlan, AssemblesFile, ListsFile, FlipsFile, RunsFile}
+use Rattle.image_commands.specs.ImagePlans.{OfImage, OfRunImage, IsAsmPlan, AssemblesFile, ListsFile, FlipsFile}
+use Rattle.image_commands.specs.ImagePlans.{RunsFile}
 use Rattle.image_commands.specs.ImagePlans.{IsListPlan, IsFlipPlan, IsRunPlan, IsSizedPlan, IsRanPlan, first_of, saved}
 use Rattle.two_way_debugger.specs.declared.command.Command.{Command}
 use Rattle.two_way_debugger.specs.declared.error.ScriptError.{ScriptError}
@@ -27,6 +28,12 @@ image_writes : (read : Result NotedImage ImageError) (P : NotedImage → Planned
     (p : Planned) → ((n : NotedImage) (q : Planned) → P n q → WritesOnly q name) → OfImage P read p → WritesOnly p name
 image_writes (Err e) P name p f h = along p _ name h (inl refl)
 image_writes (Ok image) P name p f h = f image p h
+
+run_image_writes : (read : Result NotedImage ImageError) (P : NotedImage → Planned → Type 0) (name : Option (List ℕ))
+    (count counted : ℕ) (p : Planned) → ((n : NotedImage) (q : Planned) → P n q → WritesOnly q name)
+    → OfRunImage count counted P read p → WritesOnly p name
+run_image_writes (Err e) P name count counted p f h = along p _ name h.0 (inl refl)
+run_image_writes (Ok image) P name count counted p f h = f image p h
 
 asm_writes : (read : Result NotedImage AsmError) (name : List ℕ) (p : Planned) → IsAsmPlan read name p
     → WritesOnly p (Some name)
@@ -45,20 +52,22 @@ saved_name : (save : Option (List ℕ)) (last : State) → option_map (λ w. w.n
 saved_name None last = refl
 saved_name (Some name) last = refl
 
-ran_writes : (first : Result Position LoadError) (notes : NoteLists) (save : Option (List ℕ)) (steps : ℕ) (p : Planned)
-    → IsRanPlan first notes save steps p → WritesOnly p save
-ran_writes (Err e) notes save steps p h = along p _ save h (inl refl)
-ran_writes (Ok first) notes save steps p h = along p _ save h (inr (saved_name save _))
+ran_writes : (first : Result Position LoadError) (notes : NoteLists) (save : Option (List ℕ))
+    (steps count counted : ℕ) (p : Planned) → IsRanPlan first notes save steps count counted p → WritesOnly p save
+ran_writes (Err e) notes save steps count counted p h = along p _ save h.0 (inl refl)
+ran_writes (Ok first) notes save steps count counted p h = along p _ save h.0 (inr (saved_name save _))
 
 sized_writes : (refusal : Option LoadError) (n : NotedImage) (limits : Limits) (state save : Option (List ℕ))
-    (steps : ℕ) (p : Planned) → IsSizedPlan refusal n limits state save steps p → WritesOnly p save
-sized_writes (Some e) n limits state save steps p h = along p _ save h (inl refl)
-sized_writes None n limits state save steps p h = ran_writes (first_of n.image limits state) n.notes save steps p h
+    (steps count counted : ℕ) (p : Planned) → IsSizedPlan refusal n limits state save steps count counted p
+    → WritesOnly p save
+sized_writes (Some e) n limits state save steps count counted p h = along p _ save h.0 (inl refl)
+sized_writes None n limits state save steps count counted p h =
+    ran_writes (first_of n.image limits state) n.notes save steps count counted p h
 
-run_writes : (read : Result NotedImage ImageError) (heap deep steps : ℕ) (state save : Option (List ℕ)) (p : Planned)
-    → IsRunPlan read heap deep steps state save p → WritesOnly p save
-run_writes read heap deep steps state save p h = image_writes read _ save p
-    (λ n q k. sized_writes _ n _ state save steps q k) h
+run_writes : (read : Result NotedImage ImageError) (heap deep steps : ℕ) (state save : Option (List ℕ))
+    (count counted : ℕ) (p : Planned) → IsRunPlan read heap deep steps state save count counted p → WritesOnly p save
+run_writes read heap deep steps state save count counted p h = run_image_writes read _ save count counted p
+    (λ n q k. sized_writes _ n _ state save steps count counted q k) h
 
 pub assembles_file_writes : (text image : List ℕ) (told : Option Texts) (p : Planned) → AssemblesFile text image told p
     → WritesOnly p (Some image)
@@ -72,28 +81,30 @@ pub flips_file_writes : (image flipped : List ℕ) (told : Option Texts) (p : Pl
     → WritesOnly p (Some flipped)
 flips_file_writes image flipped told p h = flip_writes (image_at h.text) flipped p h.holds
 
-pub runs_file_writes : (image : List ℕ) (heap deep steps : ℕ) (state save : Option (List ℕ))
-    (told : Option Texts) (p : Planned) → RunsFile image heap deep steps state save told p → WritesOnly p save
-runs_file_writes image heap deep steps state save told p h =
-    run_writes (image_at h.text) heap deep steps h.holds.text save p h.holds.holds
+pub runs_file_writes : (image : List ℕ) (heap deep steps : ℕ) (state save : Option (List ℕ)) (count counted : ℕ)
+    (told : Option Texts) (p : Planned) → RunsFile image heap deep steps state save count counted told p
+    → WritesOnly p save
+runs_file_writes image heap deep steps state save count counted told p h =
+    run_writes (image_at h.text) heap deep steps h.holds.text save count counted p h.holds.holds
 
-script_writes : (read : Result (List Command) ScriptError) (image : Segments) (limits : Limits) (p : Planned)
-    → IsScriptPlan read image limits p → WritesOnly p None
-script_writes (Err (BadCommand line)) image limits p h = along p _ None h (inl refl)
-script_writes (Err NoMemory) image limits p h = absurd h
-script_writes (Ok commands) image limits p h = along p _ None h (inl refl)
+script_writes : (read : Result (List Command) ScriptError) (image : Segments) (limits : Limits) (count counted : ℕ)
+    (p : Planned) → IsScriptPlan read image limits count counted p → WritesOnly p None
+script_writes (Err (BadCommand line)) image limits count counted p h = along p _ None h.0 (inl refl)
+script_writes (Err NoMemory) image limits count counted p h = absurd h
+script_writes (Ok commands) image limits count counted p h = along p _ None h.0 (inl refl)
 
-room_writes : (refusal : Option LoadError) (image : Segments) (limits : Limits) (script : List ℕ) (p : Planned)
-    → IsRoomPlan refusal image limits script p → WritesOnly p None
-room_writes (Some e) image limits script p h = along p _ None h (inl refl)
-room_writes None image limits script p h = script_writes (script_of script) image limits p h
+room_writes : (refusal : Option LoadError) (image : Segments) (limits : Limits) (script : List ℕ) (count counted : ℕ)
+    (p : Planned) → IsRoomPlan refusal image limits script count counted p → WritesOnly p None
+room_writes (Some e) image limits script count counted p h = along p _ None h.0 (inl refl)
+room_writes None image limits script count counted p h =
+    script_writes (script_of script) image limits count counted p h
 
-debug_writes : (read : Result NotedImage ImageError) (heap deep : ℕ) (script : List ℕ) (p : Planned)
-    → IsDebugPlan read heap deep script p → WritesOnly p None
-debug_writes read heap deep script p h = image_writes read _ None p
-    (λ image q k. room_writes _ image.image _ script q k) h
+debug_writes : (read : Result NotedImage ImageError) (heap deep : ℕ) (script : List ℕ) (count counted : ℕ)
+    (p : Planned) → IsDebugPlan read heap deep script count counted p → WritesOnly p None
+debug_writes read heap deep script count counted p h = run_image_writes read _ None count counted p
+    (λ image q k. room_writes _ image.image _ script count counted q k) h
 
-pub debugs_file_writes : (image : List ℕ) (heap deep : ℕ) (script : List ℕ) (told : Option Texts) (p : Planned)
-    → DebugsFile image heap deep script told p → WritesOnly p None
-debugs_file_writes image heap deep script told p h =
-    debug_writes (image_at h.text) heap deep h.holds.text p h.holds.holds
+pub debugs_file_writes : (image : List ℕ) (heap deep : ℕ) (script : List ℕ) (count counted : ℕ)
+    (told : Option Texts) (p : Planned) → DebugsFile image heap deep script count counted told p → WritesOnly p None
+debugs_file_writes image heap deep script count counted told p h =
+    debug_writes (image_at h.text) heap deep h.holds.text count counted p h.holds.holds

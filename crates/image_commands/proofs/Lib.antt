@@ -1,1 +1,2 @@
 pub mod ImageTargets
+mod Short

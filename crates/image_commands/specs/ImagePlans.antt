@@ -1,5 +1,6 @@
--- The plans of the commands on images.
-use Rattle.std.specs.Prelude.{◌≡◌, ℕ, List, [], length, None, Some, Result, Ok, Err, codes}
+-- The plans of the commands on images. Of the machine steps that a command makes, `count` is their
+-- counter as it is handed in, and `counted` as it is left.
+use Rattle.std.specs.Prelude.{◌≡◌, ℕ, ◌+◌, List, [], length, None, Some, Result, Ok, Err, codes}
 use Rattle.std.specs.declared.option.Option.{Option}
 use Rattle.rpp_ports.specs.Ports.{Texts}
 use Rattle.pisa_image.specs.Reading.{image_at}
@@ -58,6 +59,13 @@ abbrev pub OfImage : (P : NotedImage → Planned → Type 0) → Result NotedIma
 OfImage P (Err e) p = p ≡ prints ImageRefused (image_line e)
 OfImage P (Ok n) p = P n p
 
+-- the same of an image that is to be run: where it is refused, no step is made
+abbrev pub OfRunImage : (count counted : ℕ) → (P : NotedImage → Planned → Type 0)
+    → Result NotedImage ImageError → Planned → Type 0
+OfRunImage count counted P (Err e) p =
+    (p ≡ prints ImageRefused (image_line e)) × (counted ≡ count)
+OfRunImage count counted P (Ok n) p = P n p
+
 -- where a run of an image begins: at the loaded memory, or at a state
 abbrev pub first_of : Segments → Limits → Option (List ℕ) → Result Position LoadError
 first_of image limits None = Ok (first_position image zero_registers
@@ -65,25 +73,28 @@ first_of image limits None = Ok (first_position image zero_registers
 first_of image limits (Some bytes) =
     at_start image (state_at (memory_size (length image.statics) limits) bytes)
 
--- the state is judged, and then the run is made
+-- the state is judged, and then the run is made, once
 abbrev pub IsRanPlan : Result Position LoadError → NoteLists → (save : Option (List ℕ)) (steps : ℕ)
-    → Planned → Type 0
-IsRanPlan (Err e) notes save steps p = p ≡ prints ImageRefused (load_line e)
-IsRanPlan (Ok first) notes save steps p = p ≡ ran notes save
-    (run first.image.code steps first.state)
+    → (count counted : ℕ) → Planned → Type 0
+IsRanPlan (Err e) notes save steps count counted p =
+    (p ≡ prints ImageRefused (load_line e)) × (counted ≡ count)
+IsRanPlan (Ok first) notes save steps count counted p =
+    (p ≡ ran notes save (run first.image.code steps first.state))
+    × (counted ≡ count + (run first.image.code steps first.state).spent)
 
 -- the size of the memory is tried before the state
 abbrev pub IsSizedPlan : Option LoadError → NotedImage → Limits
-    → (state save : Option (List ℕ)) (steps : ℕ) → Planned → Type 0
-IsSizedPlan (Some e) n limits state save steps p = p ≡ prints InputRefused (load_line e)
-IsSizedPlan None n limits state save steps p =
-    IsRanPlan (first_of n.image limits state) n.notes save steps p
+    → (state save : Option (List ℕ)) (steps : ℕ) → (count counted : ℕ) → Planned → Type 0
+IsSizedPlan (Some e) n limits state save steps count counted p =
+    (p ≡ prints InputRefused (load_line e)) × (counted ≡ count)
+IsSizedPlan None n limits state save steps count counted p =
+    IsRanPlan (first_of n.image limits state) n.notes save steps count counted p
 
 abbrev pub IsRunPlan : Result NotedImage ImageError
-    → (heap deep steps : ℕ) (state save : Option (List ℕ)) → Planned → Type 0
-IsRunPlan read heap deep steps state save p =
-    OfImage (λ n. IsSizedPlan (limits_refusal heap deep MOST_DEEP) n
-    (record { heap = heap; deep = deep }) state save steps) read p
+    → (heap deep steps : ℕ) (state save : Option (List ℕ)) → (count counted : ℕ) → Planned → Type 0
+IsRunPlan read heap deep steps state save count counted p =
+    OfRunImage count counted (λ n. IsSizedPlan (limits_refusal heap deep MOST_DEEP) n
+    (record { heap = heap; deep = deep }) state save steps count counted) read p
 
 -- the image that an assembly text writes is written with its notes, or its first refusal is told
 abbrev pub IsAsmPlan : Result NotedImage AsmError → (name : List ℕ) → Planned → Type 0
@@ -119,8 +130,8 @@ FlipsFile image flipped told p =
 
 -- the plan of `run` of this file, from a state where one is named, to one where it is to be saved
 abbrev pub RunsFile : (image : List ℕ) → (heap deep steps : ℕ) → (state save : Option (List ℕ))
-    → Option Texts → Planned → Type 0
-RunsFile image heap deep steps state save told p =
+    → (count counted : ℕ) → Option Texts → Planned → Type 0
+RunsFile image heap deep steps state save count counted told p =
     WithText told image MOST_IMAGE
     (λ bytes. WithState told state (λ given. IsRunPlan (image_at bytes) heap deep steps given
-    save p))
+    save count counted p))

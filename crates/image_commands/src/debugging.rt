@@ -1,18 +1,18 @@
 // `debug IMG H D SCRIPT`: follows a script along the run of an image, both ways.
-ghost use Rattle.std.specs.Prelude.{◌≡◌, ◌≤◌, [], ◌∷◌, length, Ok, IfOk, IfSome, string_bytes};
+ghost use Rattle.std.specs.Prelude.{◌≡◌, ◌⊎◌, ◌≤◌, ◌+◌, [], ◌∷◌, length, Ok, IfOk, IfErr, OnOk, IfSome, string_bytes};
 ghost use Rattle.pisa_image.specs.Reading.{image_at};
 ghost use Rattle.pisa_loader.specs.Limiting.{limits_refusal};
 ghost use Rattle.rpp_words.specs.Limits.{IsLimits};
 ghost use Rattle.rpp_words.specs.declared.input.TheConstants.{MOST_DEEP};
 ghost use Rattle.two_way_debugger.specs.declared.script.TheConstants.{MOST_SCRIPT};
 ghost use Rattle.two_way_debugger.specs.Scripts.{script_of};
-ghost use Rattle.two_way_debugger.specs.Shown.{shown};
-ghost use Rattle.command_plan.specs.Files.{OnlyReads, image_file};
+ghost use Rattle.two_way_debugger.specs.Shown.{shown, spent_in};
+ghost use Rattle.command_plan.specs.Files.{OnlyReads, UnreadCause, image_file};
 ghost use Rattle.command_plan.specs.Plans.{planned, GivesPlan};
-ghost use Rattle.image_commands.specs.DebugPlans.{script_file, followed, IsScriptPlan, IsRoomPlan, IsDebugPlan, DebugsFile};
+ghost use Rattle.image_commands.specs.DebugPlans.{script_file, start_of, followed, IsScriptPlan, IsRoomPlan, IsDebugPlan, DebugsFile, MovesSome, IsScriptShort, IsRoomShort, IsDebugShort, DebugsFileShort};
 
 use command_plan::{
-    MOST_IMAGE, NoPlan, Plan, Verdict, bad_command_line, image_line, load_line, read_both,
+    MOST_IMAGE, NoPlan, Plan, Room, Verdict, bad_command_line, image_line, load_line, read_both,
 };
 use pisa_image::{ImageError, read_image};
 use pisa_isa::Image;
@@ -24,15 +24,9 @@ use std::alloc::Global;
 use std::sync::ledger::Ledger;
 use two_way_debugger::{Command, Debugger, MOST_SCRIPT, ScriptError, read_script};
 
-/// The sizes of a memory: the order of the heap, and the depth of the stack.
-#[derive(Clone, Copy, Debug, PartialEq, Eq)]
-pub struct Room {
-    pub heap: u64,
-    pub deep: u64,
-}
-
 /// Follows the script in a file along the run of the image in a file, from the loaded memory on,
-/// and tells what its commands print.
+/// and tells what its commands print. It makes the steps of their moves and no others, and none
+/// where a file cannot be read.
 pub fn debug<S: Shelf, L: Ledger>(
     alloc: Global,
     shelf: &mut S,
@@ -42,7 +36,10 @@ pub fn debug<S: Shelf, L: Ledger>(
     steps: &mut Steps<L>,
 ) -> Result<Plan, NoPlan>
     ensures plan { GivesPlan (S.texts shelf.old)
-        (DebugsFile image.now room.heap room.deep script.now) result }
+        (DebugsFile image.now room.heap room.deep script.now steps.old steps.new) result }
+    ensures unread { IfErr result (UnreadCause (steps.new ≡ steps.old)) }
+    ensures short { IfErr result (λ _. DebugsFileShort image.now room.heap room.deep script.now
+        steps.old steps.new (S.texts shelf.old)) }
     ensures reads { OnlyReads (S.texts shelf.old) (S.texts shelf.new) (S.faults shelf.old)
         (S.faults shelf.new)
         (image_file image.now ∷ script_file script.now ∷ []) result }
@@ -66,8 +63,10 @@ fn debug_over<L: Ledger>(
     steps: &mut Steps<L>,
 ) -> Result<Plan, NoMemory>
     requires { length script.now ≤ MOST_SCRIPT }
-    ensures { IfOk result (λ plan. IsDebugPlan (image_at bytes.now) room.heap room.deep script.now
-        (planned plan)) }
+    ensures plan { IfOk result (λ plan. IsDebugPlan (image_at bytes.now) room.heap room.deep
+        script.now steps.old steps.new (planned plan)) }
+    ensures short { IfErr result (λ _. (steps.new ≡ steps.old)
+        ⊎ IsDebugShort (image_at bytes.now) room.heap room.deep script.now steps.old steps.new) }
 {
     match read_image(alloc, bytes) {
         Ok(noted) => debug_sized(alloc, noted.into_parts().0, script, room, steps),
@@ -85,8 +84,12 @@ fn debug_sized<L: Ledger>(
     steps: &mut Steps<L>,
 ) -> Result<Plan, NoMemory>
     requires { length script.now ≤ MOST_SCRIPT }
-    ensures { IfOk result (λ plan. IsRoomPlan (limits_refusal room.heap room.deep MOST_DEEP) image
-        (record { heap = room.heap; deep = room.deep }) script.now (planned plan)) }
+    ensures plan { IfOk result (λ plan. IsRoomPlan (limits_refusal room.heap room.deep MOST_DEEP)
+        image (record { heap = room.heap; deep = room.deep }) script.now steps.old steps.new
+        (planned plan)) }
+    ensures short { IfErr result (λ _. (steps.new ≡ steps.old)
+        ⊎ IsRoomShort (limits_refusal room.heap room.deep MOST_DEEP) image
+        (record { heap = room.heap; deep = room.deep }) script.now steps.old steps.new) }
 {
     match check_limits(room.heap, room.deep, MOST_DEEP) {
         Ok(limits) => debug_script(alloc, image, limits, script, steps),
@@ -104,7 +107,10 @@ fn debug_script<L: Ledger>(
 ) -> Result<Plan, NoMemory>
     requires script { length script.now ≤ MOST_SCRIPT }
     requires limits { IsLimits limits }
-    ensures { IfOk result (λ plan. IsScriptPlan (script_of script.now) image limits (planned plan)) }
+    ensures plan { IfOk result (λ plan. IsScriptPlan (script_of script.now) image limits steps.old
+        steps.new (planned plan)) }
+    ensures short { IfErr result (λ _. (steps.new ≡ steps.old)
+        ⊎ IsScriptShort (script_of script.now) image limits steps.old steps.new) }
 {
     match read_script(alloc, script) {
         Ok(commands) => follow_script(alloc, image, limits, &commands, steps),
@@ -124,7 +130,11 @@ fn follow_script<L: Ledger>(
     steps: &mut Steps<L>,
 ) -> Result<Plan, NoMemory>
     requires { IsLimits limits }
-    ensures { IfOk result (λ plan. planned plan ≡ followed image limits commands.now) }
+    ensures plan { IfOk result (λ plan. planned plan ≡ followed image limits commands.now) }
+    ensures counter { OnOk result (steps.new
+        ≡ steps.old + spent_in commands.now (start_of image limits)) }
+    ensures short { IfErr result (λ _. (steps.new ≡ steps.old)
+        ⊎ MovesSome commands.now (start_of image limits) steps.old steps.new) }
 {
     let input = Input {
         words: Vec::new(alloc),
@@ -141,7 +151,9 @@ fn follow_from<L: Ledger>(
     commands: &[Command],
     steps: &mut Steps<L>,
 ) -> Result<String, NoMemory>
-    ensures { IfOk result (λ text. string_bytes text ≡ shown commands.now machine) }
+    ensures text { IfOk result (λ text. string_bytes text ≡ shown commands.now machine) }
+    ensures counter { OnOk result (steps.new ≡ steps.old + spent_in commands.now machine) }
+    ensures short { IfErr result (λ _. MovesSome commands.now machine steps.old steps.new) }
 {
     let mut debugger = Debugger::new(machine);
     let mut text = String::new(alloc);

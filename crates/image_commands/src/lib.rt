@@ -7,6 +7,6 @@ mod images;
 mod run_texts;
 mod running;
 
-pub use debugging::{Room, debug};
+pub use debugging::debug;
 pub use images::{asm, flip, list};
 pub use running::run;

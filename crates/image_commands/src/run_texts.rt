@@ -9,7 +9,8 @@ use pisa_machine::{Machine, RunEnd, word_at};
 use pisa_scripts::{add_registers, add_stop, direction};
 use std::alloc::{AllocError, Global};
 
-/// What is printed of a run: why it ended, its steps, where the machine stands, and what is noted there.
+/// What is printed of a run: why it ended, its steps, where the machine stands, and what is noted
+/// there.
 pub fn end_lines(
     alloc: Global,
     end: RunEnd,

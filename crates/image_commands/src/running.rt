@@ -1,5 +1,5 @@
 // `run IMG H D STEPS [STATE SAVE]`: runs an image.
-ghost use Rattle.std.specs.Prelude.{◌≡◌, ◌<◌, ◌^◌, ◌∷◌, Ok, All, option_map, IfOk};
+ghost use Rattle.std.specs.Prelude.{◌≡◌, ◌<◌, ◌≤◌, ◌+◌, ◌^◌, ◌∷◌, Ok, All, option_map, IfOk, IfErr};
 ghost use Rattle.pisa_isa.specs.Runs.{run as run_of_code};
 ghost use Rattle.pisa_isa.specs.Notes.{HasAsciiText};
 ghost use Rattle.pisa_image.specs.Reading.{image_at};
@@ -7,7 +7,7 @@ ghost use Rattle.pisa_loader.specs.Limiting.{limits_refusal};
 ghost use Rattle.pisa_loader.specs.States.{Gives};
 ghost use Rattle.rpp_words.specs.Limits.{IsLimits};
 ghost use Rattle.command_plan.specs.declared.reading.TheConstants.{MOST_IMAGE};
-ghost use Rattle.command_plan.specs.Files.{state_of_names, save_of_names, OnlyReads, image_file, state_files};
+ghost use Rattle.command_plan.specs.Files.{state_of_names, save_of_names, OnlyReads, UnreadCause, image_file, state_files};
 ghost use Rattle.command_plan.specs.Plans.{planned, written, GivesPlan};
 ghost use Rattle.image_commands.specs.ImagePlans.{first_of, saved as saved_state, ran as ran_plan, verdict_of as verdict_of_stop, IsRunPlan, IsSizedPlan, IsRanPlan, RunsFile};
 
@@ -24,7 +24,8 @@ use rpp_words::{Input, Limits, MOST_DEEP, NoMemory};
 use std::alloc::Global;
 use std::sync::ledger::Ledger;
 
-/// Runs the image in a file, from the loaded memory or from a state, and tells its end.
+/// Runs the image in a file, from the loaded memory or from a state, and tells its end. It makes
+/// the steps of that run and no others, and none where a file cannot be read.
 pub fn run<S: Shelf, L: Ledger>(
     alloc: Global,
     shelf: &mut S,
@@ -35,8 +36,10 @@ pub fn run<S: Shelf, L: Ledger>(
 ) -> Result<Plan, NoPlan>
     requires { sizes.bound < 2 ^ 63 }
     ensures plan { GivesPlan (S.texts shelf.old)
-        (RunsFile image.now sizes.heap sizes.deep sizes.bound (state_of_names states.now)
-        (save_of_names states.now)) result }
+        (RunsFile image.now sizes.room.heap sizes.room.deep sizes.bound (state_of_names states.now)
+        (save_of_names states.now) steps.old steps.new) result }
+    ensures within { steps.new ≤ steps.old + sizes.bound }
+    ensures unread { IfErr result (UnreadCause (steps.new ≡ steps.old)) }
     ensures reads { OnlyReads (S.texts shelf.old) (S.texts shelf.new) (S.faults shelf.old)
         (S.faults shelf.new)
         (image_file image.now ∷ state_files (state_of_names states.now)) result }
@@ -54,8 +57,10 @@ fn run_over<L: Ledger>(
     steps: &mut Steps<L>,
 ) -> Result<Plan, NoMemory>
     requires { sizes.bound < 2 ^ 63 }
-    ensures { IfOk result (λ plan. IsRunPlan (image_at bytes.now) sizes.heap sizes.deep sizes.bound
-        (option_map (λ v. v.items) state.now) (save_of_names states.now) (planned plan)) }
+    ensures plan { IfOk result (λ plan. IsRunPlan (image_at bytes.now) sizes.room.heap
+        sizes.room.deep sizes.bound (option_map (λ v. v.items) state.now)
+        (save_of_names states.now) steps.old steps.new (planned plan)) }
+    ensures within { steps.new ≤ steps.old + sizes.bound }
 {
     match read_image(alloc, bytes) {
         Ok(noted) => run_sized(alloc, noted, state, states, sizes, steps),
@@ -74,11 +79,14 @@ fn run_sized<L: Ledger>(
     steps: &mut Steps<L>,
 ) -> Result<Plan, NoMemory>
     requires { sizes.bound < 2 ^ 63 }
-    ensures { IfOk result (λ plan. IsSizedPlan (limits_refusal sizes.heap sizes.deep MOST_DEEP) noted
-        (record { heap = sizes.heap; deep = sizes.deep }) (option_map (λ v. v.items) state.now)
-        (save_of_names states.now) sizes.bound (planned plan)) }
+    ensures plan { IfOk result (λ plan. IsSizedPlan
+        (limits_refusal sizes.room.heap sizes.room.deep MOST_DEEP) noted
+        (record { heap = sizes.room.heap; deep = sizes.room.deep })
+        (option_map (λ v. v.items) state.now) (save_of_names states.now) sizes.bound steps.old
+        steps.new (planned plan)) }
+    ensures within { steps.new ≤ steps.old + sizes.bound }
 {
-    match check_limits(sizes.heap, sizes.deep, MOST_DEEP) {
+    match check_limits(sizes.room.heap, sizes.room.deep, MOST_DEEP) {
         Ok(limits) => {
             let bounds = Bounds {
                 limits,
@@ -108,9 +116,10 @@ fn run_from<L: Ledger>(
 ) -> Result<Plan, NoMemory>
     requires limits { IsLimits bounds.limits }
     requires bound { bounds.bound < 2 ^ 63 }
-    ensures { IfOk result (λ plan.
+    ensures plan { IfOk result (λ plan.
         IsRanPlan (first_of noted.image bounds.limits (option_map (λ v. v.items) state.now))
-        noted.notes (save_of_names states.now) bounds.bound (planned plan)) }
+        noted.notes (save_of_names states.now) bounds.bound steps.old steps.new (planned plan)) }
+    ensures within { steps.new ≤ steps.old + bounds.bound }
 {
     let (image, notes) = noted.into_parts();
     match first_machine(alloc, image, bounds.limits, state) {
@@ -158,9 +167,12 @@ fn run_machine<L: Ledger>(
     requires first { machine.made ≡ 0 }
     requires bound { bound < 2 ^ 63 }
     requires names { All HasAsciiText notes.now.names }
-    ensures { IfOk result (λ plan. planned plan
+    ensures plan { IfOk result (λ plan. planned plan
         ≡ ran_plan notes.now (save_of_names states.now)
         (run_of_code machine.image.code bound machine.state)) }
+    ensures counter { steps.new
+        ≡ steps.old + (run_of_code machine.image.code bound machine.state).spent }
+    ensures within { steps.new ≤ steps.old + bound }
 {
     let mut machine = machine;
     let end = machine.run(bound, steps);

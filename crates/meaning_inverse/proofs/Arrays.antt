@@ -343,7 +343,7 @@ module _ (setting : Setting) (G : Ground setting) where
       → Sees setting.limits.heap f b b' → Undone setting (New at (Ints size) target) f a b b' c
   undo_new_ints n C at size target a b c typed good good_b e f b' sees =
       let clean = G.clean C (New at (Ints size) target) b typed good_b in
-      let back = array_deleted C target size OfInts (Word 0) a b c good good_b clean.0 clean.1 (λ g. refl) refl
+      let back = array_deleted C target size OfInts (Word 0) a b c good good_b clean.1 clean.0 (λ g. refl) refl
       (λ cell v p q r. G.new_ints C at size target a cell v typed good p q r) e f b' sees in
       record {
         back = back.back;
@@ -361,7 +361,7 @@ module _ (setting : Setting) (G : Ground setting) where
   undo_new_objects n C at class size target a b c typed good good_b e f b' sees =
       let clean = G.clean C (New at (Objects class size) target) b typed good_b in
       let back = array_deleted C target size (OfObjects (number_named setting.program class)) Nil a b c good good_b
-      clean.0 clean.1 (λ g. refl) refl (λ cell v p q r. G.new_objects C at class size target a cell v typed good p q
+      clean.1 clean.0 (λ g. refl) refl (λ cell v p q r. G.new_objects C at class size target a cell v typed good p q
       r) e f b' sees in
       record {
         back = back.back;
@@ -377,7 +377,7 @@ module _ (setting : Setting) (G : Ground setting) where
       → Sees setting.limits.heap f b b' → Undone setting (Delete at (Ints size) target) f a b b' c
   undo_delete_ints n C at size target a b c typed good good_b e f b' sees =
       let clean = G.clean C (Delete at (Ints size) target) b typed good_b in
-      let back = array_made C target size OfInts (Word 0) a b c good good_b clean.0 clean.1 (λ g. refl)
+      let back = array_made C target size OfInts (Word 0) a b c good good_b clean.1 clean.0 (λ g. refl)
       (λ cell v p q r s. G.delete_ints C at size target a cell v typed good p q r s) e f b' sees in
       record {
         back = back.back;
@@ -394,8 +394,8 @@ module _ (setting : Setting) (G : Ground setting) where
       → Undone setting (Delete at (Objects class size) target) f a b b' c
   undo_delete_objects n C at class size target a b c typed good good_b e f b' sees =
       let clean = G.clean C (Delete at (Objects class size) target) b typed good_b in
-      let back = array_made C target size (OfObjects (number_named setting.program class)) Nil a b c good good_b clean.0
-      clean.1 (λ g. refl) (λ cell v p q r s. G.delete_objects C at class size target a cell v typed good p q r s) e
+      let back = array_made C target size (OfObjects (number_named setting.program class)) Nil a b c good good_b clean.1
+      clean.0 (λ g. refl) (λ cell v p q r s. G.delete_objects C at class size target a cell v typed good p q r s) e
       f b' sees in
       record {
         back = back.back;

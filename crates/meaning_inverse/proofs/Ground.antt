@@ -12,7 +12,8 @@ use Rattle.rpp_tree.specs.declared.tree.Ident.{Ident}
 use Rattle.rpp_tree.specs.declared.tree.UpdateOp.{UpdateOp}
 use Rattle.rpp_tree.specs.Tree.{Expression, Lvalue, Whole, Item, Creation, Object as AnObject, Ints, Objects, Statement}
 use Rattle.rpp_tree.specs.Tree.{Statements, Update, Swap, If, From, Construct, Local, New, Delete, Copy, Uncopy, Call}
-use Rattle.rpp_tree.specs.Tree.{Skip, End, Then, Procedure, Source}
+use Rattle.rpp_tree.specs.Tree.{End, Then, Procedure, Source, Part, Operand, Target, Typed as TypedTarget}
+use Rattle.rpp_tree.specs.Tree.{Creates, Invokes, each_part, own_parts}
 use Rattle.class_table.specs.Expressions.{occurs}
 use Rattle.roopl_semantics.specs.Run.{Done}
 use Rattle.class_table.specs.Classes.{class_number, class_fields, method_named}
@@ -46,20 +47,16 @@ CleanMade program st (AnObject class) = Unit {0}
 CleanMade program st (Ints size) = Clean program st size
 CleanMade program st (Objects class size) = Clean program st size
 
+abbrev pub CleanPart : Source → State → Part → Type 0
+CleanPart program st (Operand value) = Clean program st value
+CleanPart program st (Target place) = CleanPlace program st place
+CleanPart program st (TypedTarget kind place) = CleanPlace program st place
+CleanPart program st (Creates made) = CleanMade program st made
+CleanPart program st (Invokes receiver method args) = Unit {0}
+
 -- the expressions and places of a statement meet values of their kinds
 abbrev pub CleanIn : Source → State → Statement → Type 0
-CleanIn program st (Update at op target value) = CleanPlace program st target × Clean program st value
-CleanIn program st (Swap at left right) = CleanPlace program st left × CleanPlace program st right
-CleanIn program st (If at test taken other after) = Clean program st test × Clean program st after
-CleanIn program st (From at entry first again exit) = Clean program st entry × Clean program st exit
-CleanIn program st (Construct at class name body end) = Unit {0}
-CleanIn program st (Local at var value body end_var end_value) = Clean program st value × Clean program st end_value
-CleanIn program st (New at made target) = CleanPlace program st target × CleanMade program st made
-CleanIn program st (Delete at made target) = CleanPlace program st target × CleanMade program st made
-CleanIn program st (Copy at kind source target) = CleanPlace program st source × CleanPlace program st target
-CleanIn program st (Uncopy at kind source target) = CleanPlace program st source × CleanPlace program st target
-CleanIn program st (Call at back receiver method args) = Unit {0}
-CleanIn program st (Skip at) = Unit {0}
+CleanIn program st s = each_part (λ (A B : Type 0). A × B) (CleanPart program st) (Unit {0}) (own_parts s)
 
 -- an update of a word by a word; neither the place nor the value depends on what it writes
 pub record UpdateFacts (program : Source) (st : State) (target : Lvalue) (value : Expression) (cell : Cell) (v : Value)

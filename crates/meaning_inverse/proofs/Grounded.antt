@@ -266,38 +266,38 @@ module _ (setting : Setting) (classes : KnowsClasses setting.program) where
   clean_all C (New at (AnObject class) target) st h g =
       let p = make_parts (typing C) C.locals at (AnObject class) target
       (first_rule setting C (New at (AnObject class) target) h) in
-      (clean_place_of setting classes C st target p.type (typed_in setting classes C st g) h.plain.0.1 p.is, tt)
+      (tt, clean_place_of setting classes C st target p.type (typed_in setting classes C st g) h.plain.0.1 p.is)
   clean_all C (New at (Ints size) target) st h g =
       let p = make_parts (typing C) C.locals at (Ints size) target (first_rule setting C (New at (Ints size) target) h)
       in (
-        clean_place_of setting classes C st target p.type (typed_in setting classes C st g) h.plain.0.1 p.is,
         clean_of setting classes C st size kind.Int (typed_in setting classes C st g) h.plain.0.0
             (length_typed setting classes C size p.int),
+        clean_place_of setting classes C st target p.type (typed_in setting classes C st g) h.plain.0.1 p.is,
       )
   clean_all C (New at (Objects class size) target) st h g =
       let p = make_parts (typing C) C.locals at (Objects class size) target
       (first_rule setting C (New at (Objects class size) target) h) in (
-        clean_place_of setting classes C st target p.type (typed_in setting classes C st g) h.plain.0.1 p.is,
         clean_of setting classes C st size kind.Int (typed_in setting classes C st g) h.plain.0.0
             (length_typed setting classes C size p.int),
+        clean_place_of setting classes C st target p.type (typed_in setting classes C st g) h.plain.0.1 p.is,
       )
   clean_all C (Delete at (AnObject class) target) st h g =
       let p = make_parts (typing C) C.locals at (AnObject class) target
       (first_rule setting C (Delete at (AnObject class) target) h) in
-      (clean_place_of setting classes C st target p.type (typed_in setting classes C st g) h.plain.0.1 p.is, tt)
+      (tt, clean_place_of setting classes C st target p.type (typed_in setting classes C st g) h.plain.0.1 p.is)
   clean_all C (Delete at (Ints size) target) st h g =
       let p = make_parts (typing C) C.locals at (Ints size) target
       (first_rule setting C (Delete at (Ints size) target) h) in (
-        clean_place_of setting classes C st target p.type (typed_in setting classes C st g) h.plain.0.1 p.is,
         clean_of setting classes C st size kind.Int (typed_in setting classes C st g) h.plain.0.0
             (length_typed setting classes C size p.int),
+        clean_place_of setting classes C st target p.type (typed_in setting classes C st g) h.plain.0.1 p.is,
       )
   clean_all C (Delete at (Objects class size) target) st h g =
       let p = make_parts (typing C) C.locals at (Objects class size) target
       (first_rule setting C (Delete at (Objects class size) target) h) in (
-        clean_place_of setting classes C st target p.type (typed_in setting classes C st g) h.plain.0.1 p.is,
         clean_of setting classes C st size kind.Int (typed_in setting classes C st g) h.plain.0.0
             (length_typed setting classes C size p.int),
+        clean_place_of setting classes C st target p.type (typed_in setting classes C st g) h.plain.0.1 p.is,
       )
   clean_all C (Copy at written source target) st h g =
       let p = copy_parts setting classes (exec setting 0) C.extra C.locals C.shape C.class C.inside C.means at written

@@ -452,7 +452,7 @@ module _ (setting : Setting) (G : Ground setting) where
       let cell' = cell_for f cell in
       let drawn = f.there (2 + count_taken a.log) in
       let finds = found_seen h f b b' sees setting.program target cell
-      (G.clean C (New at (AnObject class) target) b typed good_b).0 (subst R was.is facts.stays) in
+      (G.clean C (New at (AnObject class) target) b typed good_b).1 (subst R was.is facts.stays) in
       let S : State → Type 0 = λ s. share_array setting.program s (own_element target) (index_elements target)
       ≡ false in
       let kept = share_seen h f b b' sees setting.program (own_element target) (index_elements target)
@@ -546,7 +546,7 @@ module _ (setting : Setting) (G : Ground setting) where
       (subst Q (sym is) (G.live C b good_b)) (subst P (sym is) sees) in
       let cell' = cell_for f cell in
       let finds = found_seen h f b b' sees setting.program target cell
-      (G.clean C (Delete at (AnObject class) target) b typed good_b).0 (subst R is facts.stays) in
+      (G.clean C (Delete at (AnObject class) target) b typed good_b).1 (subst R is facts.stays) in
       let end = made b' cell' (length cells) (OfClass number) cells in
       let A : State → Type 0 = λ s. share_array setting.program s (own_element target) (index_elements target)
       ≡ false in

@@ -2,6 +2,7 @@
 use Rattle.std.proofs.Common.{◌≡◌, ◌≢◌, ℕ, zero, suc, ◌+◌, ◌^◌, ◌≤◌, refl, sym, ap, subst, ◌∙◌, arith, true, false}
 use Rattle.std.proofs.Common.{Bool, List, [], ◌∷◌, Some, None, Option, option_map, nat_eq, nat_le, is_none, eqb-true}
 use Rattle.std.proofs.Common.{eq-eqb, ne_eqb, if◌then◌else◌}
+use Rattle.code_conventions.specs.declared.memory.TheConstants.{HEADER_WORDS}
 use Rattle.buddy_book.specs.Book.{Book, take, give, order_from}
 use Rattle.buddy_book.specs.Shown.{is_sound}
 use Rattle.buddy_book.specs.Place.{Log, Taken, Given, count_taken, Placing, block_of, without_name, with_block}
@@ -28,7 +29,7 @@ order_from_least (suc tries) k words = by (nat_le words (2 ^ k)) (order_from_lea
     by false h = omega arith
 
 pub order_positive : (cells : ℕ) → 1 ≤ order_of_cells cells
-order_positive cells = order_from_least 31 1 (2 + cells)
+order_positive cells = order_from_least 31 1 (HEADER_WORDS + cells)
 
 pub block_without : (blocks : List (ℕ × ℕ)) (n m : ℕ) → nat_eq n m ≡ false
     → block_of (without_name blocks n) m ≡ block_of blocks m

@@ -1,8 +1,7 @@
 -- An inverse program keeps the limits of a tree that the program keeps: its parts are the same, in
 -- another order.
-use Rattle.std.proofs.Common.{◌≡◌, ℕ, ◌+◌, ◌-◌, ◌<◌, ◌≤◌, refl, sym, ap, subst, ◌∙◌, arith, false, List, [], ◌∷◌, ◌++◌}
-use Rattle.std.proofs.Common.{length, map, max, sum_by}
-use Rattle.std.proofs.Math.Nat.{le-max_left, le-max_right, max-le}
+use Rattle.std.proofs.Common.{◌≡◌, ℕ, ◌+◌, ◌<◌, ◌≤◌, refl, sym, ap, subst, ◌∙◌, arith, false, List, [], ◌∷◌, ◌++◌}
+use Rattle.std.proofs.Common.{length, map, max, sum_by, add_comm}
 use Rattle.std.proofs.lemmas.List.{append_assoc, append-nil, length-map}
 use Rattle.std.proofs.lemmas.List.Sums.{sum_by-cons}
 use Rattle.std.proofs.lemmas.List.Sorted.{IsPermutation-refl, IsPermutation-sym, IsPermutation-trans}
@@ -14,21 +13,21 @@ use Rattle.std.proofs.lemmas.List.Elements.{All-map, All-weaker}
 use Rattle.rpp_tree.specs.declared.tree.Ident.{Ident}
 use Rattle.rpp_tree.specs.declared.limits.TheConstants.{MOST_BYTES, MOST_TOKENS, MOST_NODES, MOST_NUMBER}
 use Rattle.rpp_tree.specs.declared.limits.TheConstants.{MOST_INDEX_DEPTH, MOST_CLASSES, MOST_LOCALS, MOST_NESTING}
-use Rattle.rpp_tree.specs.Tree.{Statement, Statements, Update, Swap, If, From, Construct, Local, New, Delete, Copy}
-use Rattle.rpp_tree.specs.Tree.{Uncopy, Call, Skip, End, Then, joined, Procedure, ClassText, Source, nodes}
-use Rattle.rpp_tree.specs.Tree.{statement_depth, depth}
+use Rattle.rpp_tree.specs.Tree.{Statement, Statements, End, Then, joined, Procedure, ClassText, Source, part_nodes}
 use Rattle.rpp_tree.specs.Names.{IsName}
-use Rattle.rpp_tree.specs.Numbers.{expression_numbers, statement_numbers, block_numbers, procedure_numbers}
+use Rattle.rpp_tree.specs.Numbers.{expression_numbers, numbers, statement_numbers, block_numbers, procedure_numbers}
 use Rattle.rpp_tree.specs.Numbers.{class_numbers, source_numbers}
-use Rattle.rpp_tree.specs.Parts.{expression_names, var_names, statement_names, block_names, procedure_names}
+use Rattle.rpp_tree.specs.Parts.{expression_names, var_names, names, statement_names, block_names, procedure_names}
 use Rattle.rpp_tree.specs.Parts.{parent_names, class_names, source_names, name_places, expression_places, var_places}
-use Rattle.rpp_tree.specs.Parts.{statement_places, block_places, procedure_places, class_places, source_places}
-use Rattle.rpp_tree.specs.Parts.{var_tokens, list_tokens, statement_tokens, block_tokens, procedure_tokens}
+use Rattle.rpp_tree.specs.Parts.{places, statement_places, block_places, procedure_places, class_places, source_places}
+use Rattle.rpp_tree.specs.Parts.{var_tokens, list_tokens, tokens, statement_tokens, block_tokens, procedure_tokens}
 use Rattle.rpp_tree.specs.Parts.{parent_tokens, class_tokens}
-use Rattle.rpp_tree.specs.Limits.{index_depth, statement_locals, locals, IsSmallStatement, AreSmall, AreInnerSmall}
-use Rattle.rpp_tree.specs.Limits.{IsSmallMethod, IsWithinLimits}
+use Rattle.rpp_tree.specs.Limits.{part_index_depth, small, IsSmallStatement, AreSmall, IsSmallMethod, IsWithinLimits}
+use Rattle.rpp_tree.proofs.Walks.{walk_joined}
 use Rattle.stmt_inverter.specs.Inverse.{inverse_statement_as, inverse_as, inverse_procedure, inverse_class}
 use Rattle.stmt_inverter.specs.Inverse.{inverse_program}
+use Rattle.stmt_inverter.proofs.InverseWalks.{IsTurned, block_turned as walk_block_turned, own_parts_turned}
+use Rattle.stmt_inverter.proofs.InverseWalks.{depth_undone, locals_undone}
 
 -- ---- lists with the same elements
 
@@ -84,44 +83,34 @@ before : {A : Type 0} (first second rest : List A) → IsPermutation first secon
     → IsPermutation (first ++ rest) (second ++ rest)
 before first second rest h = IsPermutation-append first second rest rest h (IsPermutation-refl rest)
 
+-- a block whose last statement was the first
+last_in : {A : Type 0} (whole front last said rest : List A) → whole ≡ front ++ (last ++ [])
+    → IsPermutation last said → IsPermutation front rest → IsPermutation whole (said ++ rest)
+last_in whole front last said rest is h k =
+    subst (λ l. IsPermutation l (said ++ rest)) (sym is) (block_turned last front said rest h k)
+
 -- ---- names
 
 names_joined : (a b : Statements) → block_names (joined a b) ≡ block_names a ++ block_names b
-names_joined End b = refl
-names_joined (Then s a) b = ap (λ l. statement_names s ++ l) (names_joined a b)
-    ∙ sym (append_assoc (statement_names s) (block_names a) (block_names b))
+names_joined = walk_joined names ◌++◌ (λ first said rest. refl) (λ rest. refl) append_assoc
 
-mutual
-  statement_names_kept : (s : Statement) → IsPermutation (statement_names (inverse_statement_as false s))
-      (statement_names s)
-  statement_names_kept (Update at op target value) = IsPermutation-refl _
-  statement_names_kept (Swap at left right) = IsPermutation-refl _
-  statement_names_kept (If at test taken other after) = ends_of_two (expression_names test)
-      (block_names (inverse_as false taken)) (block_names (inverse_as false other)) (block_names taken)
-      (block_names other) (expression_names after) (names_kept taken) (names_kept other)
-  statement_names_kept (From at entry first again exit) =
-      ends_of_two (expression_names entry) (block_names (inverse_as false first)) (block_names (inverse_as false again))
-      (block_names first) (block_names again) (expression_names exit) (names_kept first) (names_kept again)
-  statement_names_kept (Construct at class name body end) =
-      IsPermutation-cons class _ _ (IsPermutation-cons name _ _
-      (before (block_names (inverse_as false body)) (block_names body) (end ∷ []) (names_kept body)))
-  statement_names_kept (Local at var value body end_var end_value) =
-      two_ends (var_names var) (expression_names value) (block_names (inverse_as false body)) (block_names body)
-      (var_names end_var) (expression_names end_value) (names_kept body)
-  statement_names_kept (New at made target) = IsPermutation-refl _
-  statement_names_kept (Delete at made target) = IsPermutation-refl _
-  statement_names_kept (Copy at kind source target) = IsPermutation-refl _
-  statement_names_kept (Uncopy at kind source target) = IsPermutation-refl _
-  statement_names_kept (Call at back receiver method args) = IsPermutation-refl _
-  statement_names_kept (Skip at) = IsPermutation-refl _
+names_turned : IsTurned (λ (a b : List Ident). IsPermutation a b) names false
+names_turned = record {
+  plain = λ at parts. IsPermutation-refl _;
+  forked = λ at before a b c d after h k.
+      ends_of_two (expression_names before) a b c d (expression_names after) h k;
+  construct = λ at class name a c end h.
+      IsPermutation-cons class _ _ (IsPermutation-cons name _ _ (before a c (end ∷ []) h));
+  local = λ at var value a c end_var end_value h.
+      two_ends (var_names var) (expression_names value) a c (var_names end_var) (expression_names end_value) h;
+  none = IsPermutation-refl _;
+  last = λ first body said rest h k.
+      last_in _ (block_names body) (statement_names (inverse_statement_as false first)) said rest
+      (names_joined body (Then (inverse_statement_as false first) End)) h k;
+}
 
-  names_kept : (b : Statements) → IsPermutation (block_names (inverse_as false b)) (block_names b)
-  names_kept End = IsPermutation-refl _
-  names_kept (Then s b) =
-      subst (λ l. IsPermutation l (statement_names s ++ block_names b))
-      (sym (names_joined (inverse_as false b) (Then (inverse_statement_as false s) End)))
-      (block_turned (statement_names (inverse_statement_as false s)) (block_names (inverse_as false b))
-      (statement_names s) (block_names b) (statement_names_kept s) (names_kept b))
+names_kept : (b : Statements) → IsPermutation (block_names (inverse_as false b)) (block_names b)
+names_kept b = walk_block_turned names_turned b
 
 procedure_names_kept : (method : Procedure) → IsPermutation (procedure_names (inverse_procedure method))
     (procedure_names method)
@@ -139,45 +128,25 @@ source_names_kept program = each_turned class_names inverse_class class_names_ke
 -- ---- places
 
 places_joined : (a b : Statements) → block_places (joined a b) ≡ block_places a ++ block_places b
-places_joined End b = refl
-places_joined (Then s a) b = ap (λ l. statement_places s ++ l) (places_joined a b)
-    ∙ sym (append_assoc (statement_places s) (block_places a) (block_places b))
+places_joined = walk_joined places ◌++◌ (λ first said rest. refl) (λ rest. refl) append_assoc
 
-mutual
-  statement_places_kept : (s : Statement) → IsPermutation (statement_places (inverse_statement_as false s))
-      (statement_places s)
-  statement_places_kept (Update at op target value) = IsPermutation-refl _
-  statement_places_kept (Swap at left right) = IsPermutation-refl _
-  statement_places_kept (If at test taken other after) =
-      IsPermutation-cons at _ _ (ends_of_two (expression_places test) (block_places (inverse_as false taken))
-      (block_places (inverse_as false other)) (block_places taken) (block_places other) (expression_places after)
-      (places_kept taken) (places_kept other))
-  statement_places_kept (From at entry first again exit) =
-      IsPermutation-cons at _ _ (ends_of_two (expression_places entry) (block_places (inverse_as false first))
-      (block_places (inverse_as false again)) (block_places first) (block_places again) (expression_places exit)
-      (places_kept first) (places_kept again))
-  statement_places_kept (Construct at class name body end) =
-      IsPermutation-cons at _ _ (IsPermutation-cons class.at _ _
-      (IsPermutation-cons name.at _ _ (before (block_places (inverse_as false body)) (block_places body) (end.at ∷ [])
-      (places_kept body))))
-  statement_places_kept (Local at var value body end_var end_value) =
-      IsPermutation-cons at _ _ (two_ends (var_places var) (expression_places value)
-      (block_places (inverse_as false body)) (block_places body) (var_places end_var) (expression_places end_value)
-      (places_kept body))
-  statement_places_kept (New at made target) = IsPermutation-refl _
-  statement_places_kept (Delete at made target) = IsPermutation-refl _
-  statement_places_kept (Copy at kind source target) = IsPermutation-refl _
-  statement_places_kept (Uncopy at kind source target) = IsPermutation-refl _
-  statement_places_kept (Call at back receiver method args) = IsPermutation-refl _
-  statement_places_kept (Skip at) = IsPermutation-refl _
+places_turned : IsTurned (λ (a b : List ℕ). IsPermutation a b) places false
+places_turned = record {
+  plain = λ at parts. IsPermutation-refl _;
+  forked = λ at before a b c d after h k. IsPermutation-cons at _ _
+      (ends_of_two (expression_places before) a b c d (expression_places after) h k);
+  construct = λ at class name a c end h. IsPermutation-cons at _ _
+      (IsPermutation-cons class.at _ _ (IsPermutation-cons name.at _ _ (before a c (end.at ∷ []) h)));
+  local = λ at var value a c end_var end_value h. IsPermutation-cons at _ _
+      (two_ends (var_places var) (expression_places value) a c (var_places end_var) (expression_places end_value) h);
+  none = IsPermutation-refl _;
+  last = λ first body said rest h k.
+      last_in _ (block_places body) (statement_places (inverse_statement_as false first)) said rest
+      (places_joined body (Then (inverse_statement_as false first) End)) h k;
+}
 
-  places_kept : (b : Statements) → IsPermutation (block_places (inverse_as false b)) (block_places b)
-  places_kept End = IsPermutation-refl _
-  places_kept (Then s b) =
-      subst (λ l. IsPermutation l (statement_places s ++ block_places b))
-      (sym (places_joined (inverse_as false b) (Then (inverse_statement_as false s) End)))
-      (block_turned (statement_places (inverse_statement_as false s)) (block_places (inverse_as false b))
-      (statement_places s) (block_places b) (statement_places_kept s) (places_kept b))
+places_kept : (b : Statements) → IsPermutation (block_places (inverse_as false b)) (block_places b)
+places_kept b = walk_block_turned places_turned b
 
 procedure_places_kept : (method : Procedure) → IsPermutation (procedure_places (inverse_procedure method))
     (procedure_places method)
@@ -196,41 +165,24 @@ source_places_kept program = each_turned class_places inverse_class class_places
 -- ---- numbers
 
 numbers_joined : (a b : Statements) → block_numbers (joined a b) ≡ block_numbers a ++ block_numbers b
-numbers_joined End b = refl
-numbers_joined (Then s a) b = ap (λ l. statement_numbers s ++ l) (numbers_joined a b)
-    ∙ sym (append_assoc (statement_numbers s) (block_numbers a) (block_numbers b))
+numbers_joined = walk_joined numbers ◌++◌ (λ first said rest. refl) (λ rest. refl) append_assoc
 
-mutual
-  statement_numbers_kept : (s : Statement) → IsPermutation (statement_numbers (inverse_statement_as false s))
-      (statement_numbers s)
-  statement_numbers_kept (Update at op target value) = IsPermutation-refl _
-  statement_numbers_kept (Swap at left right) = IsPermutation-refl _
-  statement_numbers_kept (If at test taken other after) =
-      ends_of_two (expression_numbers test) (block_numbers (inverse_as false taken))
-      (block_numbers (inverse_as false other)) (block_numbers taken) (block_numbers other) (expression_numbers after)
-      (numbers_kept taken) (numbers_kept other)
-  statement_numbers_kept (From at entry first again exit) =
-      ends_of_two (expression_numbers entry) (block_numbers (inverse_as false first))
-      (block_numbers (inverse_as false again)) (block_numbers first) (block_numbers again) (expression_numbers exit)
-      (numbers_kept first) (numbers_kept again)
-  statement_numbers_kept (Construct at class name body end) = numbers_kept body
-  statement_numbers_kept (Local at var value body end_var end_value) =
-      ends (expression_numbers value) (block_numbers (inverse_as false body)) (block_numbers body)
-      (expression_numbers end_value) (numbers_kept body)
-  statement_numbers_kept (New at made target) = IsPermutation-refl _
-  statement_numbers_kept (Delete at made target) = IsPermutation-refl _
-  statement_numbers_kept (Copy at kind source target) = IsPermutation-refl _
-  statement_numbers_kept (Uncopy at kind source target) = IsPermutation-refl _
-  statement_numbers_kept (Call at back receiver method args) = IsPermutation-refl _
-  statement_numbers_kept (Skip at) = IsPermutation-refl _
+numbers_turned : IsTurned (λ (a b : List ℕ). IsPermutation a b) numbers false
+numbers_turned = record {
+  plain = λ at parts. IsPermutation-refl _;
+  forked = λ at before a b c d after h k.
+      ends_of_two (expression_numbers before) a b c d (expression_numbers after) h k;
+  construct = λ at class name a c end h. h;
+  local = λ at var value a c end_var end_value h.
+      ends (expression_numbers value) a c (expression_numbers end_value) h;
+  none = IsPermutation-refl _;
+  last = λ first body said rest h k.
+      last_in _ (block_numbers body) (statement_numbers (inverse_statement_as false first)) said rest
+      (numbers_joined body (Then (inverse_statement_as false first) End)) h k;
+}
 
-  numbers_kept : (b : Statements) → IsPermutation (block_numbers (inverse_as false b)) (block_numbers b)
-  numbers_kept End = IsPermutation-refl _
-  numbers_kept (Then s b) =
-      subst (λ l. IsPermutation l (statement_numbers s ++ block_numbers b))
-      (sym (numbers_joined (inverse_as false b) (Then (inverse_statement_as false s) End)))
-      (block_turned (statement_numbers (inverse_statement_as false s)) (block_numbers (inverse_as false b))
-      (statement_numbers s) (block_numbers b) (statement_numbers_kept s) (numbers_kept b))
+numbers_kept : (b : Statements) → IsPermutation (block_numbers (inverse_as false b)) (block_numbers b)
+numbers_kept b = walk_block_turned numbers_turned b
 
 source_numbers_kept : (program : Source) → IsPermutation (source_numbers (inverse_program program))
     (source_numbers program)
@@ -240,36 +192,30 @@ source_numbers_kept program =
 
 -- ---- tokens
 
+sum_turned : (a b c : ℕ) → (a + b) + c ≡ a + (b + c)
+sum_turned a b c = omega arith
+
 tokens_joined : (a b : Statements) → block_tokens (joined a b) ≡ block_tokens a + block_tokens b
-tokens_joined End b = let z : block_tokens b ≡ 0 + block_tokens b = omega arith in z
-tokens_joined (Then s a) b = let h = tokens_joined a b in
-    let z : statement_tokens s + block_tokens (joined a b) ≡ statement_tokens s + block_tokens a + block_tokens b =
-    omega arith in z
+tokens_joined = walk_joined tokens ◌+◌ (λ first said rest. refl) (λ rest. omega arith) sum_turned
 
-mutual
-  statement_tokens_kept : (s : Statement) → statement_tokens (inverse_statement_as false s) ≡ statement_tokens s
-  statement_tokens_kept (Update at op target value) = refl
-  statement_tokens_kept (Swap at left right) = refl
-  statement_tokens_kept (If at test taken other after) = let h = tokens_kept taken in let k = tokens_kept other in
-      omega arith
-  statement_tokens_kept (From at entry first again exit) = let h = tokens_kept first in let k = tokens_kept again in
-      omega arith
-  statement_tokens_kept (Construct at class name body end) = ap (λ n. 5 + n) (tokens_kept body)
-  statement_tokens_kept (Local at var value body end_var end_value) = let h = tokens_kept body in omega arith
-  statement_tokens_kept (New at made target) = refl
-  statement_tokens_kept (Delete at made target) = refl
-  statement_tokens_kept (Copy at kind source target) = refl
-  statement_tokens_kept (Uncopy at kind source target) = refl
-  statement_tokens_kept (Call at back receiver method args) = refl
-  statement_tokens_kept (Skip at) = refl
+sum_in : (whole front last said rest : ℕ) → whole ≡ front + (last + 0) → last ≡ said → front ≡ rest
+    → whole ≡ said + rest
+sum_in whole front last said rest is h k = omega (arith, is, h, k)
 
-  tokens_kept : (b : Statements) → block_tokens (inverse_as false b) ≡ block_tokens b
-  tokens_kept End = refl
-  tokens_kept (Then s b) =
-      let h = statement_tokens_kept s in
-      let k = tokens_kept b in
-      let j = tokens_joined (inverse_as false b) (Then (inverse_statement_as false s) End) in
-      omega arith
+tokens_turned : IsTurned (λ (a b : ℕ). a ≡ b) tokens false
+tokens_turned = record {
+  plain = λ at parts. refl;
+  forked = λ at before a b c d after h k. omega (arith, h, k);
+  construct = λ at class name a c end h. omega (arith, h);
+  local = λ at var value a c end_var end_value h. omega (arith, h);
+  none = refl;
+  last = λ first body said rest h k.
+      sum_in _ (block_tokens body) (statement_tokens (inverse_statement_as false first)) said rest
+      (tokens_joined body (Then (inverse_statement_as false first) End)) h k;
+}
+
+tokens_kept : (b : Statements) → block_tokens (inverse_as false b) ≡ block_tokens b
+tokens_kept b = walk_block_turned tokens_turned b
 
 sum_after : {A : Type 0} (size : A → ℕ) (g : A → A) → ((x : A) → size (g x) ≡ size x) → (xs : List A)
     → sum_by size (map g xs) ≡ sum_by size xs
@@ -284,164 +230,41 @@ class_tokens_kept class =
     (sum_after procedure_tokens inverse_procedure (λ method. ap (λ n. 4 + list_tokens var_tokens method.params + n)
     (tokens_kept method.body)) class.methods)
 
--- ---- bounds on locals, nesting and nodes
+-- ---- nodes and indexes
 
-left_within : (a b m : ℕ) → max a b ≤ m → a ≤ m
-left_within a b m h = let l = le-max_left a b in omega arith
+max_swaps : (a b : ℕ) → max a b ≡ max b a
+max_swaps a b = omega arith
 
-right_within : (a b m : ℕ) → max a b ≤ m → b ≤ m
-right_within a b m h = let l = le-max_right a b in omega arith
-
-both_within : (a b m : ℕ) → a ≤ m → b ≤ m → max a b ≤ m
-both_within a b m h k = max-le h k
-
-locals_joined : (a b : Statements) (m : ℕ) → locals a ≤ m → locals b ≤ m → locals (joined a b) ≤ m
-locals_joined End b m h k = k
-locals_joined (Then s a) b m h k = both_within (statement_locals s) (locals (joined a b)) m
-    (left_within (statement_locals s) (locals a) m h) (locals_joined a b m
-    (right_within (statement_locals s) (locals a) m h) k)
-
-depth_joined : (a b : Statements) (m : ℕ) → depth a ≤ m → depth b ≤ m → depth (joined a b) ≤ m
-depth_joined End b m h k = k
-depth_joined (Then s a) b m h k = both_within (statement_depth s) (depth (joined a b)) m
-    (left_within (statement_depth s) (depth a) m h) (depth_joined a b m (right_within (statement_depth s) (depth a) m h)
-    k)
+statement_small : (s : Statement) → IsSmallStatement s → IsSmallStatement (inverse_statement_as false s)
+statement_small s h = record {
+  nodes = subst (λ n. n ≤ MOST_NODES) (sym (own_parts_turned ◌+◌ part_nodes 0 add_comm false s)) h.nodes;
+  indexes = subst (λ n. n ≤ MOST_INDEX_DEPTH) (sym (own_parts_turned max part_index_depth 0 max_swaps false s))
+      h.indexes;
+}
 
 small_joined : (a b : Statements) → AreSmall a → AreSmall b → AreSmall (joined a b)
 small_joined End b h k = k
 small_joined (Then s a) b h k = (h.0, h.1, small_joined a b h.2 k)
 
-lower : (n m : ℕ) → 1 + n ≤ m → n ≤ m - 1
-lower n m h = omega arith
-
-higher : (n k m : ℕ) → 1 + k ≤ m → n ≤ m - 1 → 1 + n ≤ m
-higher n k m h l = omega arith
-
-mutual
-  statement_locals_within : (s : Statement) (m : ℕ) → statement_locals s ≤ m
-      → statement_locals (inverse_statement_as false s) ≤ m
-  statement_locals_within (Update at op target value) m h = h
-  statement_locals_within (Swap at left right) m h = h
-  statement_locals_within (If at test taken other after) m h =
-      both_within (locals (inverse_as false taken)) (locals (inverse_as false other)) m
-      (locals_within taken m (left_within (locals taken) (locals other) m h))
-      (locals_within other m (right_within (locals taken) (locals other) m h))
-  statement_locals_within (From at entry first again exit) m h =
-      both_within (locals (inverse_as false first)) (locals (inverse_as false again)) m
-      (locals_within first m (left_within (locals first) (locals again) m h))
-      (locals_within again m (right_within (locals first) (locals again) m h))
-  statement_locals_within (Construct at class name body end) m h =
-      higher (locals (inverse_as false body)) (locals body) m h (locals_within body (m - 1) (lower (locals body) m h))
-  statement_locals_within (Local at var value body end_var end_value) m h =
-      higher (locals (inverse_as false body)) (locals body) m h (locals_within body (m - 1) (lower (locals body) m h))
-  statement_locals_within (New at made target) m h = h
-  statement_locals_within (Delete at made target) m h = h
-  statement_locals_within (Copy at kind source target) m h = h
-  statement_locals_within (Uncopy at kind source target) m h = h
-  statement_locals_within (Call at back receiver method args) m h = h
-  statement_locals_within (Skip at) m h = h
-
-  locals_within : (b : Statements) (m : ℕ) → locals b ≤ m → locals (inverse_as false b) ≤ m
-  locals_within End m h = h
-  locals_within (Then s b) m h =
-      locals_joined (inverse_as false b) (Then (inverse_statement_as false s) End) m
-      (locals_within b m (right_within (statement_locals s) (locals b) m h))
-      (both_within (statement_locals (inverse_statement_as false s)) 0 m
-      (statement_locals_within s m (left_within (statement_locals s) (locals b) m h)) (omega arith))
-
-mutual
-  statement_depth_within : (s : Statement) (m : ℕ) → statement_depth s ≤ m
-      → statement_depth (inverse_statement_as false s) ≤ m
-  statement_depth_within (Update at op target value) m h = h
-  statement_depth_within (Swap at left right) m h = h
-  statement_depth_within (If at test taken other after) m h =
-      higher (max (depth (inverse_as false taken)) (depth (inverse_as false other))) (max (depth taken) (depth other)) m
-      h (both_within (depth (inverse_as false taken)) (depth (inverse_as false other)) (m - 1)
-      (depth_within taken (m - 1) (left_within (depth taken) (depth other) (m - 1)
-      (lower (max (depth taken) (depth other)) m h))) (depth_within other (m - 1)
-      (right_within (depth taken) (depth other) (m - 1) (lower (max (depth taken) (depth other)) m h))))
-  statement_depth_within (From at entry first again exit) m h =
-      higher (max (depth (inverse_as false first)) (depth (inverse_as false again))) (max (depth first) (depth again)) m
-      h (both_within (depth (inverse_as false first)) (depth (inverse_as false again)) (m - 1)
-      (depth_within first (m - 1) (left_within (depth first) (depth again) (m - 1)
-      (lower (max (depth first) (depth again)) m h))) (depth_within again (m - 1)
-      (right_within (depth first) (depth again) (m - 1) (lower (max (depth first) (depth again)) m h))))
-  statement_depth_within (Construct at class name body end) m h =
-      higher (depth (inverse_as false body)) (depth body) m h (depth_within body (m - 1) (lower (depth body) m h))
-  statement_depth_within (Local at var value body end_var end_value) m h =
-      higher (depth (inverse_as false body)) (depth body) m h (depth_within body (m - 1) (lower (depth body) m h))
-  statement_depth_within (New at made target) m h = h
-  statement_depth_within (Delete at made target) m h = h
-  statement_depth_within (Copy at kind source target) m h = h
-  statement_depth_within (Uncopy at kind source target) m h = h
-  statement_depth_within (Call at back receiver method args) m h = h
-  statement_depth_within (Skip at) m h = h
-
-  depth_within : (b : Statements) (m : ℕ) → depth b ≤ m → depth (inverse_as false b) ≤ m
-  depth_within End m h = h
-  depth_within (Then s b) m h =
-      depth_joined (inverse_as false b) (Then (inverse_statement_as false s) End) m
-      (depth_within b m (right_within (statement_depth s) (depth b) m h))
-      (both_within (statement_depth (inverse_statement_as false s)) 0 m
-      (statement_depth_within s m (left_within (statement_depth s) (depth b) m h)) (omega arith))
-
-turned_sum : (a b m : ℕ) → a + b ≤ m → b + a ≤ m
-turned_sum a b m h = omega arith
-
-turned_max : (a b m : ℕ) → max a b ≤ m → max b a ≤ m
-turned_max a b m h = both_within b a m (right_within a b m h) (left_within a b m h)
-
-statement_small : (s : Statement) → IsSmallStatement s → IsSmallStatement (inverse_statement_as false s)
-statement_small (Update at op target value) h = record { nodes = h.nodes; indexes = h.indexes }
-statement_small (Swap at left right) h = h
-statement_small (If at test taken other after) h = record {
-  nodes = turned_sum (nodes test) (nodes after) MOST_NODES h.nodes;
-  indexes = turned_max (index_depth test) (index_depth after) MOST_INDEX_DEPTH h.indexes;
+small_turned : IsTurned (λ (A B : Type 0). B → A) small false
+small_turned = record {
+  plain = λ at parts h. h;
+  forked = λ at before a b c d after h k all. (h all.0, k all.1);
+  construct = λ at class name a c end h. h;
+  local = λ at var value a c end_var end_value h. h;
+  none = λ h. h;
+  last = λ first body said rest h k all.
+      small_joined body (Then (inverse_statement_as false first) End) (k all.2)
+      (statement_small first all.0, h all.1, tt);
 }
-statement_small (From at entry first again exit) h = record {
-  nodes = turned_sum (nodes entry) (nodes exit) MOST_NODES h.nodes;
-  indexes = turned_max (index_depth entry) (index_depth exit) MOST_INDEX_DEPTH h.indexes;
-}
-statement_small (Construct at class name body end) h = record { nodes = h.nodes; indexes = h.indexes }
-statement_small (Local at var value body end_var end_value) h =
-    record {
-      nodes = turned_sum (nodes value) (nodes end_value) MOST_NODES h.nodes;
-      indexes = turned_max (index_depth value) (index_depth end_value) MOST_INDEX_DEPTH h.indexes;
-    }
-statement_small (New at made target) h = record { nodes = h.nodes; indexes = h.indexes }
-statement_small (Delete at made target) h = record { nodes = h.nodes; indexes = h.indexes }
-statement_small (Copy at kind source target) h = record { nodes = h.nodes; indexes = h.indexes }
-statement_small (Uncopy at kind source target) h = record { nodes = h.nodes; indexes = h.indexes }
-statement_small (Call at back receiver method args) h = record { nodes = h.nodes; indexes = h.indexes }
-statement_small (Skip at) h = h
-
-mutual
-  inner_small : (s : Statement) → AreInnerSmall s → AreInnerSmall (inverse_statement_as false s)
-  inner_small (Update at op target value) h = tt
-  inner_small (Swap at left right) h = tt
-  inner_small (If at test taken other after) h = (block_small taken h.0, block_small other h.1)
-  inner_small (From at entry first again exit) h = (block_small first h.0, block_small again h.1)
-  inner_small (Construct at class name body end) h = block_small body h
-  inner_small (Local at var value body end_var end_value) h = block_small body h
-  inner_small (New at made target) h = tt
-  inner_small (Delete at made target) h = tt
-  inner_small (Copy at kind source target) h = tt
-  inner_small (Uncopy at kind source target) h = tt
-  inner_small (Call at back receiver method args) h = tt
-  inner_small (Skip at) h = tt
-
-  block_small : (b : Statements) → AreSmall b → AreSmall (inverse_as false b)
-  block_small End h = tt
-  block_small (Then s b) h = small_joined (inverse_as false b) (Then (inverse_statement_as false s) End)
-      (block_small b h.2) (statement_small s h.0, inner_small s h.1, tt)
 
 method_small : (method : Procedure) → IsSmallMethod method → IsSmallMethod (inverse_procedure method)
 method_small method h =
     record {
       parameters = h.parameters;
-      locals_nested = locals_within method.body MOST_LOCALS h.locals_nested;
-      nesting = depth_within method.body MOST_NESTING h.nesting;
-      statements = block_small method.body h.statements;
+      locals_nested = subst (λ n. n ≤ MOST_LOCALS) (sym (locals_undone false method.body)) h.locals_nested;
+      nesting = subst (λ n. n ≤ MOST_NESTING) (sym (depth_undone false method.body)) h.nesting;
+      statements = walk_block_turned small_turned method.body h.statements;
     }
 
 -- an inverse program keeps the limits of a tree

@@ -4,8 +4,8 @@ use Rattle.std.proofs.Math.Path.{fun_ext}
 use Rattle.std.specs.Prelude.{nat_eq, length}
 use Rattle.std.specs.Option.{is_none}
 use Rattle.rpp_tree.specs.declared.tree.Ident.{Ident}
-use Rattle.rpp_tree.specs.Tree.{Lvalue, Statement, Statements, Update, Swap, If, From, Construct, Local, New, Delete}
-use Rattle.rpp_tree.specs.Tree.{Copy, Uncopy, Call, Skip, End, Then, Procedure, ClassText, Source}
+use Rattle.rpp_tree.specs.Tree.{Lvalue, Statement, Statements, Update, If, From, Construct, Local, Call, End, Then}
+use Rattle.rpp_tree.specs.Tree.{Procedure, ClassText, Source}
 use Rattle.class_table.specs.Scope.{Typing, Locals}
 use Rattle.class_table.specs.Refusal.{wrong_arity}
 use Rattle.class_table.specs.Table.{Table, table_of, slot_in, dispatch_in}
@@ -50,7 +50,6 @@ module _ (program : Source) (table : Table) (class : ℕ) where
   mutual
     statement_same : (locals : Locals) (s : Statement) → check_statement there locals s ≡ check_statement here locals s
     statement_same locals (Update at op target value) = refl
-    statement_same locals (Swap at left right) = refl
     statement_same locals (If at test taken other after) =
         ap (λ r. in_turn (test_rules here locals test after) (in_turn r (check_statements there locals other)))
         (statements_same locals taken)
@@ -67,12 +66,8 @@ module _ (program : Source) (table : Table) (class : ℕ) where
     statement_same locals (Local at var value body end_var end_value) =
         ap (λ r. in_turn (local_rules here locals at var value end_var end_value) r)
         (statements_same (with_local here locals var) body)
-    statement_same locals (New at made target) = refl
-    statement_same locals (Delete at made target) = refl
-    statement_same locals (Copy at kind source target) = refl
-    statement_same locals (Uncopy at kind source target) = refl
     statement_same locals (Call at back receiver method args) = calls_same locals at receiver method args
-    statement_same locals (Skip at) = refl
+    statement_same locals _ = refl
 
     statements_same : (locals : Locals) (b : Statements) → check_statements there locals b
         ≡ check_statements here locals b

@@ -37,7 +37,6 @@ mutual
   statement_turned_inverse : (s : Statement) → turned_statement (inverse_statement_as false s)
       ≡ inverse_statement_as true s
   statement_turned_inverse (Update at op target value) = refl
-  statement_turned_inverse (Swap at left right) = refl
   statement_turned_inverse (If at test taken other after) =
       ap (λ b. If at after b (turned (inverse_as false other)) test) (turned_inverse taken)
       ∙ ap (λ b. If at after (inverse_as true taken) b test) (turned_inverse other)
@@ -48,12 +47,7 @@ mutual
       ap (λ b. Construct at class name b end) (turned_inverse body)
   statement_turned_inverse (Local at var value body end_var end_value) =
       ap (λ b. Local at end_var end_value b var value) (turned_inverse body)
-  statement_turned_inverse (New at made target) = refl
-  statement_turned_inverse (Delete at made target) = refl
-  statement_turned_inverse (Copy at kind source target) = refl
-  statement_turned_inverse (Uncopy at kind source target) = refl
-  statement_turned_inverse (Call at back receiver method args) = refl
-  statement_turned_inverse (Skip at) = refl
+  statement_turned_inverse _ = refl
 
   pub turned_inverse : (b : Statements) → turned (inverse_as false b) ≡ inverse b
   turned_inverse End = refl
@@ -73,7 +67,6 @@ not_twice false = refl
 mutual
   statement_turned_twice : (s : Statement) → turned_statement (turned_statement s) ≡ s
   statement_turned_twice (Update at op target value) = refl
-  statement_turned_twice (Swap at left right) = refl
   statement_turned_twice (If at test taken other after) =
       ap (λ b. If at test b (turned (turned other)) after) (turned_twice taken)
       ∙ ap (λ b. If at test taken b after) (turned_twice other)
@@ -84,12 +77,8 @@ mutual
       ap (λ b. Construct at class name b end) (turned_twice body)
   statement_turned_twice (Local at var value body end_var end_value) =
       ap (λ b. Local at var value b end_var end_value) (turned_twice body)
-  statement_turned_twice (New at made target) = refl
-  statement_turned_twice (Delete at made target) = refl
-  statement_turned_twice (Copy at kind source target) = refl
-  statement_turned_twice (Uncopy at kind source target) = refl
   statement_turned_twice (Call at back receiver method args) = ap (λ b. Call at b receiver method args) (not_twice back)
-  statement_turned_twice (Skip at) = refl
+  statement_turned_twice _ = refl
 
   pub turned_twice : (b : Statements) → turned (turned b) ≡ b
   turned_twice End = refl
@@ -103,7 +92,6 @@ module _ (setting : Typing) where
     statement_checks_turned : (locals : Locals) (s : Statement)
         → check_statement setting locals (turned_statement s) ≡ check_statement setting locals s
     statement_checks_turned locals (Update at op target value) = refl
-    statement_checks_turned locals (Swap at left right) = refl
     statement_checks_turned locals (If at test taken other after) =
         ap (λ r. in_turn (test_rules setting locals test after)
         (in_turn r (check_statements setting locals (turned other)))) (checks_turned locals taken)
@@ -120,12 +108,7 @@ module _ (setting : Typing) where
     statement_checks_turned locals (Local at var value body end_var end_value) =
         ap (λ r. in_turn (local_rules setting locals at var value end_var end_value) r)
         (checks_turned (with_local setting locals var) body)
-    statement_checks_turned locals (New at made target) = refl
-    statement_checks_turned locals (Delete at made target) = refl
-    statement_checks_turned locals (Copy at kind source target) = refl
-    statement_checks_turned locals (Uncopy at kind source target) = refl
-    statement_checks_turned locals (Call at back receiver method args) = refl
-    statement_checks_turned locals (Skip at) = refl
+    statement_checks_turned locals _ = refl
 
     pub checks_turned : (locals : Locals) (b : Statements)
         → check_statements setting locals (turned b) ≡ check_statements setting locals b

@@ -1,8 +1,6 @@
 -- Steps of choices and loops are taken back.
 use Rattle.std.proofs.Common.{◌≡◌, ℕ, refl, Bool, true, false, not, List, [], ◌∷◌, if◌then◌else◌}
-use Rattle.rpp_tree.specs.Tree.{Statement, Statements, Update, Swap, If, From, Construct, Local, New, Delete, Copy}
-use Rattle.rpp_tree.specs.Tree.{Uncopy}
-use Rattle.rpp_tree.specs.Tree.{Call, Skip, End, Then, Expression}
+use Rattle.rpp_tree.specs.Tree.{Statement, Statements, If, From, End, Then, Expression}
 use Rattle.roopl_semantics.specs.Run.{Run, Done, Fault, More, ◌>>=◌, fault_if}
 use Rattle.roopl_semantics.specs.Store.{Value, State}
 use Rattle.roopl_semantics.specs.Value.{evaluated}
@@ -48,16 +46,7 @@ module _ (setting : Setting) (past : Statements) (params : ℕ) (around : List O
       (λ v c e. ends_past (StepsBack setting (before past (Then (From at entry one two exit) rest) params around st))
       loop_fault (not (holds v)) _
       (λ no. loop_entered setting past rest params around st at entry one two exit v c e (is_true (holds v) no)))
-  branch_begins (Update at op target value) rest h = absurd h
-  branch_begins (Swap at l r) rest h = absurd h
-  branch_begins (Construct at class name block end) rest h = absurd h
-  branch_begins (Local at var value block end_var end_value) rest h = absurd h
-  branch_begins (New at made target) rest h = absurd h
-  branch_begins (Delete at made target) rest h = absurd h
-  branch_begins (Copy at kind source target) rest h = absurd h
-  branch_begins (Uncopy at kind source target) rest h = absurd h
-  branch_begins (Call at back receiver method args) rest h = absurd h
-  branch_begins (Skip at) rest h = absurd h
+  branch_begins _ rest h = absurd h
 
   -- the block of a choice or a loop is past
   module _ (opened rest : Statements) where

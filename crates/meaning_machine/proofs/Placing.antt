@@ -2,11 +2,8 @@
 use Rattle.std.proofs.Common.{◌≡◌, ℕ, refl, sym, ap, subst, ◌∙◌, Bool, true, false, not, List, [], ◌∷◌, ◌++◌, length}
 use Rattle.std.proofs.Common.{map, Option, Some, None, if◌then◌else◌}
 use Rattle.rpp_tree.specs.declared.tree.Ident.{Ident}
-use Rattle.rpp_tree.specs.Tree.{Expression, Null, Lvalue, Whole, Item, Object as AnObject, Statement, Statements}
-use Rattle.rpp_tree.specs.Tree.{Update}
-use Rattle.rpp_tree.specs.Tree.{Swap, If, From, Construct, Local, New, Delete, Copy, Uncopy, Call, Skip, End, Then}
-use Rattle.rpp_tree.specs.Tree.{joined}
-use Rattle.rpp_tree.specs.Tree.{Procedure}
+use Rattle.rpp_tree.specs.Tree.{Expression, Null, Lvalue, Whole, Item, Object as AnObject, Statement, Statements, If}
+use Rattle.rpp_tree.specs.Tree.{From, Construct, Local, Delete, Call, End, Then, joined, Procedure}
 use Rattle.class_table.specs.Classes.{method_named}
 use Rattle.stmt_inverter.specs.Inverse.{inverse_statement, inverse}
 use Rattle.stmt_inverter.proofs.Inverses.{inverse-joined}
@@ -110,8 +107,6 @@ module _ (setting : Setting) where
 
   begun_placed : (x : Config) (s : Statement) (rest : Statements) → Stands x s rest
       → Ends IsPlaced (begun setting x s rest)
-  begun_placed x (Update at op target value) rest h = simple_placed x (Update at op target value) rest h
-  begun_placed x (Swap at l r) rest h = simple_placed x (Swap at l r) rest h
   begun_placed x (If at test taken other after) rest h =
       ends_then IsPlaced (evaluated setting.program test x.state) _
       (λ v. inside_placed x (If at test taken other after) rest _ (if holds v then taken else other) x.state
@@ -126,12 +121,8 @@ module _ (setting : Setting) where
   begun_placed x (Local at var value block end_var end_value) rest h =
       local_placed x (Local at var value block end_var end_value) rest var.name.text value block end_value
       (local at var value block end_var end_value var.name.text) h
-  begun_placed x (New at made target) rest h = simple_placed x (New at made target) rest h
-  begun_placed x (Delete at made target) rest h = simple_placed x (Delete at made target) rest h
-  begun_placed x (Copy at kind source target) rest h = simple_placed x (Copy at kind source target) rest h
-  begun_placed x (Uncopy at kind source target) rest h = simple_placed x (Uncopy at kind source target) rest h
   begun_placed x (Call at back receiver method args) rest h = called_placed x rest at back receiver method args h
-  begun_placed x (Skip at) rest h = simple_placed x (Skip at) rest h
+  begun_placed x s rest h = simple_placed x s rest h
 
   -- behind the innermost open statement
   abbrev Around : Open → List Open → Type 0

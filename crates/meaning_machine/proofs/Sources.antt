@@ -52,7 +52,7 @@ onwards (suc a) (suc b) = onwards_suc a b (onwards a b)
 
 -- ---- runs that are over stay as they are
 
-abbrev IsEnd : Run Config → Type 0
+abbrev pub IsEnd : Run Config → Type 0
 IsEnd (Done x cost) = (x.rest ≡ End) × (x.around ≡ [])
 IsEnd (Fault code cost) = Unit {0}
 IsEnd More = ⊥
@@ -74,7 +74,7 @@ within_or_above (suc a) zero = inr (omega arith)
 within_or_above (suc a) (suc b) = elim (within_or_above a b) [ inl h ↦ inl (omega arith) | inr h ↦ inr (omega arith) ]
 
 module _ (setting : Setting) where
-  stays_next : (x : Config) → x.rest ≡ End → x.around ≡ [] → next setting x ≡ give x
+  pub stays_next : (x : Config) → x.rest ≡ End → x.around ≡ [] → next setting x ≡ give x
   stays_next x rest around = ap (stepped setting x) rest ∙ ap (closing setting x) around
 
   stays : (d : ℕ) (x : Config) → x.rest ≡ End → x.around ≡ [] → walk setting d x ≡ give x
@@ -90,7 +90,7 @@ module _ (setting : Setting) where
   end_stays d More end = absurd end
 
   -- from a run that is over no steps lead on
-  ended_by : (m k d : ℕ) (x : Config) → k ≡ plus m d → IsEnd (walk setting m x) → walk setting k x ≡ walk setting m x
+  pub ended_by : (m k d : ℕ) (x : Config) → k ≡ plus m d → IsEnd (walk setting m x) → walk setting k x ≡ walk setting m x
   ended_by m k d x e end =
       ap (λ n. walk setting n x) e ∙ walk_plus setting m d x ∙ end_stays d (walk setting m x) end
 
@@ -113,7 +113,17 @@ module _ (setting : Setting) where
         (exceeds_on fuel (walk setting k x) (walk setting d) (subst IsEnd on end) h)
   ]
 
-  ends_at : (m : ℕ) (x : Config) (r : Run Config) → walk setting m x ≡ r → IsEnd r → IsEnd (walk setting m x)
+  -- and none is broken off
+  not_broken : (m k : ℕ) (x : Config) → IsEnd (walk setting m x) → walk setting k x ≡ More → ⊥
+  not_broken m k x end h = elim (onwards m k) [
+    | up d e ↦ subst IsEnd (sym (ended_by m k d x e end) ∙ h) end
+    | down d e ↦
+        let off : walk setting m x ≡ More = ap (λ n. walk setting n x) e ∙ walk_plus setting k d x
+        ∙ ap (λ r. r >>= walk setting d) h in
+        subst IsEnd off end
+  ]
+
+  pub ends_at : (m : ℕ) (x : Config) (r : Run Config) → walk setting m x ≡ r → IsEnd r → IsEnd (walk setting m x)
   ends_at m x r e end = subst IsEnd (sym e) end
 
 -- ---- the law
@@ -128,13 +138,13 @@ module _ (program : Source) (limits : Limits) (input : List FieldWord) (fuel : �
   abbrev first : State
   first = starting program input
 
-  abbrev run : ℕ → Run State
+  abbrev pub run : ℕ → Run State
   run n = exec here n (main_body program) first
 
-  follows : (n : ℕ) → Follows here n start (end_of program) (run n) (points here n 0 (main_body program) first)
+  pub follows : (n : ℕ) → Follows here n start (end_of program) (run n) (points here n 0 (main_body program) first)
   follows n = followed here n 0 End (main_body program) [] first
 
-  follows_as : (n : ℕ) (r : Run State) → run n ≡ r
+  pub follows_as : (n : ℕ) (r : Run State) → run n ≡ r
       → Follows here n start (end_of program) r (points here n 0 (main_body program) first)
   follows_as n r e =
       let P : Run State → Type 0 = λ r. Follows here n start (end_of program) r
@@ -188,21 +198,25 @@ module _ (program : Source) (limits : Limits) (input : List FieldWord) (fuel : �
       subst (Exceeds fuel) e
       (within_end here fuel m k start (ends_at here m start r e one) (subst (Exceeds fuel) (sym d) h))
 
-  done_by : (r : Run State) → run (suc fuel) ≡ r
+  over_by : (r : Run State) → run (suc fuel) ≡ r
       → Follows here (suc fuel) start (end_of program) r (points here (suc fuel) 0 (main_body program) first)
-      → (steps : ℕ) (end : State) (cost : ℕ) → walk here steps start ≡ Done (end_of program end) cost → cost ≤ fuel
-      → source program limits input fuel ≡ Done end cost
-  done_by (Done last c) is f steps end cost e h =
-      let same = met f.steps steps _ _ f.walks e (refl, refl) (refl, refl) in
-      let state : last ≡ end = ap (state_or first) same in
+      → (steps : ℕ) (to : Config) (cost : ℕ) → walk here steps start ≡ Done to cost → to.rest ≡ End
+      → to.around ≡ [] → cost ≤ fuel → source program limits input fuel ≡ Done to.state cost
+  over_by (Done last c) is f steps to cost e rest around h =
+      let same = met f.steps steps _ _ f.walks e (refl, refl) (rest, around) in
+      let state : last ≡ to.state = ap (state_or first) same in
       let paid : c ≡ cost = ap cost_of same in
-      done_sooner end cost (is ∙ ap (λ st. Done st c) state ∙ ap (λ n. Done end n) paid) h
-  done_by (Fault code c) is f steps end cost e h =
-      let no = met f.steps steps _ _ f.walks e tt (refl, refl) in cc
-  done_by More is f steps end cost e h =
+      done_sooner to.state cost (is ∙ ap (λ st. Done st c) state ∙ ap (λ n. Done to.state n) paid) h
+  over_by (Fault code c) is f steps to cost e rest around h =
+      let no = met f.steps steps _ _ f.walks e tt (rest, around) in cc
+  over_by More is f steps to cost e rest around h =
       let l = f.enough in
-      let above : fuel < cost = not_outlasted steps f.steps _ _ e f.walks (refl, refl) (omega arith) in
+      let above : fuel < cost = not_outlasted steps f.steps _ _ e f.walks (rest, around) (omega arith) in
       absurd (omega arith)
+
+  over : (steps : ℕ) (to : Config) (cost : ℕ) → walk here steps start ≡ Done to cost → to.rest ≡ End
+      → to.around ≡ [] → cost ≤ fuel → source program limits input fuel ≡ Done to.state cost
+  over = over_by (run (suc fuel)) refl (follows (suc fuel))
 
   fault_by : (r : Run State) → run (suc fuel) ≡ r
       → Follows here (suc fuel) start (end_of program) r (points here (suc fuel) 0 (main_body program) first)
@@ -234,12 +248,24 @@ module _ (program : Source) (limits : Limits) (input : List FieldWord) (fuel : �
       absurd (omega arith)
   more_only_by More is o = is
 
+  not_over_by : (r : Run State) → source program limits input fuel ≡ r → (steps : ℕ) → walk here steps start ≡ More
+      → source program limits input fuel ≡ More
+  not_over_by (Done end cost) is steps e =
+      let a = done end cost is in
+      absurd (not_broken here a.steps steps start (ends_at here a.steps start _ a.walks (refl, refl)) e)
+  not_over_by (Fault code cost) is steps e =
+      let a = fault code cost is in
+      absurd (not_broken here a.steps steps start (ends_at here a.steps start _ a.walks tt) e)
+  not_over_by More is steps e = is
+
   pub joined : SourceIsMachine program limits input fuel
   joined = record {
     done = done;
     fault = fault;
     more = more_by (run (suc fuel)) refl (follows (suc fuel));
-    done_only = done_by (run (suc fuel)) refl (follows (suc fuel));
+    done_only = λ steps end cost e h. over steps (end_of program end) cost e refl refl h;
     fault_only = fault_by (run (suc fuel)) refl (follows (suc fuel));
     more_only = more_only_by (source program limits input fuel) refl;
+    over = over;
+    not_over = not_over_by (source program limits input fuel) refl;
   }

@@ -97,7 +97,7 @@ module _ (setting : Setting) where
       then_same (next setting x) _ (λ y. walk setting a y >>= walk setting b) (walk_plus a b)
       ∙ sym (then_then (next setting x) (walk setting a) (walk setting b))
 
-  seen_plus : (a b : ℕ) (x : Config) → seen setting (plus a b) x
+  pub seen_plus : (a b : ℕ) (x : Config) → seen setting (plus a b) x
       ≡ seen setting a x ++ behind (walk setting a x) (seen setting b)
   seen_plus zero b x = refl
   seen_plus (suc a) b x =

@@ -1,6 +1,7 @@
 pub mod Machine
 pub mod MachineLaws
 pub mod SourceLaws
+pub mod TrailLaws
 pub mod Turned
 pub mod BackLaws
 pub mod Placed

@@ -35,7 +35,8 @@ pub record Outlasts (setting : Setting) (x : Config) (fuel : ℕ) : Type 0 where
 
 -- the machine's steps from the start are the source: with every fuel the source gives a state or a
 -- fault exactly where some number of steps comes to it at a cost within the fuel, at the same cost
--- and along the points of the run; and it is not over exactly where some number of steps costs more
+-- and along the points of the run; and it is not over exactly where some number of steps costs more.
+-- Wherever a walk is over within the fuel, it is over in the state that the source gives.
 pub record SourceIsMachine (program : Source) (limits : Limits) (input : List FieldWord)
     (fuel : ℕ) : Type 0 where
   pub done : (end : State) (cost : ℕ) → source program limits input fuel ≡ Done end cost
@@ -54,4 +55,11 @@ pub record SourceIsMachine (program : Source) (limits : Limits) (input : List Fi
       → walk (set_for program limits) steps (start_of program input) ≡ Fault code cost
       → cost ≤ fuel → source program limits input fuel ≡ Fault code cost
   pub more_only : Outlasts (set_for program limits) (start_of program input) fuel
+      → source program limits input fuel ≡ More
+  pub over : (steps : ℕ) (to : Config) (cost : ℕ)
+      → walk (set_for program limits) steps (start_of program input) ≡ Done to cost
+      → to.rest ≡ End → to.around ≡ [] → cost ≤ fuel
+      → source program limits input fuel ≡ Done to.state cost
+  pub not_over : (steps : ℕ)
+      → walk (set_for program limits) steps (start_of program input) ≡ More
       → source program limits input fuel ≡ More

@@ -5,6 +5,7 @@ ghost use Rattle.rpp_words.specs.declared.input.Limits.{Limits};
 ghost use Rattle.rpp_tree.specs.Tree.{Source};
 ghost use Rattle.meaning_machine.specs.MachineLaws.{MachineIsMeaning};
 ghost use Rattle.meaning_machine.specs.SourceLaws.{SourceIsMachine};
+ghost use Rattle.meaning_machine.specs.TrailLaws.{TrailIsWalked};
 ghost use Rattle.meaning_machine.specs.BackLaws.{ChoicesStepBack, TurnsStepBack};
 ghost use Rattle.meaning_machine.specs.Placed.{TurnsTwice, StaysPlaced, BranchesStepBack};
 
@@ -17,6 +18,12 @@ pub fn machine_is_meaning()
 pub fn source_is_machine()
     ensures { (program : Source) (limits : Limits) (input : List FieldWord) (fuel : ℕ)
         → SourceIsMachine program limits input fuel }
+{}
+
+/// The points that it passes are those of the run, in their order.
+pub fn trail_is_walked()
+    ensures { (program : Source) (limits : Limits) (input : List FieldWord) (n : ℕ)
+        → TrailIsWalked program limits input n }
 {}
 
 /// A step into a choice, or out of one, is taken back by a step of the machine turned round.

@@ -2,9 +2,8 @@
 use Rattle.std.proofs.Common.{◌≡◌, ℕ, zero, suc, ◌≤◌, refl, sym, ap, ◌∙◌, arith, append-nil, append_assoc, Bool}
 use Rattle.std.proofs.Common.{true, false, not, List, [], ◌∷◌, ◌++◌, length, Option, Some, None}
 use Rattle.rpp_tree.specs.declared.tree.Ident.{Ident}
-use Rattle.rpp_tree.specs.Tree.{Expression, Lvalue, Whole, Item, Object as AnObject, Ints, Objects, Statement}
-use Rattle.rpp_tree.specs.Tree.{Statements, Update, Swap, If, From, Construct, Local, New, Delete, Copy, Uncopy, Call}
-use Rattle.rpp_tree.specs.Tree.{Skip, End, Then, Procedure, Null}
+use Rattle.rpp_tree.specs.Tree.{Expression, Lvalue, Whole, Item, Object as AnObject, Statement, Statements, If, From}
+use Rattle.rpp_tree.specs.Tree.{Construct, Local, New, Delete, Call, End, Then, Procedure, Null}
 use Rattle.class_table.specs.Classes.{method_named}
 use Rattle.roopl_semantics.specs.Run.{Run, Done, Fault, More, after_cost, ◌>>=◌, fault_if}
 use Rattle.roopl_semantics.specs.Store.{State, is_nil, number_of}
@@ -121,8 +120,6 @@ module _ (setting : Setting) (run run' : Runner) (list list' : Lister)
   statement_on : (n m params : ℕ) (s : Statement) (st : State) → n ≤ m
       → Grows (inner_points setting n run list params s st) (statement setting n run s st)
       (inner_points setting m run' list' params s st) (statement setting m run' s st)
-  statement_on n m params (Update at op target value) st h = same refl refl
-  statement_on n m params (Swap at left right) st h = same refl refl
   statement_on n m params (If at test taken other after) st h =
       on (evaluated setting.program test st) _ _ _ _ (λ v. silent _ _ _ _ _ (block _ _ _))
   statement_on n m params (From at entry first again exit) st h =
@@ -133,15 +130,9 @@ module _ (setting : Setting) (run run' : Runner) (list list' : Lister)
   statement_on n m params (Local at var value body end_var end_value) st h =
       in_local params var.name.text value body end_value st
   statement_on n m params (New at (AnObject class) target) st h = same refl refl
-  statement_on n m params (New at (Ints size) target) st h = same refl refl
-  statement_on n m params (New at (Objects class size) target) st h = same refl refl
   statement_on n m params (Delete at (AnObject class) target) st h = same refl refl
-  statement_on n m params (Delete at (Ints size) target) st h = same refl refl
-  statement_on n m params (Delete at (Objects class size) target) st h = same refl refl
-  statement_on n m params (Copy at kind source target) st h = same refl refl
-  statement_on n m params (Uncopy at kind source target) st h = same refl refl
   statement_on n m params (Call at back receiver method args) st h = call_on n m params at back receiver method args st
-  statement_on n m params (Skip at) st h = same refl refl
+  statement_on n m params _ st h = same refl refl
 
 -- ---- blocks
 

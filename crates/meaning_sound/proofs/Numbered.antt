@@ -5,13 +5,15 @@ use Rattle.std.proofs.lemmas.List.{get_or_append_left, get_or-append-add}
 use Rattle.std.specs.Prelude.{All}
 use Rattle.std.specs.List.{flat_map}
 use Rattle.rpp_tree.specs.Tree.{Expression, Number, Null, Variable, Element, Binary, Lvalue, Whole, Item, Creation}
-use Rattle.rpp_tree.specs.Tree.{Object, Ints, Objects, Statement, Statements, Update, Swap, If, From, Construct, Local}
-use Rattle.rpp_tree.specs.Tree.{New, Delete, Copy, Uncopy, Call, Skip, End, Then, Source}
+use Rattle.rpp_tree.specs.Tree.{Object, Ints, Objects, Statements, Source, Part, Operand, Target, Typed, Creates}
+use Rattle.rpp_tree.specs.Tree.{Invokes}
 use Rattle.rpp_tree.specs.declared.limits.TheConstants.{MOST_NUMBER}
-use Rattle.meaning_sound.specs.Plain.{HasWords, PlaceHasWords, CreationHasWords, ReceiverHasWords, StatementHasWords}
-use Rattle.meaning_sound.specs.Plain.{BlockHasWords, ProgramHasWords}
 use Rattle.rpp_tree.specs.Numbers.{expression_numbers, lvalue_numbers, receiver_numbers, creation_numbers}
-use Rattle.rpp_tree.specs.Numbers.{statement_numbers, block_numbers, procedure_numbers, class_numbers, source_numbers}
+use Rattle.rpp_tree.specs.Numbers.{part_numbers, numbers, block_numbers, procedure_numbers, class_numbers}
+use Rattle.rpp_tree.specs.Numbers.{source_numbers}
+use Rattle.rpp_tree.proofs.Walks.{AreRelated, block_related, parts_related}
+use Rattle.meaning_sound.specs.Plain.{HasWords, PlaceHasWords, CreationHasWords, ReceiverHasWords, PartHasWords}
+use Rattle.meaning_sound.specs.Plain.{all_words, BlockHasWords, ProgramHasWords}
 
 abbrev Small : List ℕ → Type 0
 Small words = All (λ (w : ℕ). w ≤ MOST_NUMBER) words
@@ -56,74 +58,46 @@ receiver_words : (r : Option Lvalue) → Small (receiver_numbers r) → Receiver
 receiver_words None h = tt
 receiver_words (Some place) h = place_words place h
 
-mutual
-  statement_words : (s : Statement) → Small (statement_numbers s) → StatementHasWords s
-  statement_words (Update at op target value) h = (
-    place_words target
-        (left (lvalue_numbers target) (expression_numbers value) h),
-    has_words value (right (lvalue_numbers target) (expression_numbers value) h),
-  )
-  statement_words (Swap at a b) h = (
-    place_words a (left (lvalue_numbers a) (lvalue_numbers b) h),
-    place_words b (right (lvalue_numbers a) (lvalue_numbers b) h),
-  )
-  statement_words (If at test taken other after) h =
-      let a = left (expression_numbers test ++ block_numbers taken ++ block_numbers other) (expression_numbers after) h
-      in
-      let b = left (expression_numbers test ++ block_numbers taken) (block_numbers other) a in (
-        has_words test (left (expression_numbers test) (block_numbers taken) b),
-        block_words taken (right (expression_numbers test) (block_numbers taken) b),
-        block_words other (right (expression_numbers test ++ block_numbers taken) (block_numbers other) a),
-        has_words after (right (expression_numbers test ++ block_numbers taken ++ block_numbers other)
-            (expression_numbers after) h),
-      )
-  statement_words (From at entry first again exit) h =
-      let a = left (expression_numbers entry ++ block_numbers first ++ block_numbers again) (expression_numbers exit) h
-      in
-      let b = left (expression_numbers entry ++ block_numbers first) (block_numbers again) a in (
-        has_words entry (left (expression_numbers entry) (block_numbers first) b),
-        block_words first (right (expression_numbers entry) (block_numbers first) b),
-        block_words again (right (expression_numbers entry ++ block_numbers first) (block_numbers again) a),
-        has_words exit (right (expression_numbers entry ++ block_numbers first ++ block_numbers again)
-            (expression_numbers exit) h),
-      )
-  statement_words (Construct at class name body end) h = block_words body h
-  statement_words (Local at var value body end_var end_value) h =
-      let a = left (expression_numbers value ++ block_numbers body) (expression_numbers end_value) h in (
-        has_words value (left (expression_numbers value) (block_numbers body) a),
-        block_words body (right (expression_numbers value) (block_numbers body) a),
-        has_words end_value (right (expression_numbers value ++ block_numbers body) (expression_numbers end_value)
-            h),
-      )
-  statement_words (New at made target) h = (
-    creation_words made
-        (left (creation_numbers made) (lvalue_numbers target) h),
-    place_words target (right (creation_numbers made) (lvalue_numbers target) h),
-  )
-  statement_words (Delete at made target) h = (
-    creation_words made
-        (left (creation_numbers made) (lvalue_numbers target) h),
-    place_words target (right (creation_numbers made) (lvalue_numbers target) h),
-  )
-  statement_words (Copy at kind source target) h = (
-    place_words source
-        (left (lvalue_numbers source) (lvalue_numbers target) h),
-    place_words target (right (lvalue_numbers source) (lvalue_numbers target) h),
-  )
-  statement_words (Uncopy at kind source target) h = (
-    place_words source
-        (left (lvalue_numbers source) (lvalue_numbers target) h),
-    place_words target (right (lvalue_numbers source) (lvalue_numbers target) h),
-  )
-  statement_words (Call at back receiver method args) h = receiver_words receiver h
-  statement_words (Skip at) h = tt
+part_words : (p : Part) → Small (part_numbers p) → PartHasWords (λ receiver args. ReceiverHasWords receiver) p
+part_words (Operand value) h = has_words value h
+part_words (Target place) h = place_words place h
+part_words (Typed kind place) h = place_words place h
+part_words (Creates made) h = creation_words made h
+part_words (Invokes receiver method args) h = receiver_words receiver h
 
-  block_words : (body : Statements) → Small (block_numbers body) → BlockHasWords body
-  block_words End h = tt
-  block_words (Then first rest) h = (
-    statement_words first (left (statement_numbers first) (block_numbers rest) h),
-    block_words rest (right (statement_numbers first) (block_numbers rest) h),
-  )
+-- a fact of small literals
+abbrev Given : List ℕ → Type 0 → Type 0
+Given words A = Small words → A
+
+both_given : (xs ys : List ℕ) (A B : Type 0) → Given xs A → Given ys B → Given (xs ++ ys) (A × B)
+both_given xs ys A B f g h = (f (left xs ys h), g (right xs ys h))
+
+words_given : AreRelated Given numbers all_words
+words_given = record {
+  plain = λ at parts. parts_related Given ◌++◌ (λ (A B : Type 0). A × B) part_numbers
+      (PartHasWords (λ receiver args. ReceiverHasWords receiver)) [] (Unit {0})
+      (λ xs ys A B f g. both_given xs ys A B f g) part_words (λ h. tt) parts;
+  forked = λ at before xs ys A B after f g h.
+      let a = left (expression_numbers before ++ xs ++ ys) (expression_numbers after) h in
+      let b = left (expression_numbers before ++ xs) ys a in (
+        has_words before (left (expression_numbers before) xs b),
+        f (right (expression_numbers before) xs b),
+        g (right (expression_numbers before ++ xs) ys a),
+        has_words after (right (expression_numbers before ++ xs ++ ys) (expression_numbers after) h),
+      );
+  construct = λ at class name xs A end f. f;
+  local = λ at var value xs A end_var end_value f h.
+      let a = left (expression_numbers value ++ xs) (expression_numbers end_value) h in (
+        has_words value (left (expression_numbers value) xs a),
+        f (right (expression_numbers value) xs a),
+        has_words end_value (right (expression_numbers value ++ xs) (expression_numbers end_value) h),
+      );
+  none = λ h. tt;
+  next = λ first xs ys A B f g. both_given xs ys A B f g;
+}
+
+block_words : (body : Statements) → Small (block_numbers body) → BlockHasWords body
+block_words body = block_related words_given body
 
 pub program_words : (program : Source) → All (λ (w : ℕ). w ≤ MOST_NUMBER) (source_numbers program)
     → ProgramHasWords program

@@ -4,6 +4,7 @@ use Rattle.std.proofs.Common.{◌++◌, map, length, Option, Some, None, arith}
 use Rattle.std.proofs.lemmas.Bool.{eqb-true}
 use Rattle.std.specs.Prelude.{nat_eq, is_none, is_some, if◌then◌else◌}
 use Rattle.std.specs.Option.{option_map}
+use Rattle.code_conventions.specs.declared.memory.TheConstants.{HEADER_WORDS}
 use Rattle.buddy_book.specs.Book.{Book, take, give}
 use Rattle.buddy_book.specs.Place.{Taken, Given, Log, Placing, block_of, without_name, with_block, after_request, place}
 use Rattle.buddy_book.specs.Shown.{Shown, TakenBlocks, order_in, with_taken, without_taken}
@@ -21,10 +22,10 @@ use Rattle.meaning_sound.proofs.Stores.{other_number, differs, here, there, with
 -- ---- orders begin at 1
 
 pub order_from_one : (cells : ℕ) → 1 ≤ order_of_cells cells
-order_from_one cells = order_least 31 1 (2 + cells)
+order_from_one cells = order_least 31 1 (HEADER_WORDS + cells)
 
-pub has_room : (cells : ℕ) → order_of_cells cells ≤ 20 → 2 + cells ≤ 2 ^ order_of_cells cells
-has_room cells h = order_room 31 1 (2 + cells) (omega arith)
+pub has_room : (cells : ℕ) → order_of_cells cells ≤ 20 → HEADER_WORDS + cells ≤ 2 ^ order_of_cells cells
+has_room cells h = order_room 31 1 (HEADER_WORDS + cells) (omega arith)
 
 -- ---- names
 

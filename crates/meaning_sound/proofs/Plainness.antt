@@ -8,8 +8,7 @@ use Rattle.std.specs.Str.{bytes_eq}
 use Rattle.std.specs.Char.{is_ascii_alphabetic}
 use Rattle.rpp_tree.specs.declared.tree.Ident.{Ident}
 use Rattle.rpp_tree.specs.Tree.{Expression, Number, Null, Variable, Element, Binary, Lvalue, Whole, Item, Statement}
-use Rattle.rpp_tree.specs.Tree.{Statements, Update, Swap, If, From, Construct, Local, New, Delete, Copy, Uncopy, Call}
-use Rattle.rpp_tree.specs.Tree.{Skip, End, Then, Source}
+use Rattle.rpp_tree.specs.Tree.{Statements, Update, If, From, Construct, Local, Call, End, Then, Source}
 use Rattle.rpp_tree.specs.Names.{IsName}
 use Rattle.rpp_tree.specs.Parts.{expression_names, receiver_names, var_names, statement_names, block_names}
 use Rattle.rpp_tree.specs.Parts.{procedure_names, parent_names, class_names}
@@ -85,7 +84,6 @@ receiver_plain (Some (Item name index)) method args h w =
 mutual
   statement_plain : (s : Statement) → Named (statement_names s) → StatementHasWords s → StatementIsPlain s
   statement_plain (Update at op target value) h w = w
-  statement_plain (Swap at left right) h w = w
   statement_plain (If at test taken other after) h w =
       let a = all_left P (expression_names test ++ block_names taken ++ block_names other) (expression_names after) h in
       let b = all_left P (expression_names test ++ block_names taken) (block_names other) a in (
@@ -111,12 +109,8 @@ mutual
       (expression_names end_value) h in
       let b = all_left P (var_names var ++ expression_names value ++ block_names body) (var_names end_var) a in
       (w.0, block_plain body (all_right P (var_names var ++ expression_names value) (block_names body) b) w.1, w.2)
-  statement_plain (New at made target) h w = w
-  statement_plain (Delete at made target) h w = w
-  statement_plain (Copy at kind source target) h w = w
-  statement_plain (Uncopy at kind source target) h w = w
   statement_plain (Call at back receiver method args) h w = receiver_plain receiver method args h w
-  statement_plain (Skip at) h w = tt
+  statement_plain _ h w = w
 
   block_plain : (body : Statements) → Named (block_names body) → BlockHasWords body → IsPlain body
   block_plain End h w = tt

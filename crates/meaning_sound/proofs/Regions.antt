@@ -4,6 +4,7 @@ use Rattle.std.proofs.Common.{true, false, List, [], ◌∷◌, ◌++◌, map, l
 use Rattle.std.proofs.lemmas.Bool.{eqb-true, ltb-true, ltb-false}
 use Rattle.std.specs.Prelude.{nat_eq, nat_lt, is_some, if◌then◌else◌}
 use Rattle.std.specs.Option.{option_map}
+use Rattle.code_conventions.specs.declared.memory.TheConstants.{HEADER_WORDS}
 use Rattle.buddy_book.specs.Place.{block_of}
 use Rattle.buddy_book.specs.Shown.{Shown, order_in, without_taken, weight, taken_weight, IsKept, cover}
 use Rattle.buddy_book.proofs.Table.{taken_weight-without}
@@ -59,12 +60,12 @@ blocks_apart book a b k l kept ka kb apart = by (nat_lt a b) refl
 -- ---- the blocks of a sound state
 
 pub record HasRegion (setting : Setting) (store : Store) (blocks : List (ℕ × ℕ)) (name : ℕ) (head : Head) : Type 0 where
-  pub fits : block_of blocks name + (2 + length (cell_kinds setting.program head)) ≤ 2 ^ setting.limits.heap
+  pub fits : block_of blocks name + (HEADER_WORDS + length (cell_kinds setting.program head)) ≤ 2 ^ setting.limits.heap
 
 module _ (setting : Setting) (store : Store) (log : Rattle.buddy_book.specs.Place.Log) (p : IsPlaced setting store log)
   where
     abbrev size : Head → ℕ
-    size head = 2 + length (cell_kinds setting.program head)
+    size head = HEADER_WORDS + length (cell_kinds setting.program head)
 
     abbrev book : Shown
     book = record { h = setting.limits.heap; base = 0; free = p.at.book; taken = p.taken }

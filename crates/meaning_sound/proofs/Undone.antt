@@ -5,8 +5,8 @@ use Rattle.std.specs.Prelude.{not, ◌&&◌, ◌||◌, if◌then◌else◌}
 use Rattle.std.specs.Option.{is_none}
 use Rattle.std.specs.Str.{bytes_eq}
 use Rattle.rpp_tree.specs.declared.tree.Var.{Var}
-use Rattle.rpp_tree.specs.Tree.{Expression, Statement, Statements, Update, Swap, If, From, Construct, Local, New}
-use Rattle.rpp_tree.specs.Tree.{Delete, Copy, Uncopy, Call, Skip, End, Then, joined}
+use Rattle.rpp_tree.specs.Tree.{Expression, Statement, Statements, Update, If, From, Construct, Local, End, Then}
+use Rattle.rpp_tree.specs.Tree.{joined}
 use Rattle.class_table.specs.declared.kind.Kind.{Kind}
 use Rattle.class_table.specs.Overrides.{is_type_int, same_type}
 use Rattle.class_table.specs.Refusal.{type_differs, redeclared, local_in_own_expression}
@@ -15,8 +15,9 @@ use Rattle.class_table.specs.Expressions.{is_int, type_of, occurs, first_token}
 use Rattle.class_table.specs.Statements.{passed, required, in_turn, test_rules, type_known, is_nil_word, local_rules}
 use Rattle.class_table.specs.Statements.{construct_rules, with_local, with_object, check_statement, check_statements}
 use Rattle.stmt_inverter.specs.Inverse.{inverse_statement_as, inverse_as, inverse}
+use Rattle.stmt_inverter.proofs.InverseWalks.{IsTurned, block_turned as walk_block_turned}
 use Rattle.class_table.proofs.SameTypes.{types_same}
-use Rattle.meaning_sound.specs.Plain.{StatementIsPlain, IsPlain}
+use Rattle.meaning_sound.specs.Plain.{ReceiverIsPlain, words_and, IsPlain}
 use Rattle.class_table.proofs.PassedRules.{both_passed, in_turn_passes, held, required_passes, handed_on, hands_on}
 use Rattle.class_table.proofs.PassedRules.{both_true}
 use Rattle.class_table.proofs.FirstPlaces.{same_name, bytes_turned}
@@ -115,7 +116,6 @@ mutual
   statement_undone : (setting : Typing) (locals : Locals) (s : Statement) → check_statement setting locals s ≡ passed
       → check_statement setting locals (inverse_statement_as true s) ≡ passed
   statement_undone setting locals (Update at op target value) h = h
-  statement_undone setting locals (Swap at left right) h = h
   statement_undone setting locals (If at test taken other after) h =
       let a = both_passed (test_rules setting locals test after)
       (in_turn (check_statements setting locals taken) (check_statements setting locals other)) h in
@@ -144,12 +144,7 @@ mutual
       in_turn_passes (local_rules setting locals at end_var end_value var value) _ t.rules
       (subst (λ (ls : Locals). check_statements setting ls (inverse_as true body) ≡ passed) t.same
       (block_undone setting (with_local setting locals var) body a.1))
-  statement_undone setting locals (New at made target) h = h
-  statement_undone setting locals (Delete at made target) h = h
-  statement_undone setting locals (Copy at kind source target) h = h
-  statement_undone setting locals (Uncopy at kind source target) h = h
-  statement_undone setting locals (Call at back receiver method args) h = h
-  statement_undone setting locals (Skip at) h = h
+  statement_undone setting locals _ h = h
 
   block_undone : (setting : Typing) (locals : Locals) (body : Statements)
       → check_statements setting locals body ≡ passed → check_statements setting locals (inverse_as true body) ≡ passed
@@ -165,25 +160,16 @@ pub inverse_checks : (setting : Typing) (locals : Locals) (body : Statements)
     → check_statements setting locals body ≡ passed → check_statements setting locals (inverse body) ≡ passed
 inverse_checks setting locals body h = block_undone setting locals body h
 
-mutual
-  statement_plain : (s : Statement) → StatementIsPlain s → StatementIsPlain (inverse_statement_as true s)
-  statement_plain (Update at op target value) h = h
-  statement_plain (Swap at left right) h = h
-  statement_plain (If at test taken other after) h = (h.3, block_plain taken h.1, block_plain other h.2, h.0)
-  statement_plain (From at entry first again exit) h = (h.3, block_plain first h.1, block_plain again h.2, h.0)
-  statement_plain (Construct at class name body end) h = block_plain body h
-  statement_plain (Local at var value body end_var end_value) h = (h.2, block_plain body h.1, h.0)
-  statement_plain (New at made target) h = h
-  statement_plain (Delete at made target) h = h
-  statement_plain (Copy at kind source target) h = h
-  statement_plain (Uncopy at kind source target) h = h
-  statement_plain (Call at back receiver method args) h = h
-  statement_plain (Skip at) h = h
-
-  block_plain : (body : Statements) → IsPlain body → IsPlain (inverse_as true body)
-  block_plain End h = h
-  block_plain (Then first rest) h = plain_joined (inverse_as true rest) (Then (inverse_statement_as true first) End)
-      (block_plain rest h.1) (statement_plain first h.0, tt)
+plain_turned : IsTurned (λ (A B : Type 0). B → A) (words_and ReceiverIsPlain) true
+plain_turned = record {
+  plain = λ at parts h. h;
+  forked = λ at before a b c d after f g h. (h.3, f h.1, g h.2, h.0);
+  construct = λ at class name a c end f. f;
+  local = λ at var value a c end_var end_value f h. (h.2, f h.1, h.0);
+  none = λ h. h;
+  last = λ first body said rest f g h. plain_joined body (Then (inverse_statement_as true first) End) (g h.1)
+      (f h.0, tt);
+}
 
 pub inverse_plain : (body : Statements) → IsPlain body → IsPlain (inverse body)
-inverse_plain body h = block_plain body h
+inverse_plain body h = walk_block_turned plain_turned body h

@@ -6,8 +6,8 @@ use Rattle.std.specs.Str.{bytes_eq}
 use Rattle.rpp_tree.specs.declared.tree.Ident.{Ident}
 use Rattle.rpp_tree.specs.Tree.{Expression, Number, Null, Variable, Element, Binary, Lvalue, Whole}
 use Rattle.rpp_tree.specs.Tree.{Item, Creation, Object, Ints, Objects, Statement, Statements}
-use Rattle.rpp_tree.specs.Tree.{Update, Swap, If, From, Construct, Local, New, Delete, Copy, Uncopy}
-use Rattle.rpp_tree.specs.Tree.{Call, Skip, End, Then, Procedure, ClassText, Source}
+use Rattle.rpp_tree.specs.Tree.{Procedure, ClassText, Source, Part, Operand, Target, Typed, Creates}
+use Rattle.rpp_tree.specs.Tree.{Invokes, Walk, walk, walk_block, each_part}
 
 -- the literals of an expression are words
 abbrev pub HasWords : Expression → Type 0
@@ -48,27 +48,30 @@ ReceiverIsPlain (Some (Whole name)) args = Unit {0}
 ReceiverIsPlain (Some (Item name index)) args = HasWords index × IsNamed name × HasNames index
     × AreNamed args
 
-abbrev mutual
-  pub StatementIsPlain : Statement → Type 0
-  StatementIsPlain (Update at op target value) = PlaceHasWords target × HasWords value
-  StatementIsPlain (Swap at left right) = PlaceHasWords left × PlaceHasWords right
-  StatementIsPlain (If at test taken other after) = HasWords test × IsPlain taken × IsPlain other
-      × HasWords after
-  StatementIsPlain (From at entry first again exit) = HasWords entry × IsPlain first × IsPlain again
-      × HasWords exit
-  StatementIsPlain (Construct at class name body end) = IsPlain body
-  StatementIsPlain (Local at var value body end_var end_value) =
-      HasWords value × IsPlain body × HasWords end_value
-  StatementIsPlain (New at made target) = CreationHasWords made × PlaceHasWords target
-  StatementIsPlain (Delete at made target) = CreationHasWords made × PlaceHasWords target
-  StatementIsPlain (Copy at kind source target) = PlaceHasWords source × PlaceHasWords target
-  StatementIsPlain (Uncopy at kind source target) = PlaceHasWords source × PlaceHasWords target
-  StatementIsPlain (Call at back receiver method args) = ReceiverIsPlain receiver args
-  StatementIsPlain (Skip at) = Unit {0}
+-- the literals of a part are words, and so it is said of the receiver of a call
+abbrev pub PartHasWords : (Option Lvalue → List Ident → Type 0) → Part → Type 0
+PartHasWords Receiver (Operand value) = HasWords value
+PartHasWords Receiver (Target place) = PlaceHasWords place
+PartHasWords Receiver (Typed kind place) = PlaceHasWords place
+PartHasWords Receiver (Creates made) = CreationHasWords made
+PartHasWords Receiver (Invokes receiver method args) = Receiver receiver args
 
-  pub IsPlain : Statements → Type 0
-  IsPlain End = Unit {0}
-  IsPlain (Then first rest) = StatementIsPlain first × IsPlain rest
+-- the same of all parts of a statement
+abbrev pub words_and : (Option Lvalue → List Ident → Type 0) → Walk (Type 0)
+words_and Receiver = record {
+  plain = λ at parts. each_part (λ (A B : Type 0). A × B) (PartHasWords Receiver) (Unit {0}) parts;
+  forked = λ at before first second after. HasWords before × first × second × HasWords after;
+  construct = λ at class name body end. body;
+  local = λ at var value body end_var end_value. HasWords value × body × HasWords end_value;
+  none = Unit {0};
+  next = λ first said rest. said × rest;
+}
+
+abbrev pub StatementIsPlain : Statement → Type 0
+StatementIsPlain = walk (words_and ReceiverIsPlain)
+
+abbrev pub IsPlain : Statements → Type 0
+IsPlain = walk_block (words_and ReceiverIsPlain)
 
 -- every method of the program
 abbrev pub ProgramIsPlain : Source → Type 0
@@ -80,28 +83,15 @@ abbrev pub ReceiverHasWords : Option Lvalue → Type 0
 ReceiverHasWords None = Unit {0}
 ReceiverHasWords (Some place) = PlaceHasWords place
 
--- the literals of statements are words
-abbrev mutual
-  pub StatementHasWords : Statement → Type 0
-  StatementHasWords (Update at op target value) = PlaceHasWords target × HasWords value
-  StatementHasWords (Swap at left right) = PlaceHasWords left × PlaceHasWords right
-  StatementHasWords (If at test taken other after) = HasWords test × BlockHasWords taken
-      × BlockHasWords other × HasWords after
-  StatementHasWords (From at entry first again exit) = HasWords entry × BlockHasWords first
-      × BlockHasWords again × HasWords exit
-  StatementHasWords (Construct at class name body end) = BlockHasWords body
-  StatementHasWords (Local at var value body end_var end_value) =
-      HasWords value × BlockHasWords body × HasWords end_value
-  StatementHasWords (New at made target) = CreationHasWords made × PlaceHasWords target
-  StatementHasWords (Delete at made target) = CreationHasWords made × PlaceHasWords target
-  StatementHasWords (Copy at kind source target) = PlaceHasWords source × PlaceHasWords target
-  StatementHasWords (Uncopy at kind source target) = PlaceHasWords source × PlaceHasWords target
-  StatementHasWords (Call at back receiver method args) = ReceiverHasWords receiver
-  StatementHasWords (Skip at) = Unit {0}
+abbrev pub all_words : Walk (Type 0)
+all_words = words_and (λ receiver args. ReceiverHasWords receiver)
 
-  pub BlockHasWords : Statements → Type 0
-  BlockHasWords End = Unit {0}
-  BlockHasWords (Then first rest) = StatementHasWords first × BlockHasWords rest
+-- the literals of statements are words
+abbrev pub StatementHasWords : Statement → Type 0
+StatementHasWords = walk all_words
+
+abbrev pub BlockHasWords : Statements → Type 0
+BlockHasWords = walk_block all_words
 
 -- the literals of a program are words
 abbrev pub ProgramHasWords : Source → Type 0

@@ -1,6 +1,8 @@
 -- A base goes to the place of a variable, or to a word of the frame above, and back.
 use Rattle.std.proofs.Common.{◌≡◌, ℕ, ◌+◌, ◌^◌, ◌<◌, Bool, true, false, List, [], ◌∷◌, length, refl, ap, arith}
 use Rattle.std.specs.Prelude.{slice_index, slice_set}
+use Rattle.rpp_words.specs.declared.input.TheConstants.{FRAME_WORDS}
+use Rattle.code_conventions.specs.declared.memory.TheConstants.{HEADER_WORDS}
 use Rattle.rpp_words.specs.Words.{sum_of, difference_of, negated}
 use Rattle.pisa_isa.specs.Machine.{Memory}
 use Rattle.paired_code.specs.Machine.{Image}
@@ -46,8 +48,8 @@ module _ (im : Image) (o f b c g : ℕ) (cs : List ℕ) where
   pub will_reach : (sp : Spot) → address o f sp < 2 ^ 32
       → Will im (line (reach_row sp)) false (mk 0 o f 0 b c g 0 cs) (λ out. out ≡ Done (at_spot o f sp b c g cs) 1)
   will_reach (Field i) h =
-      will_row im false (addi 3 (2 + i) ∷ []) 1 _ _ (next refl (omega arith)
-      (ap (λ v. Done (mk 0 v f 0 b c g 0 cs) 1) (sum_is o (2 + i) (o + (2 + i)) refl h)) here)
+      will_row im false (addi 3 (HEADER_WORDS + i) ∷ []) 1 _ _ (next refl (omega arith)
+      (ap (λ v. Done (mk 0 v f 0 b c g 0 cs) 1) (sum_is o (HEADER_WORDS + i) (o + (HEADER_WORDS + i)) refl h)) here)
   will_reach (Frame j) h =
       will_row im false (addi 4 j ∷ []) 1 _ _ (next refl (omega arith)
       (ap (λ v. Done (mk 0 o v 0 b c g 0 cs) 1) (sum_is f j (f + j) refl h)) here)
@@ -55,8 +57,8 @@ module _ (im : Image) (o f b c g : ℕ) (cs : List ℕ) where
   pub will_leave : (sp : Spot) → address o f sp < 2 ^ 32
       → Will im (line (reach_row sp)) true (at_spot o f sp b c g cs) (λ out. out ≡ Done (mk 0 o f 0 b c g 0 cs) 1)
   will_leave (Field i) h =
-      will_row im true (addi 3 (2 + i) ∷ []) 1 _ _ (next refl (omega arith)
-      (ap (λ v. Done (mk 0 v f 0 b c g 0 cs) 1) (less_is (o + (2 + i)) (2 + i) o refl h)) here)
+      will_row im true (addi 3 (HEADER_WORDS + i) ∷ []) 1 _ _ (next refl (omega arith)
+      (ap (λ v. Done (mk 0 v f 0 b c g 0 cs) 1) (less_is (o + (HEADER_WORDS + i)) (HEADER_WORDS + i) o refl h)) here)
   will_leave (Frame j) h =
       will_row im true (addi 4 j ∷ []) 1 _ _ (next refl (omega arith)
       (ap (λ v. Done (mk 0 o v 0 b c g 0 cs) 1) (less_is (f + j) j f refl h)) here)
@@ -89,16 +91,17 @@ module _ (im : Image) (o f b c g : ℕ) (cs : List ℕ) where
 
 -- ---- a word of the frame above
 
-module _ (im : Image) (o f c : ℕ) (cs : List ℕ) (word : ℕ) (h : f + (512 + word) < 2 ^ 32) where
+module _ (im : Image) (o f c : ℕ) (cs : List ℕ) (word : ℕ) (h : f + (FRAME_WORDS + word) < 2 ^ 32) where
   pub will_raise : Will im (line (above_row word)) false (mk 0 o f 0 0 c 0 0 cs)
-      (λ out. out ≡ Done (mk 0 o (f + (512 + word)) 0 0 c 0 0 cs) 1)
+      (λ out. out ≡ Done (mk 0 o (f + (FRAME_WORDS + word)) 0 0 c 0 0 cs) 1)
   will_raise = will_row im false (above_row word) 1 _ _ (next refl (omega (arith, h))
-      (ap (λ v. Done (mk 0 o v 0 0 c 0 0 cs) 1) (sum_is f (512 + word) (f + (512 + word)) refl h)) here)
+      (ap (λ v. Done (mk 0 o v 0 0 c 0 0 cs) 1) (sum_is f (FRAME_WORDS + word) (f + (FRAME_WORDS + word)) refl h)) here)
 
-  pub will_lower : Will im (line (above_row word)) true (mk 0 o (f + (512 + word)) 0 0 c 0 0 cs)
+  pub will_lower : Will im (line (above_row word)) true (mk 0 o (f + (FRAME_WORDS + word)) 0 0 c 0 0 cs)
       (λ out. out ≡ Done (mk 0 o f 0 0 c 0 0 cs) 1)
   will_lower = will_row im true (above_row word) 1 _ _ (next refl (omega (arith, h))
-      (ap (λ v. Done (mk 0 o v 0 0 c 0 0 cs) 1) (less_is (f + (512 + word)) (512 + word) f refl h)) here)
+      (ap (λ v. Done (mk 0 o v 0 0 c 0 0 cs) 1) (less_is (f + (FRAME_WORDS + word)) (FRAME_WORDS + word) f refl h))
+      here)
 
 -- ---- a word of the frame
 

@@ -4,6 +4,7 @@ use Rattle.std.proofs.Common.{refl, sym, ap}
 use Rattle.std.proofs.Common.{◌∙◌, subst, arith, length-append}
 use Rattle.std.specs.Prelude.{None, Some}
 use Rattle.std.proofs.lemmas.List.{length-map}
+use Rattle.rpp_words.specs.declared.input.TheConstants.{FRAME_WORDS}
 use Rattle.rpp_tree.specs.declared.tree.Ident.{Ident}
 use Rattle.rpp_tree.specs.Tree.{Whole, Item, Local, Construct, Call}
 use Rattle.paired_code.specs.declared.part.Symbol.{Symbol}
@@ -53,14 +54,14 @@ moves_same spot (x ∷ args) = ap (λ z. z ++ move_code (spot x) (length args)) 
 own_same : (spot : Ident → Spot) (back : Bool) (slot : ℕ) (args : List Ident)
     → call_code spot back slot args ≡ own_cells back slot (map spot args)
 unfolding last_cells own_cells
-own_same spot back slot args = ap (λ z. around (depth_code ++ (z ++ line (addi 4 512 ∷ fetch_row slot)))
+own_same spot back slot args = ap (λ z. around (depth_code ++ (z ++ line (addi 4 FRAME_WORDS ∷ fetch_row slot)))
     (enter_at_cells 12 back)) (moves_same spot args)
 
 on_same : (spot : Ident → Spot) (back : Bool) (x : Ident) (slot : ℕ) (args : List Ident)
     → call_on_code spot back x slot args ≡ around (front_on_of (spot x) slot (map spot args)) (enter_at_cells 12 back)
 unfolding last_cells behind_of checked_of front_on_of
 on_same spot back x slot args = ap (λ z. around (nil_code (spot x)
-    ++ (depth_code ++ (z ++ (take_code (spot x) ++ (onto_code ++ line (addi 4 512 ∷ fetch_row slot))))))
+    ++ (depth_code ++ (z ++ (take_code (spot x) ++ (onto_code ++ line (addi 4 FRAME_WORDS ∷ fetch_row slot))))))
     (enter_at_cells 12 back)) (moves_same spot args)
 
 -- ---- laws

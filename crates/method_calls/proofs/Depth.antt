@@ -1,11 +1,13 @@
 -- The check of the depth, the place of a method, and what a body puts by.
-use Rattle.std.proofs.Common.{◌≡◌, ◌≢◌, ℕ, ◌+◌, ◌-◌, ◌^◌, ◌<◌, ◌≤◌, Bool, true, false, List, [], ◌∷◌, ◌++◌, length, refl}
+use Rattle.std.proofs.Common.{◌≡◌, ◌≢◌, ℕ, ◌+◌, ◌-◌, ◌^◌, ◌<◌, ◌≤◌, Bool, true, false, List, [], ◌∷◌, ◌++◌, length}
+use Rattle.std.proofs.Common.{refl}
 use Rattle.std.proofs.Common.{sym}
 use Rattle.std.proofs.Common.{ap, ◌∙◌, arith}
 use Rattle.std.specs.Prelude.{not, nat_lt, slice_index, slice_set, bit_xor, int_lt, pos, if◌then◌else◌}
 use Rattle.std.proofs.lemmas.List.{get_or-set_same, get_or-set_other, set-get_or}
 use Rattle.std.proofs.Math.ListN.{length-set}
 use Rattle.std.proofs.lemmas.Bool.Decides.{nat_tests}
+use Rattle.rpp_words.specs.declared.input.TheConstants.{FRAME_WORDS}
 use Rattle.rpp_words.specs.Words.{sum_of, negated, is_less, signed}
 use Rattle.pisa_isa.specs.Table.{word_of}
 use Rattle.pisa_isa.specs.declared.cell.Cell.{Cell}
@@ -56,13 +58,13 @@ above_zero v p h = below 0 v p h
 -- ---- the depth
 
 module _ (im : Image) (ob fr : ℕ) (cs : List ℕ) (inside : 4 < length cs) (small : slice_index cs 4 < 2 ^ 31)
-    (fits : fr + 512 ≤ slice_index cs 4) where
+    (fits : fr + FRAME_WORDS ≤ slice_index cs 4) where
   abbrev end : ℕ
   end = slice_index cs 4
 
   -- the last frame that fits begins before it
   abbrev last : ℕ
-  last = end - 512
+  last = end - FRAME_WORDS
 
   abbrev gone : List ℕ
   gone = slice_set cs 4 0
@@ -70,7 +72,7 @@ module _ (im : Image) (ob fr : ℕ) (cs : List ℕ) (inside : 4 < length cs) (sm
   abbrev depth_mem : ℕ → ℕ → ℕ → List ℕ → Memory
   depth_mem a b g l = mk 0 ob fr a b 0 g 0 l
 
-  last_is : end ≡ last + 512
+  last_is : end ≡ last + FRAME_WORDS
   last_is = omega (arith, fits)
 
   finds_end : Will im (line end_row) false (depth_mem 0 0 0 cs) (λ o. o ≡ Done (depth_mem 4 last 0 gone) 3)
@@ -79,14 +81,14 @@ module _ (im : Image) (ob fr : ℕ) (cs : List ℕ) (inside : 4 < length cs) (sm
       (next refl (omega arith) refl
       (next refl (omega arith) (exchanges false 6 5 (depth_mem 4 0 0 cs) inside)
       (next refl (omega arith) (ap (λ v. Done (depth_mem 4 v 0 gone) 1)
-      (less_is end 512 last last_is (omega (arith, small)))) here)))
+      (less_is end FRAME_WORDS last last_is (omega (arith, small)))) here)))
 
   leaves_end : Will im (line end_row) true (depth_mem 4 last 0 gone) (λ o. o ≡ Done (depth_mem 0 0 0 cs) 3)
   leaves_end =
       let l1 : 4 < length gone = omega (arith, length-set cs 4 0, inside) in
-      will_row im true (addi 6 (negated 512) ∷ exch 6 5 ∷ addi 5 4 ∷ []) 3 _ _
+      will_row im true (addi 6 (negated FRAME_WORDS) ∷ exch 6 5 ∷ addi 5 4 ∷ []) 3 _ _
       (next refl (omega arith) (ap (λ v. Done (depth_mem 4 v 0 gone) 1)
-      (sum_is last 512 end (omega (arith, last_is)) (omega (arith, small))))
+      (sum_is last FRAME_WORDS end (omega (arith, last_is)) (omega (arith, small))))
       (next refl (omega arith) (exchanges true 6 5 (depth_mem 4 end 0 gone) l1
       ∙ ap (λ v. Done (depth_mem 4 v 0 (slice_set gone 4 end)) 1) (emptied cs 4 inside)
       ∙ ap (λ l. Done (depth_mem 4 0 0 l) 1) (filled cs 4))
@@ -120,14 +122,14 @@ module _ (im : Image) (ob fr : ℕ) (cs : List ℕ) (inside : 4 < length cs) (sm
       (will_more im _ true _ _ _ (λ o q. ap (after 4) q) (unflags e))
 
   -- where one more call may be open, nothing happens
-  pub depth_passes : (d : Bool) → fr + 512 < end → Will im depth_code d (depth_mem 0 0 0 cs)
+  pub depth_passes : (d : Bool) → fr + FRAME_WORDS < end → Will im depth_code d (depth_mem 0 0 0 cs)
       (λ o. o ≡ Done (depth_mem 0 0 0 cs) 12)
   depth_passes d h =
       let t : is_less fr last ≡ true = below fr last (omega (arith, last_is)) (omega (arith, small)) in
       will_in im d (line end_row) (line fits_row ++ check_cells 11 14) _ _ _ _ 3 6 3 finds_end (passes d t) leaves_end
 
   -- else it traps
-  pub depth_traps : fr + 512 ≡ end → Will im depth_code false (depth_mem 0 0 0 cs)
+  pub depth_traps : fr + FRAME_WORDS ≡ end → Will im depth_code false (depth_mem 0 0 0 cs)
       (λ o. (k : ℕ) × (k ≤ 9) × (o ≡ Trapped 14 k))
   depth_traps h =
       let t : is_less fr last ≡ false = not_below fr last (omega (arith, last_is)) (omega (arith, small)) in

@@ -1,26 +1,22 @@
 -- The run of the main piece up to the body of `main`, and from there on.
 use Rattle.std.proofs.Common.{◌≡◌, ◌≢◌, ℕ, ◌+◌, ◌^◌, ◌<◌, ◌≤◌, false, List, [], ◌∷◌, length, Some}
 use Rattle.std.proofs.Common.{refl, sym, ap, ◌∙◌, subst, arith}
-use Rattle.std.specs.Prelude.{pos, ◌+ℤ◌, nat_eq, if◌then◌else◌}
-use Rattle.std.proofs.lemmas.Bool.Decides.{nat_tests}
+use Rattle.std.specs.Prelude.{pos}
 use Rattle.rpp_words.specs.declared.input.FieldWord.{FieldWord}
-use Rattle.pisa_isa.specs.declared.cell.Cell.{Cell}
-use Rattle.pisa_isa.specs.declared.cell.Op.TheVariants.{Bra, Swapbr}
 use Rattle.pisa_isa.specs.Loaded.{loaded}
 use Rattle.pisa_isa.specs.Machine.{Memory, fetch}
 use Rattle.code_conventions.specs.Cells.{bra}
 use Rattle.paired_code.specs.Cells.{swapbr}
 use Rattle.paired_code.specs.declared.part.Symbol.{Symbol}
 use Rattle.paired_code.specs.declared.part.Symbol.TheVariants.{Enter}
-use Rattle.paired_code.specs.Machine.{Image, state, reg, with_reg, act, change, Same, Enters, Leaves, same, enters, leaves}
-use Rattle.paired_code.specs.Layout.{place, at, base, between, code_line, mirror_cells, Stands, Routine}
-use Rattle.paired_code.specs.Pieces.{cell, open_call, in_flight, Path, Outcome, Done, Way, Ends, finishes, Will}
+use Rattle.paired_code.specs.Machine.{Image, reg, with_reg}
+use Rattle.paired_code.specs.Layout.{at, base, between, code_line, mirror_cells, Stands, Routine}
+use Rattle.paired_code.specs.Pieces.{Path, Done, Way, Ends, finishes, Will}
 use Rattle.paired_code.specs.Rows.{line}
-use Rattle.paired_code.proofs.Words.{first_br, second_br, goes_to, far_is}
 use Rattle.paired_code.proofs.Paths.{append, within_call}
 use Rattle.paired_code.proofs.Ways.{front, rest, and_then, from_to, way_wider}
-use Rattle.paired_code.proofs.Call.{step_to, acts_to, on_line, swap_acts, negates, ends_jump, neg_between}
-use Rattle.paired_code.proofs.Call.{between_positive, between_small}
+use Rattle.paired_code.proofs.Call.{on_line, negates, ends_jump, neg_between, between_positive, between_small}
+use Rattle.paired_code.proofs.Call.{apart, call_cell, enter_path, leave_path}
 use Rattle.paired_code.proofs.Mirrored.{will_mirror}
 use Rattle.roopl_semantics.specs.Store.{State}
 use Rattle.roopl_semantics.specs.Layout.{layout}
@@ -47,75 +43,24 @@ way_of im p m m' k i h l st =
 
 module _ (im : Image) (r top : ℕ) (body : List Symbol) (t : Routine im r top body) (a b p : ℕ) (lo : a ≤ p)
     (hi : p < b) (hp : p < 2 ^ 30) (stands : Stands im code_line p (Enter r false ∷ [])) where
-  abbrev s : ℕ
-  s = top + 1
+  caller : fetch im.code (pos p) ≡ Some (call_cell false (between p (top + 1)))
+  caller = subst (λ z. fetch im.code z ≡ Some (bra (between p (top + 1)))) (on_line p)
+      (stands.0 ∙ ap (λ z. Some (base im.routines z (Enter r false))) (on_line p)
+      ∙ ap (λ n. Some (bra (between p n))) t.listed)
 
-  abbrev link : ℕ
-  link = between s p
+  swap : fetch im.code (pos (top + 1)) ≡ Some (swapbr 2)
+  swap = subst (λ z. fetch im.code z ≡ Some (swapbr 2)) (on_line (top + 1)) t.sub_cell
 
-  hs : s < 2 ^ 30
-  hs = let l = t.small in omega arith
+  ne : p ≢ top + 1
+  ne = apart im false (between p (top + 1)) p (top + 1) caller swap
 
-  caller : fetch im.code (place code_line p) ≡ Some (bra (between p s))
-  caller = stands.0 ∙ ap (λ z. Some (base im.routines z (Enter r false))) (on_line p)
-      ∙ ap (λ n. Some (bra (between p n))) t.listed
+  go_in : (m : Memory) → reg m 2 ≡ 0 → Path im code_line a b 2 0 (at code_line false p m) 1
+      (at code_line false (top + 1 + 1) (with_reg m 2 (between p (top + 1))))
+  go_in m z = enter_path im r top body t code_line false false a b p p lo hi (on_line p) caller ne hp false refl m z
 
-  not_swap : (w n : ℕ) → bra w ≡ swapbr n → ⊥
-  not_swap w n e = let l : Bra ≡ Swapbr = ap (λ (c : Cell). c.op) e in cc
-
-  ne : p ≢ s
-  ne e =
-      let h : fetch im.code (place code_line s) ≡ Some (bra (between p s)) =
-      subst (λ n. fetch im.code (place code_line n) ≡ Some (bra (between p s))) e caller in
-      let g = sym h ∙ t.sub_cell in
-      not_swap (between p s) 2 (let l : bra (between p s) ≡ swapbr 2 = cc in l)
-
-  en : s ≢ p
-  en e = ne (sym e)
-
-  known : (m : Memory) (br : ℕ) → change im.routines (swapbr 2) (state (place code_line s) br false m)
-      ≡ if nat_eq (reg m 2) 0 then Enters else Leaves
-  known m br = ap (λ z. change im.routines (swapbr 2) (state z br false m)) (on_line s)
-      ∙ ap (λ t. if t then (if nat_eq (reg m 2) 0 then Enters else Leaves) else Same) t.known
-
-  go_in : (m : Memory) → reg m 2 ≡ 0
-      → Path im code_line a b 2 0 (at code_line false p m) 1 (at code_line false (s + 1) (with_reg m 2 (between p s)))
-  go_in m z =
-      let w = between p s in
-      let m1 = with_reg m 2 w in
-      let s0 = state (place code_line p) 0 false m in
-      let s1 = state (place code_line s) w false m in
-      let e1 : act (bra w) s0 ≡ s1 = acts_to (bra w) (place code_line p) (place code_line s) 0 w false false m m
-      (ap (λ n. state (place code_line p) n false m) (first_br false false p s ne hp hs))
-      (goes_to false false (pos 0) p s ne hp hs) in
-      let e2 : act (swapbr 2) s1 ≡ at code_line false (s + 1) m1 =
-      acts_to (swapbr 2) (place code_line s) (place code_line (s + 1)) w 0 false false m m1
-      (swap_acts false w (place code_line s) m ∙ ap (λ n. state (place code_line s) n false m1) z)
-      (far_is false false (pos 0) s) in
-      append (step_to im code_line a b 0 0 (bra w) Same s0 s1 (cell p lo hi) caller refl refl refl same e1)
-      (step_to im code_line a b 0 1 (swapbr 2) Enters s1 (at code_line false (s + 1) m1)
-      (in_flight (between_positive p s ne hp hs)) t.sub_cell refl refl
-      (known m w ∙ ap (λ n. if nat_eq n 0 then Enters else Leaves) z) enters e2)
-
-  go_out : (m : Memory) → reg m 2 ≡ link
-      → Path im code_line a b 2 1 (at code_line false s m) 0 (at code_line false (p + 1) (with_reg m 2 0))
-  go_out m z =
-      let n = with_reg m 2 0 in
-      let s0 = state (place code_line s) 0 false m in
-      let s1 = state (place code_line p) link false n in
-      let nz : nat_eq link 0 ≡ false = (let l = between_positive s p en hs hp in grind (arith, nat_tests)) in
-      let e1 : act (swapbr 2) s0 ≡ s1 = acts_to (swapbr 2) (place code_line s) (place code_line p) 0 link false false m n
-      (swap_acts false 0 (place code_line s) m ∙ ap (λ v. state (place code_line s) v false n) z)
-      (goes_to false false (pos 0) s p en hs hp) in
-      let e2 : act (bra (between p s)) s1 ≡ at code_line false (p + 1) n =
-      acts_to (bra (between p s)) (place code_line p) (place code_line (p + 1)) link 0 false false n n
-      (ap (λ v. state (place code_line p) v false n) (second_br false false s p en hs hp))
-      (far_is false false (pos 0) p) in
-      append (step_to im code_line a b 1 0 (swapbr 2) Leaves s0 s1 open_call t.sub_cell refl refl
-      (known m 0 ∙ ap (λ v. if nat_eq v 0 then Enters else Leaves) z ∙ ap (λ t. if t then Enters else Leaves) nz) leaves
-      e1)
-      (step_to im code_line a b 0 0 (bra (between p s)) Same s1 (at code_line false (p + 1) n) (cell p lo hi) caller refl
-      refl refl same e2)
+  go_out : (m : Memory) → reg m 2 ≡ between (top + 1) p → Path im code_line a b 2 1 (at code_line false (top + 1) m) 0
+      (at code_line false (p + 1) (with_reg m 2 0))
+  go_out m z = leave_path im r top body t code_line false false a b p p lo hi (on_line p) caller ne hp false refl m z
 
 -- ---- the main piece
 
@@ -156,8 +101,8 @@ module _ (w : World) (knows : Known w) (f : FrameFacts w knows) (statics : List 
     top_small : top + 1 < 2 ^ 30
     top_small = let l = routine.small in omega arith
 
-    apart : top + 1 ≢ p
-    apart e = ne w.im number top body routine i last p (omega arith) (omega arith) p_small (behind.0, tt) (sym e)
+    differ : top + 1 ≢ p
+    differ e = ne w.im number top body routine i last p (omega arith) (omega arith) p_small (behind.0, tt) (sym e)
 
     abbrev word : ℕ
     word = between (top + 1) p
@@ -181,7 +126,7 @@ module _ (w : World) (knows : Known w) (f : FrameFacts w knows) (statics : List 
     negated_way : Way w.im code_line false top (top + 1 + 1 + 1 + length body + 1) 1 (top + 1 + 1)
         (mk (between p (top + 1)) 40 frame 0 0 0 0 0 cells) (top + 1 + 1 + 1) first
     negated_way =
-        let e = neg_between p (top + 1) (λ h. apart (sym h)) p_small top_small in
+        let e = neg_between p (top + 1) (λ h. differ (sym h)) p_small top_small in
         subst (λ v. Way w.im code_line false top (top + 1 + 1 + 1 + length body + 1) 1 (top + 1 + 1)
         (mk (between p (top + 1)) 40 frame 0 0 0 0 0 cells) (top + 1 + 1 + 1) (mk v 40 frame 0 0 0 0 0 cells)) e
         (negates w.im number top body routine false (mk (between p (top + 1)) 40 frame 0 0 0 0 0 cells))
@@ -224,7 +169,7 @@ module _ (w : World) (knows : Known w) (f : FrameFacts w knows) (statics : List 
     pub main_enters : EntersMain w statics input mf i (main_code number)
     main_enters = record {
       link = word;
-      is_place = between_positive (top + 1) p apart top_small p_small;
+      is_place = between_positive (top + 1) p differ top_small p_small;
       is_word = between_small (top + 1) p;
       first = first;
       entered = record {

@@ -4,6 +4,7 @@ use Rattle.std.proofs.Common.{map, refl, sym, ap, ◌∙◌, subst, arith}
 use Rattle.std.specs.Prelude.{not, nat_lt, slice_index, slice_set}
 use Rattle.std.proofs.lemmas.List.{get_or-set_other}
 use Rattle.std.proofs.Math.ListN.{length-set}
+use Rattle.rpp_words.specs.declared.input.TheConstants.{FRAME_WORDS}
 use Rattle.rpp_tree.specs.declared.tree.Ident.{Ident}
 use Rattle.pisa_isa.specs.Machine.{Memory}
 use Rattle.paired_code.specs.Machine.{Image}
@@ -37,7 +38,7 @@ module _ (im : Image) (ob fr : ℕ) (sp : Spot) (j : ℕ) (cs : List ℕ) where
   at = address ob fr sp
 
   abbrev up : ℕ
-  up = fr + (512 + (first_word + j))
+  up = fr + (FRAME_WORDS + (first_word + j))
 
   -- up
   abbrev up_cells : List ℕ
@@ -146,7 +147,7 @@ module _ (w : World) (knows : Known w) (f : FrameFacts w knows) (s : Scope) (u :
           let os = steady.object_small in
           let fs = steady.frame_small in
           let at = address (w.object_of u) (w.frame_of u) sp in
-          let up = w.frame_of u + (512 + (first_word + length vals)) in
+          let up = w.frame_of u + (FRAME_WORDS + (first_word + length vals)) in
           let cs2 = slice_set (slice_set before.cells at 0) up (slice_index before.cells at) in
           let z : 10 * length names + 10 ≡ 10 * suc (length names) = omega arith in
           let step : Will w.im (move_code sp (length names)) false (plain w u before.cells)
@@ -175,7 +176,7 @@ module _ (w : World) (knows : Known w) (f : FrameFacts w knows) (s : Scope) (u :
     here_at = address (w.object_of u) (w.frame_of u) (knows.spot s name)
 
     abbrev up_at : ℕ
-    up_at = w.frame_of u + (512 + (first_word + length (pairs names vals)))
+    up_at = w.frame_of u + (FRAME_WORDS + (first_word + length (pairs names vals)))
 
     abbrev c : Cell
     c = knows.cell_of s u name

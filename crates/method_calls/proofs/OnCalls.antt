@@ -4,6 +4,7 @@ use Rattle.std.proofs.Common.{map, refl, sym, ap, ◌∙◌, subst, arith}
 use Rattle.std.specs.Prelude.{not, nat_lt, slice_index, slice_set, Some}
 use Rattle.std.proofs.lemmas.List.{get_or-set_other}
 use Rattle.std.proofs.Math.ListN.{length-set}
+use Rattle.rpp_words.specs.declared.input.TheConstants.{FRAME_WORDS}
 use Rattle.rpp_tree.specs.declared.tree.Ident.{Ident}
 use Rattle.rpp_tree.specs.Tree.{Call, Whole, Procedure}
 use Rattle.class_table.specs.Classes.{method_named}
@@ -185,7 +186,7 @@ module _ (w : World) (knows : Known w) (f : FrameFacts w knows) (on : Receivers 
   at = address ob fr sp
 
   abbrev up : ℕ
-  up = fr + (512 + 1)
+  up = fr + (FRAME_WORDS + 1)
 
   abbrev slot : ℕ
   slot = on.slot_on s x name
@@ -238,7 +239,8 @@ module _ (w : World) (knows : Known w) (f : FrameFacts w knows) (on : Receivers 
   low : at < 2 ^ 32
   low = spot_in w knows f s u sp (f.near s x (g.words.is_variable s x name args is)) object_small frame_small
 
-  end_fits : (st : State) (cs : List ℕ) → w.opens s u [] st cs → (b : Bool) → is_full ≡ b → fr + 512 ≤ slice_index cs 4
+  end_fits : (st : State) (cs : List ℕ) → w.opens s u [] st cs → (b : Bool) → is_full ≡ b
+      → fr + FRAME_WORDS ≤ slice_index cs 4
   end_fits st cs h true e = let t = (f.has_end s u st cs h).at_end e in omega arith
   end_fits st cs h false e = let t = (f.has_end s u st cs h).room e in omega arith
 
@@ -286,19 +288,19 @@ module _ (w : World) (knows : Known w) (f : FrameFacts w knows) (on : Receivers 
     has_place = (g.calls.tells s u caller callee in_cells x name args n_of entered is suits).has_place
 
     fetched : (cs2 : List ℕ) → HasPlace cs2 (w.object_of deep) slot place
-        → Will w.im (line (fetch_row slot)) false (mk 0 (w.object_of deep) (fr + 512) 0 0 0 0 0 cs2)
-        (λ o. o ≡ Done (mk 0 (w.object_of deep) (fr + 512) 0 0 0 0 place cs2) 7)
-    fetched cs2 p = will_fetch w.im (w.object_of deep) (fr + 512) slot place cs2 p.object_in p.small
+        → Will w.im (line (fetch_row slot)) false (mk 0 (w.object_of deep) (fr + FRAME_WORDS) 0 0 0 0 0 cs2)
+        (λ o. o ≡ Done (mk 0 (w.object_of deep) (fr + FRAME_WORDS) 0 0 0 0 place cs2) 7)
+    fetched cs2 p = will_fetch w.im (w.object_of deep) (fr + FRAME_WORDS) slot place cs2 p.object_in p.small
         (g.calls.slot_small s x name args is) p.entry_in p.apart p.entry place_small
 
     unfetched : (cs2 : List ℕ) → HasPlace cs2 (w.object_of deep) slot place
-        → Will w.im (line (fetch_row slot)) true (mk 0 (w.object_of deep) (fr + 512) 0 0 0 0 place cs2)
-        (λ o. o ≡ Done (mk 0 (w.object_of deep) (fr + 512) 0 0 0 0 0 cs2) 7)
-    unfetched cs2 p = will_unfetch w.im (w.object_of deep) (fr + 512) slot place cs2 p.object_in p.small
+        → Will w.im (line (fetch_row slot)) true (mk 0 (w.object_of deep) (fr + FRAME_WORDS) 0 0 0 0 place cs2)
+        (λ o. o ≡ Done (mk 0 (w.object_of deep) (fr + FRAME_WORDS) 0 0 0 0 0 cs2) 7)
+    unfetched cs2 p = will_unfetch w.im (w.object_of deep) (fr + FRAME_WORDS) slot place cs2 p.object_in p.small
         (g.calls.slot_small s x name args is) p.entry_in p.apart p.entry place_small
 
     front_in : Will w.im (front_on_code (knows.spot s) x slot args) false (mk 0 ob fr 0 0 0 0 0 cs)
-        (λ o. o ≡ Done (mk 0 (w.object_of deep) (fr + 512) 0 0 0 0 place in_cells)
+        (λ o. o ≡ Done (mk 0 (w.object_of deep) (fr + FRAME_WORDS) 0 0 0 0 place in_cells)
         (10 + (12 + (10 * length args + (7 + (5 + 8))))))
     front_in =
         let e = f.has_end s u st cs h in
@@ -313,12 +315,12 @@ module _ (w : World) (knows : Known w) (f : FrameFacts w knows) (on : Receivers 
         ∙ goes.empty in
         let onto = turns_to w.im ob fr word gone (let l = goes.words.up_in in omega (arith, length-set cs1 at 0))
         (omega (arith, object_small)) frame_small (omega (arith, rw_small)) empty in
-        let raise : Will w.im (line (addi 4 512 ∷ [])) false (mk 0 word fr 0 0 0 0 0 in_cells)
-        (λ o. o ≡ Done (mk 0 word (fr + 512) 0 0 0 0 0 in_cells) 1) =
-        will_row w.im false (addi 4 512 ∷ []) 1 _ _ (next refl (omega arith)
+        let raise : Will w.im (line (addi 4 FRAME_WORDS ∷ [])) false (mk 0 word fr 0 0 0 0 0 in_cells)
+        (λ o. o ≡ Done (mk 0 word (fr + FRAME_WORDS) 0 0 0 0 0 in_cells) 1) =
+        will_row w.im false (addi 4 FRAME_WORDS ∷ []) 1 _ _ (next refl (omega arith)
         (ap (λ v. Done (mk 0 word v 0 0 0 0 0 in_cells) 1)
-        (let z : package.Rattle.rpp_words.specs.Words.sum_of fr 512
-        ≡ fr + 512 = (let t = frame_small in omega arith) in z)) here) in
+        (let z : package.Rattle.rpp_words.specs.Words.sum_of fr FRAME_WORDS
+        ≡ fr + FRAME_WORDS = (let t = frame_small in omega arith) in z)) here) in
         will_two w.im (nil_code sp) _ _ _ 10 _ (nil_passes w.im ob fr sp cs peeked.at_in low peeked.small false
         (peeked.name_word there))
         (will_two w.im depth_code _ _ _ 12 _ (depth_passes w.im ob fr cs e.cell_in e.small (end_fits st cs h false room)
@@ -326,7 +328,7 @@ module _ (w : World) (knows : Known w) (f : FrameFacts w knows) (on : Receivers 
         (will_two w.im (moves_code (knows.spot s) args) _ _ _ (10 * length args) _ moved.goes
         (will_two w.im (take_code sp) _ _ _ 7 _ take
         (will_two w.im onto_code _ _ _ 5 _ onto
-        (will_two w.im (line (addi 4 512 ∷ [])) (line (fetch_row slot)) _ _ 1 _ raise
+        (will_two w.im (line (addi 4 FRAME_WORDS ∷ [])) (line (fetch_row slot)) _ _ 1 _ raise
         (will_more w.im (line (fetch_row slot)) false _ _ _
         (λ o q. ap (λ o. after 10 (after 12 (after (10 * length args) (after 7 (after 5 (after 1 o)))))) q)
         (fetched in_cells has_place)))))))
@@ -347,14 +349,14 @@ module _ (w : World) (knows : Known w) (f : FrameFacts w knows) (on : Receivers 
       receiver : read a c ≡ Name n_of
 
     abbrev last_row : List Symbol
-    last_row = line (addi 4 512 ∷ fetch_row slot)
+    last_row = line (addi 4 FRAME_WORDS ∷ fetch_row slot)
 
     abbrev out_cells : List ℕ → List ℕ
     out_cells cs2 = slice_set cs2 up 0
 
     module _ (n : ℕ) (end : State) (cs2 : List ℕ) (o : w.opens (w.routines.scope r) deep [] end cs2) where
       abbrev m0 : Memory
-      m0 = mk 0 (w.object_of deep) (fr + 512) 0 0 0 0 place cs2
+      m0 = mk 0 (w.object_of deep) (fr + FRAME_WORDS) 0 0 0 0 place cs2
 
       comes : ComesBack cs2 at up ob (w.object_of deep) (is_zero (read (home end) c))
           (w.opens s u (pairs args (values end)) (written (home end) c (Name n_of)))
@@ -373,13 +375,13 @@ module _ (w : World) (knows : Known w) (f : FrameFacts w knows) (on : Receivers 
       lowered =
           let word = w.object_of deep in
           let p = (g.calls.tells s u caller end cs2 x name args n_of o is suits).has_place in
-          let down : Will w.im (line (addi 4 512 ∷ [])) true (mk 0 word (fr + 512) 0 0 0 0 0 cs2)
+          let down : Will w.im (line (addi 4 FRAME_WORDS ∷ [])) true (mk 0 word (fr + FRAME_WORDS) 0 0 0 0 0 cs2)
           (λ q. q ≡ Done (mk 0 word fr 0 0 0 0 0 cs2) 1) =
-          will_row w.im true (addi 4 512 ∷ []) 1 _ _ (next refl (omega arith)
-          (ap (λ v. Done (mk 0 word v 0 0 0 0 0 cs2) 1) (less_is (fr + 512) 512 fr refl
+          will_row w.im true (addi 4 FRAME_WORDS ∷ []) 1 _ _ (next refl (omega arith)
+          (ap (λ v. Done (mk 0 word v 0 0 0 0 0 cs2) 1) (less_is (fr + FRAME_WORDS) FRAME_WORDS fr refl
           (let t = frame_small in omega arith))) here) in
           let both : Will w.im last_row true m0 (λ q. q ≡ Done (mk 0 word fr 0 0 0 0 0 cs2) 8) =
-          will_two_back w.im (line (addi 4 512 ∷ [])) (line (fetch_row slot)) _ _ 7 _ (unfetched cs2 p)
+          will_two_back w.im (line (addi 4 FRAME_WORDS ∷ [])) (line (fetch_row slot)) _ _ 7 _ (unfetched cs2 p)
           (will_more w.im _ true _ _ _ (λ o q. ap (after 7) q) down) in
           will_two_back w.im onto_code last_row m0 (mk 0 word fr 0 0 0 0 0 cs2) 8 _ both
           (will_more w.im _ true _ _ _ (λ o q. ap (after 8) q)
@@ -478,14 +480,16 @@ module _ (w : World) (knows : Known w) (f : FrameFacts w knows) (on : Receivers 
         let nf = (g.calls.next s u caller n_of).above in
         let body = enters_body w (w.routines.scope r) deep place r n (f.image.placed r known_routine) f.image.tidy refl
         (owes n (omega arith) r known_routine) (g.calls.next s u caller n_of).fresh kind d callee in_cells entered in
-        let mid : Will w.im (enter_at_cells 12 kind) d (mk 0 (w.object_of deep) (fr + 512) 0 0 0 0 place in_cells)
+        let mid : Will w.im (enter_at_cells 12 kind) d (mk 0 (w.object_of deep) (fr + FRAME_WORDS) 0 0 0 0 place
+        in_cells)
         (Meets (InCall w (w.routines.scope r) deep place) w.rates n 55 t) =
         subst (λ y. Will w.im (enter_at_cells 12 kind) d (mk 0 (w.object_of deep) y 0 0 0 0 place in_cells)
         (Meets (InCall w (w.routines.scope r) deep place) w.rates n 55 t)) nf body in
         wraps_spent w.im d (front_on_code (knows.spot s) x slot args) (enter_at_cells 12 kind) _ _
         (InCall w (w.routines.scope r) deep place) (Open w s u) w.rates n 55 (20 + 10 * length args + 12 + 10)
         (10 + (12 + (10 * length args + (7 + (5 + 8))))) (1 + length args) 0 t moves_home
-        f.image.counts (omega arith) (enough w.rates.steps (length args) f.image.thousand few) front_in mid (λ a m2 k e i.
+        f.image.counts (omega arith) (enough w.rates.steps (length args) f.image.thousand few) front_in mid
+        (λ a m2 k e i.
         let known = as_known m2 _ (i.regs_are ∙ ap (λ y. registers 0 (w.object_of deep) y 0 0 0 0 place) nf) in
         subst (λ z. Will w.im (front_on_code (knows.spot s) x slot args) true z
         (Meets (Open w s u) w.rates (n - k) (20 + 10 * length args + 12 + 10) (moves_home a))) (sym known)
@@ -560,7 +564,8 @@ module _ (w : World) (knows : Known w) (f : FrameFacts w knows) (on : Receivers 
   named : (u : w.Under) (st : State) (cs : List ℕ) (names : List Ident) → w.opens s u [] st cs
       → AllVariables w knows f s u names → cells_named w.setting st names ≡ cells_of w knows f s u names
   named u st cs [] h all = refl
-  named u st cs (y ∷ names) h all = ap (λ c. c ∷ cells_named w.setting st names) ((f.steady s u [] st cs h).means y all.0)
+  named u st cs (y ∷ names) h all = ap (λ c. c ∷ cells_named w.setting st names)
+      ((f.steady s u [] st cs h).means y all.0)
       ∙ ap (λ l. knows.cell_of s u y ∷ l) (named u st cs names h all.1)
 
   abbrev Goal : ℕ → Bool → (u : w.Under) → State → Memory → Type 0

@@ -2,6 +2,7 @@
 use Rattle.std.proofs.Common.{◌≡◌, ℕ, suc, ◌+◌, ◌-◌, ◌*◌, ◌^◌, ◌<◌, ◌≤◌, Bool, true, false, List, [], ◌∷◌, ◌++◌, length}
 use Rattle.std.proofs.Common.{map, refl, sym, ap, ◌∙◌, subst, arith}
 use Rattle.std.specs.Prelude.{not, nat_lt, slice_index, None}
+use Rattle.rpp_words.specs.declared.input.TheConstants.{FRAME_WORDS}
 use Rattle.rpp_tree.specs.declared.tree.Ident.{Ident}
 use Rattle.rpp_tree.specs.Tree.{Call, Procedure}
 use Rattle.class_table.specs.Classes.{method_named}
@@ -204,7 +205,8 @@ module _ (w : World) (knows : Known w) (f : FrameFacts w knows) (s : Scope) (nam
   object_small = (f.steady s u [] st cs h).object_small
 
   -- an open frame leaves room behind it, or ends the stack
-  end_fits : (st : State) (cs : List ℕ) → w.opens s u [] st cs → (b : Bool) → is_full ≡ b → fr + 512 ≤ slice_index cs 4
+  end_fits : (st : State) (cs : List ℕ) → w.opens s u [] st cs → (b : Bool) → is_full ≡ b
+      → fr + FRAME_WORDS ≤ slice_index cs 4
   end_fits st cs h true e = let t = (f.has_end s u st cs h).at_end e in omega arith
   end_fits st cs h false e = let t = (f.has_end s u st cs h).room e in omega arith
 
@@ -221,29 +223,31 @@ module _ (w : World) (knows : Known w) (f : FrameFacts w knows) (s : Scope) (nam
     moved = all_up w knows f s u args vars few room st cs h
 
     entered : w.opens (w.routines.scope r) deep [] callee moved.cells
-    entered = f.calls.enters s u vals caller moved.cells name args moved.up is (long_vals cells ∙ as_many_cells args) room
+    entered = f.calls.enters s u vals caller moved.cells name args moved.up is (long_vals cells ∙ as_many_cells args)
+        room
 
     has_place : HasPlace moved.cells ob slot place
     has_place = (f.calls.tells s u caller callee moved.cells name args entered is).has_place
 
     front_in : Will w.im (front_code (knows.spot s) slot args) false (mk 0 ob fr 0 0 0 0 0 cs)
-        (λ o. o ≡ Done (mk 0 ob (fr + 512) 0 0 0 0 place moved.cells) (12 + (10 * length args + 8)))
+        (λ o. o ≡ Done (mk 0 ob (fr + FRAME_WORDS) 0 0 0 0 place moved.cells) (12 + (10 * length args + 8)))
     front_in =
         let e = f.has_end s u st cs h in
         let p = has_place in
-        let up : Will w.im (line (addi 4 512 ∷ [])) false (mk 0 ob fr 0 0 0 0 0 moved.cells)
-        (λ o. o ≡ Done (mk 0 ob (fr + 512) 0 0 0 0 0 moved.cells) 1) =
-        will_row w.im false (addi 4 512 ∷ []) 1 _ _ (next refl (omega arith)
+        let up : Will w.im (line (addi 4 FRAME_WORDS ∷ [])) false (mk 0 ob fr 0 0 0 0 0 moved.cells)
+        (λ o. o ≡ Done (mk 0 ob (fr + FRAME_WORDS) 0 0 0 0 0 moved.cells) 1) =
+        will_row w.im false (addi 4 FRAME_WORDS ∷ []) 1 _ _ (next refl (omega arith)
         (ap (λ v. Done (mk 0 ob v 0 0 0 0 0 moved.cells) 1)
-        (let z : package.Rattle.rpp_words.specs.Words.sum_of fr 512
-        ≡ fr + 512 = (let t = frame_small in omega arith) in z)) here) in
-        let fetched = will_fetch w.im ob (fr + 512) slot place moved.cells p.object_in p.small
+        (let z : package.Rattle.rpp_words.specs.Words.sum_of fr FRAME_WORDS
+        ≡ fr + FRAME_WORDS = (let t = frame_small in omega arith) in z)) here) in
+        let fetched = will_fetch w.im ob (fr + FRAME_WORDS) slot place moved.cells p.object_in p.small
         (f.calls.slot_small s name args is) p.entry_in p.apart p.entry place_small in
-        will_two w.im depth_code (moves_code (knows.spot s) args ++ line (addi 4 512 ∷ fetch_row slot)) _ _ 12 _
+        will_two w.im depth_code (moves_code (knows.spot s) args ++ line (addi 4 FRAME_WORDS ∷ fetch_row slot)) _ _ 12 _
         (depth_passes w.im ob fr cs e.cell_in e.small (end_fits st cs h false room) false (e.room room))
-        (will_two w.im (moves_code (knows.spot s) args) (line (addi 4 512 ∷ fetch_row slot)) _ _ (10 * length args) _
+        (will_two w.im (moves_code (knows.spot s) args) (line (addi 4 FRAME_WORDS ∷ fetch_row slot)) _ _
+        (10 * length args) _
         moved.goes
-        (will_two w.im (line (addi 4 512 ∷ [])) (line (fetch_row slot)) _ _ 1 _ up
+        (will_two w.im (line (addi 4 FRAME_WORDS ∷ [])) (line (fetch_row slot)) _ _ 1 _ up
         (will_more w.im (line (fetch_row slot)) false _ _ _
         (λ o q. ap (λ o. after 12 (after (10 * length args) (after 1 o))) q) fetched)))
 
@@ -253,34 +257,35 @@ module _ (w : World) (knows : Known w) (f : FrameFacts w knows) (s : Scope) (nam
         (record caller { store = end.store; log = end.log }))
 
     front_back : (n : ℕ) (end : State) (cs2 : List ℕ) → w.opens (w.routines.scope r) deep [] end cs2
-        → Will w.im (front_code (knows.spot s) slot args) true (mk 0 ob (fr + 512) 0 0 0 0 place cs2)
+        → Will w.im (front_code (knows.spot s) slot args) true (mk 0 ob (fr + FRAME_WORDS) 0 0 0 0 place cs2)
         (Meets (Open w s u) w.rates n (8 + (10 * length args + 12)) (moves_home end))
     front_back n end cs2 g =
         let tells = f.calls.tells s u caller end cs2 name args g is in
         let p = tells.has_place in
         let left = f.calls.leaves s u caller end cs2 name args (pairs args vals) moved.cells moved.up g is in
-        let unfetched = will_unfetch w.im ob (fr + 512) slot place cs2 p.object_in p.small
+        let unfetched = will_unfetch w.im ob (fr + FRAME_WORDS) slot place cs2 p.object_in p.small
         (f.calls.slot_small s name args is) p.entry_in p.apart p.entry place_small in
-        let down : Will w.im (line (addi 4 512 ∷ [])) true (mk 0 ob (fr + 512) 0 0 0 0 0 cs2)
+        let down : Will w.im (line (addi 4 FRAME_WORDS ∷ [])) true (mk 0 ob (fr + FRAME_WORDS) 0 0 0 0 0 cs2)
         (λ o. o ≡ Done (mk 0 ob fr 0 0 0 0 0 cs2) 1) =
-        will_row w.im true (addi 4 512 ∷ []) 1 _ _ (next refl (omega arith)
-        (ap (λ v. Done (mk 0 ob v 0 0 0 0 0 cs2) 1) (less_is (fr + 512) 512 fr refl
+        will_row w.im true (addi 4 FRAME_WORDS ∷ []) 1 _ _ (next refl (omega arith)
+        (ap (λ v. Done (mk 0 ob v 0 0 0 0 0 cs2) 1) (less_is (fr + FRAME_WORDS) FRAME_WORDS fr refl
         (let t = frame_small in omega arith))) here) in
-        let both : Will w.im (line (addi 4 512 ∷ fetch_row slot)) true (mk 0 ob (fr + 512) 0 0 0 0 place cs2)
+        let both : Will w.im (line (addi 4 FRAME_WORDS ∷ fetch_row slot)) true
+        (mk 0 ob (fr + FRAME_WORDS) 0 0 0 0 place cs2)
         (λ o. o ≡ Done (mk 0 ob fr 0 0 0 0 0 cs2) 8) =
-        will_two_back w.im (line (addi 4 512 ∷ [])) (line (fetch_row slot)) _ _ 7 _ unfetched
+        will_two_back w.im (line (addi 4 FRAME_WORDS ∷ [])) (line (fetch_row slot)) _ _ 7 _ unfetched
         (will_more w.im _ true _ _ _ (λ o q. ap (after 7) q) down) in
         let values = map (λ binding. binding.value) end.frame in
         let home = record caller { store = end.store; log = end.log } in
-        let inner : Will w.im (moves_code (knows.spot s) args ++ line (addi 4 512 ∷ fetch_row slot)) true
-        (mk 0 ob (fr + 512) 0 0 0 0 place cs2) (Meets (Open w s u) w.rates n (8 + 10 * length args)
+        let inner : Will w.im (moves_code (knows.spot s) args ++ line (addi 4 FRAME_WORDS ∷ fetch_row slot)) true
+        (mk 0 ob (fr + FRAME_WORDS) 0 0 0 0 place cs2) (Meets (Open w s u) w.rates n (8 + 10 * length args)
         (moves_home end)) =
-        will_two_back w.im (moves_code (knows.spot s) args) (line (addi 4 512 ∷ fetch_row slot)) _ _ 8 _ both
+        will_two_back w.im (moves_code (knows.spot s) args) (line (addi 4 FRAME_WORDS ∷ fetch_row slot)) _ _ 8 _ both
         (will_more w.im _ true _ _ _ (λ o q. meets_later 8 q)
         (all_back w knows f s u n args vars values home cs2 tells.as_many few left)) in
         let all = then_quiet w.im true (Open w s u) (Open w s u) w.rates n 12 (8 + 10 * length args)
-        (moves_code (knows.spot s) args ++ line (addi 4 512 ∷ fetch_row slot)) depth_code
-        (mk 0 ob (fr + 512) 0 0 0 0 place cs2) (moves_home end) inner (λ a m i. checked a m i) in
+        (moves_code (knows.spot s) args ++ line (addi 4 FRAME_WORDS ∷ fetch_row slot)) depth_code
+        (mk 0 ob (fr + FRAME_WORDS) 0 0 0 0 place cs2) (moves_home end) inner (λ a m i. checked a m i) in
         will_more w.im (front_code (knows.spot s) slot args) true _ _ _
         (λ o q. meets_slack (8 + (10 * length args + 12)) (omega arith) q) all
       where
@@ -305,16 +310,17 @@ module _ (w : World) (knows : Known w) (f : FrameFacts w knows) (s : Scope) (nam
         let nf = (f.calls.next s u caller).above in
         let body = enters_body w (w.routines.scope r) deep place r n (f.image.placed r known_routine) f.image.tidy refl
         (owes n (omega arith) r known_routine) (f.calls.next s u caller).fresh kind d callee moved.cells entered in
-        let mid : Will w.im (enter_at_cells 12 kind) d (mk 0 ob (fr + 512) 0 0 0 0 place moved.cells)
+        let mid : Will w.im (enter_at_cells 12 kind) d (mk 0 ob (fr + FRAME_WORDS) 0 0 0 0 place moved.cells)
         (Meets (InCall w (w.routines.scope r) deep place) w.rates n 55 t) =
-        subst (λ x. Will w.im (enter_at_cells 12 kind) d (mk 0 x (fr + 512) 0 0 0 0 place moved.cells)
+        subst (λ x. Will w.im (enter_at_cells 12 kind) d (mk 0 x (fr + FRAME_WORDS) 0 0 0 0 place moved.cells)
         (Meets (InCall w (w.routines.scope r) deep place) w.rates n 55 t)) so
         (subst (λ x. Will w.im (enter_at_cells 12 kind) d (mk 0 (w.object_of deep) x 0 0 0 0 place moved.cells)
         (Meets (InCall w (w.routines.scope r) deep place) w.rates n 55 t)) nf body) in
         wraps_spent w.im d (front_code (knows.spot s) slot args) (enter_at_cells 12 kind) _ _
         (InCall w (w.routines.scope r) deep place) (Open w s u) w.rates n 55 (8 + (10 * length args + 12))
         (12 + (10 * length args + 8)) (1 + length args) 0 t moves_home
-        f.image.counts (omega arith) (enough w.rates.steps (length args) f.image.thousand few) front_in mid (λ a m2 c e i.
+        f.image.counts (omega arith) (enough w.rates.steps (length args) f.image.thousand few) front_in mid
+        (λ a m2 c e i.
         let known = as_known m2 _ (i.regs_are ∙ ap (λ o. registers 0 o (w.frame_of deep) 0 0 0 0 place) so
         ∙ ap (λ x. registers 0 ob x 0 0 0 0 place) nf) in
         subst (λ z. Will w.im (front_code (knows.spot s) slot args) true z
@@ -338,7 +344,8 @@ module _ (w : World) (knows : Known w) (f : FrameFacts w knows) (s : Scope) (nam
       → Next W Q o = λ o t. subst (Next W Q) (sym t.2) (faults
       (few_steps w.rates.steps (length args) t.0 f.image.thousand t.1)) in
       let first : Will w.im (front_code (knows.spot s) slot args) false (mk 0 ob fr 0 0 0 0 0 cs) (Next W Q) =
-      will_seq w.im depth_code (moves_code (knows.spot s) args ++ line (addi 4 512 ∷ fetch_row slot)) _ (Next W Q)
+      will_seq w.im depth_code (moves_code (knows.spot s) args ++ line (addi 4 FRAME_WORDS ∷ fetch_row slot)) _
+      (Next W Q)
       (will_more w.im depth_code false _ _ _ (λ o t. subst (Next _ (Next W Q)) (sym t.2)
       (trap (Trapped 14 t.0) (t.0, t.1, refl))) (depth_traps w.im ob fr cs he.cell_in he.small
       (end_fits st cs h true e) (he.at_end e))) in
@@ -373,7 +380,8 @@ module _ (w : World) (knows : Known w) (f : FrameFacts w knows) (s : Scope) (at 
   named : (u : w.Under) (st : State) (cs : List ℕ) (names : List Ident) → w.opens s u [] st cs
       → AllVariables w knows f s u names → cells_named w.setting st names ≡ cells_of w knows f s u names
   named u st cs [] h all = refl
-  named u st cs (x ∷ names) h all = ap (λ c. c ∷ cells_named w.setting st names) ((f.steady s u [] st cs h).means x all.0)
+  named u st cs (x ∷ names) h all = ap (λ c. c ∷ cells_named w.setting st names)
+      ((f.steady s u [] st cs h).means x all.0)
       ∙ ap (λ l. knows.cell_of s u x ∷ l) (named u st cs names h all.1)
 
   law_by : (n : ℕ) → Owes w (suc n) → (d : Bool) (u : w.Under) (st : State) (m : Memory) → Open w s u st m → (b : Bool)

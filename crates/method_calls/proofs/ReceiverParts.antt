@@ -3,6 +3,7 @@ use Rattle.std.proofs.Common.{◌≡◌, ◌≢◌, ℕ, ◌+◌, ◌^◌, ◌<�
 use Rattle.std.proofs.Common.{◌∙◌, arith}
 use Rattle.std.specs.Prelude.{slice_index, slice_set, bit_xor}
 use Rattle.std.proofs.Math.ListN.{length-set}
+use Rattle.rpp_words.specs.declared.input.TheConstants.{FRAME_WORDS}
 use Rattle.rpp_words.specs.Words.{is_less}
 use Rattle.pisa_isa.specs.Machine.{Memory}
 use Rattle.pisa_isa.specs.Table.{word_of}
@@ -136,10 +137,10 @@ module _ (im : Image) (ob fr : ℕ) (sp : Spot) (cs : List ℕ) (inside : addres
 
 -- ---- a word of the frame above
 
-module _ (im : Image) (ob fr w : ℕ) (cs : List ℕ) (inside : fr + (512 + w) < length cs)
-    (low : fr + (512 + w) < 2 ^ 32) where
+module _ (im : Image) (ob fr w : ℕ) (cs : List ℕ) (inside : fr + (FRAME_WORDS + w) < length cs)
+    (low : fr + (FRAME_WORDS + w) < 2 ^ 32) where
   abbrev above : ℕ
-  above = fr + (512 + w)
+  above = fr + (FRAME_WORDS + w)
 
   swaps_above : (d : Bool) (x y : ℕ) → slice_index cs above ≡ y
       → Will im (line (exch 8 4 ∷ [])) d (mk 0 ob above 0 0 x 0 0 cs)
@@ -162,10 +163,11 @@ module _ (im : Image) (ob fr w : ℕ) (cs : List ℕ) (inside : fr + (512 + w) <
 
 -- ---- OBJECT
 
-module _ (im : Image) (ob fr recv : ℕ) (cs : List ℕ) (inside : fr + (512 + 1) < length cs) (small_ob : ob < 2 ^ 32)
+module _ (im : Image) (ob fr recv : ℕ) (cs : List ℕ) (inside : fr + (FRAME_WORDS + 1) < length cs)
+    (small_ob : ob < 2 ^ 32)
     (small_fr : fr < 2 ^ 23) (small : recv < 2 ^ 32) where
   abbrev up : ℕ
-  up = fr + (512 + 1)
+  up = fr + (FRAME_WORDS + 1)
 
   up_low : up < 2 ^ 32
   up_low = omega (arith, small_fr)

@@ -5,6 +5,7 @@ use Rattle.std.proofs.Common.{arith}
 use Rattle.std.specs.Prelude.{slice_index, nat_eq, not, replicate, Result, Ok, Err}
 use Rattle.std.proofs.lemmas.Bool.Decides.{nat_tests}
 use Rattle.std.proofs.lemmas.Int.{ints}
+use Rattle.code_conventions.specs.declared.memory.TheConstants.{HEADER_WORDS}
 use Rattle.rpp_words.specs.Words.{is_less}
 use Rattle.rpp_tree.specs.declared.tree.Ident.{Ident}
 use Rattle.rpp_tree.specs.Tree.{Expression, Whole, Ints, Objects, New, Delete, nodes}
@@ -135,7 +136,7 @@ module _ (setting : Setting) (address slot : State → ℕ → ℕ) (R : State �
 
   module _ (st : State) (m : Memory) (v : Value) (r : R st m) (nv : value setting.program st size ≡ Ok v) where
     makes : Makes im m object frame (free_at free m) (place_words (Whole name) + words size)
-        (found_value_steps (Whole name) size) (at st) (number_of v) (order_for (2 + number_of v)) Lengthy
+        (found_value_steps (Whole name) size) (at st) (number_of v) (order_for (HEADER_WORDS + number_of v)) Lengthy
         (Stays spot (bases_of m) (free_at free m) (Whole name) size m.cells) p
     makes = law.makes im m object frame (at st) (number_of v) (facts.regs_are st m r) (facts.can st m r)
         (place_at_is st m r) (number_at st m r v nv) refl
@@ -223,7 +224,7 @@ module _ (setting : Setting) (address slot : State → ℕ → ℕ) (R : State �
             let one : count_at st array ≡ 1 = grind (arith, nat_tests) in
             let up = found_value_most (Whole name) size in
             stop_meets R rates 500 many im p n0 true m 7 _ _ (omega arith)
-            (makes.not_empty_faults (address st array) (address st array + 2 + f.0) (word_at (Name array) e)
+            (makes.not_empty_faults (address st array) (address st array + HEADER_WORDS + f.0) (word_at (Name array) e)
             (omega arith) (omega arith) some_at (s.mark ∙ same) (s.there.count ∙ one) (omega arith) (omega arith)
             f.2)
         last true true true es eo ez =

@@ -1,5 +1,6 @@
 -- What the class table tells of the classes of a program.
 use Rattle.std.proofs.Common.{◌≡◌, ◌∙◌, sym, ap, ℕ, ◌+◌, ◌<◌, ◌≤◌, length, arith, add-one}
+use Rattle.code_conventions.specs.declared.memory.TheConstants.{HEADER_WORDS}
 use Rattle.rpp_words.specs.Order.{IsOrderFor}
 use Rattle.rpp_tree.specs.Tree.{Source}
 use Rattle.buddy_book.specs.Book.{order_for}
@@ -17,7 +18,8 @@ table_next program before inside =
     (sym (table_reads program before inside).slots)
 
 -- the order of a block for so many fields
-pub order_is : (fields k : ℕ) → fields ≤ 64 → IsOrderFor (fields + 2) k → k ≡ order_for (2 + fields)
+pub order_is : (fields k : ℕ) → fields ≤ 64 → IsOrderFor (fields + HEADER_WORDS) k
+    → k ≡ order_for (HEADER_WORDS + fields)
 order_is fields k h is =
-    let two : fields + 2 ≡ 2 + fields = omega arith in
-    sym (order_for-only (fields + 2) k (omega arith) is) ∙ ap (λ n. order_for n) two
+    let two : fields + HEADER_WORDS ≡ HEADER_WORDS + fields = omega arith in
+    sym (order_for-only (fields + HEADER_WORDS) k (omega arith) is) ∙ ap (λ n. order_for n) two

@@ -4,6 +4,7 @@ use Rattle.std.proofs.Common.{◌≡◌, ◌≢◌, ℕ, suc, ◌+◌, ◌-◌, 
 use Rattle.std.proofs.Common.{refl, sym, ap, ◌∙◌, subst, arith}
 use Rattle.std.specs.Prelude.{slice_index, nat_eq, not, ◌||◌, Result, Ok, Err}
 use Rattle.std.proofs.lemmas.Bool.Decides.{nat_tests}
+use Rattle.code_conventions.specs.declared.memory.TheConstants.{HEADER_WORDS}
 use Rattle.rpp_tree.specs.declared.tree.VarType.{VarType}
 use Rattle.rpp_tree.specs.Tree.{Lvalue, Whole, Item, Source, Copy, Uncopy, index_nodes}
 use Rattle.pisa_isa.specs.Machine.{Memory}
@@ -69,7 +70,7 @@ pair_row source target rx ry next = after_cost 1 (after_cost (index_nodes source
 cell_by : (address slot address' slot' : ℕ → ℕ) → ((n : ℕ) → address n ≡ address' n) → ((i : ℕ) → slot i ≡ slot' i)
     → (cell : Cell) → cell_address address slot cell ≡ cell_address address' slot' cell
 cell_by address slot address' slot' sa ss (Slot i) = ss i
-cell_by address slot address' slot' sa ss (Part n i) = ap (λ a. a + i + 2) (sa n)
+cell_by address slot address' slot' sa ss (Part n i) = ap (λ a. a + i + HEADER_WORDS) (sa n)
 
 same_cell_of : (program : Source) (st st' : State) (t : Lvalue) → SameCells program st st' t
     → cell_of program st' t ≡ cell_of program st t

@@ -3,6 +3,7 @@ use Rattle.std.proofs.Common.{◌≡◌, ◌≢◌, ℕ, ◌+◌, ◌*◌, ◌^�
 use Rattle.std.proofs.Common.{refl, sym, ap, ◌∙◌, arith}
 use Rattle.std.specs.Prelude.{slice_index, slice_set, bit_xor, not}
 use Rattle.std.specs.Int.Bits.{xor_zero_l}
+use Rattle.code_conventions.specs.declared.memory.TheConstants.{HEADER_WORDS}
 use Rattle.rpp_words.specs.Words.{is_less, sum_of}
 use Rattle.rpp_words.proofs.Laws.{xor-twice}
 use Rattle.pisa_isa.specs.Table.{word_of}
@@ -107,64 +108,79 @@ module _ (b : Bases) (f : ℕ → ℕ) (v p x : ℕ) (shape : Shape) (zs : List 
 
     -- ---- 7
 
-    module _ (n : ℕ) (n_is : size_of v shape ≡ n) (within : x + 2 + n ≤ length zs) (ends : x + 2 + n < 2 ^ 31) where
+    module _ (n : ℕ) (n_is : size_of v shape ≡ n) (within : x + HEADER_WORDS + n ≤ length zs)
+        (ends : x + HEADER_WORDS + n < 2 ^ 31) where
       -- the end and the word
       abbrev walked : (l r o w : ℕ) → Memory
       walked l r o w = mem b f (record (keeping v p 0) { left = l; right = r; outcome = o; content = 0; first = w }) zs
 
       grows : (s : Shape) → IsShape s → size_of v s ≡ n → (l : ℕ)
-          → Goes (grow_cell right_truth s ∷ []) 1 (walked l (x + 2) 0 (x + 2)) (walked l (x + 2 + n) 0 (x + 2))
-      grows (Fixed table fields) h e l = goes_to refl refl (ap (λ z. walked l (x + 2 + z) 0 (x + 2)) e)
-          (goes_addi _ (λ z. walked l z 0 (x + 2)) (x + 2) fields (let k = e in omega arith) refl h.1 (λ z. refl)
+          → Goes (grow_cell right_truth s ∷ []) 1 (walked l (x + HEADER_WORDS) 0 (x + HEADER_WORDS))
+          (walked l (x + HEADER_WORDS + n) 0 (x + HEADER_WORDS))
+      grows (Fixed table fields) h e l = goes_to refl refl
+          (ap (λ z. walked l (x + HEADER_WORDS + z) 0 (x + HEADER_WORDS)) e)
+          (goes_addi _ (λ z. walked l z 0 (x + HEADER_WORDS)) (x + HEADER_WORDS) fields (let k = e in omega arith) refl
+          h.1 (λ z. refl)
           (λ z. refl))
       grows Lengthy h e l =
-          let s : sum_of (x + 2) v ≡ x + 2 + n = let k = e in omega arith in
-          goes_to refl refl (ap (λ z. walked l z 0 (x + 2)) s)
-          (goes_add _ (λ z. walked l z 0 (x + 2)) (x + 2) v (omega arith) (let k = e in omega arith) refl
+          let s : sum_of (x + HEADER_WORDS) v ≡ x + HEADER_WORDS + n = let k = e in omega arith in
+          goes_to refl refl (ap (λ z. walked l z 0 (x + HEADER_WORDS)) s)
+          (goes_add _ (λ z. walked l z 0 (x + HEADER_WORDS)) (x + HEADER_WORDS) v (omega arith)
+          (let k = e in omega arith) refl
           (omega arith) (λ z. refl) (λ z. refl))
 
       steps_on : (s : Shape) → IsShape s → size_of v s ≡ n → (l r : ℕ)
-          → Goes (grow_cell first_word s ∷ []) 1 (walked l r 0 (x + 2)) (walked l r 0 (x + 2 + n))
-      steps_on (Fixed table fields) h e l r = goes_to refl refl (ap (λ z. walked l r 0 (x + 2 + z)) e)
-          (goes_addi _ (λ z. walked l r 0 z) (x + 2) fields (let k = e in omega arith) refl h.1 (λ z. refl) (λ z. refl))
+          → Goes (grow_cell first_word s ∷ []) 1 (walked l r 0 (x + HEADER_WORDS)) (walked l r 0 (x + HEADER_WORDS + n))
+      steps_on (Fixed table fields) h e l r = goes_to refl refl (ap (λ z. walked l r 0 (x + HEADER_WORDS + z)) e)
+          (goes_addi _ (λ z. walked l r 0 z) (x + HEADER_WORDS) fields (let k = e in omega arith) refl h.1 (λ z. refl)
+          (λ z. refl))
       steps_on Lengthy h e l r =
-          let s : sum_of (x + 2) v ≡ x + 2 + n = let k = e in omega arith in
-          goes_to refl refl (ap (λ z. walked l r 0 z) s) (goes_add _ (λ z. walked l r 0 z) (x + 2) v (omega arith)
+          let s : sum_of (x + HEADER_WORDS) v ≡ x + HEADER_WORDS + n = let k = e in omega arith in
+          goes_to refl refl (ap (λ z. walked l r 0 z) s) (goes_add _ (λ z. walked l r 0 z) (x + HEADER_WORDS) v
+          (omega arith)
           (let k = e in omega arith) refl (omega arith) (λ z. refl) (λ z. refl))
 
-      ends_go : Goes (ends_cells shape) 4 (here 0 0 x zs) (walked (x + 2) (x + 2 + n) 0 (x + 2))
+      ends_go : Goes (ends_cells shape) 4 (here 0 0 x zs) (walked (x + HEADER_WORDS) (x + HEADER_WORDS + n) 0
+          (x + HEADER_WORDS))
       ends_go =
-          goes_cons (goes_addi _ (λ z. walked 0 0 0 z) x 2 (omega arith) refl (omega arith) (λ z. refl) (λ z. refl))
-          (goes_cons (goes_set _ (λ z. walked z 0 0 (x + 2)) (x + 2) refl (omega arith) (λ z. refl) (λ z. refl))
-          (goes_cons (goes_set _ (λ z. walked (x + 2) z 0 (x + 2)) (x + 2) refl (omega arith) (λ z. refl) (λ z. refl))
-          (grows shape is_shape n_is (x + 2))))
+          goes_cons (goes_addi _ (λ z. walked 0 0 0 z) x HEADER_WORDS (omega arith) refl (omega arith) (λ z. refl)
+          (λ z. refl))
+          (goes_cons (goes_set _ (λ z. walked z 0 0 (x + HEADER_WORDS)) (x + HEADER_WORDS) refl (omega arith)
+          (λ z. refl) (λ z. refl))
+          (goes_cons (goes_set _ (λ z. walked (x + HEADER_WORDS) z 0 (x + HEADER_WORDS)) (x + HEADER_WORDS) refl
+          (omega arith) (λ z. refl) (λ z. refl))
+          (grows shape is_shape n_is (x + HEADER_WORDS))))
 
-      flag_goes : (w : ℕ) → Goes (xori outcome 1 ∷ []) 1 (walked (x + 2) (x + 2 + n) 0 w)
-          (walked (x + 2) (x + 2 + n) 1 w)
-      flag_goes w = goes_set _ (λ z. walked (x + 2) (x + 2 + n) z w) 1 refl (omega arith) (λ z. refl) (λ z. refl)
+      flag_goes : (w : ℕ) → Goes (xori outcome 1 ∷ []) 1 (walked (x + HEADER_WORDS) (x + HEADER_WORDS + n) 0 w)
+          (walked (x + HEADER_WORDS) (x + HEADER_WORDS + n) 1 w)
+      flag_goes w = goes_set _ (λ z. walked (x + HEADER_WORDS) (x + HEADER_WORDS + n) z w) 1 refl (omega arith)
+          (λ z. refl) (λ z. refl)
 
-      zeros_pass : ((a : ℕ) → x + 2 ≤ a → a < x + 2 + n → slice_index zs a ≡ 0)
+      zeros_pass : ((a : ℕ) → x + HEADER_WORDS ≤ a → a < x + HEADER_WORDS + n → slice_index zs a ≡ 0)
           → Goes (zeros_cells shape) (19 + 15 * n) (here 0 0 x zs) (here 0 0 x zs)
       zeros_pass z =
           goes_to (omega arith) refl refl (goes_around ends_go
-          (goes_seq (goes_around (flag_goes (x + 2)) (walk_goes b f v p (x + 2) (x + 2 + n) zs (omega arith) ends
-          within z n refl) (flag_goes (x + 2 + n))) (goes_mirror
-          (steps_on shape is_shape n_is (x + 2) (x + 2 + n)))) ends_go)
+          (goes_seq (goes_around (flag_goes (x + HEADER_WORDS))
+          (walk_goes b f v p (x + HEADER_WORDS) (x + HEADER_WORDS + n) zs (omega arith) ends
+          within z n refl) (flag_goes (x + HEADER_WORDS + n))) (goes_mirror
+          (steps_on shape is_shape n_is (x + HEADER_WORDS) (x + HEADER_WORDS + n)))) ends_go)
 
       -- all that is tried passes
       pub delete_passes : slice_index zs x ≡ mark_of v shape → slice_index zs (x + 1) ≡ 1
-          → ((a : ℕ) → x + 2 ≤ a → a < x + 2 + n → slice_index zs a ≡ 0)
+          → ((a : ℕ) → x + HEADER_WORDS ≤ a → a < x + HEADER_WORDS + n → slice_index zs a ≡ 0)
           → Goes (delete_checks shape) (51 + 15 * n) (here 0 0 0 zs) (here 0 0 0 zs)
       delete_passes e c z =
           goes_to (omega arith) refl refl (goes_around load (goes_seq some_passes
           (goes_seq (mark_passes (omega arith) e) (goes_seq (single_passes (omega arith) c) (zeros_pass z))))
           load)
 
-      pub delete_full : (j : ℕ) → slice_index zs x ≡ mark_of v shape → slice_index zs (x + 1) ≡ 1 → x + 2 ≤ j
-          → j < x + 2 + n → slice_index zs j ≢ 0 → Traps (delete_checks shape) (37 + 15 * n) 7 (here 0 0 0 zs)
+      pub delete_full : (j : ℕ) → slice_index zs x ≡ mark_of v shape → slice_index zs (x + 1) ≡ 1 → x + HEADER_WORDS ≤ j
+          → j < x + HEADER_WORDS + n → slice_index zs j ≢ 0 → Traps (delete_checks shape) (37 + 15 * n) 7
+          (here 0 0 0 zs)
       delete_full j e c lo hi nz =
           traps_more (omega arith) (traps_mid load (traps_then some_passes
           (traps_then (mark_passes (omega arith) e) (traps_then (single_passes (omega arith) c)
           (traps_mid ends_go (traps_first (mirror_cells (grow_cell first_word shape ∷ []))
-          (traps_mid (flag_goes (x + 2)) (walk_traps b f v p (x + 2) (x + 2 + n) zs (omega arith) ends within j
+          (traps_mid (flag_goes (x + HEADER_WORDS)) (walk_traps b f v p (x + HEADER_WORDS) (x + HEADER_WORDS + n) zs
+          (omega arith) ends within j
           n refl lo hi nz))))))))

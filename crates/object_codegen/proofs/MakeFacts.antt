@@ -2,6 +2,7 @@
 use Rattle.std.proofs.Common.{◌≡◌, ◌≢◌, ℕ, ◌+◌, ◌^◌, ◌<◌, ◌≤◌, Bool, true, false, List, ◌∷◌, length}
 use Rattle.std.specs.Prelude.{slice_index, nat_eq, nat_lt, ◌||◌, is_none, replicate, Ok}
 use Rattle.std.specs.Option.{unwrap_or}
+use Rattle.code_conventions.specs.declared.memory.TheConstants.{HEADER_WORDS}
 use Rattle.rpp_words.specs.Words.{is_less}
 use Rattle.rpp_tree.specs.declared.tree.Ident.{Ident}
 use Rattle.rpp_tree.specs.Tree.{Expression, Null, Lvalue, Whole}
@@ -79,11 +80,11 @@ module _ (setting : Setting) (address slot : State → ℕ → ℕ) (R : State �
   -- the object or array of a name stands in the cells, with its count, and a word that is not 0
   -- where not all are
   pub record StandsThere (st : State) (m : Memory) (name : ℕ) : Type 0 where
-    pub inside : address st name + 2 + length_at st name ≤ free_at free m
-    pub small : address st name + 2 + length_at st name < 2 ^ 31
+    pub inside : address st name + HEADER_WORDS + length_at st name ≤ free_at free m
+    pub small : address st name + HEADER_WORDS + length_at st name < 2 ^ 31
     pub count : slice_index m.cells (address st name + 1) ≡ count_at st name
     pub full : is_empty st name ≡ false → (i : ℕ) × (i < length_at st name)
-        × (slice_index m.cells (address st name + 2 + i) ≢ 0)
+        × (slice_index m.cells (address st name + HEADER_WORDS + i) ≢ 0)
 
   -- the heap has a block: st' is the state with the new object or array, whose place is at p and
   -- whose length v

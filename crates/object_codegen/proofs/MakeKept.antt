@@ -2,6 +2,7 @@
 -- whatever else is made or freed.
 use Rattle.std.proofs.Common.{◌≡◌, ℕ, ◌+◌, Bool, true, false, List, length, refl, sym, ap, ◌∙◌}
 use Rattle.std.specs.Prelude.{nat_lt, if◌then◌else◌, Result, Ok, Err}
+use Rattle.code_conventions.specs.declared.memory.TheConstants.{HEADER_WORDS}
 use Rattle.rpp_tree.specs.declared.tree.BinOp.{BinOp}
 use Rattle.rpp_tree.specs.Tree.{Expression, Number, Null, Variable, Element, Binary, Lvalue, Whole, Item, Source}
 use Rattle.roopl_semantics.specs.Store.{Value, Word, Nil, Name, State, number_of, object_at}
@@ -94,7 +95,7 @@ module _ (address slot address' slot' : ℕ → ℕ) (program : Source) (st st' 
       → cell_result address' slot' r ≡ cell_result address slot r
   same_cell (Err f) never h = refl
   same_cell (Ok (Slot k)) never h = absurd (never k refl)
-  same_cell (Ok (Part n i)) never h = ap (λ a. Ok (a + i + 2)) (h (Part n i) refl)
+  same_cell (Ok (Part n i)) never h = ap (λ a. Ok (a + i + HEADER_WORDS)) (h (Part n i) refl)
 
   module _ (spot : List ℕ → Spot) (b : Bases) (cells cells' : List ℕ) where
     same_number : (e : Expression) → Means address slot program st spot b cells e

@@ -2,6 +2,7 @@
 use Rattle.std.proofs.Common.{◌≡◌, ◌≢◌, ℕ, ◌+◌, ◌*◌, ◌^◌, ◌<◌, ◌≤◌, Bool, true, false, List, [], ◌∷◌, length, refl, sym}
 use Rattle.std.proofs.Common.{ap, ◌∙◌, subst, arith}
 use Rattle.std.specs.Prelude.{slice_index}
+use Rattle.code_conventions.specs.declared.memory.TheConstants.{HEADER_WORDS}
 use Rattle.buddy_book.specs.Book.{order_for}
 use Rattle.rpp_tree.specs.Tree.{Expression, Null, Lvalue}
 use Rattle.pisa_isa.specs.Machine.{Memory}
@@ -200,9 +201,10 @@ module _ (im : Image) (m : Memory) (object frame low n steps a v o : ℕ) (shape
       (there ys f) (f.below a a_low ∙ e) s some (omega arith) (f.below x (omega arith) ∙ q)
       (λ r. h (sym (f.below (x + 1) l) ∙ r)))
 
-  pub not_empty : (x i : ℕ) → slice_index m.cells a ≡ x → x + 2 + size_of v shape ≤ low
-      → x + 2 + size_of v shape < 2 ^ 31 → x ≢ 0 → slice_index m.cells x ≡ mark_of v shape
-      → slice_index m.cells (x + 1) ≡ 1 → x + 2 ≤ i → i < x + 2 + size_of v shape → slice_index m.cells i ≢ 0
+  pub not_empty : (x i : ℕ) → slice_index m.cells a ≡ x → x + HEADER_WORDS + size_of v shape ≤ low
+      → x + HEADER_WORDS + size_of v shape < 2 ^ 31 → x ≢ 0 → slice_index m.cells x ≡ mark_of v shape
+      → slice_index m.cells (x + 1) ≡ 1 → x + HEADER_WORDS ≤ i → i < x + HEADER_WORDS + size_of v shape
+      → slice_index m.cells i ≢ 0
       → Will im p true m (TrapsWithin 7 (steps + (37 + 15 * size_of v shape)))
   not_empty x i e w s some q c lo hi h =
       stops true 7 _ (λ ys f. let k = f.count in deleted_full b a v im shape is_shape orders (order_steps shape) ys x
@@ -249,7 +251,8 @@ array_law spot free target size p law = record {
   makes = λ im m object frame a v regs_are can at value apart.
       let i = can.ready.inside in
       makes im m object frame (free_at free m) (place_words target + words size) (found_value_steps target size) a v
-      (order_for (2 + v)) Lengthy tt (Stays spot (bases_of m) (free_at free m) target size m.cells) order_cells p
+      (order_for (HEADER_WORDS + v)) Lengthy tt (Stays spot (bases_of m) (free_at free m) target size m.cells)
+      order_cells p
       (λ d. law.encloses im d m can a v at value apart)
       (λ l ys. ordering (record { object = object; frame = frame }) a v ys l.0 l.1)
       regs_are (omega arith) can.ready.small (place_low spot free (bases_of m) target a m.cells can.first at);

@@ -3,6 +3,7 @@ use Rattle.std.proofs.Common.{◌≡◌, ◌≢◌, ℕ, ◌+◌, ◌*◌, ◌^�
 use Rattle.std.proofs.Common.{length-set, refl, sym, ap, ◌∙◌, arith}
 use Rattle.std.specs.Prelude.{slice_index, slice_set, not}
 use Rattle.std.proofs.lemmas.List.{get_or-set_same, get_or-set_other}
+use Rattle.code_conventions.specs.declared.memory.TheConstants.{HEADER_WORDS}
 use Rattle.rpp_words.specs.Words.{is_less}
 use Rattle.pisa_isa.specs.Table.{word_of}
 use Rattle.pisa_isa.specs.Machine.{Memory}
@@ -74,10 +75,10 @@ module _ (b : Bases) (p v : ℕ) where
   pub record Room (x n : ℕ) (zs : List ℕ) : Type 0 where
     pub blank : Blank b p v x zs
     pub some : x ≢ 0
-    pub within : x + 2 + n ≤ length zs
-    pub ends : x + 2 + n < 2 ^ 31
-    pub zero : (a : ℕ) → x + 2 ≤ a → a < x + 2 + n → slice_index zs a ≡ 0
-    pub outside : (a : ℕ) → x + 2 ≤ a → a < x + 2 + n → p ≢ a
+    pub within : x + HEADER_WORDS + n ≤ length zs
+    pub ends : x + HEADER_WORDS + n < 2 ^ 31
+    pub zero : (a : ℕ) → x + HEADER_WORDS ≤ a → a < x + HEADER_WORDS + n → slice_index zs a ≡ 0
+    pub outside : (a : ℕ) → x + HEADER_WORDS ≤ a → a < x + HEADER_WORDS + n → p ≢ a
 
   module _ (im : Image) (shape : Shape) (is_shape : IsShape shape) (orders : List Symbol) (k : ℕ) where
     -- along a new, back a delete
@@ -106,7 +107,8 @@ module _ (b : Bases) (p v : ℕ) where
         ∙ get_or-set_same zt x mark 0 (omega arith) in
         let count_is : slice_index (filled p x (mark_of v shape) zt) (x + 1) ≡ 1 =
         get_or-set_other z2 p (x + 1) x 0 (λ q. bl.p_apart (sym q)) ∙ get_or-set_same z1 (x + 1) 1 0 x1 in
-        let zero : (a : ℕ) → x + 2 ≤ a → a < x + 2 + n → slice_index (filled p x (mark_of v shape) zt) a ≡ 0 =
+        let zero : (a : ℕ) → x + HEADER_WORDS ≤ a → a < x + HEADER_WORDS + n
+        → slice_index (filled p x (mark_of v shape) zt) a ≡ 0 =
         λ a h l. get_or-set_other z2 p a x 0 (λ q. r.outside a h l (sym q))
         ∙ get_or-set_other z1 (x + 1) a 1 0 (λ q. omega arith) ∙ get_or-set_other zt x a mark 0 (λ q. omega arith)
         ∙ r.zero a h l in
@@ -150,9 +152,10 @@ module _ (b : Bases) (p v : ℕ) where
       deleted_shared small some h e n = fault_back (new_checks shape) (new_alter shape orders)
           (delete_shared b nothing_else v p x shape zs is_shape p_in source small some h e n) im
 
-      pub deleted_full : x < 2 ^ 31 → x ≢ 0 → (n a : ℕ) → size_of v shape ≡ n → x + 2 + n ≤ length zs
-          → x + 2 + n < 2 ^ 31 → slice_index zs x ≡ mark_of v shape → slice_index zs (x + 1) ≡ 1 → x + 2 ≤ a
-          → a < x + 2 + n → slice_index zs a ≢ 0
+      pub deleted_full : x < 2 ^ 31 → x ≢ 0 → (n a : ℕ) → size_of v shape ≡ n → x + HEADER_WORDS + n ≤ length zs
+          → x + HEADER_WORDS + n < 2 ^ 31 → slice_index zs x ≡ mark_of v shape → slice_index zs (x + 1) ≡ 1
+          → x + HEADER_WORDS ≤ a
+          → a < x + HEADER_WORDS + n → slice_index zs a ≢ 0
           → Will im (new_mid shape orders) true (found zs) (TrapsWithin 7 (37 + 15 * n))
       deleted_full small some n a n_is within ends e c lo hi nz =
           fault_back (new_checks shape) (new_alter shape orders)

@@ -4,6 +4,7 @@ use Rattle.std.proofs.Common.{◌≡◌, ◌≢◌, ℕ, ◌+◌, ◌*◌, ◌�
 use Rattle.std.proofs.Common.{arith, append-nil}
 use Rattle.std.specs.Prelude.{slice_index, nat_eq, not, Result, Ok, Err}
 use Rattle.std.proofs.lemmas.Bool.Decides.{nat_tests}
+use Rattle.code_conventions.specs.declared.memory.TheConstants.{HEADER_WORDS}
 use Rattle.rpp_tree.specs.declared.tree.Ident.{Ident}
 use Rattle.rpp_tree.specs.Tree.{Null, Lvalue, Object as AnObject, New, Delete, index_nodes}
 use Rattle.buddy_pisa.specs.Promise.{most_steps}
@@ -219,7 +220,8 @@ module _ (setting : Setting) (address slot : State → ℕ → ℕ) (R : State �
                 let one : count_at st name ≡ 1 = grind (arith, nat_tests) in
                 let up = found_place_most target in
                 stop_meets R rates 500 many im p n0 true m 7 _ _ (omega arith)
-                ((makes sh).not_empty_faults (address st name) (address st name + 2 + f.0) (word_at (Name name) e)
+                ((makes sh).not_empty_faults (address st name) (address st name + HEADER_WORDS + f.0)
+                (word_at (Name name) e)
                 (omega arith) (omega arith) some_at (s.mark es) (s.there.count ∙ one) (omega arith) (omega arith) f.2)
             last true true true es eo ez =
                 let one : count_at st name ≡ 1 = grind (arith, nat_tests) in

@@ -3,6 +3,7 @@ use Rattle.std.proofs.Common.{◌≡◌, ◌≢◌, ℕ, zero, suc, ◌+◌, ◌
 use Rattle.std.proofs.Common.{◌∷◌, refl, sym, ap, subst, arith, le_antisymm, if◌then◌else◌, eq-or-lt_of_le}
 use Rattle.std.specs.Prelude.{slice_index}
 use Rattle.std.proofs.lemmas.Bool.Decides.{leb_tells}
+use Rattle.code_conventions.specs.declared.memory.TheConstants.{HEADER_WORDS}
 use Rattle.rpp_words.specs.Order.{IsOrderFor}
 use Rattle.buddy_book.specs.Book.{order_from, order_for}
 use Rattle.expr_uncompute.specs.Number.{Bases}
@@ -61,10 +62,11 @@ others b p r =
 
 -- the order goes into its register, whatever is called
 pub ordering : (b : Bases) (p v : ℕ) (ys : List ℕ) → v < 2 ^ 31 → v ≢ 0
-    → Goes order_cells 43 (calling b 0 0 p v Lengthy ys) (calling b (order_for (2 + v)) 0 p v Lengthy ys)
+    → Goes order_cells 43 (calling b 0 0 p v Lengthy ys) (calling b (order_for (HEADER_WORDS + v)) 0 p v Lengthy ys)
 ordering b p v ys h n =
     let one : 1 ≤ v = positive v n in
-    let e : 1 + log_of (v + 1) ≡ order_for (2 + v) = sym (only_order (2 + v) (1 + log_of (v + 1)) (omega (arith, h))
+    let e : 1 + log_of (v + 1) ≡ order_for (HEADER_WORDS + v) =
+    sym (only_order (HEADER_WORDS + v) (1 + log_of (v + 1)) (omega (arith, h))
     (size_order v one h)) in
     goes_to refl refl (ap (λ o. calling b o 0 p v Lengthy ys) e) (order_goes (others b p) ys v one h)
   where

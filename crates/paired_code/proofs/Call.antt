@@ -67,7 +67,7 @@ cell_place code (negsuc p) c h = absurd (none h)
 
 -- ---- the calling cell: BRA, or RBRA where the routine is to run the other way
 
-abbrev call_cell : Bool → ℕ → Cell
+abbrev pub call_cell : Bool → ℕ → Cell
 call_cell false w = bra w
 call_cell true w = rbra w
 
@@ -265,13 +265,14 @@ module _ (im : Image) (r top : ℕ) (body : List Symbol) (t : Routine im r top b
     sub : fetch im.code (pos (top + 1)) ≡ Some (swapbr 2)
     sub = subst (λ z. fetch im.code z ≡ Some (swapbr 2)) (on_line (top + 1)) t.sub_cell
 
-    enter_path : (m : Memory) → reg m 2 ≡ 0 → Path im f a b 2 0 (at f d (near d x) m) 1
+    -- from the caller's cell into the routine, and out of it
+    pub enter_path : (m : Memory) → reg m 2 ≡ 0 → Path im f a b 2 0 (at f d (near d x) m) 1
         (at code_line back (far back (top + 1)) (with_reg m 2 (toward back p (top + 1))))
     enter_path m z = subst (λ y. Path im f a b 2 0 (at f d (near d x) m) 1
         (at code_line y (far y (top + 1)) (with_reg m 2 (toward y p (top + 1))))) eq
         (go_in im f d kind a b x p top lo hi at_p caller sub t.known ne hp hs m z)
 
-    leave_path : (m : Memory) → reg m 2 ≡ toward back (top + 1) p
+    pub leave_path : (m : Memory) → reg m 2 ≡ toward back (top + 1) p
         → Path im f a b 2 1 (at code_line back (near back (top + 1)) m) 0 (at f d (far d x) (with_reg m 2 0))
     leave_path m z = subst (λ y. Path im f a b 2 1 (at code_line y (near y (top + 1)) m) 0
         (at f d (far d x) (with_reg m 2 0))) eq (go_out im f d kind a b x p top lo hi at_p caller sub t.known ne hp hs
@@ -465,7 +466,8 @@ not_swap : (k : Bool) (w n : ℕ) → call_cell k w ≡ swapbr n → ⊥
 not_swap false w n e = let l : Bra ≡ Swapbr = ap (λ (c : Cell). c.op) e in cc
 not_swap true w n e = let l : Rbra ≡ Swapbr = ap (λ (c : Cell). c.op) e in cc
 
-apart : (im : Image) (k : Bool) (w p s : ℕ) → fetch im.code (pos p) ≡ Some (call_cell k w)
+-- a caller's cell is not the routine's SWAPBR cell
+pub apart : (im : Image) (k : Bool) (w p s : ℕ) → fetch im.code (pos p) ≡ Some (call_cell k w)
     → fetch im.code (pos s) ≡ Some (swapbr 2) → p ≢ s
 apart im k w p s h g e =
     let j : fetch im.code (pos s) ≡ Some (call_cell k w) =

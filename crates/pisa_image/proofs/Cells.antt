@@ -6,15 +6,16 @@ use Rattle.pisa_isa.specs.declared.cell.Cell.{Cell}
 use Rattle.pisa_isa.specs.Table.{has_a, has_b, c_is_source, register_end, imm_end, is_one_to_one, IsCell, IsInRange}
 use Rattle.rpp_words.specs.Words.{IsWord}
 use Rattle.pisa_image.specs.declared.error.ImageError.{ImageError}
-use Rattle.pisa_image.specs.declared.error.ImageError.TheVariants.{NotOneToOne, ImageTruncated, ImageField}
-use Rattle.pisa_image.specs.Numbers.{◌>>=◌, word_bytes, word_at}
+use Rattle.pisa_image.specs.declared.error.NumberError.{NumberError}
+use Rattle.pisa_image.specs.declared.error.ImageError.TheVariants.{NotOneToOne, ImageField}
+use Rattle.pisa_image.specs.Numbers.{◌>>=◌, refused_as, word_bytes, word_at}
 use Rattle.pisa_image.specs.Rows.{number_of, row_with}
 use Rattle.pisa_image.specs.ImageBytes.{cell_bytes}
-use Rattle.pisa_image.specs.Reading.{byte_below, tested_word, row_or, row_at, fields_at, cell_at}
+use Rattle.pisa_image.specs.Reading.{number_refusal, byte_below, tested_word, row_or, row_at, fields_at, cell_at}
 use Rattle.pisa_isa.proofs.Ranges.{imm_word}
 use Rattle.pisa_image.proofs.RowNumbers.{row_again, row_found}
 use Rattle.pisa_image.proofs.Many.{IsBytes, Takes, takes_then, bind_ok, ok_is, TakesItsText, ReadsAgain}
-use Rattle.pisa_image.proofs.Words.{word_takes, word_again}
+use Rattle.pisa_image.proofs.Words.{read_as, word_takes, word_again}
 use Rattle.std.proofs.lemmas.Bool.{ltb-true, lt-ltb}
 
 -- a test that passed
@@ -40,17 +41,17 @@ pub tested_takes : (passes : ℕ → Bool) (refusal : ImageError) (at : ℕ) (by
     → tested_word passes refusal at bytes ≡ Ok x
     → Takes bytes (word_bytes x.0) x.1 × IsWord x.0 × (passes x.0 ≡ true)
 tested_takes passes refusal at bytes x fits e =
-    let a = bind_ok (word_at (λ k. ImageTruncated k) at bytes)
+    let a = bind_ok (refused_as number_refusal (word_at at bytes))
     (λ number. cond (passes number.0) (Ok number) (Err refusal)) x e in
     let g = passed (passes a.0.0) refusal a.0 x a.2 in
-    let t = word_takes (λ k. ImageTruncated k) at bytes a.0 fits a.1 in
+    let t = word_takes at bytes a.0 fits (read_as number_refusal (word_at at bytes) a.0 a.1) in
     subst (λ (y : ℕ × List ℕ). Takes bytes (word_bytes y.0) y.1 × IsWord y.0 × (passes y.0 ≡ true)) g.1 (t.0, t.1, g.0)
 
 pub tested_again : (passes : ℕ → Bool) (refusal : ImageError) (at n : ℕ) (rest : List ℕ) → IsWord n → passes n ≡ true
     → tested_word passes refusal at (word_bytes n ++ rest) ≡ Ok (n, rest)
 tested_again passes refusal at n rest w p =
-    ap (λ (r : Result (ℕ × List ℕ) ImageError). r >>= λ number. cond (passes number.0) (Ok number) (Err refusal))
-    (word_again (λ k. ImageTruncated k) at n rest w) ∙ rw p refl
+    ap (λ (r : Result (ℕ × List ℕ) NumberError). refused_as number_refusal r >>= λ number. cond (passes number.0)
+    (Ok number) (Err refusal)) (word_again at n rest w) ∙ rw p refl
 
 -- the row
 

@@ -1,7 +1,7 @@
 -- What is read as notes is their bytes and fits, and the bytes of notes that fit are read as them.
-use Rattle.std.proofs.Common.{◌≡◌, ℕ, zero, suc, ◌+◌, ◌-◌, ◌*◌, ◌^◌, ◌<◌, ◌≤◌, Bool, true, false, cond, List, [], ◌∷◌}
+use Rattle.std.proofs.Common.{◌≡◌, ℕ, zero, suc, ◌+◌, ◌-◌, ◌*◌, ◌^◌, ◌<◌, ◌≤◌, Bool, true, List, [], ◌∷◌}
 use Rattle.std.proofs.Common.{◌++◌, length, Result, Ok, Err, refl, sym, ap, subst, ◌∙◌, append_assoc, arith}
-use Rattle.std.specs.Prelude.{nat_eq, nat_le, nat_lt, ◌&&◌}
+use Rattle.std.specs.Prelude.{nat_le, nat_lt, ◌&&◌}
 use Rattle.std.specs.List.{All, flat_map, list_all, AllByRecursion}
 use Rattle.std.proofs.lemmas.List.Elements.{All-from_recursion}
 use Rattle.std.specs.Char.{is_ascii_alphabetic}
@@ -16,13 +16,13 @@ use Rattle.pisa_isa.specs.declared.image.TheConstants.{MOST_CELLS, MOST_STATICS}
 use Rattle.pisa_isa.specs.declared.notes.TheConstants.{MOST_MARKS, LAST_PLACE, MOST_NAMES, MOST_NAME_BYTES}
 use Rattle.pisa_isa.specs.declared.notes.Mark.{Mark}
 use Rattle.pisa_isa.specs.declared.notes.FieldName.{FieldName}
-use Rattle.pisa_isa.specs.Notes.{NoteLists, no_notes, is_name, is_within, mark_fits, marks_fit, name_fits}
+use Rattle.pisa_isa.specs.Notes.{NoteLists, is_name, is_within, mark_fits, marks_fit, name_fits}
 use Rattle.pisa_isa.specs.Notes.{names_fit, notes_fit}
 use Rattle.pisa_image.specs.declared.error.ImageError.{ImageError}
-use Rattle.pisa_image.specs.declared.error.ImageError.TheVariants.{ImageTruncated, ImageField}
+use Rattle.pisa_image.specs.declared.error.ImageError.TheVariants.{ImageField}
 use Rattle.pisa_image.specs.Numbers.{◌>>=◌, word_bytes, many_at}
 use Rattle.pisa_image.specs.ImageBytes.{mark_bytes, name_bytes, notes_bytes}
-use Rattle.pisa_image.specs.Reading.{tested_word, number_between, mark_at, marks_at, tested_byte, text_at, name_at}
+use Rattle.pisa_image.specs.Reading.{number_between, mark_at, marks_at, tested_byte, text_at, name_at}
 use Rattle.pisa_image.specs.Reading.{names_at, notes_at}
 use Rattle.pisa_image.proofs.Many.{IsBytes, Takes, takes_then, bind_ok, ok_is, TakesItsText, ReadsAgain, many_take}
 use Rattle.pisa_image.proofs.Many.{many_again}

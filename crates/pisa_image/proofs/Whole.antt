@@ -2,7 +2,7 @@
 use Rattle.std.proofs.Common.{◌≡◌, ℕ, ◌+◌, ◌*◌, ◌<◌, ◌≤◌, Bool, true, false, cond, eqb, not, List, [], ◌∷◌, ◌++◌}
 use Rattle.std.proofs.Common.{length, Option, Some, None, Result, Ok, Err, refl, sym, ap, subst, ◌∙◌, append_assoc}
 use Rattle.std.proofs.Common.{arith, inl, inr}
-use Rattle.std.specs.Prelude.{◌⊎◌, count_by, nat_eq, nat_le, nat_lt, position, ◌&&◌, codes, IfOk}
+use Rattle.std.specs.Prelude.{◌⊎◌, count_by, nat_eq, nat_lt, position, IfOk}
 use Rattle.std.specs.List.{All, flat_map, AllByRecursion, position_or_len}
 use Rattle.std.proofs.lemmas.Bool.{eqb-true}
 use Rattle.std.proofs.lemmas.Bool.Decides.{nat_tests}
@@ -23,16 +23,16 @@ use Rattle.pisa_isa.specs.Image.{first_seal_refusal}
 use Rattle.pisa_isa.proofs.Sealed.{some_cell}
 use Rattle.pisa_image.specs.declared.reading.TheConstants.{MARK, VERSION, OLD_VERSION}
 use Rattle.pisa_image.specs.declared.error.ImageError.{ImageError}
-use Rattle.pisa_image.specs.declared.error.ImageError.TheVariants.{NoStart, NoFinish, ImageTruncated, ImageMagic}
-use Rattle.pisa_image.specs.declared.error.ImageError.TheVariants.{ImageField, ImageTrailing, NoMemory}
-use Rattle.pisa_image.specs.Numbers.{◌>>=◌, word_bytes, words_bytes, word_at, words_at}
+use Rattle.pisa_image.specs.declared.error.ImageError.TheVariants.{NoStart, NoFinish, ImageMagic}
+use Rattle.pisa_image.specs.declared.error.ImageError.TheVariants.{ImageTrailing, NoMemory}
+use Rattle.pisa_image.specs.Numbers.{◌>>=◌, refused_as, word_bytes, words_bytes, word_at, words_at}
 use Rattle.pisa_image.specs.ImageBytes.{cell_bytes, header_bytes, segment_bytes, notes_bytes, image_bytes}
 use Rattle.pisa_image.specs.ImageBytes.{old_image_bytes, AreBytesOf}
 use Rattle.pisa_image.specs.Reading.{Gives, Fails, tested_word, number_between, cell_at, cells_at, header_at, segments}
 use Rattle.pisa_image.specs.Reading.{segments_at, notes_of, notes_at, ended, sealed, noted, noted_at, image_at}
-use Rattle.pisa_image.specs.Reading.{is_of_counts, as_image_error}
+use Rattle.pisa_image.specs.Reading.{number_refusal, is_of_counts, as_image_error}
 use Rattle.pisa_image.proofs.Many.{IsBytes, Takes, takes_then, bind_ok, ok_is, many_take, many_again}
-use Rattle.pisa_image.proofs.Words.{word_takes, word_again}
+use Rattle.pisa_image.proofs.Words.{read_as, word_takes, word_again}
 use Rattle.pisa_image.proofs.NoteBytes.{between_takes, between_again, notes_take, notes_again}
 use Rattle.pisa_image.proofs.Cells.{passed, tested_takes, tested_again, cell_takes, cell_again}
 
@@ -107,13 +107,13 @@ pub segments_take : (cells statics : ℕ) (bytes : List ℕ) (x : Segments × Li
 unfolding segments_at
 segments_take cells statics bytes x fits e =
     let from : ℕ = 16 + 8 * cells in
-    let a = bind_ok (cells_at cells 16 bytes) (λ code. words_at (λ k. ImageTruncated k) statics from code.1 >>= λ words.
-    Ok (segments code.0 words.0, words.1)) x e in
-    let b = bind_ok (words_at (λ k. ImageTruncated k) statics from a.0.1)
+    let a = bind_ok (cells_at cells 16 bytes) (λ code. refused_as number_refusal (words_at statics from code.1)
+    >>= λ words. Ok (segments code.0 words.0, words.1)) x e in
+    let b = bind_ok (refused_as number_refusal (words_at statics from a.0.1))
     (λ words. Ok (segments a.0.0 words.0, words.1)) x a.2 in
     let code = many_take cell_at 8 cell_bytes IsCell cell_takes cells 16 bytes a.0 fits a.1 in
-    let words = many_take (word_at (λ k. ImageTruncated k)) 4 word_bytes IsWord (word_takes (λ k. ImageTruncated k))
-    statics from a.0.1 b.0 code.0.rest_fits b.1 in
+    let words = many_take word_at 4 word_bytes IsWord word_takes statics from a.0.1 b.0 code.0.rest_fits
+    (read_as number_refusal (words_at statics from a.0.1) b.0 b.1) in
     let made : Segments × List ℕ = (segments a.0.0 b.0.0, b.0.1) in
     subst (HasSegments cells statics bytes) (ok_is made x b.2) (record {
       takes = takes_then bytes (flat_map cell_bytes a.0.0) a.0.1 (words_bytes b.0.0) b.0.1 code.0 words.0;
@@ -128,10 +128,8 @@ segments_again : (code : List Cell) (statics rest : List ℕ) → AllByRecursion
 unfolding segments_at
 segments_again code statics rest are_cells are_words =
     let from : ℕ = 16 + 8 * length code in
-    let words : words_at (λ k. ImageTruncated k) (length statics) from (words_bytes statics ++ rest)
-    ≡ Ok (statics, rest) =
-    many_again (word_at (λ k. ImageTruncated k)) 4 word_bytes IsWord (word_again (λ k. ImageTruncated k)) statics from
-    rest are_words in
+    let words : words_at (length statics) from (words_bytes statics ++ rest) ≡ Ok (statics, rest) =
+    many_again word_at 4 word_bytes IsWord word_again statics from rest are_words in
     rw (many_again cell_at 8 cell_bytes IsCell cell_again code 16 (words_bytes statics ++ rest) are_cells, words) refl
 
 -- the seal

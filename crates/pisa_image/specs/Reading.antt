@@ -23,7 +23,9 @@ use Rattle.pisa_image.specs.declared.error.ImageError.TheVariants.{NotOneToOne, 
 use Rattle.pisa_image.specs.declared.error.ImageError.TheVariants.{ImageTruncated, ImageMagic}
 use Rattle.pisa_image.specs.declared.error.ImageError.TheVariants.{ImageField, ImageTrailing}
 use Rattle.pisa_image.specs.declared.error.ImageError.TheVariants.{NoMemory}
-use Rattle.pisa_image.specs.Numbers.{◌>>=◌, word_at, many_at, words_at}
+use Rattle.pisa_image.specs.declared.error.NumberError.{NumberError}
+use Rattle.pisa_image.specs.declared.error.NumberError.TheVariants as number
+use Rattle.pisa_image.specs.Numbers.{◌>>=◌, refused_as, word_at, many_at, words_at}
 use Rattle.pisa_image.specs.Rows.{row_with}
 
 -- what a function returned, seen by `view`, is what reading gives, unless memory ran out
@@ -34,6 +36,11 @@ Fails refusal read = read ≡ Err refusal
 abbrev pub Gives : {X Y : Type 0} → (X → Y) → Result X ImageError → Result Y ImageError → Type 0
 Gives view (Ok x) read = read ≡ Ok (view x)
 Gives view (Err e) read = Fails e read
+
+-- an image that ends within a number
+abbrev pub number_refusal : NumberError → ImageError
+number_refusal (number.Cut at) = ImageTruncated at
+number_refusal number.NoMemory = NoMemory
 
 -- a field is a value and the bytes behind it; `at` is the place of its first byte
 
@@ -46,7 +53,7 @@ byte_below at end (byte ∷ rest) = if nat_lt byte end then Ok (byte, rest) else
 abbrev pub tested_word : (passes : ℕ → Bool) → ImageError → (at : ℕ) → List ℕ
     → Result (ℕ × List ℕ) ImageError
 tested_word passes refusal at bytes =
-    word_at (λ k. ImageTruncated k) at bytes >>= λ number. if passes number.0 then Ok number
+    refused_as number_refusal (word_at at bytes) >>= λ number. if passes number.0 then Ok number
     else Err refusal
 
 -- the number of a row
@@ -99,7 +106,7 @@ segments code statics = record { code = code; statics = statics }
 unfoldable pub segments_at : (cells statics : ℕ) → List ℕ → Result (Segments × List ℕ) ImageError
 segments_at cells statics bytes = do
   code ← cells_at cells 16 bytes
-  words ← words_at (λ k. ImageTruncated k) statics (16 + 8 * cells) code.1
+  words ← refused_as number_refusal (words_at statics (16 + 8 * cells) code.1)
   Ok (segments code.0 words.0, words.1)
 
 -- a mark of code of so many cells

@@ -1,6 +1,8 @@
-// Why bytes are no image.
+// Why bytes are no image, and why they are no numbers.
 ghost use Rattle.std.specs.Prelude.{◌≡◌};
 ghost use Rattle.pisa_image.specs.declared.error.ImageError.TheVariants.{NoMemory};
+ghost use Rattle.pisa_image.specs.declared.error.NumberError.TheVariants.{NoMemory as WantOfMemory};
+ghost use Rattle.pisa_image.specs.Reading.{number_refusal};
 
 use std::alloc::{AllocError, AllocFailed};
 use thiserror::Error;
@@ -55,5 +57,43 @@ impl<T: Drop> From<AllocFailed<T>> for ImageError {
 
     fn from(_: AllocFailed<T>) -> Self {
         ImageError::NoMemory
+    }
+}
+
+/// Why numbers of four bytes are not read.
+#[derive(Clone, Copy, PartialEq, Eq, Debug, Error)]
+pub enum NumberError {
+    /// The bytes end within a number; the place is their end.
+    #[error("the bytes end at {at}")]
+    Cut { at: u32 },
+    /// Want of memory.
+    #[error("no memory")]
+    NoMemory,
+}
+
+impl From<AllocError> for NumberError {
+    ghost from_gives = { λ _ e. e ≡ WantOfMemory };
+
+    fn from(_: AllocError) -> Self {
+        NumberError::NoMemory
+    }
+}
+
+impl<T: Drop> From<AllocFailed<T>> for NumberError {
+    ghost from_gives = { λ _ e. e ≡ WantOfMemory };
+
+    fn from(_: AllocFailed<T>) -> Self {
+        NumberError::NoMemory
+    }
+}
+
+impl From<NumberError> for ImageError {
+    ghost from_gives = { λ n e. e ≡ number_refusal n };
+
+    fn from(refusal: NumberError) -> Self {
+        match refusal {
+            NumberError::Cut { at } => ImageError::ImageTruncated { at },
+            NumberError::NoMemory => ImageError::NoMemory,
+        }
     }
 }

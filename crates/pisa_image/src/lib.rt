@@ -7,11 +7,13 @@
 mod error;
 mod note_reading;
 mod note_writing;
+mod numbers;
 mod ranges;
 mod reading;
 mod rows;
 mod writing;
 
-pub use error::ImageError;
+pub use error::{ImageError, NumberError};
+pub use numbers::{word_at, words_at};
 pub use reading::{OLD_VERSION, VERSION, read_image};
 pub use writing::{add_word, add_words, write_image};

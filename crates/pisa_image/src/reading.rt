@@ -3,14 +3,13 @@ ghost use Rattle.std.specs.Prelude.{◌≡◌, ◌≤◌, ◌<◌, ◌+◌, ◌*
 ghost use Rattle.rpp_words.specs.Words.{IsWord};
 ghost use Rattle.pisa_isa.specs.Table.{IsCell};
 ghost use Rattle.pisa_isa.specs.Image.{Segments, IsImage};
-ghost use Rattle.pisa_image.specs.declared.error.ImageError.TheVariants.{ImageTruncated};
-ghost use Rattle.pisa_image.specs.Numbers.{word_at, words_at};
 ghost use Rattle.pisa_isa.specs.Notes.{NotedImage, no_notes, fits};
 ghost use Rattle.pisa_image.specs.ImageBytes.{image_bytes, old_image_bytes, AreBytesOf};
 ghost use Rattle.pisa_image.specs.Reading.{Gives, byte_below, row_at, fields_at, cell_at, cells_at, number_between, header_at, segments_at, ended, sealed, noted_at, image_at, segments, noted, is_of_counts, as_image_error};
 
 use crate::error::ImageError;
 use crate::note_reading::notes_of;
+use crate::numbers::{word_at, words_at};
 use crate::ranges::{a_end, b_end, c_end, is_word_of};
 use crate::rows::row_with;
 use pisa_isa::{Cell, Image, MOST_CELLS, MOST_STATICS, Noted, Notes, Op, SealError};
@@ -167,31 +166,6 @@ fn cells_at(alloc: Global, count: u32, bytes: &[u8]) -> Result<(Vec<Cell>, &[u8]
     Ok((cells, rest))
 }
 
-/// So many numbers, the first of which begins at a place.
-fn words_at(
-    alloc: Global,
-    count: u32,
-    from: u32,
-    bytes: &[u8],
-) -> Result<(Vec<u32>, &[u8]), ImageError>
-    requires count { count ≤ MOST_STATICS }
-    requires from { from < 2 ^ 30 }
-    ensures read { Gives (λ x. (x.0.items, x.1.now)) result
-        (words_at (λ at. ImageTruncated at) count from bytes.now) }
-    ensures len { IfOk result (λ x. vec_len x.0 ≡ count) }
-{
-    let mut words = Vec::with_capacity(alloc, (count as usize).min(bytes.len() / 4))?;
-    let mut rest = bytes;
-    let mut at = from;
-    for _ in 0..count {
-        let (word, after) = word_at(at, rest)?;
-        words.push(word)?;
-        rest = after;
-        at += 4;
-    }
-    Ok((words, rest))
-}
-
 /// The code cell that begins at a place.
 #[tactic(auto, unfolding(crate::specs::Reading::cell_at))]
 fn cell_at(at: u32, bytes: &[u8]) -> Result<(Cell, &[u8]), ImageError>
@@ -262,20 +236,5 @@ pub(crate) fn number_between(
     if number < low || number > high {
         return Err(ImageError::ImageField { at });
     }
-    Ok((number, rest))
-}
-
-/// The number at a place.
-fn word_at(at: u32, bytes: &[u8]) -> Result<(u32, &[u8]), ImageError>
-    requires { at < 2 ^ 31 }
-    ensures { Gives (λ x. (x.0, x.1.now)) result (word_at (λ at. ImageTruncated at) at bytes.now) }
-{
-    if bytes.len() < 4 {
-        return Err(ImageError::ImageTruncated {
-            at: at + bytes.len() as u32,
-        });
-    }
-    let (front, rest) = bytes.split_at(4);
-    let number = u32::from_le_bytes([front[0], front[1], front[2], front[3]]);
     Ok((number, rest))
 }

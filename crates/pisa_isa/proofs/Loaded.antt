@@ -4,6 +4,7 @@ use Rattle.std.proofs.Common.{take, drop, replicate, length-append, length-set}
 use Rattle.std.proofs.lemmas.List.{length-replicate}
 use Rattle.std.proofs.lemmas.Nat.{pow_pos}
 use Rattle.std.proofs.Math.Nat.{mul_comm, div-add-mod, mod-lt}
+use Rattle.rpp_words.specs.declared.input.TheConstants.{HEADER_WORDS}
 use Rattle.rpp_words.specs.declared.input.FieldWord.{FieldWord}
 use Rattle.rpp_words.specs.declared.input.Limits.{Limits}
 use Rattle.pisa_isa.specs.Loaded.{statics_at, heap_base, fixed_cells, empty_heads, with_words, loaded}
@@ -17,7 +18,8 @@ heap_base-ge heap statics = round_up (statics_at + statics) (2 ^ heap) (pow_pos 
 
 pub length-with_words : (input : List FieldWord) (statics : List ℕ) → length (with_words input statics) ≡ length statics
 length-with_words [] statics = refl
-length-with_words (entry ∷ input) statics = length-with_words input _ ∙ length-set statics (2 + entry.field) entry.word
+length-with_words (entry ∷ input) statics = length-with_words input _
+    ∙ length-set statics (HEADER_WORDS + entry.field) entry.word
 
 length-empty_heads : (heap base : ℕ) → 0 < heap → length (empty_heads heap base) ≡ heap
 length-empty_heads heap base h = omega (

@@ -3,7 +3,7 @@ use Rattle.std.specs.Prelude.{ℕ, ◌+◌, ◌-◌, ◌*◌, ◌/◌, ◌^◌, 
 use Rattle.std.specs.Prelude.{slice_set}
 use Rattle.rpp_words.specs.declared.input.FieldWord.{FieldWord}
 use Rattle.rpp_words.specs.declared.input.Limits.{Limits}
-use Rattle.rpp_words.specs.declared.input.TheConstants.{FIXED_CELLS, FRAME_WORDS}
+use Rattle.rpp_words.specs.declared.input.TheConstants.{FIXED_CELLS, FRAME_WORDS, HEADER_WORDS}
 use Rattle.pisa_isa.specs.Machine.{State}
 use Rattle.pisa_isa.specs.Image.{Segments}
 use Rattle.pisa_isa.specs.Runs.{started, zero_registers}
@@ -31,7 +31,7 @@ empty_heads heap base = replicate (heap - 1) 0 ++ base ∷ []
 abbrev pub with_words : List FieldWord → List ℕ → List ℕ
 with_words [] statics = statics
 with_words (entry ∷ input) statics = with_words input
-    (slice_set statics (2 + entry.field) entry.word)
+    (slice_set statics (HEADER_WORDS + entry.field) entry.word)
 
 -- all cells, from the first one to the end of the stack
 abbrev pub loaded : List ℕ → Limits → List FieldWord → List ℕ

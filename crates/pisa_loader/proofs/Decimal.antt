@@ -1,6 +1,6 @@
 -- The number that digits write, up to a cap.
-use Rattle.std.proofs.Common.{◌≡◌, ◌∙◌, ℕ, ◌+◌, ◌-◌, ◌*◌, ◌<◌, ◌≤◌, min, List, [], ◌∷◌, length, get_or, drop, arith}
-use Rattle.std.proofs.Common.{refl, ap, sym, add-one, drop-cons, inl, inr}
+use Rattle.std.proofs.Common.{◌≡◌, ◌∙◌, ℕ, ◌+◌, ◌-◌, ◌*◌, ◌<◌, ◌≤◌, min, List, length, get_or, drop, arith}
+use Rattle.std.proofs.Common.{ap, sym, inl, inr}
 use Rattle.std.proofs.lemmas.Bool.{cases_lt}
 use Rattle.rpp_words.specs.Texts.{decimal_from}
 use Rattle.rpp_words.proofs.Decimals.{decimal_from-grows, decimal_from-drop}

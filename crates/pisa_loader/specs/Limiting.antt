@@ -1,10 +1,10 @@
 -- The limits of a run, and the size of its memory.
-use Rattle.std.specs.Prelude.{ℕ, ◌+◌, ◌*◌, ◌^◌, ◌<◌, ◌≤◌, Bool, ◌||◌, nat_eq, nat_lt, List, All}
+use Rattle.std.specs.Prelude.{ℕ, ◌+◌, ◌*◌, ◌^◌, ◌<◌, Bool, ◌||◌, nat_eq, nat_lt, List, All}
 use Rattle.std.specs.Prelude.{length, Option, Some, None, if◌then◌else◌}
 use Rattle.rpp_words.specs.declared.input.FieldWord.{FieldWord}
 use Rattle.rpp_words.specs.declared.input.Limits.{Limits}
 use Rattle.pisa_isa.specs.Loaded.{heap_base}
-use Rattle.rpp_words.specs.declared.input.TheConstants.{MOST_HEAP, FRAME_WORDS}
+use Rattle.rpp_words.specs.declared.input.TheConstants.{MOST_HEAP, FRAME_WORDS, HEADER_WORDS}
 use Rattle.pisa_loader.specs.declared.error.LoadError.{LoadError}
 use Rattle.pisa_loader.specs.declared.error.LoadError.TheVariants.{HeapOrder, DeepRange}
 
@@ -25,4 +25,4 @@ memory_size statics limits = heap_base limits.heap statics + 2 ^ limits.heap + F
 
 -- the cells that an input sets are static cells
 abbrev pub IsInputOf : List ℕ → List FieldWord → Type 0
-IsInputOf statics input = All (λ entry. 2 + entry.field < length statics) input
+IsInputOf statics input = All (λ entry. HEADER_WORDS + entry.field < length statics) input

@@ -5,7 +5,9 @@ use Rattle.rpp_words.specs.Words.{IsWord}
 use Rattle.pisa_isa.specs.Image.{Segments}
 use Rattle.pisa_isa.specs.Machine.{Memory}
 use Rattle.pisa_machine.specs.Position.{Position, first_position}
-use Rattle.pisa_image.specs.Numbers.{◌>>=◌, word_bytes, words_bytes, word_at, words_at}
+use Rattle.pisa_image.specs.declared.error.NumberError.{NumberError}
+use Rattle.pisa_image.specs.declared.error.NumberError.TheVariants as number
+use Rattle.pisa_image.specs.Numbers.{◌>>=◌, refused_as, word_bytes, words_bytes, word_at, words_at}
 use Rattle.pisa_loader.specs.declared.state.TheConstants.{STATE_MARK, STATE_VERSION}
 use Rattle.pisa_loader.specs.declared.error.LoadError.{LoadError}
 use Rattle.pisa_loader.specs.declared.error.LoadError.TheVariants.{BadState, NoMemory}
@@ -34,19 +36,24 @@ abbrev pub Gives : {X Y : Type 0} → (X → Y) → Result X LoadError → Resul
 Gives view (Ok x) read = read ≡ Ok (view x)
 Gives view (Err e) read = Fails e read
 
+-- a state that ends within a number
+abbrev pub number_refusal : NumberError → LoadError
+number_refusal (number.Cut at) = BadState at
+number_refusal number.NoMemory = NoMemory
+
 -- a number that must be this one, and the bytes behind it
 abbrev pub known_word : (known at : ℕ) → List ℕ → Result (List ℕ) LoadError
-known_word known at bytes = word_at (λ k. BadState k) at bytes >>= λ number. if nat_eq number.0
-    known then Ok number.1 else Err (BadState at)
+known_word known at bytes = refused_as number_refusal (word_at at bytes) >>= λ word.
+    if nat_eq word.0 known then Ok word.1 else Err (BadState at)
 
 -- a state with so many cells, all of the bytes
 unfoldable pub state_at : (count : ℕ) → List ℕ → Result Memory LoadError
 state_at count bytes = do
   marked ← known_word STATE_MARK 0 bytes
   versioned ← known_word STATE_VERSION 4 marked
-  regs ← words_at (λ k. BadState k) 32 8 versioned
+  regs ← refused_as number_refusal (words_at 32 8 versioned)
   counted ← known_word count 136 regs.1
-  cells ← words_at (λ k. BadState k) count 140 counted
+  cells ← refused_as number_refusal (words_at count 140 counted)
   if nat_eq (length cells.1) 0 then Ok (memory regs.0 cells.0) else Err (BadState (140 + 4 * count))
 
 -- the machine of an image at the start of a run from a memory

@@ -1,7 +1,9 @@
 // Why a machine is not loaded.
 ghost use Rattle.std.specs.Prelude.{◌≡◌};
 ghost use Rattle.pisa_loader.specs.declared.error.LoadError.TheVariants.{NoMemory};
+ghost use Rattle.pisa_loader.specs.States.{number_refusal};
 
+use pisa_image::NumberError;
 use rpp_words::NoMemory as WantOfMemory;
 use std::alloc::{AllocError, AllocFailed};
 use thiserror::Error;
@@ -52,5 +54,16 @@ impl From<WantOfMemory> for LoadError {
 
     fn from(_: WantOfMemory) -> Self {
         LoadError::NoMemory
+    }
+}
+
+impl From<NumberError> for LoadError {
+    ghost from_gives = { λ n e. e ≡ number_refusal n };
+
+    fn from(refusal: NumberError) -> Self {
+        match refusal {
+            NumberError::Cut { at } => LoadError::BadState { at },
+            NumberError::NoMemory => LoadError::NoMemory,
+        }
     }
 }

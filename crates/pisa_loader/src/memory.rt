@@ -10,11 +10,8 @@ ghost use Rattle.rpp_words.specs.Limits.{IsLimits};
 
 use pisa_isa::{Image, MOST_STATICS};
 use pisa_machine::Machine;
-use rpp_words::{FIXED_CELLS, FRAME_WORDS, FieldWord, Input, Limits, NoMemory};
+use rpp_words::{FIXED_CELLS, FRAME_WORDS, FieldWord, HEADER_WORDS, Input, Limits, NoMemory};
 use std::alloc::{AllocError, Global};
-
-/// The cells of the main object before its fields.
-const HEAD_WORDS: u32 = 2;
 
 /// A machine at the start of a run of an image: an empty heap, zero registers, and the input's words
 /// in the fields of the main object, which the static cells begin with.
@@ -99,7 +96,7 @@ fn with_words(alloc: Global, statics: &[u32], input: &[FieldWord]) -> Result<Vec
 {
     let mut words = statics.to_vec(alloc)?;
     for entry in input {
-        words[(HEAD_WORDS + entry.field) as usize] = entry.word;
+        words[(HEADER_WORDS + entry.field) as usize] = entry.word;
     }
     Ok(words)
 }

@@ -2,8 +2,7 @@
 ghost use Rattle.std.specs.Prelude.{◌≡◌, ◌≤◌, ◌<◌, ◌+◌, ◌*◌, ◌^◌, ◌++◌, ℕ, List, All, length, slice_index, vec_len, IfOk, OnOk, Ok};
 ghost use Rattle.rpp_words.specs.Words.{IsWord};
 ghost use Rattle.pisa_machine.specs.Position.{first_position, IsMachine};
-ghost use Rattle.pisa_image.specs.Numbers.{word_at, words_at, words_bytes};
-ghost use Rattle.pisa_loader.specs.declared.error.LoadError.TheVariants.{BadState};
+ghost use Rattle.pisa_image.specs.Numbers.{words_bytes};
 ghost use Rattle.pisa_loader.specs.Limiting.{memory_size};
 ghost use Rattle.rpp_words.specs.Limits.{IsLimits};
 ghost use Rattle.pisa_isa.specs.Machine.{Memory};
@@ -11,7 +10,7 @@ ghost use Rattle.pisa_loader.specs.States.{Gives, memory, IsMemory, state_bytes,
 
 use crate::error::LoadError;
 use crate::memory::memory_size;
-use pisa_image::{add_word, add_words};
+use pisa_image::{add_word, add_words, word_at, words_at};
 use pisa_isa::Image;
 use pisa_machine::Machine;
 use rpp_words::{Limits, NoMemory};
@@ -104,47 +103,6 @@ fn known_word(known: u32, at: u32, bytes: &[u8]) -> Result<&[u8], LoadError>
         return Err(LoadError::BadState { at });
     }
     Ok(rest)
-}
-
-/// So many numbers, the first of which begins at a place.
-fn words_at(
-    alloc: Global,
-    count: u32,
-    from: u32,
-    bytes: &[u8],
-) -> Result<(Vec<u32>, &[u8]), LoadError>
-    requires count { count < 2 ^ 24 }
-    requires from { from < 2 ^ 30 }
-    ensures read { Gives (λ x. (x.0.items, x.1.now)) result
-        (words_at (λ at. BadState at) count from bytes.now) }
-    ensures len { IfOk result (λ x. vec_len x.0 ≡ count) }
-{
-    // No more room than the bytes that are there can fill.
-    let mut words = Vec::with_capacity(alloc, (count as usize).min(bytes.len() / 4))?;
-    let mut rest = bytes;
-    let mut at = from;
-    for _ in 0..count {
-        let (word, after) = word_at(at, rest)?;
-        words.push(word)?;
-        rest = after;
-        at += 4;
-    }
-    Ok((words, rest))
-}
-
-/// The number at a place.
-fn word_at(at: u32, bytes: &[u8]) -> Result<(u32, &[u8]), LoadError>
-    requires { at < 2 ^ 31 }
-    ensures { Gives (λ x. (x.0, x.1.now)) result (word_at (λ at. BadState at) at bytes.now) }
-{
-    if bytes.len() < 4 {
-        return Err(LoadError::BadState {
-            at: at + bytes.len() as u32,
-        });
-    }
-    let (front, rest) = bytes.split_at(4);
-    let number = u32::from_le_bytes([front[0], front[1], front[2], front[3]]);
-    Ok((number, rest))
 }
 
 /// The bytes of a machine's registers and data cells.

@@ -9,6 +9,7 @@ use Rattle.std.proofs.lemmas.Bool.Decides.{nat_tests}
 use Rattle.std.proofs.lemmas.List.{length-replicate}
 use Rattle.std.proofs.lemmas.List.Elements.{All-tail, All-weaker}
 use Rattle.std.proofs.lemmas.List.Sums.{sum_by-cons, sum_by-le, list_all-from_AllPass}
+use Rattle.code_conventions.specs.declared.memory.TheConstants.{FIRST_FIELD, HEADER_WORDS}
 use Rattle.rpp_words.specs.declared.input.TheConstants.{FIXED_CELLS}
 use Rattle.rpp_words.specs.Names.{is_name_byte}
 use Rattle.rpp_tree.specs.declared.tree.Ident.{Ident}
@@ -101,7 +102,7 @@ each_name statics left cell (var ∷ vars) low within few named =
 
 -- the main object stands before the class tables
 long_enough : (program : Source) (image : Segments) → StandsFor program image
-    → 2 + length (main_fields program) ≤ length image.statics
+    → HEADER_WORDS + length (main_fields program) ≤ length image.statics
 long_enough program image stands =
     let words = ap length stands.statics.words in
     let main = length-append (replicate (length (main_fields program)) 0) (tables 1 stands.statics.places) in
@@ -109,7 +110,7 @@ long_enough program image stands =
 
 pub notes_fit : (program : Source) (image : Segments) (notes : NoteLists) → IsAccepted program → fits image notes ≡ true
     → StandsFor program image → length (main_fields program) ≤ 64
-    → fits image (record { marks = notes.marks; names = field_names 42 (main_fields program) }) ≡ true
+    → fits image (record { marks = notes.marks; names = field_names FIRST_FIELD (main_fields program) }) ≡ true
 notes_fit program image notes accepted fit stands few =
     let fields = main_fields program in
     let long = long_enough program image stands in
@@ -122,12 +123,12 @@ notes_fit program image notes accepted fit stands few =
     limits.names)
     in
     let before = fitting image notes fit in
-    fits_by image (record { marks = notes.marks; names = field_names 42 fields }) (record {
+    fits_by image (record { marks = notes.marks; names = field_names FIRST_FIELD fields }) (record {
       few_marks = before.few_marks;
       each_mark = before.each_mark;
-      few_names = at_most (length (field_names 42 fields)) MOST_NAMES
-          (omega (arith, length-field_names 42 fields, few));
-      names = each_name (length image.statics) MOST_NAME_BYTES 42 fields (lit≤ tt) (omega (arith, long))
+      few_names = at_most (length (field_names FIRST_FIELD fields)) MOST_NAMES
+          (omega (arith, length-field_names FIRST_FIELD fields, few));
+      names = each_name (length image.statics) MOST_NAME_BYTES FIRST_FIELD fields (lit≤ tt) (omega (arith, long))
           (omega (arith, bytes, limits.name_bytes)) (omega (arith, names, none));
     })
 
@@ -135,7 +136,8 @@ notes_fit program image notes accepted fit stands few =
 pub sealed_fit : (program : Source) (whole image : Segments) (notes : NoteLists) (marks : List Mark)
     (names : List FieldName) → IsAccepted program → fits image notes ≡ true → StandsFor program image
     → length (main_fields program) ≤ 64 → whole ≡ image → marks ≡ notes.marks
-    → names ≡ field_names 42 (main_fields program) → fits whole (record { marks = marks; names = names }) ≡ true
+    → names ≡ field_names FIRST_FIELD (main_fields program)
+    → fits whole (record { marks = marks; names = names }) ≡ true
 sealed_fit program whole image notes marks names accepted fit stands few whole_is marks_are names_are =
     ap (λ i. fits i (record { marks = marks; names = names })) whole_is
     ∙ ap (λ ms. fits image (record { marks = ms; names = names })) marks_are
@@ -145,13 +147,13 @@ sealed_fit program whole image notes marks names accepted fit stands few whole_i
 pub sealed_notes : (program : Source) (sealed : NotedImage) (whole image : Segments) (notes : NoteLists)
     (marks : List Mark) (names : List FieldName) → sealed
     ≡ record { image = whole; notes = record { marks = marks; names = names } }
-    → whole ≡ image → marks ≡ notes.marks → names ≡ field_names 42 (main_fields program)
+    → whole ≡ image → marks ≡ notes.marks → names ≡ field_names FIRST_FIELD (main_fields program)
     → HasMarks program image notes.marks → AreNotes program sealed.image sealed.notes
 sealed_notes program sealed whole image notes marks names sealed_is whole_is marks_are names_are has =
     let same : sealed ≡ record {
       image = image;
       notes = record
-          { marks = notes.marks; names = field_names 42 (main_fields program) };
+          { marks = notes.marks; names = field_names FIRST_FIELD (main_fields program) };
     } =
     sealed_is
     ∙ ap (λ i. record { image = i; notes = record { marks = marks; names = names } }) whole_is

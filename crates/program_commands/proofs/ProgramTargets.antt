@@ -53,38 +53,42 @@ sizes_refused_writes : (refusal : Option LoadError) (given : List ℕ) (program 
 sizes_refused_writes (Some e) given program p h = along p _ None h (inl refl)
 sizes_refused_writes None given program p h = input_refused_writes (given_input program given) p h
 
-refused_writes : (text given : List ℕ) (heap deep : ℕ) (p : Planned) → RefusesRun text given heap deep p
+pub refused_writes : (text given : List ℕ) (heap deep : ℕ) (p : Planned) → RefusesRun text given heap deep p
     → WritesOnly p None
 refused_writes text given heap deep p g =
     judged_writes g.judgement _ None p (λ program q h. sizes_refused_writes _ given program q h) g.plan
 
-image_writes : (turns : Bool) (program : Source) (limits : Limits) (input : List FieldWord) (steps : ℕ) (p : Planned)
-    → RunsImage turns program limits input steps p → WritesOnly p None
-image_writes turns program limits input steps p runs =
+image_writes : (turns : Bool) (count counted : ℕ) (program : Source) (limits : Limits) (input : List FieldWord)
+    (steps : ℕ) (p : Planned) → RunsImage turns count counted program limits input steps p → WritesOnly p None
+image_writes turns count counted program limits input steps p runs =
     stop_writes turns _ program limits input _ _ steps p runs.reports
 
-go_writes : (text given : List ℕ) (heap deep steps : ℕ) (p : Planned) → IsGoPlan text given heap deep steps p
-    → WritesOnly p None
-go_writes text given heap deep steps p (inl refused) = refused_writes text given heap deep p refused
-go_writes text given heap deep steps p (inr to) = image_writes false to.program to.limits to.input steps p to.run
+go_writes : (count counted : ℕ) (text given : List ℕ) (heap deep steps : ℕ) (p : Planned)
+    → IsGoPlan count counted text given heap deep steps p → WritesOnly p None
+go_writes count counted text given heap deep steps p (inl refused) =
+    refused_writes text given heap deep p refused.0
+go_writes count counted text given heap deep steps p (inr to) =
+    image_writes false count counted to.program to.limits to.input steps p to.run
 
-turn_writes : (before after : List Watch) (text given : List ℕ) (heap deep steps : ℕ) (p : Planned)
-    → IsTurnPlan before after text given heap deep steps p → WritesOnly p None
-turn_writes before after text given heap deep steps p (inl refused) = refused_writes text given heap deep p refused.0
-turn_writes before after text given heap deep steps p (inr to) =
-    image_writes true to.program to.limits to.input steps p to.run.runs
+turn_writes : (before after : List Watch) (count counted : ℕ) (text given : List ℕ) (heap deep steps : ℕ) (p : Planned)
+    → IsTurnPlan before after count counted text given heap deep steps p → WritesOnly p None
+turn_writes before after count counted text given heap deep steps p (inl refused) =
+    refused_writes text given heap deep p refused.0
+turn_writes before after count counted text given heap deep steps p (inr to) =
+    image_writes true count counted to.program to.limits to.input steps p to.run.runs
 
 -- a longer text writes no more
 longer_writes : (said p : Planned) (text : List ℕ) → p ≡ record said { text = text } → WritesOnly said None
     → WritesOnly p None
 longer_writes said p text is h = along p (record said { text = text }) None is h
 
-profile_writes : (before after : List Watch) (text given : List ℕ) (heap deep steps : ℕ) (p : Planned)
-    → IsProfilePlan before after text given heap deep steps p → WritesOnly p None
-profile_writes before after text given heap deep steps p (inl refused) = refused_writes text given heap deep p refused.0
-profile_writes before after text given heap deep steps p (inr to) =
-    longer_writes to.run.said p _ to.run.reported (image_writes false to.program to.limits to.input steps to.run.said
-    to.run.runs)
+profile_writes : (before after : List Watch) (count counted : ℕ) (text given : List ℕ) (heap deep steps : ℕ)
+    (p : Planned) → IsProfilePlan before after count counted text given heap deep steps p → WritesOnly p None
+profile_writes before after count counted text given heap deep steps p (inl refused) =
+    refused_writes text given heap deep p refused.0
+profile_writes before after count counted text given heap deep steps p (inr to) =
+    longer_writes to.run.said p _ to.run.reported (image_writes false count counted to.program to.limits to.input steps
+    to.run.said to.run.runs)
 
 check_writes : (text : List ℕ) (p : Planned) → IsCheckPlan text p → WritesOnly p None
 check_writes text p g = judged_writes g.judgement _ None p (λ program q h. along q _ None h (inl refl)) g.plan
@@ -102,19 +106,22 @@ pub compiles_file_writes : (file image : List ℕ) (told : Option Texts) (p : Pl
     → WritesOnly p (Some image)
 compiles_file_writes file image told p h = compile_writes h.text image p h.holds
 
-pub goes_on_writes : (file : List ℕ) (input : Option (List ℕ)) (heap deep steps : ℕ) (told : Option Texts) (p : Planned)
-    → GoesOn file input heap deep steps told p → WritesOnly p None
-goes_on_writes file input heap deep steps told p h = go_writes h.text h.holds.text heap deep steps p h.holds.holds
+pub goes_on_writes : (count counted : ℕ) (file : List ℕ) (input : Option (List ℕ)) (heap deep steps : ℕ)
+    (told : Option Texts) (p : Planned) → GoesOn count counted file input heap deep steps told p → WritesOnly p None
+goes_on_writes count counted file input heap deep steps told p h =
+    go_writes count counted h.text h.holds.text heap deep steps p h.holds.holds
 
-pub turns_file_writes : (before after : List Watch) (file : List ℕ) (input : Option (List ℕ)) (heap deep steps : ℕ)
-    (told : Option Texts) (p : Planned) → TurnsFile before after file input heap deep steps told p → WritesOnly p None
-turns_file_writes before after file input heap deep steps told p h =
-    turn_writes before after h.text h.holds.text heap deep steps p h.holds.holds
+pub turns_file_writes : (before after : List Watch) (count counted : ℕ) (file : List ℕ) (input : Option (List ℕ))
+    (heap deep steps : ℕ) (told : Option Texts) (p : Planned)
+    → TurnsFile before after count counted file input heap deep steps told p → WritesOnly p None
+turns_file_writes before after count counted file input heap deep steps told p h =
+    turn_writes before after count counted h.text h.holds.text heap deep steps p h.holds.holds
 
-pub profiles_file_writes : (before after : List Watch) (file : List ℕ) (heap deep steps : ℕ) (told : Option Texts)
-    (p : Planned) → ProfilesFile before after file heap deep steps told p → WritesOnly p None
-profiles_file_writes before after file heap deep steps told p h =
-    profile_writes before after h.text [] heap deep steps p h.holds
+pub profiles_file_writes : (before after : List Watch) (count counted : ℕ) (file : List ℕ) (heap deep steps : ℕ)
+    (told : Option Texts) (p : Planned) → ProfilesFile before after count counted file heap deep steps told p
+    → WritesOnly p None
+profiles_file_writes before after count counted file heap deep steps told p h =
+    profile_writes before after count counted h.text [] heap deep steps p h.holds
 
 explained_writes : (program : Source) (run : Run State) (p : Planned) → p ≡ explained program run → WritesOnly p None
 explained_writes program (OverWith end cost) p h = along p _ None h (inl refl)

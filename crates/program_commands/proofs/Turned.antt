@@ -1,6 +1,7 @@
 -- A run of a program and the way back: what its report says, and that the flipped image restores
 -- every register and every cell.
-use Rattle.std.proofs.Common.{◌≡◌, ◌∙◌, sym, ap, subst, ℕ, ◌≤◌, List, ◌++◌, length, Ok, Err}
+use Rattle.std.proofs.Common.{◌≡◌, ◌∙◌, sym, ap, subst, ℕ, ◌+◌, ◌<◌, ◌≤◌, List, ◌++◌, length, Ok, Err, true}
+use Rattle.std.proofs.Common.{arith}
 use Rattle.std.specs.Prelude.{Bool, Result, IfOk, OnOk}
 use Rattle.rpp_words.specs.declared.input.FieldWord.{FieldWord}
 use Rattle.rpp_words.specs.declared.input.Limits.{Limits}
@@ -25,6 +26,7 @@ use Rattle.program_commands.proofs.Reported.{final, final_memory, soon_over}
 use Rattle.command_plan.specs.declared.plan.Verdict.TheVariants.{Done}
 use Rattle.command_plan.specs.Plans.{Planned, prints}
 use Rattle.program_commands.specs.ProgramPlans.{ReportsTurn, ReportsStop, ReportsEnd, RunsImage, back_lines}
+use Rattle.program_commands.specs.ProgramPlans.{steps_back}
 use Rattle.command_plan.specs.Texts.{steps_line}
 
 module _ (program : Source) (limits : Limits) (input : List FieldWord) (bound : ℕ) (end : Position) (spent : ℕ) where
@@ -103,8 +105,9 @@ module _ (program : Source) (limits : Limits) (input : List FieldWord) (bound : 
   -- the plan of a run, from what its reports say
   abbrev pub runs_image : (turns : Bool) (why : Stop) → HasRun program limits input bound end why spent
       → (p : Planned) → ReportsStop turns why program limits input first_cells spent bound p
-      → RunsImage turns program limits input bound p
-  runs_image turns why has p reports = record {
+      → (count counted : ℕ) → counted ≡ count + (spent + steps_back turns why spent)
+      → RunsImage turns count counted program limits input bound p
+  runs_image turns why has p reports count counted once = record {
     image = end.image;
     is_image = has.is_image;
     stands = has.stands;
@@ -112,6 +115,7 @@ module _ (program : Source) (limits : Limits) (input : List FieldWord) (bound : 
         ((has.stands.follows limits input has.allowed has.valid).in_time cost ends);
     restores = restores why has;
     reports = subst (λ (e : End). ReportsEnd turns e program limits input first_cells bound p) (sym has.runs) reports;
+    once = subst (λ (e : End). counted ≡ count + (e.spent + steps_back turns e.why e.spent)) (sym has.runs) once;
   }
 
   -- a run from where the image is loaded
@@ -142,3 +146,32 @@ pub weaken_with : {A E : Type 0} (r : Result A E) (C : Type 0) (P Q : A → Type
     → IfOk r P → IfOk r Q
 weaken_with (Ok x) C P Q f c h = f c x h
 weaken_with (Err e) C P Q f c h = tt
+
+pub both : {A E : Type 0} (r : Result A E) (C D : Type 0) → OnOk r C → OnOk r D → OnOk r (C × D)
+both (Ok x) C D h k = (h, k)
+both (Err e) C D h k = tt
+
+-- ---- the counter of machine steps
+
+-- a run that is not turned
+pub run_once : (count counted spent : ℕ) → counted ≡ count + spent → counted ≡ count + (spent + 0)
+run_once count counted spent made = omega (arith, made)
+
+-- a run, and the way back
+pub turned_once : (count middle counted spent back : ℕ) → middle ≡ count + spent → counted ≡ middle + back
+    → counted ≡ count + (spent + back)
+turned_once count middle counted spent back made made_back = omega (arith, made, made_back)
+
+none_more : (count back : ℕ) → back ≡ 0 → count ≡ count + back
+none_more count back none = omega (arith, none)
+
+-- no way back
+pub none_back : {A E : Type 0} (r : Result A E) (count spent : ℕ) (why : Stop) → steps_back true why spent ≡ 0
+    → OnOk r (count ≡ count + steps_back true why spent)
+none_back (Ok x) count spent why none = none_more count (steps_back true why spent) none
+none_back (Err e) count spent why none = tt
+
+-- a run that no memory was found in made no more steps than it might
+pub broken_within : (count counted whole bound : ℕ) → counted ≡ count + (whole + 1) → whole < bound
+    → counted ≤ count + bound
+broken_within count counted whole bound made few = omega (arith, made, few)

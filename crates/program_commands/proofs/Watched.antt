@@ -1,5 +1,6 @@
 -- What the probes of `turn` and `profile` were told.
-use Rattle.std.proofs.Common.{◌≡◌, ◌∙◌, sym, ap, subst, subst₂, ℕ, true, false, List, [], ◌∷◌, ◌++◌, map, Ok, Err, inl}
+use Rattle.std.proofs.Common.{◌≡◌, ◌∙◌, sym, ap, subst, subst₂, ℕ, ◌+◌, true, false, List, [], ◌∷◌, ◌++◌, map, Ok, Err}
+use Rattle.std.proofs.Common.{inl}
 use Rattle.std.proofs.Common.{inr, ⊎_elim}
 use Rattle.std.specs.Prelude.{Result, OnOk, IfErr, ◌⊎◌}
 use Rattle.std.proofs.lemmas.List.{map-append}
@@ -21,7 +22,7 @@ use Rattle.pisa_machine.specs.Position.{Position}
 use Rattle.pisa_machine.specs.Told.{counted_steps, step_at, BreaksOff}
 use Rattle.command_plan.specs.Plans.{Planned}
 use Rattle.program_commands.specs.GoRun.{IsLoaded, HasRun}
-use Rattle.program_commands.specs.ProgramPlans.{ReportsStop}
+use Rattle.program_commands.specs.ProgramPlans.{ReportsStop, steps_back}
 use Rattle.program_commands.specs.RunPlans.{TurnsImage, ProfilesImage, CanRun, RunsTo, back_steps, run_steps}
 use Rattle.program_commands.specs.ToldShort.{IsToldSoFar, TurnsShort, ProfilesShort}
 use Rattle.program_commands.proofs.Turned.{runs_image}
@@ -97,9 +98,10 @@ module _ (program : Source) (limits : Limits) (input : List FieldWord) (bound : 
       → (before after : List Watch) → after ≡ left_after (back_steps why end.image.code end.state bound) before
       → (p : Planned) → ReportsStop true why program limits input
       (loaded end.image.statics limits input) spent bound p
-      → TurnsImage before after program limits input bound p
-  turns_image why has before after told p reports = record {
-    runs = runs_image program limits input bound end spent true why has p reports;
+      → (count counted : ℕ) → counted ≡ count + (spent + steps_back true why spent)
+      → TurnsImage before after count counted program limits input bound p
+  turns_image why has before after told p reports count counted once = record {
+    runs = runs_image program limits input bound end spent true why has p reports count counted once;
     told = subst (λ (e : End). after ≡ left_after (back_steps e.why end.image.code e.last bound) before) (sym has.runs)
         told;
   }
@@ -119,10 +121,11 @@ module _ (program : Source) (limits : Limits) (input : List FieldWord) (bound : 
       → (said p : Planned) → ReportsStop false why program limits input
       (loaded end.image.statics limits input) spent bound said
       → p ≡ record said { text = (said.text ++ lines_shown ended) ++ lines_shown (map line_of after) }
-      → ProfilesImage before after program limits input bound p
-  profiles_image why has start loads same before after ended told lines said p reports is = record {
+      → (count counted : ℕ) → counted ≡ count + (spent + steps_back false why spent)
+      → ProfilesImage before after count counted program limits input bound p
+  profiles_image why has start loads same before after ended told lines said p reports is count counted once = record {
     said = said;
-    runs = runs_image program limits input bound end spent false why has said reports;
+    runs = runs_image program limits input bound end spent false why has said reports count counted once;
     told = told ∙ ap (λ steps. left_after steps before) (same_steps start loads same);
     reported = is ∙ ap (λ l. record said { text = (said.text ++ lines_shown l) ++ lines_shown (map line_of after) })
         (lines ∙ ap (λ steps. lines_after steps before) (same_steps start loads same));

@@ -1,5 +1,6 @@
 -- The plans of `check` and `compile`, and what a run of a program reports.
-use Rattle.std.specs.Prelude.{◌≡◌, ℕ, ◌≤◌, ◌<◌, Bool, true, false, List, ◌++◌, length, Result, Ok}
+use Rattle.std.specs.Prelude.{◌≡◌, ℕ, ◌+◌, ◌≤◌, ◌<◌, Bool, true, false, List, ◌++◌, length, Result}
+use Rattle.std.specs.Prelude.{Ok}
 use Rattle.std.specs.Prelude.{Err, codes}
 use Rattle.std.specs.declared.option.Option.{Option}
 use Rattle.std.specs.Fmt.{decimal}
@@ -93,11 +94,18 @@ abbrev pub ReportsEnd : (turns : Bool) → End → Source → Limits → List Fi
 ReportsEnd turns end program limits input first steps p =
     ReportsStop turns end.why program limits input first end.spent steps p
 
+-- the machine steps of the way back, which is made after a finish where the run turns
+abbrev pub steps_back : (turns : Bool) → Stop → (spent : ℕ) → ℕ
+steps_back false why spent = 0
+steps_back true Finished spent = spent
+steps_back true _ spent = 0
+
 -- There is an image that stands for the program, and the plan reports its run, whose steps the
 -- source's cost bounds. After a finish the flipped image restores every register and every cell, in
--- as many steps.
-pub record RunsImage (turns : Bool) (program : Source) (limits : Limits) (input : List FieldWord)
-    (steps : ℕ) (p : Planned) : Type 0 where
+-- as many steps. No other steps are made than those of the run, and where it turns those of the way
+-- back: `count` is their counter as it is handed in, and `counted` as it is left.
+pub record RunsImage (turns : Bool) (count counted : ℕ) (program : Source) (limits : Limits)
+    (input : List FieldWord) (steps : ℕ) (p : Planned) : Type 0 where
   pub image : Segments
   pub is_image : IsImage image
   pub stands : StandsFor program image
@@ -108,6 +116,8 @@ pub record RunsImage (turns : Bool) (program : Source) (limits : Limits) (input 
       (loaded image.statics limits input)
   pub reports : ReportsEnd turns (run_of image limits input steps) program limits input
       (loaded image.statics limits input) steps p
+  pub once : let end : End = run_of image limits input steps in
+      counted ≡ count + (end.spent + steps_back turns end.why end.spent)
 
 -- the first refusal of a text is told, or P holds of the program that it is
 abbrev pub OfProgram : (P : Source → Planned → Type 0) → Result Source Refusal → Planned → Type 0

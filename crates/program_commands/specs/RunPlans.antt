@@ -1,5 +1,6 @@
 -- The plans of the commands that run a program: `go`, `turn` and `profile`. Of probes that watch,
--- `before` is the list as it is handed in, and `after` as it is left.
+-- `before` is the list as it is handed in, and `after` as it is left; so `count` and `counted` are
+-- the counter of machine steps.
 use Rattle.std.specs.Prelude.{◌≡◌, ◌⊎◌, ℕ, Bool, true, false, List, [], ◌++◌, None, Some, Result}
 use Rattle.std.specs.Prelude.{Ok, Err, map}
 use Rattle.std.specs.declared.option.Option.{Option}
@@ -64,11 +65,12 @@ pub record RunsTo (text given : List ℕ) (heap deep : ℕ)
   pub run : P program limits input
 
 -- the plan of `go` of a text on an input
-abbrev pub IsGoPlan : (text given : List ℕ) → (heap deep steps : ℕ) → Planned → Type 0
-IsGoPlan text given heap deep steps p =
-    RefusesRun text given heap deep p
-    ⊎ RunsTo text given heap deep (λ program limits input. RunsImage false program limits input
-    steps p)
+abbrev pub IsGoPlan : (count counted : ℕ) → (text given : List ℕ) → (heap deep steps : ℕ)
+    → Planned → Type 0
+IsGoPlan count counted text given heap deep steps p =
+    (RefusesRun text given heap deep p × (counted ≡ count))
+    ⊎ RunsTo text given heap deep (λ program limits input. RunsImage false count counted program
+    limits input steps p)
 
 -- the steps that `turn` tells of: after a finish those of the run of the flipped image from there,
 -- and no others
@@ -79,19 +81,19 @@ back_steps _ code m steps = []
 
 -- the plan reports both runs of an image that stands for the program, and the probes were told the
 -- steps of the second one
-pub record TurnsImage (before after : List Watch) (program : Source) (limits : Limits)
-    (input : List FieldWord) (steps : ℕ) (p : Planned) : Type 0 where
-  pub runs : RunsImage true program limits input steps p
+pub record TurnsImage (before after : List Watch) (count counted : ℕ) (program : Source)
+    (limits : Limits) (input : List FieldWord) (steps : ℕ) (p : Planned) : Type 0 where
+  pub runs : RunsImage true count counted program limits input steps p
   pub told : let end : End = run_of runs.image limits input steps in
       after ≡ left_after (back_steps end.why runs.image.code end.last steps) before
 
 -- the plan of `turn` of a text on an input
-abbrev pub IsTurnPlan : (before after : List Watch) → (text given : List ℕ) → (heap deep steps : ℕ)
-    → Planned → Type 0
-IsTurnPlan before after text given heap deep steps p =
-    (RefusesRun text given heap deep p × (after ≡ before))
-    ⊎ RunsTo text given heap deep (λ program limits input. TurnsImage before after program limits
-    input steps p)
+abbrev pub IsTurnPlan : (before after : List Watch) → (count counted : ℕ)
+    → (text given : List ℕ) → (heap deep steps : ℕ) → Planned → Type 0
+IsTurnPlan before after count counted text given heap deep steps p =
+    (RefusesRun text given heap deep p × ((after ≡ before) × (counted ≡ count)))
+    ⊎ RunsTo text given heap deep (λ program limits input. TurnsImage before after count counted
+    program limits input steps p)
 
 -- the counted steps of the run of an image
 abbrev pub run_steps : Segments → Limits → List FieldWord → ℕ → List StepAt
@@ -101,10 +103,10 @@ run_steps image limits input steps = counted_steps image.code steps
 -- The plan says what that of `go` says, and behind it stand the lines of the probes: of those that
 -- ended, in the order of their ends, and then of the others. They were told the steps of the run of
 -- that image.
-pub record ProfilesImage (before after : List Watch) (program : Source) (limits : Limits)
-    (input : List FieldWord) (steps : ℕ) (p : Planned) : Type 0 where
+pub record ProfilesImage (before after : List Watch) (count counted : ℕ) (program : Source)
+    (limits : Limits) (input : List FieldWord) (steps : ℕ) (p : Planned) : Type 0 where
   pub said : Planned
-  pub runs : RunsImage false program limits input steps said
+  pub runs : RunsImage false count counted program limits input steps said
   pub told : after ≡ left_after (run_steps runs.image limits input steps) before
   pub reported : p ≡ record said {
     text = (said.text ++ lines_shown (lines_after (run_steps runs.image limits input steps) before))
@@ -112,30 +114,31 @@ pub record ProfilesImage (before after : List Watch) (program : Source) (limits 
   }
 
 -- the plan of `profile` of a text
-abbrev pub IsProfilePlan : (before after : List Watch) → (text given : List ℕ)
-    → (heap deep steps : ℕ) → Planned → Type 0
-IsProfilePlan before after text given heap deep steps p =
-    (RefusesRun text given heap deep p × (after ≡ before))
-    ⊎ RunsTo text given heap deep (λ program limits input. ProfilesImage before after program limits
-    input steps p)
+abbrev pub IsProfilePlan : (before after : List Watch) → (count counted : ℕ)
+    → (text given : List ℕ) → (heap deep steps : ℕ) → Planned → Type 0
+IsProfilePlan before after count counted text given heap deep steps p =
+    (RefusesRun text given heap deep p × ((after ≡ before) × (counted ≡ count)))
+    ⊎ RunsTo text given heap deep (λ program limits input. ProfilesImage before after count counted
+    program limits input steps p)
 
 -- the plan of `go` of this file, on an input where there is one
-abbrev pub GoesOn : (file : List ℕ) → (input : Option (List ℕ)) → (heap deep steps : ℕ)
-    → Option Texts
-    → Planned → Type 0
-GoesOn file input heap deep steps told p =
+abbrev pub GoesOn : (count counted : ℕ) → (file : List ℕ) → (input : Option (List ℕ))
+    → (heap deep steps : ℕ) → Option Texts → Planned → Type 0
+GoesOn count counted file input heap deep steps told p =
     WithText told file MOST_BYTES
-    (λ text. WithInput told input (λ given. IsGoPlan text given heap deep steps p))
+    (λ text. WithInput told input (λ given. IsGoPlan count counted text given heap deep steps p))
 
 -- that of `turn`
-abbrev pub TurnsFile : (before after : List Watch) → (file : List ℕ) → (input : Option (List ℕ))
-    → (heap deep steps : ℕ) → Option Texts → Planned → Type 0
-TurnsFile before after file input heap deep steps told p =
+abbrev pub TurnsFile : (before after : List Watch) → (count counted : ℕ) → (file : List ℕ)
+    → (input : Option (List ℕ)) → (heap deep steps : ℕ) → Option Texts → Planned → Type 0
+TurnsFile before after count counted file input heap deep steps told p =
     WithText told file MOST_BYTES
-    (λ text. WithInput told input (λ given. IsTurnPlan before after text given heap deep steps p))
+    (λ text. WithInput told input (λ given. IsTurnPlan before after count counted text given heap
+    deep steps p))
 
 -- that of `profile`, which takes no input
-abbrev pub ProfilesFile : (before after : List Watch) → (file : List ℕ) → (heap deep steps : ℕ)
-    → Option Texts → Planned → Type 0
-ProfilesFile before after file heap deep steps told p =
-    WithText told file MOST_BYTES (λ text. IsProfilePlan before after text [] heap deep steps p)
+abbrev pub ProfilesFile : (before after : List Watch) → (count counted : ℕ) → (file : List ℕ)
+    → (heap deep steps : ℕ) → Option Texts → Planned → Type 0
+ProfilesFile before after count counted file heap deep steps told p =
+    WithText told file MOST_BYTES
+    (λ text. IsProfilePlan before after count counted text [] heap deep steps p)

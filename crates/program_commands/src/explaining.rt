@@ -36,7 +36,8 @@ pub fn explain<S: Shelf>(
     sizes: Sizes,
 ) -> Result<Plan, NoPlan>
     ensures plan { GivesPlan (S.texts shelf.old)
-        (Explains file.now (option_map string_bytes input.now) sizes.heap sizes.deep sizes.bound) result }
+        (Explains file.now (option_map string_bytes input.now) sizes.room.heap sizes.room.deep
+        sizes.bound) result }
     ensures reads { OnlyReads (S.texts shelf.old) (S.texts shelf.new) (S.faults shelf.old)
         (S.faults shelf.new)
         (source file.now ∷ input_files (option_map string_bytes input.now)) result }
@@ -48,7 +49,7 @@ pub fn explain<S: Shelf>(
 fn explain_text(alloc: Global, text: &[u8], given: &[u8], sizes: Sizes) -> Result<Plan, NoMemory>
     requires text { length text.now ≤ MOST_BYTES }
     requires given { length given.now ≤ MOST_INPUT }
-    ensures { IfOk result (λ plan. IsExplainPlan text.now given.now sizes.heap sizes.deep
+    ensures { IfOk result (λ plan. IsExplainPlan text.now given.now sizes.room.heap sizes.room.deep
         sizes.bound (planned plan)) }
 {
     match judge(alloc, text) {
@@ -67,11 +68,11 @@ fn explain_within(
 ) -> Result<Plan, NoMemory>
     requires { length given.now ≤ MOST_INPUT }
     ensures { IfOk result (λ plan.
-        IsExplainedWithin (limits_refusal sizes.heap sizes.deep MOST_OPEN) given.now
-        (source_of checked.now) (record { heap = sizes.heap; deep = sizes.deep }) sizes.bound
-        (planned plan)) }
+        IsExplainedWithin (limits_refusal sizes.room.heap sizes.room.deep MOST_OPEN) given.now
+        (source_of checked.now) (record { heap = sizes.room.heap; deep = sizes.room.deep })
+        sizes.bound (planned plan)) }
 {
-    match check_limits(sizes.heap, sizes.deep, MOST_OPEN) {
+    match check_limits(sizes.room.heap, sizes.room.deep, MOST_OPEN) {
         Ok(limits) => explain_given(alloc, checked, given, limits, sizes.bound),
         Err(e) => Ok(Plan::prints(Verdict::InputRefused, load_line(alloc, e)?)),
     }

@@ -1,5 +1,5 @@
 // `go F H D STEPS [INPUT]`: compiles a program, runs its image and reports.
-ghost use Rattle.std.specs.Prelude.{◌≡◌, false, ◌≤◌, ◌<◌, ◌^◌, ◌∷◌, length, option_map, IfOk, IfSome, string_bytes};
+ghost use Rattle.std.specs.Prelude.{◌≡◌, false, ◌≤◌, ◌<◌, ◌+◌, ◌^◌, ◌∷◌, length, option_map, IfOk, IfErr, IfSome, string_bytes};
 ghost use Rattle.rpp_tree.specs.Views.{source_of};
 ghost use Rattle.rpp_tree.specs.declared.limits.TheConstants.{MOST_BYTES};
 ghost use Rattle.pisa_isa.specs.Image.{IsImage};
@@ -10,7 +10,7 @@ ghost use Rattle.command_plan.specs.Plans.{planned, GivesPlan};
 ghost use Rattle.program_commands.specs.ProgramPlans.{RunsImage, ReportsStop, ReportsStore};
 ghost use Rattle.program_commands.specs.RunPlans.{IsGoPlan, GoesOn};
 ghost use Rattle.program_commands.specs.GoRun.{IsLoaded, HasRun};
-ghost use Rattle.command_plan.specs.Files.{OnlyReads, source, input_files};
+ghost use Rattle.command_plan.specs.Files.{OnlyReads, UnreadCause, source, input_files};
 
 use crate::readying::ready;
 use crate::setting::{Ready, RunSetting};
@@ -23,12 +23,14 @@ use pisa_loader::load;
 use pisa_machine::{Machine, RunEnd, Steps};
 use program_codegen::compile;
 use rpp_ports::Shelf;
+use rpp_tree::MOST_TOKENS;
 use rpp_words::NoMemory;
 use std::alloc::Global;
 use std::sync::ledger::Ledger;
 use store_report::report;
 
-/// Compiles a file, runs the image on an input where there is one, and reports.
+/// Compiles a file, runs the image on an input where there is one, and reports. It makes the steps
+/// of that run and no others, and none where a file cannot be read.
 pub fn go<S: Shelf, L: Ledger>(
     alloc: Global,
     shelf: &mut S,
@@ -38,8 +40,10 @@ pub fn go<S: Shelf, L: Ledger>(
     steps: &mut Steps<L>,
 ) -> Result<Plan, NoPlan>
     requires { sizes.bound < 2 ^ 63 }
-    ensures plan { GivesPlan (S.texts shelf.old) (GoesOn file.now (option_map string_bytes input.now)
-        sizes.heap sizes.deep sizes.bound) result }
+    ensures plan { GivesPlan (S.texts shelf.old) (GoesOn steps.old steps.new file.now
+        (option_map string_bytes input.now) sizes.room.heap sizes.room.deep sizes.bound) result }
+    ensures within { steps.new ≤ steps.old + sizes.bound }
+    ensures unread { IfErr result (UnreadCause (steps.new ≡ steps.old)) }
     ensures reads { OnlyReads (S.texts shelf.old) (S.texts shelf.new) (S.faults shelf.old)
         (S.faults shelf.new)
         (source file.now ∷ input_files (option_map string_bytes input.now)) result }
@@ -58,8 +62,9 @@ fn go_over<L: Ledger>(
     requires text { length text.now ≤ MOST_BYTES }
     requires given { length given.now ≤ MOST_INPUT }
     requires bound { sizes.bound < 2 ^ 63 }
-    ensures { IfOk result (λ plan. IsGoPlan text.now given.now sizes.heap sizes.deep sizes.bound
-        (planned plan)) }
+    ensures plan { IfOk result (λ plan. IsGoPlan steps.old steps.new text.now given.now
+        sizes.room.heap sizes.room.deep sizes.bound (planned plan)) }
+    ensures within { steps.new ≤ steps.old + sizes.bound }
 {
     match ready(alloc, text, given, sizes)? {
         Ready::Refused(plan) => Ok(plan),
@@ -68,7 +73,7 @@ fn go_over<L: Ledger>(
 }
 
 /// The most code cells of a compiled image: 200 for each token that a program may have, and 8,192.
-pub const MOST_COMPILED: usize = 4_008_192;
+pub const MOST_COMPILED: usize = 200 * MOST_TOKENS as usize + 8_192;
 
 /// The image of a program, without what is noted of it.
 #[tactic(auto, using(crate::proofs::Sizes::few_cells))]
@@ -96,8 +101,10 @@ fn run_program<L: Ledger>(
     setting: &RunSetting,
     steps: &mut Steps<L>,
 ) -> Result<Plan, NoMemory>
-    ensures { IfOk result (λ plan. RunsImage false (source_of setting.now.checked)
-        setting.now.limits setting.now.input.words.items setting.now.bound (planned plan)) }
+    ensures plan { IfOk result (λ plan. RunsImage false steps.old steps.new
+        (source_of setting.now.checked) setting.now.limits setting.now.input.words.items
+        setting.now.bound (planned plan)) }
+    ensures within { steps.new ≤ steps.old + setting.now.bound }
 {
     let mut machine = loaded_program(alloc, setting)?;
     let end = machine.run(setting.bound, steps);

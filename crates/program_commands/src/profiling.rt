@@ -1,5 +1,5 @@
 // `profile F H D STEPS`: what `go` does, as probes watch, and then their lines.
-ghost use Rattle.std.specs.Prelude.{◌≡◌, ◌⊎◌, ◌≤◌, ◌<◌, ◌^◌, ◌++◌, [], ◌∷◌, length, map, IfOk, IfErr, OnOk, string_bytes};
+ghost use Rattle.std.specs.Prelude.{◌≡◌, ◌⊎◌, ◌≤◌, ◌<◌, ◌+◌, ◌^◌, ◌++◌, [], ◌∷◌, length, map, IfOk, IfErr, OnOk, string_bytes};
 ghost use Rattle.rpp_tree.specs.Views.{source_of};
 ghost use Rattle.rpp_tree.specs.declared.limits.TheConstants.{MOST_BYTES};
 ghost use Rattle.rpp_probes.specs.Tally.{lines_shown, line_of};
@@ -21,7 +21,8 @@ use std::alloc::{AllocError, Global};
 use std::sync::ledger::Ledger;
 
 /// Compiles a file, runs the image, tells the probes each counted step, and reports; and shows the
-/// lines of the probes that ended, in the order of their ends, and then those of the others.
+/// lines of the probes that ended, in the order of their ends, and then those of the others. It
+/// makes the steps of that run and no others, and none where the file cannot be read.
 pub fn profile<S: Shelf, P: Probes, L: Ledger>(
     alloc: Global,
     shelf: &mut S,
@@ -32,13 +33,16 @@ pub fn profile<S: Shelf, P: Probes, L: Ledger>(
 ) -> Result<Plan, NoPlan>
     requires { sizes.bound < 2 ^ 63 }
     ensures plan { GivesPlan (S.texts shelf.old)
-        (ProfilesFile (P.watches probes.old)
-        (P.watches probes.new) file.now sizes.heap sizes.deep sizes.bound) result }
+        (ProfilesFile (P.watches probes.old) (P.watches probes.new) steps.old steps.new file.now
+        sizes.room.heap sizes.room.deep sizes.bound) result }
+    ensures within { steps.new ≤ steps.old + sizes.bound }
+    ensures unread { IfErr result (UnreadCause (steps.new ≡ steps.old)) }
     ensures reads { OnlyReads (S.texts shelf.old) (S.texts shelf.new) (S.faults shelf.old)
         (S.faults shelf.new) (source file.now ∷ []) result }
     ensures untold { IfErr result (UnreadCause (P.watches probes.new ≡ P.watches probes.old)) }
     ensures short { IfErr result (λ _. ProfilesFileShort (P.watches probes.old)
-        (P.watches probes.new) file.now sizes.heap sizes.deep sizes.bound (S.texts shelf.old)) }
+        (P.watches probes.new) file.now sizes.room.heap sizes.room.deep sizes.bound
+        (S.texts shelf.old)) }
 {
     let text = read_file(alloc, shelf, file, MOST_BYTES as u64)?;
     Ok(profile_text(alloc, &text, sizes, probes, steps)?)
@@ -54,9 +58,11 @@ fn profile_text<P: Probes, L: Ledger>(
     requires text { length text.now ≤ MOST_BYTES }
     requires bound { sizes.bound < 2 ^ 63 }
     ensures plan { IfOk result (λ plan. IsProfilePlan (P.watches probes.old) (P.watches probes.new)
-        text.now [] sizes.heap sizes.deep sizes.bound (planned plan)) }
+        steps.old steps.new text.now [] sizes.room.heap sizes.room.deep sizes.bound
+        (planned plan)) }
+    ensures within { steps.new ≤ steps.old + sizes.bound }
     ensures short { IfErr result (λ _. IsProfileShort (P.watches probes.old) (P.watches probes.new)
-        text.now [] sizes.heap sizes.deep sizes.bound) }
+        text.now [] sizes.room.heap sizes.room.deep sizes.bound) }
 {
     match ready(alloc, text, &[], sizes)? {
         Ready::Refused(plan) => Ok(plan),
@@ -72,11 +78,14 @@ fn profile_program<P: Probes, L: Ledger>(
     steps: &mut Steps<L>,
 ) -> Result<Plan, NoMemory>
     ensures plan { IfOk result (λ plan.
-        ProfilesImage (P.watches probes.old) (P.watches probes.new) (source_of setting.now.checked)
-        setting.now.limits setting.now.input.words.items setting.now.bound (planned plan)) }
+        ProfilesImage (P.watches probes.old) (P.watches probes.new) steps.old steps.new
+        (source_of setting.now.checked) setting.now.limits setting.now.input.words.items
+        setting.now.bound (planned plan)) }
+    ensures within { steps.new ≤ steps.old + setting.now.bound }
     ensures short { IfErr result (λ _. (P.watches probes.new ≡ P.watches probes.old)
-        ⊎ ProfilesShort (P.watches probes.old) (P.watches probes.new) (source_of setting.now.checked)
-        setting.now.limits setting.now.input.words.items setting.now.bound) }
+        ⊎ ProfilesShort (P.watches probes.old) (P.watches probes.new)
+        (source_of setting.now.checked) setting.now.limits setting.now.input.words.items
+        setting.now.bound) }
 {
     let mut machine = loaded_program(alloc, setting)?;
     let mut lines = Vec::new(alloc);

@@ -1,4 +1,5 @@
-// What comes before a run: the text is judged, then the sizes are tried, and then the input is read.
+// What comes before a run: the text is judged, then the sizes are tried, and then the input is
+// read.
 ghost use Rattle.std.specs.Prelude.{◌≡◌, ◌≤◌, ◌<◌, ◌^◌, None, Ok, length, IfOk};
 ghost use Rattle.rpp_tree.specs.Views.{source_of};
 ghost use Rattle.rpp_tree.specs.declared.limits.TheConstants.{MOST_BYTES};
@@ -23,8 +24,9 @@ pub fn ready(alloc: Global, text: &[u8], given: &[u8], sizes: Sizes) -> Result<R
     requires text { length text.now ≤ MOST_BYTES }
     requires given { length given.now ≤ MOST_INPUT }
     requires bound { sizes.bound < 2 ^ 63 }
-    ensures { IfOk result (λ ready. IsReadied (RefusesRun text.now given.now sizes.heap sizes.deep)
-        (CanRun text.now given.now sizes.heap sizes.deep) sizes.bound ready) }
+    ensures { IfOk result (λ ready.
+        IsReadied (RefusesRun text.now given.now sizes.room.heap sizes.room.deep)
+        (CanRun text.now given.now sizes.room.heap sizes.room.deep) sizes.bound ready) }
 {
     match judge(alloc, text) {
         Ok(checked) => ready_sized(alloc, checked, given, sizes),
@@ -45,14 +47,14 @@ fn ready_sized(
     requires given { length given.now ≤ MOST_INPUT }
     requires bound { sizes.bound < 2 ^ 63 }
     ensures { IfOk result (λ ready.
-        IsReadied (RefusesSizes (limits_refusal sizes.heap sizes.deep MOST_DEEP) given.now
+        IsReadied (RefusesSizes (limits_refusal sizes.room.heap sizes.room.deep MOST_DEEP) given.now
         (source_of checked))
         (λ program limits input. (program ≡ source_of checked)
-        × (limits_refusal sizes.heap sizes.deep MOST_DEEP ≡ None)
-        × (limits ≡ record { heap = sizes.heap; deep = sizes.deep })
+        × (limits_refusal sizes.room.heap sizes.room.deep MOST_DEEP ≡ None)
+        × (limits ≡ record { heap = sizes.room.heap; deep = sizes.room.deep })
         × (given_input (source_of checked) given.now ≡ Ok input)) sizes.bound ready) }
 {
-    match check_limits(sizes.heap, sizes.deep, MOST_DEEP) {
+    match check_limits(sizes.room.heap, sizes.room.deep, MOST_DEEP) {
         Ok(limits) => ready_within(alloc, checked, given, limits, sizes.bound),
         Err(e) => Ok(Ready::Refused(Plan::prints(Verdict::InputRefused, load_line(alloc, e)?))),
     }
@@ -69,7 +71,8 @@ fn ready_within(
     requires given { length given.now ≤ MOST_INPUT }
     requires limits { IsLimits limits }
     requires bound { bound < 2 ^ 63 }
-    ensures { IfOk result (λ ready. IsReadied (RefusesInput (given_input (source_of checked) given.now))
+    ensures { IfOk result (λ ready. IsReadied
+        (RefusesInput (given_input (source_of checked) given.now))
         (λ program within input. (program ≡ source_of checked) × (within ≡ limits)
         × (given_input (source_of checked) given.now ≡ Ok input)) bound ready) }
 {

@@ -8,7 +8,8 @@ use class_table::Checked;
 use command_plan::Plan;
 use rpp_words::{Input, Limits};
 
-/// What a run is made with: the program, the sizes of heap and stack, the input, and the number of steps.
+/// What a run is made with: the program, the sizes of heap and stack, the input, and the number of
+/// steps.
 #[derive(Drop)]
 pub struct RunSetting {
     pub checked: Checked,

@@ -1,6 +1,6 @@
 // `turn F H D STEPS [INPUT]`: what `go` does, and then the flipped image runs from where the run
 // finished, as probes watch.
-ghost use Rattle.std.specs.Prelude.{◌≡◌, ◌⊎◌, true, ◌≤◌, ◌<◌, ◌^◌, ◌++◌, ◌∷◌, length, option_map, IfOk, IfErr, OnOk, string_bytes};
+ghost use Rattle.std.specs.Prelude.{◌≡◌, ◌⊎◌, true, ◌≤◌, ◌<◌, ◌+◌, ◌^◌, ◌++◌, ◌∷◌, length, option_map, IfOk, IfErr, OnOk, string_bytes};
 ghost use Rattle.rpp_tree.specs.Views.{source_of};
 ghost use Rattle.rpp_tree.specs.declared.limits.TheConstants.{MOST_BYTES};
 ghost use Rattle.rpp_probes.specs.Tally.{left_after};
@@ -9,7 +9,7 @@ ghost use Rattle.pisa_isa.specs.Loaded.{loaded};
 ghost use Rattle.pisa_loader.specs.declared.input.TheConstants.{MOST_INPUT};
 ghost use Rattle.command_plan.specs.Plans.{planned, GivesPlan};
 ghost use Rattle.command_plan.specs.Files.{OnlyReads, UnreadCause, source, input_files};
-ghost use Rattle.program_commands.specs.ProgramPlans.{ReportsStop, ReportsTurn, back_lines};
+ghost use Rattle.program_commands.specs.ProgramPlans.{ReportsStop, ReportsTurn, back_lines, steps_back};
 ghost use Rattle.program_commands.specs.RunPlans.{IsTurnPlan, TurnsFile, TurnsImage, back_steps};
 ghost use Rattle.program_commands.specs.ToldShort.{IsToldSoFar, TurnsShort, IsTurnShort, TurnsFileShort};
 ghost use Rattle.program_commands.specs.GoRun.{HasRun};
@@ -31,7 +31,8 @@ use std::sync::ledger::Ledger;
 use store_report::report;
 
 /// Does what `go` does; after a finish it runs the flipped image on from there, tells the probes
-/// each counted step of that run, and reports again. It prints no line of theirs.
+/// each counted step of that run, and reports again. It prints no line of theirs. It makes the
+/// steps of these two runs and no others, and none where a file cannot be read.
 pub fn turn<S: Shelf, P: Probes, L: Ledger>(
     alloc: Global,
     shelf: &mut S,
@@ -42,15 +43,18 @@ pub fn turn<S: Shelf, P: Probes, L: Ledger>(
     steps: &mut Steps<L>,
 ) -> Result<Plan, NoPlan>
     requires { sizes.bound < 2 ^ 63 }
-    ensures plan { GivesPlan (S.texts shelf.old) (TurnsFile (P.watches probes.old) (P.watches probes.new)
-        file.now (option_map string_bytes input.now)
-        sizes.heap sizes.deep sizes.bound) result }
+    ensures plan { GivesPlan (S.texts shelf.old)
+        (TurnsFile (P.watches probes.old) (P.watches probes.new)
+        steps.old steps.new file.now (option_map string_bytes input.now)
+        sizes.room.heap sizes.room.deep sizes.bound) result }
+    ensures within { steps.new ≤ steps.old + (sizes.bound + sizes.bound) }
+    ensures unread { IfErr result (UnreadCause (steps.new ≡ steps.old)) }
     ensures reads { OnlyReads (S.texts shelf.old) (S.texts shelf.new) (S.faults shelf.old)
         (S.faults shelf.new)
         (source file.now ∷ input_files (option_map string_bytes input.now)) result }
     ensures untold { IfErr result (UnreadCause (P.watches probes.new ≡ P.watches probes.old)) }
     ensures short { IfErr result (λ _. TurnsFileShort (P.watches probes.old) (P.watches probes.new)
-        file.now (option_map string_bytes input.now) sizes.heap sizes.deep sizes.bound
+        file.now (option_map string_bytes input.now) sizes.room.heap sizes.room.deep sizes.bound
         (S.texts shelf.old)) }
 {
     let given = read_given(alloc, shelf, file, input)?;
@@ -69,9 +73,11 @@ fn turn_over<P: Probes, L: Ledger>(
     requires given { length given.now ≤ MOST_INPUT }
     requires bound { sizes.bound < 2 ^ 63 }
     ensures plan { IfOk result (λ plan. IsTurnPlan (P.watches probes.old) (P.watches probes.new)
-        text.now given.now sizes.heap sizes.deep sizes.bound (planned plan)) }
+        steps.old steps.new text.now given.now sizes.room.heap sizes.room.deep sizes.bound
+        (planned plan)) }
+    ensures within { steps.new ≤ steps.old + (sizes.bound + sizes.bound) }
     ensures short { IfErr result (λ _. IsTurnShort (P.watches probes.old) (P.watches probes.new)
-        text.now given.now sizes.heap sizes.deep sizes.bound) }
+        text.now given.now sizes.room.heap sizes.room.deep sizes.bound) }
 {
     match ready(alloc, text, given, sizes)? {
         Ready::Refused(plan) => Ok(plan),
@@ -87,8 +93,10 @@ fn turn_program<P: Probes, L: Ledger>(
     steps: &mut Steps<L>,
 ) -> Result<Plan, NoMemory>
     ensures plan { IfOk result (λ plan.
-        TurnsImage (P.watches probes.old) (P.watches probes.new) (source_of setting.now.checked)
-        setting.now.limits setting.now.input.words.items setting.now.bound (planned plan)) }
+        TurnsImage (P.watches probes.old) (P.watches probes.new) steps.old steps.new
+        (source_of setting.now.checked) setting.now.limits setting.now.input.words.items
+        setting.now.bound (planned plan)) }
+    ensures within { steps.new ≤ steps.old + (setting.now.bound + setting.now.bound) }
     ensures short { IfErr result (λ _. (P.watches probes.new ≡ P.watches probes.old)
         ⊎ TurnsShort (P.watches probes.old) (P.watches probes.new) (source_of setting.now.checked)
         setting.now.limits setting.now.input.words.items setting.now.bound) }
@@ -113,6 +121,8 @@ fn report_turn<P: Probes, L: Ledger>(
         setting.now.limits setting.now.input.words.items
         (loaded machine.image.statics setting.now.limits setting.now.input.words.items) end.spent
         setting.now.bound (planned plan)) }
+    ensures counter { OnOk result (steps.new ≡ steps.old + steps_back true end.stop end.spent) }
+    ensures within { steps.new ≤ steps.old + setting.now.bound }
     ensures told { OnOk result (P.watches probes.new ≡
         left_after (back_steps end.stop machine.image.code machine.state setting.now.bound)
         (P.watches probes.old)) }
@@ -146,6 +156,8 @@ fn report_both<P: Probes, L: Ledger>(
         setting.now.limits setting.now.input.words.items
         (loaded machine.image.statics setting.now.limits setting.now.input.words.items) spent
         (planned plan)) }
+    ensures counter { OnOk result (steps.new ≡ steps.old + spent) }
+    ensures within { steps.new ≤ steps.old + setting.now.bound }
     ensures told { OnOk result (P.watches probes.new ≡
         left_after (back_steps Finished machine.image.code machine.state setting.now.bound)
         (P.watches probes.old)) }
@@ -183,6 +195,8 @@ fn run_back<P: Probes, L: Ledger>(
     ensures cells { IfOk result (λ back. back.machine.state.cells
         ≡ loaded machine.image.statics setting.now.limits setting.now.input.words.items) }
     ensures spent { IfOk result (λ back. back.spent ≡ _spent) }
+    ensures counter { OnOk result (steps.new ≡ steps.old + _spent) }
+    ensures within { steps.new ≤ steps.old + setting.now.bound }
     ensures told { OnOk result (P.watches probes.new ≡
         left_after (back_steps Finished machine.image.code machine.state setting.now.bound)
         (P.watches probes.old)) }

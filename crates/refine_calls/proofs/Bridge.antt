@@ -3,6 +3,8 @@ use Rattle.std.proofs.Common.{◌≡◌, ℕ, zero, suc, ◌+◌, ◌-◌, ◌*�
 use Rattle.std.proofs.Common.{Some, refl, sym, ap, ◌∙◌, subst, arith, length-append}
 use Rattle.std.proofs.lemmas.List.{length-map}
 use Rattle.std.specs.Prelude.{replicate, slice_index, slice_set}
+use Rattle.rpp_words.specs.declared.input.TheConstants.{FRAME_WORDS}
+use Rattle.code_conventions.specs.declared.memory.TheConstants.{FIRST_VARIABLE, HEADER_WORDS}
 use Rattle.class_table.specs.declared.kind.Kind.TheVariants as kind
 use Rattle.rpp_tree.specs.declared.tree.Var.{Var}
 use Rattle.class_table.specs.declared.kind.Kind.{Kind}
@@ -62,11 +64,11 @@ abbrev pub reads_of : {setting : Setting} {statics : List ℕ} {s : Scope} {u : 
 reads_of h = record { frame = h.frame; keeps = h.keeps; words = h.words }
 
 module _ (setting : Setting) (statics : List ℕ) where
-  pub same_memory : (at : Placing) (store : Store) (stack : List ℕ) → length stack ≤ 512 * setting.limits.deep
+  pub same_memory : (at : Placing) (store : Store) (stack : List ℕ) → length stack ≤ FRAME_WORDS * setting.limits.deep
       → Rattle.refine_frame.specs.Open.memory (setup setting statics) at store stack
       ≡ memory setting statics at store stack
   same_memory at store stack h = ap (λ z. before_stack setting statics at store ++ z)
-      (overlaid_fills (512 * setting.limits.deep) stack h)
+      (overlaid_fills (FRAME_WORDS * setting.limits.deep) stack h)
 
   module _ (s : Scope) (u : Under) (moved : List Moved) (st : State) (k : Kept setting statics s u moved st)
       (vals' : List Value) (cells : List ℕ) (f : OpenFrame setting statics s u vals' st cells) where
@@ -141,14 +143,15 @@ module _ (setting : Setting) (statics : List ℕ) where
     abbrev pub stack : List ℕ
     stack = stack_words setting statics h.frame.at u st.frame vals
 
-    pub callers_long : length (callers_words setting statics h.frame.at u.callers) ≡ 512 * length u.callers
+    pub callers_long : length (callers_words setting statics h.frame.at u.callers) ≡ FRAME_WORDS * length u.callers
     callers_long = length_callers setting statics h.frame.at st.store u.callers h.frame.callers_stand
 
-    pub own_long : length (frame_words setting statics h.frame.at u.put_by (values_of setting statics st.frame)) ≡ 512
+    pub own_long : length (frame_words setting statics h.frame.at u.put_by (values_of setting statics st.frame))
+        ≡ FRAME_WORDS
     own_long = length_frame setting statics h.frame.at u.put_by (values_of setting statics st.frame) h.frame.put_long
         (let e = length-map st.frame (λ (b : Binding). b.value) in let k = h.frame.few in omega arith)
 
-    pub stack_fits : length stack ≤ 512 * setting.limits.deep
+    pub stack_fits : length stack ≤ FRAME_WORDS * setting.limits.deep
     stack_fits =
         let a = length-append (callers_words setting statics h.frame.at u.callers)
         (frame_words setting statics h.frame.at u.put_by (values_of setting statics st.frame)
@@ -162,10 +165,12 @@ module _ (setting : Setting) (statics : List ℕ) where
         omega (arith, a, b, c, o, d, r)
       where
         by : (vs : List Value) → length vs ≤ 32 → Rattle.refine_form.specs.Frames.AboveFits setting statics vs
-            st.depth → 512 * st.depth + length (above_words setting statics h.frame.at vs) ≤ 512 * setting.limits.deep
+            st.depth → FRAME_WORDS * st.depth + length (above_words setting statics h.frame.at vs) ≤ FRAME_WORDS *
+            setting.limits.deep
         by [] few fit = let k = h.frame.in_depth in omega (arith, k)
         by (v ∷ vs) few fit =
-            let l = length-append (replicate {A = ℕ} 16 0) (value_words setting statics h.frame.at (v ∷ vs)) in
+            let l = length-append (replicate {A = ℕ} FIRST_VARIABLE 0) (value_words setting statics h.frame.at (v ∷ vs))
+            in
             let n = length_values setting statics h.frame.at (v ∷ vs) in
             let q : 1 + st.depth ≤ setting.limits.deep = fit in
             omega (arith, l, n, few, q)
@@ -179,7 +184,7 @@ module _ (setting : Setting) (statics : List ℕ) where
     record PartThere (n i : ℕ) : Type 0 where
       pub live : Rattle.meaning_sound.specs.Sound.is_live st.store n ≡ true
       pub inside : i < length (object_at st.store n).cells
-      pub low : address_of setting statics h.frame.at n + (2 + i) < stack_base setting statics
+      pub low : address_of setting statics h.frame.at n + (HEADER_WORDS + i) < stack_base setting statics
 
     part_there : (n i : ℕ) (k : Kind) → cell_kind setting.program (shape_of setting.program s) st.store (Part n i)
         ≡ Some k → PartThere n i
@@ -192,49 +197,53 @@ module _ (setting : Setting) (statics : List ℕ) where
         record {
           live = live_named st.store n p.object p.named;
           inside = subst (λ (x : Object). i < length x.cells) (sym p.at) inside;
-          low = subst (λ (a : Placing). address_of setting statics a n + (2 + i) < stack_base setting statics) same_at
-              (let l : address_of setting statics h.keeps.placed.at n + 2 + i < stack_base setting statics = place.below
+          low = subst (λ (a : Placing). address_of setting statics a n + (HEADER_WORDS + i) < stack_base setting
+              statics) same_at
+              (let l : address_of setting statics h.keeps.placed.at n + HEADER_WORDS + i < stack_base setting statics
+              = place.below
               in omega (arith, l));
         }
 
     pub part_low : (n i : ℕ) (k : Kind) → cell_kind setting.program (shape_of setting.program s) st.store (Part n i)
-        ≡ Some k → address_of setting statics h.frame.at n + (2 + i) < stack_base setting statics
+        ≡ Some k → address_of setting statics h.frame.at n + (HEADER_WORDS + i) < stack_base setting statics
     part_low n i k e = (part_there n i k e).low
 
     -- what is read, and what is written, with any words on the stack
     pub part_read : (n i : ℕ) (k : Kind) → cell_kind setting.program (shape_of setting.program s) st.store (Part n i)
-        ≡ Some k → (stack : List ℕ) → length stack ≤ 512 * setting.limits.deep
+        ≡ Some k → (stack : List ℕ) → length stack ≤ FRAME_WORDS * setting.limits.deep
         → slice_index (memory setting statics h.frame.at st.store stack)
-        (address_of setting statics h.frame.at n + (2 + i))
+        (address_of setting statics h.frame.at n + (HEADER_WORDS + i))
         ≡ value_word setting statics h.frame.at (read st (Part n i))
     part_read n i k e stack room =
         let t = part_there n i k e in
-        let z : address_of setting statics h.frame.at n + (2 + i) ≡ address_of setting statics h.frame.at n + 2 + i =
+        let z : address_of setting statics h.frame.at n + (HEADER_WORDS + i)
+        ≡ address_of setting statics h.frame.at n + HEADER_WORDS + i =
         omega arith in
-        ap (λ c. slice_index c (address_of setting statics h.frame.at n + (2 + i)))
+        ap (λ c. slice_index c (address_of setting statics h.frame.at n + (HEADER_WORDS + i)))
         (sym (same_memory h.frame.at st.store stack room))
         ∙ ap (slice_index (Rattle.refine_frame.specs.Open.memory (setup setting statics) h.frame.at st.store stack)) z
         ∙ subst (λ (a : Placing). slice_index (Rattle.refine_frame.specs.Open.memory (setup setting statics) a st.store
-        stack) (address_of setting statics a n + 2 + i) ≡ value_word setting statics a (read st (Part n i)))
+        stack) (address_of setting statics a n + HEADER_WORDS + i) ≡ value_word setting statics a (read st (Part n i)))
         same_at
         (read_part (setup setting statics) (extra u moved) (shape_of setting.program s) s.class st typed
         h.keeps.grounded stack n i t.live t.inside)
 
     pub part_write : (n i : ℕ) (k : Kind) (v : Value) → cell_kind setting.program (shape_of setting.program s) st.store
-        (Part n i) ≡ Some k → (stack : List ℕ) → length stack ≤ 512 * setting.limits.deep
+        (Part n i) ≡ Some k → (stack : List ℕ) → length stack ≤ FRAME_WORDS * setting.limits.deep
         → slice_set (memory setting statics h.frame.at st.store stack)
-        (address_of setting statics h.frame.at n + (2 + i)) (value_word setting statics h.frame.at v)
+        (address_of setting statics h.frame.at n + (HEADER_WORDS + i)) (value_word setting statics h.frame.at v)
         ≡ memory setting statics h.frame.at (written st (Part n i) v).store stack
     part_write n i k v e stack room =
         let t = part_there n i k e in
-        let z : address_of setting statics h.frame.at n + (2 + i) ≡ address_of setting statics h.frame.at n + 2 + i =
+        let z : address_of setting statics h.frame.at n + (HEADER_WORDS + i)
+        ≡ address_of setting statics h.frame.at n + HEADER_WORDS + i =
         omega arith in
-        ap (λ c. slice_set c (address_of setting statics h.frame.at n + (2 + i))
+        ap (λ c. slice_set c (address_of setting statics h.frame.at n + (HEADER_WORDS + i))
         (value_word setting statics h.frame.at v)) (sym (same_memory h.frame.at st.store stack room))
         ∙ ap (λ a. slice_set (Rattle.refine_frame.specs.Open.memory (setup setting statics) h.frame.at st.store stack) a
         (value_word setting statics h.frame.at v)) z
         ∙ subst (λ (a : Placing). slice_set (Rattle.refine_frame.specs.Open.memory (setup setting statics) a st.store
-        stack) (address_of setting statics a n + 2 + i) (value_word setting statics a v)
+        stack) (address_of setting statics a n + HEADER_WORDS + i) (value_word setting statics a v)
         ≡ Rattle.refine_frame.specs.Open.memory (setup setting statics) a (written st (Part n i) v).store stack)
         same_at
         (write_part (setup setting statics) (extra u moved) (shape_of setting.program s) s.class st typed

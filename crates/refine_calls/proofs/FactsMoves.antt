@@ -5,6 +5,8 @@ use Rattle.std.proofs.lemmas.List.{length-map}
 use Rattle.std.specs.Prelude.{slice_index, slice_set, position}
 use Rattle.std.specs.Option.{unwrap_or, option_map, option_or}
 use Rattle.std.specs.Str.{bytes_eq}
+use Rattle.rpp_words.specs.declared.input.TheConstants.{FRAME_WORDS}
+use Rattle.code_conventions.specs.declared.memory.TheConstants.{FIRST_VARIABLE, HEADER_WORDS}
 use Rattle.rpp_tree.specs.declared.tree.Ident.{Ident}
 use Rattle.rpp_tree.specs.declared.tree.Var.{Var}
 use Rattle.class_table.specs.Classes.{class_fields}
@@ -70,9 +72,9 @@ module _ (setting : Setting) (statics : List ℕ) (classes : KnowsClasses settin
       where
         fields : position (bytes_eq name.text) (map (λ (v : Var). v.name.text) s.vars) ≡ None → (r : Option ℕ)
             → field_in (table_of setting.program) s.class name.text ≡ r
-            → u.object + (2 + unwrap_or (field_of (class_fields setting.program s.class) name.text) 0)
+            → u.object + (HEADER_WORDS + unwrap_or (field_of (class_fields setting.program s.class) name.text) 0)
             ≡ address_of setting statics h.frame.at u.self +
-            (2 + unwrap_or (field_of (class_fields setting.program u.class) name.text) 0)
+            (HEADER_WORDS + unwrap_or (field_of (class_fields setting.program u.class) name.text) 0)
         fields e (Some i) is =
             let shape = shape_of setting.program s in
             let own = class_stays setting statics s u (moved_values setting statics moved) st cells h.frame in
@@ -82,8 +84,8 @@ module _ (setting : Setting) (statics : List ℕ) (classes : KnowsClasses settin
             let static : field_of (class_fields setting.program s.class) name.text ≡ Some i =
             ap (λ (vars : List Var). position (bytes_eq name.text) (map field_name vars))
             (sym (table_reads setting.program s.class h.keeps.class_inside).fields) ∙ is in
-            ap (λ r. u.object + (2 + unwrap_or r 0)) (static ∙ sym dynamic)
-            ∙ ap (λ o. o + (2 + unwrap_or (field_of (class_fields setting.program u.class) name.text) 0))
+            ap (λ r. u.object + (HEADER_WORDS + unwrap_or r 0)) (static ∙ sym dynamic)
+            ∙ ap (λ o. o + (HEADER_WORDS + unwrap_or (field_of (class_fields setting.program u.class) name.text) 0))
             (sym h.frame.stands.1)
         fields e None is = absurd (let q = some_of (kind_in
             (setting_in setting.program (table_of setting.program) s.class) (shape_of setting.program s) name.text)
@@ -102,7 +104,7 @@ module _ (setting : Setting) (statics : List ℕ) (classes : KnowsClasses settin
         by : (r : Option ℕ) → position (bytes_eq name.text) (map (λ (v : Var). v.name.text) s.vars) ≡ r
             → address u.object (frame_address setting statics u) (spot_at setting.program s name r)
             ≡ place_of setting statics h.frame.at u st (cell_at setting statics u name r)
-        by (Some i) e = ap (λ n. frame_address setting statics u + (16 + (n - 1 - i)))
+        by (Some i) e = ap (λ n. frame_address setting statics u + (FIRST_VARIABLE + (n - 1 - i)))
             (sym (as_many_vars setting statics s u moved st cells h))
         by None e = fields e (field_in (table_of setting.program) s.class name.text) refl
 
@@ -114,7 +116,7 @@ module _ (setting : Setting) (statics : List ℕ) (classes : KnowsClasses settin
       (h : Stands setting statics s u moved st cells) (var : IsVariable setting.program s name) → length moved < 32
       → 1 + st.depth ≤ setting.limits.deep
       → MovesIn cells (place s u moved st cells (reads_of h) name var)
-      (frame_address setting statics u + (512 + (16 + length moved)))
+      (frame_address setting statics u + (FRAME_WORDS + (FIRST_VARIABLE + length moved)))
       (Stands setting statics s u (record { from = name; value = read st (cell_in setting statics s u name) }
       ∷ moved) (written st (cell_in setting statics s u name)
       (cleared (read st (cell_in setting statics s u name)))))
@@ -130,9 +132,10 @@ module _ (setting : Setting) (statics : List ℕ) (classes : KnowsClasses settin
       let low = cell_low setting statics s u moved st cells (reads_of h) c var.kind has in
       let n : length (moved_values setting statics moved) ≡ length moved = length-map moved moved_value in
       let fv : length (moved_values setting statics moved) < 32 = omega (arith, n, few) in
-      let up0 = frame_address setting statics u + (512 + (16 + length (moved_values setting statics moved))) in
-      let up_same : up0 ≡ frame_address setting statics u + (512 + (16 + length moved)) =
-      ap (λ j. frame_address setting statics u + (512 + (16 + j))) n in
+      let up0 = frame_address setting statics u + (FRAME_WORDS +
+      (FIRST_VARIABLE + length (moved_values setting statics moved))) in
+      let up_same : up0 ≡ frame_address setting statics u + (FRAME_WORDS + (FIRST_VARIABLE + length moved)) =
+      ap (λ j. frame_address setting statics u + (FRAME_WORDS + (FIRST_VARIABLE + j))) n in
       let long = before_long setting statics s u moved st cells (reads_of h) in
       let all = frame_long setting statics s u moved st cells (reads_of h) in
       let d = h.frame.depth_is in
@@ -151,10 +154,12 @@ module _ (setting : Setting) (statics : List ℕ) (classes : KnowsClasses settin
       ∙ ap (slice_set cells (place_of setting statics at u st c)) (sym (cleared_word setting statics at v)) in
       let got : slice_index cells P ≡ value_word setting statics at v = ap (slice_index cells) where_is
       ∙ frame_read setting statics s u moved st cells (reads_of h) c var.kind has in
-      let both : slice_set (slice_set cells P 0) (frame_address setting statics u + (512 + (16 + length moved)))
+      let both : slice_set (slice_set cells P 0) (frame_address setting statics u +
+      (FRAME_WORDS + (FIRST_VARIABLE + length moved)))
       (slice_index cells P) ≡ slice_set (slice_set cells (place_of setting statics at u st c)
       (value_word setting statics at (cleared v))) up0 (value_word setting statics at v) =
-      ap (λ z. slice_set z (frame_address setting statics u + (512 + (16 + length moved))) (slice_index cells P)) first
+      ap (λ z. slice_set z (frame_address setting statics u + (FRAME_WORDS + (FIRST_VARIABLE + length moved)))
+      (slice_index cells P)) first
       ∙ ap (λ a. slice_set (slice_set cells (place_of setting statics at u st c)
       (value_word setting statics at (cleared v))) a (slice_index cells P)) (sym up_same)
       ∙ ap (slice_set (slice_set cells (place_of setting statics at u st c)
@@ -172,7 +177,8 @@ module _ (setting : Setting) (statics : List ℕ) (classes : KnowsClasses settin
               (written st c (cleared v))) (sym both) f2;
           keeps = k;
           counts = counts_up setting statics s u moved st t h.keeps c var.kind has name h.counts;
-          words = set_words (slice_set cells P 0) (frame_address setting statics u + (512 + (16 + length moved)))
+          words = set_words (slice_set cells P 0) (frame_address setting statics u +
+              (FRAME_WORDS + (FIRST_VARIABLE + length moved)))
               (slice_index cells P) (set_words cells P 0 h.words (omega arith)) (h.words P);
         };
       }
@@ -182,7 +188,7 @@ module _ (setting : Setting) (statics : List ℕ) (classes : KnowsClasses settin
       (h : Stands setting statics s u (record { from = name; value = v } ∷ moved) st cells)
       (var : IsVariable setting.program s name)
       → MovesBack cells (place s u (record { from = name; value = v } ∷ moved) st cells (reads_of h) name var)
-      (frame_address setting statics u + (512 + (16 + length moved)))
+      (frame_address setting statics u + (FRAME_WORDS + (FIRST_VARIABLE + length moved)))
       (is_zero (read st (cell_in setting statics s u name)))
       (Stands setting statics s u moved (written st (cell_in setting statics s u name) v))
   moves_back s u v moved st cells name h var =
@@ -203,9 +209,9 @@ module _ (setting : Setting) (statics : List ℕ) (classes : KnowsClasses settin
       let few : length moved < 32 = (let k = h.frame.few_vals in
       let n1 : length (v ∷ vs) ≡ 1 + length vs = omega arith in omega (arith, n, k, n1)) in
       let room : 1 + st.depth ≤ setting.limits.deep = h.frame.above_fits in
-      let up0 = frame_address setting statics u + (512 + (16 + length vs)) in
-      let up1 = frame_address setting statics u + (512 + (16 + length moved)) in
-      let up_same : up0 ≡ up1 = ap (λ j. frame_address setting statics u + (512 + (16 + j))) n in
+      let up0 = frame_address setting statics u + (FRAME_WORDS + (FIRST_VARIABLE + length vs)) in
+      let up1 = frame_address setting statics u + (FRAME_WORDS + (FIRST_VARIABLE + length moved)) in
+      let up_same : up0 ≡ up1 = ap (λ j. frame_address setting statics u + (FRAME_WORDS + (FIRST_VARIABLE + j))) n in
       let P = place s u (x ∷ moved) st cells (reads_of h) name var in
       let apart : P ≢ up1 = λ e. omega (arith, e, where_is, low, vars) in
       let got : slice_index cells P ≡ value_word setting statics at (read st c) = ap (slice_index cells) where_is

@@ -2,6 +2,8 @@
 use Rattle.std.proofs.Common.{◌≡◌, ℕ, ◌+◌, ◌*◌, ◌^◌, ◌<◌, ◌≤◌, Bool, true, false, List, [], ◌∷◌, length, refl, sym}
 use Rattle.std.proofs.Common.{subst, arith}
 use Rattle.std.specs.Prelude.{replicate, nat_eq, slice_index, slice_set, not, nat_lt, if◌then◌else◌}
+use Rattle.rpp_words.specs.declared.input.TheConstants.{FRAME_WORDS}
+use Rattle.code_conventions.specs.declared.memory.TheConstants.{HEADER_WORDS}
 use Rattle.buddy_book.specs.Place.{Placing, block_of}
 use Rattle.roopl_semantics.specs.Store.{OfClass, State, main_name}
 use Rattle.rpp_words.specs.Limits.{IsLimits}
@@ -24,7 +26,7 @@ use Rattle.refine_form.specs.Worlds.{IsFresh}
 use Rattle.refine_calls.proofs.Bridge.{reads_of}
 
 module _ (setting : Setting) (statics : List ℕ) (few : length statics ≤ 262144) where
-  pub all_small : IsLimits setting.limits → stack_base setting statics + 512 * setting.limits.deep ≤ 2 ^ 23
+  pub all_small : IsLimits setting.limits → stack_base setting statics + FRAME_WORDS * setting.limits.deep ≤ 2 ^ 23
   all_small l = cells_small (setup setting statics) l few
 
   module _ (s : Scope) (u : Under) (moved : List Moved) (st : State) (cells : List ℕ)
@@ -34,13 +36,13 @@ module _ (setting : Setting) (statics : List ℕ) (few : length statics ≤ 2621
         omega (arith, a, d, i)
 
     -- the object stands before the stack
-    pub object_low : u.object + 2 ≤ stack_base setting statics
-    object_low = subst (λ o. o + 2 ≤ stack_base setting statics) h.frame.stands.1
-        (subst (λ (a : Placing). address_of setting statics a u.self + 2 ≤ stack_base setting statics)
+    pub object_low : u.object + HEADER_WORDS ≤ stack_base setting statics
+    object_low = subst (λ o. o + HEADER_WORDS ≤ stack_base setting statics) h.frame.stands.1
+        (subst (λ (a : Placing). address_of setting statics a u.self + HEADER_WORDS ≤ stack_base setting statics)
         (same_at setting statics s u moved st cells (reads_of h)) (by (nat_eq u.self main_name) refl))
       where
         by : (b : Bool) → nat_eq u.self main_name ≡ b → (if b then statics_at else base setting statics + block_of
-            h.keeps.placed.at.blocks u.self) + 2 ≤ stack_base setting statics
+            h.keeps.placed.at.blocks u.self) + HEADER_WORDS ≤ stack_base setting statics
         by true e = let q : 40 + length statics ≤ base setting statics = base_above (setup setting statics) in
             let r : 2 ≤ length statics = (let z = h.keeps.grounded.room in omega (arith, z)) in omega (arith, q, r)
         by false e = let r = region_inside setting st.store st.log h.keeps.placed u.self (OfClass u.class)

@@ -6,6 +6,8 @@ use Rattle.std.specs.Prelude.{position, slice_index, slice_set}
 use Rattle.std.specs.Str.{bytes_eq}
 use Rattle.std.proofs.lemmas.List.{length-replicate, replicate-append-replicate}
 use Rattle.std.specs.Option.{unwrap_or}
+use Rattle.code_conventions.specs.declared.memory.TheConstants.{FIRST_VARIABLE, MOST_VARIABLES}
+use Rattle.rpp_words.specs.declared.input.TheConstants.{FRAME_WORDS}
 use Rattle.rpp_tree.specs.declared.tree.Ident.{Ident}
 use Rattle.rpp_tree.specs.declared.tree.Var.{Var}
 use Rattle.buddy_book.specs.Place.{Placing}
@@ -33,7 +35,7 @@ fill_more n x k h =
 
 module _ (setting : Setting) (statics : List ℕ) where
   abbrev N : ℕ
-  N = 512 * setting.limits.deep
+  N = FRAME_WORDS * setting.limits.deep
 
   pub length_values : (at : Placing) (vs : List Value) → length (value_words setting statics at vs) ≡ length vs
   length_values at [] = refl
@@ -45,14 +47,17 @@ module _ (setting : Setting) (statics : List ℕ) where
       let q : length (value_words setting statics at vs) + 1 ≡ suc (length vs) = omega (arith, i) in
       e ∙ q
 
-  pub length_frame : (at : Placing) (put : List ℕ) (vs : List Value) → length put ≡ 16 → length vs ≤ 48
-      → length (frame_words setting statics at put vs) ≡ 512
+  pub length_frame : (at : Placing) (put : List ℕ) (vs : List Value) → length put ≡ FIRST_VARIABLE
+      → length vs ≤ MOST_VARIABLES
+      → length (frame_words setting statics at put vs) ≡ FRAME_WORDS
   length_frame at put vs hp hv =
       let ws = put ++ value_words setting statics at vs in
-      let l : length ws ≡ 16 + length vs = length-append put (value_words setting statics at vs)
-      ∙ ap (λ j. j + length (value_words setting statics at vs)) hp ∙ ap (λ j. 16 + j) (length_values at vs) in
-      let e : length ws + (512 - length ws) ≡ 512 = omega (arith, l, hv) in
-      length-append ws (replicate (512 - length ws) 0) ∙ ap (λ j. length ws + j) (length-replicate (512 - length ws) 0)
+      let l : length ws ≡ FIRST_VARIABLE + length vs = length-append put (value_words setting statics at vs)
+      ∙ ap (λ j. j + length (value_words setting statics at vs)) hp
+      ∙ ap (λ j. FIRST_VARIABLE + j) (length_values at vs) in
+      let e : length ws + (FRAME_WORDS - length ws) ≡ FRAME_WORDS = omega (arith, l, hv) in
+      length-append ws (replicate (FRAME_WORDS - length ws) 0)
+      ∙ ap (λ j. length ws + j) (length-replicate (FRAME_WORDS - length ws) 0)
       ∙ e
 
   pub length_map : {A B : Type 0} (f : A → B) (l : List A) → length (map f l) ≡ length l
@@ -61,30 +66,31 @@ module _ (setting : Setting) (statics : List ℕ) where
 
   pub length_callers : (at : Placing) (store : Rattle.roopl_semantics.specs.Store.Store) (callers : List Caller)
       → CallersStand setting statics at store callers → length (callers_words setting statics at callers)
-      ≡ 512 * length callers
+      ≡ FRAME_WORDS * length callers
   length_callers at store [] h = refl
   length_callers at store (c ∷ callers) h =
       let f = length_frame at c.put_by (values_of setting statics c.frame) h.1
       (let e = length_map (λ (b : Binding). b.value) c.frame in let l = h.2 in omega (arith, e, l)) in
       let i = length_callers at store callers h.3 in
-      let e : 512 * length callers + 512 ≡ 512 * suc (length callers) = omega arith in
+      let e : FRAME_WORDS * length callers + FRAME_WORDS ≡ FRAME_WORDS * suc (length callers) = omega arith in
       length-append (callers_words setting statics at callers)
       (frame_words setting statics at c.put_by (values_of setting statics c.frame))
-      ∙ ap (λ j. length (callers_words setting statics at callers) + j) f ∙ ap (λ j. j + 512) i ∙ e
+      ∙ ap (λ j. length (callers_words setting statics at callers) + j) f ∙ ap (λ j. j + FRAME_WORDS) i ∙ e
 
   -- values above a frame are a frame of their own
-  above_frame : (at : Placing) (x : List ℕ) (vs : List Value) → length vs ≤ 48 → length x + 512 ≤ N
+  above_frame : (at : Placing) (x : List ℕ) (vs : List Value) → length vs ≤ MOST_VARIABLES → length x + FRAME_WORDS ≤ N
       → filled_to setting statics N (x ++ above_words setting statics at vs)
-      ≡ filled_to setting statics N (x ++ frame_words setting statics at (replicate 16 0) vs)
+      ≡ filled_to setting statics N (x ++ frame_words setting statics at (replicate FIRST_VARIABLE 0) vs)
   above_frame at x [] h room =
-      let whole : x ++ ((replicate 16 0 ++ []) ++ replicate 496 0) ≡ x ++ replicate 512 0 = ap (λ z. x ++ z) (refl) in
-      ap (filled_to setting statics N) (append-nil x) ∙ sym (fill_more N x 512 room)
+      let whole : x ++ ((replicate FIRST_VARIABLE 0 ++ []) ++ replicate 496 0) ≡ x ++ replicate FRAME_WORDS 0 =
+      ap (λ z. x ++ z) (refl) in
+      ap (filled_to setting statics N) (append-nil x) ∙ sym (fill_more N x FRAME_WORDS room)
       ∙ ap (filled_to setting statics N) (sym whole)
   above_frame at x (v ∷ vs) h room =
-      let ws = replicate 16 0 ++ value_words setting statics at (v ∷ vs) in
-      let k = 512 - length ws in
-      let l : length ws ≡ 16 + length (v ∷ vs) = length-append (replicate {A = ℕ} 16 0)
-      (value_words setting statics at (v ∷ vs)) ∙ ap (λ j. 16 + j) (length_values at (v ∷ vs)) in
+      let ws = replicate FIRST_VARIABLE 0 ++ value_words setting statics at (v ∷ vs) in
+      let k = FRAME_WORDS - length ws in
+      let l : length ws ≡ FIRST_VARIABLE + length (v ∷ vs) = length-append (replicate {A = ℕ} FIRST_VARIABLE 0)
+      (value_words setting statics at (v ∷ vs)) ∙ ap (λ j. FIRST_VARIABLE + j) (length_values at (v ∷ vs)) in
       let lx = length-append x ws in
       sym (fill_more N (x ++ ws) k (omega (arith, l, lx, room, h)))
       ∙ ap (filled_to setting statics N) (append_assoc x ws (replicate k 0))
@@ -92,11 +98,12 @@ module _ (setting : Setting) (statics : List ℕ) where
   -- the same words, seen from the frame below and from the frame above
   pub same_stack : (s : Scope) (u : Under) (st : State) (at : Placing)
       (store : Rattle.roopl_semantics.specs.Store.Store) (vs : List Value)
-      → CallersStand setting statics at store u.callers → length u.put_by ≡ 16 → length st.frame ≤ 48 → length vs ≤ 48
+      → CallersStand setting statics at store u.callers → length u.put_by ≡ FIRST_VARIABLE
+      → length st.frame ≤ MOST_VARIABLES → length vs ≤ MOST_VARIABLES
       → 2 + length u.callers ≤ setting.limits.deep → filled_to setting statics N
       (stack_words setting statics at u st.frame vs) ≡ filled_to setting statics N
       (callers_words setting statics at (caller_of s u st ∷ u.callers)
-      ++ (frame_words setting statics at (replicate 16 0) vs ++ []))
+      ++ (frame_words setting statics at (replicate FIRST_VARIABLE 0) vs ++ []))
   same_stack s u st at store vs stand long few many room =
       let a = callers_words setting statics at u.callers in
       let o = frame_words setting statics at u.put_by (values_of setting statics st.frame) in
@@ -104,11 +111,11 @@ module _ (setting : Setting) (statics : List ℕ) where
       let lo = length_frame at u.put_by (values_of setting statics st.frame) long
       (let e = length_map (λ (b : Binding). b.value) st.frame in omega (arith, e, few)) in
       let lao = length-append a o in
-      let fits : length (a ++ o) + 512 ≤ N = omega (arith, la, lo, lao, room) in
+      let fits : length (a ++ o) + FRAME_WORDS ≤ N = omega (arith, la, lo, lao, room) in
       ap (filled_to setting statics N) (sym (append_assoc a o (above_words setting statics at vs)))
       ∙ above_frame at (a ++ o) vs many fits
       ∙ ap (λ z. filled_to setting statics N ((a ++ o) ++ z))
-      (sym (append-nil (frame_words setting statics at (replicate 16 0) vs)))
+      (sym (append-nil (frame_words setting statics at (replicate FIRST_VARIABLE 0) vs)))
 
   pub bound_names : (params : List Var) (vals : List Value) → length vals ≡ length params
       → map (λ binding. binding.name) (bound params vals) ≡ map (λ var. var.name.text) params
@@ -147,7 +154,7 @@ module _ (setting : Setting) (statics : List ℕ) where
       ≡ filled_to setting statics N (stack_words setting statics h.at (deeper s u st) (bound s'.vars vals) []) =
       same_stack s u st h.at st.store vals h.callers_stand h.put_long h.few (omega arith) (omega (arith, d, room))
       ∙ ap (λ vs. filled_to setting statics N (callers_words setting statics h.at (caller_of s u st ∷ u.callers)
-      ++ (frame_words setting statics h.at (replicate 16 0) vs ++ []))) (sym values) in
+      ++ (frame_words setting statics h.at (replicate FIRST_VARIABLE 0) vs ++ []))) (sym values) in
       record {
         at = h.at;
         placed = h.placed;
@@ -230,7 +237,7 @@ module _ (setting : Setting) (statics : List ℕ) where
 
   -- where the frame stands
   abbrev pub frame_at : Under → ℕ
-  frame_at u = Rattle.refine_form.specs.Frames.stack_base setting statics + 512 * length u.callers
+  frame_at u = Rattle.refine_form.specs.Frames.stack_base setting statics + FRAME_WORDS * length u.callers
 
   stack_base_cell : (at : Placing) (store : Rattle.roopl_semantics.specs.Store.Store) (stack : List ℕ)
       → slice_index (memory setting statics at store stack) 3
@@ -248,7 +255,7 @@ module _ (setting : Setting) (statics : List ℕ) where
       ap (λ l. slice_index l 3) h.cells_are ∙ stack_base_cell h.at st.store
       (stack_words setting statics h.at u st.frame vals)
       ∙ (let z : Rattle.refine_form.specs.Frames.stack_base setting statics
-      ≡ Rattle.refine_form.specs.Frames.stack_base setting statics + 512 * length u.callers = omega
+      ≡ Rattle.refine_form.specs.Frames.stack_base setting statics + FRAME_WORDS * length u.callers = omega
       (arith, none) in z)
 
   -- the stack's end tells the depth
@@ -283,14 +290,20 @@ module _ (setting : Setting) (statics : List ℕ) where
         self = self;
         class = class;
         object = object;
-        put_by = replicate 16 0;
+        put_by = replicate FIRST_VARIABLE 0;
       }) [] st cells → st.frame ≡ [] → 1 ≤ setting.limits.deep
       → cells ≡ Rattle.roopl_semantics.specs.Layout.layout setting.program setting.limits statics st.store st.log
   ends s st cells self class object h alone deep =
-      let u : Under = record { callers = []; self = self; class = class; object = object; put_by = replicate 16 0 } in
+      let u : Under = record {
+        callers = [];
+        self = self;
+        class = class;
+        object = object;
+        put_by = replicate FIRST_VARIABLE 0;
+      } in
       let L = Rattle.roopl_semantics.specs.Layout.placed_layout setting.program setting.limits statics st.store in
       let zeros : filled_to setting statics N (stack_words setting statics h.at u [] []) ≡ replicate N 0 =
-      (let z : 512 ≤ N = omega (arith, deep) in fill_more N [] 512 z
+      (let z : FRAME_WORDS ≤ N = omega (arith, deep) in fill_more N [] FRAME_WORDS z
       ∙ (let y : N - 0 ≡ N = omega arith in ap (λ j. replicate j 0) y)) in
       h.cells_are
       ∙ ap (λ f. Rattle.refine_form.specs.Frames.before_stack setting statics h.at st.store
@@ -317,7 +330,8 @@ module _ (setting : Setting) (statics : List ℕ) where
 
     abbrev high : List ℕ
     high = (((more ++ value_words setting statics at (values_of setting statics frame))
-        ++ replicate (512 - (3 + length (more ++ value_words setting statics at (values_of setting statics frame))))
+        ++ replicate (FRAME_WORDS - (3 + length (more ++ value_words setting statics at
+        (values_of setting statics frame))))
         0) ++ above_words setting statics at vals)
 
     abbrev top : List ℕ
@@ -334,7 +348,7 @@ module _ (setting : Setting) (statics : List ℕ) where
         let framed : frame_words setting statics at (l ∷ o ∷ p ∷ more) (values_of setting statics frame)
         ++ above_words setting statics at vals ≡ l ∷ o ∷ p ∷ high =
         ap (λ k. l ∷ o ∷ p ∷ (((more ++ value_words setting statics at (values_of setting statics frame))
-        ++ replicate (512 - k) 0) ++ above_words setting statics at vals)) (sym lf) in
+        ++ replicate (FRAME_WORDS - k) 0) ++ above_words setting statics at vals)) (sym lf) in
         let la : length (a ++ (l ∷ o ∷ p ∷ high)) ≡ length a + (3 + length high) = length-append a (l ∷ o ∷ p ∷ high)
         ∙ (let z : length a + suc (suc (suc (length high))) ≡ length a + (3 + length high) = omega arith in z) in
         ap (λ w. memory setting statics at store (a ++ (frame_words setting statics at w
@@ -411,7 +425,8 @@ module _ (setting : Setting) (statics : List ℕ) where
           callers_stand = h.callers_stand;
           depth_is = h.depth_is;
           in_depth = h.in_depth;
-          put_long = (let q = h.put_long in let z : length (l ∷ o ∷ p ∷ more) ≡ 16 = sym (ap (length {A = ℕ}) e)
+          put_long = (let q = h.put_long in let z : length (l ∷ o ∷ p ∷ more)
+              ≡ FIRST_VARIABLE = sym (ap (length {A = ℕ}) e)
               ∙ q in z);
           few = h.few;
           few_vals = h.few_vals;
@@ -444,7 +459,8 @@ module _ (setting : Setting) (statics : List ℕ) where
           callers_stand = h.callers_stand;
           depth_is = h.depth_is;
           in_depth = h.in_depth;
-          put_long = (let q = h.put_long in let z : length (l ∷ o ∷ p ∷ more) ≡ 16 = sym (ap (length {A = ℕ}) e)
+          put_long = (let q = h.put_long in let z : length (l ∷ o ∷ p ∷ more)
+              ≡ FIRST_VARIABLE = sym (ap (length {A = ℕ}) e)
               ∙ q in z);
           few = h.few;
           few_vals = h.few_vals;

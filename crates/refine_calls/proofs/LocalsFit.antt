@@ -7,6 +7,7 @@ use Rattle.std.specs.Prelude.{Ok, Err}
 use Rattle.std.specs.Int.Bits.{xor_self}
 use Rattle.std.specs.Option.{unwrap_or, option_map}
 use Rattle.std.specs.Str.{bytes_eq}
+use Rattle.code_conventions.specs.declared.memory.TheConstants.{FIRST_VARIABLE, MOST_VARIABLES}
 use Rattle.class_table.specs.declared.kind.Kind.TheVariants as kind
 use Rattle.rpp_words.proofs.Laws.{xor-twice}
 use Rattle.rpp_tree.specs.declared.tree.Var.{Var}
@@ -237,21 +238,21 @@ module _ (place : Place) (accepted : IsAccepted place.setting.program) (few : le
       let k = h.keeps in
       let b : Binding = record { name = var.name.text; value = v } in
       let n = as_many_vars setting statics s u [] st cells (reads_of h) in
-      let few_vars : length st.frame < 48 = omega (arith, n, few_here) in
+      let few_vars : length st.frame < MOST_VARIABLES = omega (arith, n, few_here) in
       let x = w.word_of u st v in
       let word_is : x ≡ value_word setting statics h.frame.at v =
       ap (λ a. value_word setting statics a v) (placing_is s u [] st cells h.frame) in
-      let at_new : ℕ = frame_address setting statics u + (16 + length st.frame) in
-      let place_same : word_place u s ≡ frame_address setting statics u + (16 + length st.frame) =
-      ap (λ j. frame_address setting statics u + (16 + j)) (sym n) in
+      let at_new : ℕ = frame_address setting statics u + (FIRST_VARIABLE + length st.frame) in
+      let place_same : word_place u s ≡ frame_address setting statics u + (FIRST_VARIABLE + length st.frame) =
+      ap (λ j. frame_address setting statics u + (FIRST_VARIABLE + j)) (sym n) in
       record {
         frame = record {
           at = h.frame.at;
           placed = h.frame.placed;
           cells_are =
               ap (λ a. slice_set cells a x) place_same ∙ ap (slice_set cells
-              (frame_address setting statics u + (16 + length st.frame))) word_is
-              ∙ ap (λ c. slice_set c (frame_address setting statics u + (16 + length st.frame))
+              (frame_address setting statics u + (FIRST_VARIABLE + length st.frame))) word_is
+              ∙ ap (λ c. slice_set c (frame_address setting statics u + (FIRST_VARIABLE + length st.frame))
               (value_word setting statics h.frame.at v)) h.frame.cells_are
               ∙ new_set setting statics h.frame.at st.store u h.frame.put_long
               (callers_long setting statics s u [] st cells (reads_of h))
@@ -334,16 +335,17 @@ module _ (place : Place) (accepted : IsAccepted place.setting.program) (few : le
         let n : suc (length rest) ≡ suc (length s.vars) = as_many_vars setting statics (with_var s var) u [] st1 cells
         (reads_of h) in
         let n' : length rest ≡ length s.vars = omega (arith, n) in
-        let few_vars : length rest < 48 = (let q : suc (length rest) ≤ 48 = h.frame.few in omega (arith, q)) in
-        let place_same : word_place u s ≡ frame_address setting statics u + (16 + length rest) =
-        ap (λ j. frame_address setting statics u + (16 + j)) (sym n') in
+        let few_vars : length rest < MOST_VARIABLES = (let q : suc (length rest) ≤ MOST_VARIABLES = h.frame.few in
+        omega (arith, q)) in
+        let place_same : word_place u s ≡ frame_address setting statics u + (FIRST_VARIABLE + length rest) =
+        ap (λ j. frame_address setting statics u + (FIRST_VARIABLE + j)) (sym n') in
         record {
           frame = record {
             at = h.frame.at;
             placed = h.frame.placed;
             cells_are =
                 ap (λ a. slice_set cells a 0) place_same ∙ ap (λ c. slice_set c
-                (frame_address setting statics u + (16 + length rest)) 0) h.frame.cells_are
+                (frame_address setting statics u + (FIRST_VARIABLE + length rest)) 0) h.frame.cells_are
                 ∙ new_clear setting statics h.frame.at st.store u h.frame.put_long
                 (callers_long setting statics (with_var s var) u [] st1 cells (reads_of h))
                 (before_long setting statics (with_var s var) u [] st1 cells (reads_of h)) rest few_vars b;
@@ -531,9 +533,10 @@ module _ (place : Place) (accepted : IsAccepted place.setting.program) (few : le
         let d = h.frame.depth_is in let i = h.frame.in_depth in let q = is.few in omega (arith, l, d, i, q));
     free_word = λ s u st cells var e h is.
         let n = as_many_vars setting statics s u [] st cells (reads_of h) in
-        let few_vars : length st.frame < 48 = (let q = is.few in omega (arith, n, q)) in
-        ap (λ j. slice_index cells (frame_address setting statics u + (16 + j))) (sym n)
-        ∙ ap (λ c. slice_index c (frame_address setting statics u + (16 + length st.frame))) h.frame.cells_are
+        let few_vars : length st.frame < MOST_VARIABLES = (let q = is.few in omega (arith, n, q)) in
+        ap (λ j. slice_index cells (frame_address setting statics u + (FIRST_VARIABLE + j))) (sym n)
+        ∙ ap (λ c. slice_index c (frame_address setting statics u + (FIRST_VARIABLE + length st.frame)))
+        h.frame.cells_are
         ∙ new_free setting statics h.frame.at st.store u h.frame.put_long
         (callers_long setting statics s u [] st cells (reads_of h))
         (before_long setting statics s u [] st cells (reads_of h)) st.frame few_vars;
@@ -545,7 +548,7 @@ module _ (place : Place) (accepted : IsAccepted place.setting.program) (few : le
     var_word = λ s u st cells var e h is.
         let n : length st.frame ≡ suc (length s.vars) = as_many_vars setting statics (with_var s var) u [] st cells
         (reads_of h) in
-        let p : word_place u s ≡ frame_address setting statics u + (16 + (length st.frame - 1 - 0)) =
+        let p : word_place u s ≡ frame_address setting statics u + (FIRST_VARIABLE + (length st.frame - 1 - 0)) =
         omega (arith, n) in
         ap (slice_index cells) p ∙ frame_read setting statics (with_var s var) u [] st cells (reads_of h) (Slot 0)
         (kind_of_var program var) refl

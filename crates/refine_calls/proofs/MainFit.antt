@@ -4,6 +4,8 @@ use Rattle.std.proofs.Common.{◌∷◌, ◌++◌, length, map, refl, sym, ap, �
 use Rattle.std.specs.Prelude.{replicate, slice_index, slice_set, nat_eq, if◌then◌else◌}
 use Rattle.std.specs.Option.{option_map}
 use Rattle.std.specs.List.{All}
+use Rattle.rpp_words.specs.declared.input.TheConstants.{FRAME_WORDS}
+use Rattle.code_conventions.specs.declared.memory.TheConstants.{FIRST_VARIABLE, HEADER_WORDS}
 use Rattle.rpp_words.specs.Words.{IsWord}
 use Rattle.refine_frame.proofs.Tells.{cells_small}
 use Rattle.refine_calls.proofs.Bridge.{set_words}
@@ -72,9 +74,9 @@ zero_words (suc n) = words_cons 0 (replicate n 0) (omega arith) (zero_words n)
 input_words : (input : List FieldWord) (statics : List ℕ) → All (λ (entry : FieldWord). IsWord entry.word) input
     → AllWords statics → AllWords (with_words input statics)
 input_words [] statics h g = g
-input_words (entry ∷ input) statics h g = input_words input (slice_set statics (2 + entry.field) entry.word)
+input_words (entry ∷ input) statics h g = input_words input (slice_set statics (HEADER_WORDS + entry.field) entry.word)
     (λ k d l. h (suc k) d (omega arith)) (record {
-      each = set_words statics (2 + entry.field) entry.word g.each
+      each = set_words statics (HEADER_WORDS + entry.field) entry.word g.each
           (h 0 entry (omega arith));
     })
 
@@ -82,7 +84,7 @@ pub words : (statics : List ℕ) (limits : Limits) (input : List FieldWord) → 
     → All (λ (entry : FieldWord). IsWord entry.word) input → AllWords statics → AllWords (loaded statics limits input)
 words statics limits input inside few h g =
     let base = heap_base limits.heap (length statics) in
-    let most : base + 2 ^ limits.heap + 512 * limits.deep ≤ 2 ^ 23 =
+    let most : base + 2 ^ limits.heap + FRAME_WORDS * limits.deep ≤ 2 ^ 23 =
     cells_small (record {
       setting = record { program = record { classes = [] }; limits = limits };
       statics = statics;
@@ -96,16 +98,16 @@ words statics limits input inside few h g =
     let fixed : AllWords (fixed_cells limits.heap limits.deep base heads) =
     words_cons 0 _ z (words_cons limits.heap _ (omega (arith, heap))
     (words_cons base _ (omega (arith, most)) (words_cons (base + 2 ^ limits.heap) _ (omega (arith, most))
-    (words_cons (base + 2 ^ limits.heap + 512 * limits.deep) _ (omega (arith, most))
+    (words_cons (base + 2 ^ limits.heap + FRAME_WORDS * limits.deep) _ (omega (arith, most))
     (words_cons 0 _ z (words_cons 0 _ z (words_cons 0 _ z (words_cons 0 _ z tail)))))))) in
-    words_append _ (replicate (512 * limits.deep) 0)
+    words_append _ (replicate (FRAME_WORDS * limits.deep) 0)
     (words_append _ (replicate (2 ^ limits.heap) 0)
     (words_append _ (replicate (base - statics_at - length statics) 0)
     (words_append (fixed_cells limits.heap limits.deep base heads) (with_words input statics) fixed
     (input_words input statics h g))
     (zero_words (base - statics_at - length statics)))
     (zero_words (2 ^ limits.heap)))
-    (zero_words (512 * limits.deep))
+    (zero_words (FRAME_WORDS * limits.deep))
 
 pub no_frame : (frame : List Binding) → map (λ (b : Binding). b.name) frame ≡ [] → frame ≡ []
 no_frame [] e = refl
@@ -128,7 +130,7 @@ first_frame program = record {
   self = main_name;
   class = (main_of program).class;
   object = statics_at;
-  put_by = replicate 16 0;
+  put_by = replicate FIRST_VARIABLE 0;
 }
 
 module _ (program : Source) (limits : Limits) (image : Segments) (has : HasStatics program image)
@@ -138,13 +140,14 @@ module _ (program : Source) (limits : Limits) (image : Segments) (has : HasStati
   setting = record { program = program; limits = limits }
 
   abbrev N : ℕ
-  N = 512 * limits.deep
+  N = FRAME_WORDS * limits.deep
 
   module _ (s : Scope) (no_vars : s.vars ≡ []) (class_is : s.class ≡ (main_of program).class)
       (class_in : (main_of program).class < length program.classes) where
     zeros_are : (at : Placing) → filled_to setting image.statics N
         (stack_words setting image.statics at (first_frame program) [] []) ≡ replicate N 0
-    zeros_are at = let z : 512 ≤ N = (let d = inside.deep_from in omega (arith, d)) in fill_more N [] 512 z
+    zeros_are at = let z : FRAME_WORDS ≤ N = (let d = inside.deep_from in omega (arith, d)) in
+        fill_more N [] FRAME_WORDS z
         ∙ (let y : N - 0 ≡ N = omega arith in ap (λ j. replicate j 0) y)
 
     pub begins : Stands setting image.statics s (first_frame program) [] (starting program input)

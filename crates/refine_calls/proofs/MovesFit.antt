@@ -4,6 +4,8 @@ use Rattle.std.proofs.Common.{◌∙◌, subst, arith, length-append}
 use Rattle.std.proofs.lemmas.List.{length-map, length-replicate}
 use Rattle.std.specs.Prelude.{replicate, slice_index, slice_set, is_some}
 use Rattle.std.specs.Option.{option_map}
+use Rattle.rpp_words.specs.declared.input.TheConstants.{FRAME_WORDS}
+use Rattle.code_conventions.specs.declared.memory.TheConstants.{FIRST_VARIABLE, HEADER_WORDS, MOST_VARIABLES}
 use Rattle.class_table.specs.declared.kind.Kind.{Kind}
 use Rattle.buddy_book.specs.Place.{Placing}
 use Rattle.roopl_semantics.specs.Store.{Value, OfClass, Store, Binding, State, object_at, class_of_head}
@@ -48,8 +50,8 @@ module _ (setting : Setting) (statics : List ℕ) where
 
   -- where a cell stands
   abbrev pub place_of : Placing → Under → State → Cell → ℕ
-  place_of at u st (Slot i) = frame_address u + (16 + (length st.frame - 1 - i))
-  place_of at u st (Part n i) = address_of setting statics at n + (2 + i)
+  place_of at u st (Slot i) = frame_address u + (FIRST_VARIABLE + (length st.frame - 1 - i))
+  place_of at u st (Part n i) = address_of setting statics at n + (HEADER_WORDS + i)
 
   module _ (s : Scope) (u : Under) (moved : List Moved) (st : State) (cells : List ℕ)
       (h : Reads setting statics s u moved st cells) where
@@ -59,18 +61,19 @@ module _ (setting : Setting) (statics : List ℕ) where
     abbrev at : Placing
     at = h.frame.at
 
-    pub frame_long : length cells ≡ stack_base setting statics + 512 * setting.limits.deep
+    pub frame_long : length cells ≡ stack_base setting statics + FRAME_WORDS * setting.limits.deep
     frame_long =
         let l = stack_fits setting statics s u moved st cells h in
         let w = stack_words setting statics at u st.frame vs in
         let a = length-append (before_stack setting statics at st.store)
-        (w ++ replicate (512 * setting.limits.deep - length w) 0) in
-        let b = length-append w (replicate (512 * setting.limits.deep - length w) 0) in
-        let c = length-replicate {A = ℕ} (512 * setting.limits.deep - length w) 0 in
+        (w ++ replicate (FRAME_WORDS * setting.limits.deep - length w) 0) in
+        let b = length-append w (replicate (FRAME_WORDS * setting.limits.deep - length w) 0) in
+        let c = length-replicate {A = ℕ} (FRAME_WORDS * setting.limits.deep - length w) 0 in
         let d = before_long setting statics s u moved st cells h in
-        let e : length w + (512 * setting.limits.deep - length w) ≡ 512 * setting.limits.deep = omega (arith, l) in
+        let e : length w + (FRAME_WORDS * setting.limits.deep - length w) ≡ FRAME_WORDS * setting.limits.deep =
+        omega (arith, l) in
         ap (length {A = ℕ}) h.frame.cells_are ∙ a ∙ ap (λ j. j + length
-        (w ++ replicate (512 * setting.limits.deep - length w) 0)) d
+        (w ++ replicate (FRAME_WORDS * setting.limits.deep - length w) 0)) d
         ∙ ap (λ j. stack_base setting statics + j) (b ∙ ap (λ j. length w + j) c ∙ e)
 
     slot_there : (i : ℕ) (k : Kind) → cell_kind setting.program (shape_of setting.program s) st.store (Slot i) ≡ Some k
@@ -104,7 +107,7 @@ module _ (setting : Setting) (statics : List ℕ) where
 
     -- a cell of the frame or of an object stands below the words above the frame's variables
     pub cell_low : (c : Cell) (k : Kind) → cell_kind setting.program (shape_of setting.program s) st.store c ≡ Some k
-        → place_of at u st c < frame_address u + (16 + length st.frame)
+        → place_of at u st c < frame_address u + (FIRST_VARIABLE + length st.frame)
     cell_low (Slot i) k e = let t = slot_there i k e in omega (arith, t)
     cell_low (Part n i) k e = let p = part_low setting statics s u moved st cells h n i k e in omega (arith, p)
 
@@ -168,7 +171,7 @@ module _ (setting : Setting) (statics : List ℕ) where
           depth_is = same.1 ∙ h.frame.depth_is;
           in_depth = subst (λ d. d ≤ setting.limits.deep) (sym same.1) h.frame.in_depth;
           put_long = h.frame.put_long;
-          few = subst (λ n. n ≤ 48) (sym same.3) h.frame.few;
+          few = subst (λ n. n ≤ MOST_VARIABLES) (sym same.3) h.frame.few;
           few_vals = h.frame.few_vals;
           above_fits = subst (λ d. Rattle.refine_form.specs.Frames.AboveFits setting statics vs d) (sym same.1)
               h.frame.above_fits;
@@ -180,23 +183,23 @@ module _ (setting : Setting) (statics : List ℕ) where
       (f : OpenFrame setting statics s u vs st cells) (long : length (before_stack setting statics f.at st.store)
       ≡ stack_base setting statics) (few : length vs < 32) (room : 1 + st.depth ≤ setting.limits.deep) where
     abbrev pub up : ℕ
-    up = frame_address u + (512 + (16 + length vs))
+    up = frame_address u + (FRAME_WORDS + (FIRST_VARIABLE + length vs))
 
     abbrev own : List ℕ
     own = frame_words setting statics f.at u.put_by (values_of setting statics st.frame)
 
-    pub cl : length (callers_words setting statics f.at u.callers) ≡ 512 * length u.callers
+    pub cl : length (callers_words setting statics f.at u.callers) ≡ FRAME_WORDS * length u.callers
     cl = Rattle.refine_calls.proofs.FramesFit.length_callers setting statics f.at st.store u.callers f.callers_stand
 
-    pub ol : length own ≡ 512
+    pub ol : length own ≡ FRAME_WORDS
     ol = Rattle.refine_calls.proofs.FramesFit.length_frame setting statics f.at u.put_by
         (values_of setting statics st.frame) f.put_long (let e = length-map st.frame (λ (b : Binding). b.value) in
         let k = f.few in omega (arith, e, k))
 
-    pub enough : 512 * length u.callers + 1024 ≤ 512 * setting.limits.deep
+    pub enough : FRAME_WORDS * length u.callers + 1024 ≤ FRAME_WORDS * setting.limits.deep
     enough = let d = f.depth_is in omega (arith, d, room)
 
-    pub up_is : up ≡ length (until setting statics f.at st.store u.callers own ol cl) + (16 + length vs)
+    pub up_is : up ≡ length (until setting statics f.at st.store u.callers own ol cl) + (FIRST_VARIABLE + length vs)
     up_is =
         let a = length-append (before_stack setting statics f.at st.store)
         (callers_words setting statics f.at u.callers ++ own) in
@@ -241,20 +244,21 @@ module _ (setting : Setting) (statics : List ℕ) where
     own' = frame_words setting statics f.at u.put_by (values_of setting statics st.frame)
 
     abbrev up' : ℕ
-    up' = frame_address u + (512 + (16 + length vs))
+    up' = frame_address u + (FRAME_WORDS + (FIRST_VARIABLE + length vs))
 
-    pub cl' : length (callers_words setting statics f.at u.callers) ≡ 512 * length u.callers
+    pub cl' : length (callers_words setting statics f.at u.callers) ≡ FRAME_WORDS * length u.callers
     cl' = Rattle.refine_calls.proofs.FramesFit.length_callers setting statics f.at st.store u.callers f.callers_stand
 
-    pub ol' : length own' ≡ 512
+    pub ol' : length own' ≡ FRAME_WORDS
     ol' = Rattle.refine_calls.proofs.FramesFit.length_frame setting statics f.at u.put_by
         (values_of setting statics st.frame) f.put_long (let e = length-map st.frame (λ (b : Binding). b.value) in
         let k = f.few in omega (arith, e, k))
 
-    pub enough' : 512 * length u.callers + 1024 ≤ 512 * setting.limits.deep
+    pub enough' : FRAME_WORDS * length u.callers + 1024 ≤ FRAME_WORDS * setting.limits.deep
     enough' = let d = f.depth_is in let r = room' in omega (arith, d, r)
 
-    pub up_is' : up' ≡ length (until setting statics f.at st.store u.callers own' ol' cl') + (16 + length vs)
+    pub up_is' : up' ≡ length (until setting statics f.at st.store u.callers own' ol' cl') +
+        (FIRST_VARIABLE + length vs)
     up_is' =
         let a = length-append (before_stack setting statics f.at st.store)
         (callers_words setting statics f.at u.callers ++ own') in

@@ -4,6 +4,7 @@ use Rattle.std.proofs.Common.{Option, Some, None, refl, sym, ap, ◌∙◌, subs
 use Rattle.std.proofs.lemmas.List.{length-map, length-set, get_or-set_other}
 use Rattle.std.specs.Prelude.{replicate, slice_index, slice_set, nat_eq, if◌then◌else◌}
 use Rattle.std.specs.Option.{unwrap_or, option_map}
+use Rattle.rpp_words.specs.declared.input.TheConstants.{FRAME_WORDS}
 use Rattle.class_table.specs.declared.kind.Kind.TheVariants as kind
 use Rattle.rpp_tree.specs.declared.tree.Ident.{Ident}
 use Rattle.rpp_tree.specs.declared.tree.Var.{Var}
@@ -298,7 +299,7 @@ module _ (place : Place) (routine : ℕ → Ident → ℕ) (linked : IsLinked pl
     at1 = address u.object (frame_address setting statics u) (spot_in program s x)
 
     abbrev up1 : ℕ
-    up1 = frame_address setting statics u + (512 + 1)
+    up1 = frame_address setting statics u + (FRAME_WORDS + 1)
 
     has1 : cell_kind program (shape_of program s) st.store c1 ≡ Some k1
     has1 = has s u moved1 st cells h x name args r
@@ -514,7 +515,7 @@ module _ (place : Place) (routine : ℕ → Ident → ℕ) (linked : IsLinked pl
     at2 = address u.object (frame_address setting statics u) (spot_in program s x)
 
     abbrev up2 : ℕ
-    up2 = frame_address setting statics u + (512 + 1)
+    up2 = frame_address setting statics u + (FRAME_WORDS + 1)
 
     module _ (o : Stands setting statics s2 on2 [] end cells)
         (suits : is_or_inherits program (own_of st2 n) (class_named program s x) ≡ true) where
@@ -776,7 +777,7 @@ module _ (place : Place) (routine : ℕ → Ident → ℕ) (linked : IsLinked pl
   abbrev Comes : Scope → Under → State → List ℕ → Ident → List Ident → ℕ → State → Type 0
   Comes s u end cells x args n z =
       ComesBack cells (address u.object (frame_address setting statics u) (spot_in program s x))
-      (frame_address setting statics u + (512 + 1)) u.object (deeper_on place s u z n).object
+      (frame_address setting statics u + (FRAME_WORDS + 1)) u.object (deeper_on place s u z n).object
       (is_zero (read (record z { store = end.store; log = end.log }) (cell_in setting statics s u x)))
       (Stands setting statics s u (pairs args (map (λ (b : Binding). b.value) end.frame))
       (written (record z { store = end.store; log = end.log }) (cell_in setting statics s u x) (Name n)))
@@ -789,7 +790,7 @@ module _ (place : Place) (routine : ℕ → Ident → ℕ) (linked : IsLinked pl
       → (r : IsReceiver program s x name args) → is_or_inherits program (own_of st n) (class_named program s x)
       ≡ true
       → ComesBack cells (address u.object (frame_address setting statics u) (spot_in program s x))
-      (frame_address setting statics u + (512 + 1)) u.object (deeper_on place s u st n).object
+      (frame_address setting statics u + (FRAME_WORDS + 1)) u.object (deeper_on place s u st n).object
       (is_zero (read (record st { store = end.store; log = end.log }) (cell_in setting statics s u x)))
       (Stands setting statics s u (pairs args (map (λ (b : Binding). b.value) end.frame))
       (written (record st { store = end.store; log = end.log }) (cell_in setting statics s u x) (Name n)))

@@ -4,6 +4,8 @@ use Rattle.std.proofs.Common.{map, replicate, refl, sym, ap, ◌∙◌, subst, a
 use Rattle.std.specs.Prelude.{slice_index, slice_set}
 use Rattle.std.proofs.lemmas.Bool.Decides.{nat_tests}
 use Rattle.std.proofs.lemmas.List.{replicate-append-replicate}
+use Rattle.code_conventions.specs.declared.memory.TheConstants.{FIRST_VARIABLE, MOST_VARIABLES}
+use Rattle.rpp_words.specs.declared.input.TheConstants.{FRAME_WORDS}
 use Rattle.buddy_book.specs.Place.{Placing}
 use Rattle.roopl_semantics.specs.Store.{Value, Word, Nil, Name, Binding, Store, is_zero, cleared}
 use Rattle.roopl_semantics.specs.Value.{with_value, value_at}
@@ -95,58 +97,67 @@ module _ (setting : Setting) (statics : List ℕ) (at : Placing) where
 
   -- ---- the memory, split behind what is put by
 
-  module _ (store : Store) (callers : List Caller) (put_by : List ℕ) (put_long : length put_by ≡ 16)
-      (long_callers : length (callers_words setting statics at callers) ≡ 512 * length callers) (vals : List Value)
+  module _ (store : Store) (callers : List Caller) (put_by : List ℕ) (put_long : length put_by ≡ FIRST_VARIABLE)
+      (long_callers : length (callers_words setting statics at callers) ≡ FRAME_WORDS * length callers)
+      (vals : List Value)
     where
       abbrev N : ℕ
-      N = 512 * setting.limits.deep
+      N = FRAME_WORDS * setting.limits.deep
 
       abbrev pub below : List ℕ
       below = (before_stack setting statics at store ++ callers_words setting statics at callers) ++ put_by
 
       -- behind the variables of a frame of so many
       abbrev pub behind : ℕ → List ℕ
-      behind n = replicate (512 - (16 + n)) 0 ++ (above_words setting statics at vals
-          ++ replicate (N - (512 * length callers + (512 + length (above_words setting statics at vals)))) 0)
+      behind n = replicate (FRAME_WORDS - (FIRST_VARIABLE + n)) 0 ++ (above_words setting statics at vals
+          ++ replicate (N - (FRAME_WORDS * length callers + (FRAME_WORDS + length
+          (above_words setting statics at vals)))) 0)
 
       abbrev stack_of : List Binding → List ℕ
       stack_of frame = callers_words setting statics at callers
           ++ (frame_words setting statics at put_by (vals_in frame) ++ above_words setting statics at vals)
 
-      pub split : (frame : List Binding) → length frame ≤ 48
+      pub split : (frame : List Binding) → length frame ≤ MOST_VARIABLES
           → memory setting statics at store (stack_of frame) ≡ below ++ (words (vals_in frame) ++ behind (length frame))
       split frame few =
           let b = before_stack setting statics at store in
           let a = callers_words setting statics at callers in
           let w = words (vals_in frame) in
           let up = above_words setting statics at vals in
-          let lw : length (put_by ++ w) ≡ 16 + length frame = length-append put_by w ∙ ap (λ k. k + length w) put_long
-          ∙ ap (λ k. 16 + k) (length_words (vals_in frame) ∙ length_vals frame) in
-          let lo : length (frame_words setting statics at put_by (vals_in frame)) ≡ 512 =
+          let lw : length (put_by ++ w) ≡ FIRST_VARIABLE + length frame = length-append put_by w
+          ∙ ap (λ k. k + length w) put_long
+          ∙ ap (λ k. FIRST_VARIABLE + k) (length_words (vals_in frame) ∙ length_vals frame) in
+          let lo : length (frame_words setting statics at put_by (vals_in frame)) ≡ FRAME_WORDS =
           length_frame setting statics at put_by (vals_in frame) put_long
           (let e = length_vals frame in omega (arith, e, few)) in
-          let lall : length (stack_of frame) ≡ 512 * length callers + (512 + length up) =
+          let lall : length (stack_of frame) ≡ FRAME_WORDS * length callers + (FRAME_WORDS + length up) =
           length-append a (frame_words setting statics at put_by (vals_in frame) ++ up)
           ∙ ap (λ k. k + length (frame_words setting statics at put_by (vals_in frame) ++ up)) long_callers
-          ∙ ap (λ k. 512 * length callers + k) (length-append (frame_words setting statics at put_by (vals_in frame))
+          ∙ ap (λ k. FRAME_WORDS * length callers + k) (length-append
+          (frame_words setting statics at put_by (vals_in frame))
           up ∙ ap (λ k. k + length up) lo) in
-          let z = replicate (N - (512 * length callers + (512 + length up))) 0 in
+          let z = replicate (N - (FRAME_WORDS * length callers + (FRAME_WORDS + length up))) 0 in
           let inner : frame_words setting statics at put_by (vals_in frame) ++ up
-          ≡ put_by ++ (w ++ (replicate (512 - (16 + length frame)) 0 ++ up)) =
-          append_assoc (put_by ++ w) (replicate (512 - length (put_by ++ w)) 0) up
-          ∙ ap (λ k. (put_by ++ w) ++ (replicate (512 - k) 0 ++ up)) lw
-          ∙ append_assoc put_by w (replicate (512 - (16 + length frame)) 0 ++ up) in
+          ≡ put_by ++ (w ++ (replicate (FRAME_WORDS - (FIRST_VARIABLE + length frame)) 0 ++ up)) =
+          append_assoc (put_by ++ w) (replicate (FRAME_WORDS - length (put_by ++ w)) 0) up
+          ∙ ap (λ k. (put_by ++ w) ++ (replicate (FRAME_WORDS - k) 0 ++ up)) lw
+          ∙ append_assoc put_by w (replicate (FRAME_WORDS - (FIRST_VARIABLE + length frame)) 0 ++ up) in
           ap (λ k. b ++ (stack_of frame ++ replicate (N - k) 0)) lall
           ∙ ap (λ t. b ++ ((a ++ t) ++ z)) inner
-          ∙ ap (λ t. b ++ t) (append_assoc a (put_by ++ (w ++ (replicate (512 - (16 + length frame)) 0 ++ up))) z)
-          ∙ sym (append_assoc b a ((put_by ++ (w ++ (replicate (512 - (16 + length frame)) 0 ++ up))) ++ z))
-          ∙ ap (λ t. (b ++ a) ++ t) (append_assoc put_by (w ++ (replicate (512 - (16 + length frame)) 0 ++ up)) z)
-          ∙ sym (append_assoc (b ++ a) put_by ((w ++ (replicate (512 - (16 + length frame)) 0 ++ up)) ++ z))
-          ∙ ap (λ t. below ++ t) (append_assoc w (replicate (512 - (16 + length frame)) 0 ++ up) z
-          ∙ ap (λ t. w ++ t) (append_assoc (replicate (512 - (16 + length frame)) 0) up z))
+          ∙ ap (λ t. b ++ t) (append_assoc a (put_by ++ (w ++
+          (replicate (FRAME_WORDS - (FIRST_VARIABLE + length frame)) 0 ++ up))) z)
+          ∙ sym (append_assoc b a ((put_by ++ (w ++ (replicate (FRAME_WORDS - (FIRST_VARIABLE + length frame)) 0
+          ++ up))) ++ z))
+          ∙ ap (λ t. (b ++ a) ++ t) (append_assoc put_by (w ++
+          (replicate (FRAME_WORDS - (FIRST_VARIABLE + length frame)) 0 ++ up)) z)
+          ∙ sym (append_assoc (b ++ a) put_by ((w ++ (replicate (FRAME_WORDS - (FIRST_VARIABLE + length frame)) 0
+          ++ up)) ++ z))
+          ∙ ap (λ t. below ++ t) (append_assoc w (replicate (FRAME_WORDS - (FIRST_VARIABLE + length frame)) 0 ++ up) z
+          ∙ ap (λ t. w ++ t) (append_assoc (replicate (FRAME_WORDS - (FIRST_VARIABLE + length frame)) 0) up z))
 
       -- a variable's word is written
-      pub slot_set : (frame : List Binding) (i : ℕ) (v : Value) (n : ℕ) → length frame ≤ 48 → i < length frame
+      pub slot_set : (frame : List Binding) (i : ℕ) (v : Value) (n : ℕ) → length frame ≤ MOST_VARIABLES
+          → i < length frame
           → n ≡ length below + (length frame - 1 - i) → slice_set (memory setting statics at store (stack_of frame)) n
           (word v) ≡ memory setting statics at store (stack_of (with_value frame i v))
       slot_set frame i v n few there e =
@@ -160,7 +171,7 @@ module _ (setting : Setting) (statics : List ℕ) (at : Placing) where
           ∙ ap (λ k. below ++ (words (vals_in (with_value frame i v)) ++ behind k)) (sym (length_with frame i v))
           ∙ sym (split (with_value frame i v) (let l = length_with frame i v in omega (arith, l, few)))
 
-      pub slot_get : (frame : List Binding) (i n : ℕ) → length frame ≤ 48 → i < length frame
+      pub slot_get : (frame : List Binding) (i n : ℕ) → length frame ≤ MOST_VARIABLES → i < length frame
           → n ≡ length below + (length frame - 1 - i) → slice_index (memory setting statics at store (stack_of frame)) n
           ≡ word (value_at frame i)
       slot_get frame i n few there e =
@@ -172,19 +183,19 @@ module _ (setting : Setting) (statics : List ℕ) (at : Placing) where
 
   -- ---- the memory, split in the frame above
 
-  module _ (store : Store) (callers : List Caller) (own : List ℕ) (long_own : length own ≡ 512)
-      (long_callers : length (callers_words setting statics at callers) ≡ 512 * length callers) where
+  module _ (store : Store) (callers : List Caller) (own : List ℕ) (long_own : length own ≡ FRAME_WORDS)
+      (long_callers : length (callers_words setting statics at callers) ≡ FRAME_WORDS * length callers) where
     abbrev M : ℕ
-    M = 512 * setting.limits.deep
+    M = FRAME_WORDS * setting.limits.deep
 
     abbrev pub until : List ℕ
     until = before_stack setting statics at store ++ (callers_words setting statics at callers ++ own)
 
     abbrev moved_words : List Value → List ℕ
-    moved_words vals = replicate 16 0 ++ words vals
+    moved_words vals = replicate FIRST_VARIABLE 0 ++ words vals
 
     abbrev left : List Value → ℕ
-    left vals = M - (512 * length callers + 512 + 17 + length vals)
+    left vals = M - (FRAME_WORDS * length callers + FRAME_WORDS + 17 + length vals)
 
     abbrev with_above : List Value → List ℕ
     with_above vals = callers_words setting statics at callers ++ (own ++ above_words setting statics at vals)
@@ -198,26 +209,28 @@ module _ (setting : Setting) (statics : List ℕ) (at : Placing) where
         ∙ sym (append_assoc b (a ++ own) (up ++ z))
 
     long_above : (vals : List Value) → length (with_above vals)
-        ≡ 512 * length callers + (512 + length (above_words setting statics at vals))
+        ≡ FRAME_WORDS * length callers + (FRAME_WORDS + length (above_words setting statics at vals))
     long_above vals =
         let a = callers_words setting statics at callers in
         length-append a (own ++ above_words setting statics at vals)
         ∙ ap (λ k. k + length (own ++ above_words setting statics at vals)) long_callers
-        ∙ ap (λ k. 512 * length callers + k) (length-append own (above_words setting statics at vals)
+        ∙ ap (λ k. FRAME_WORDS * length callers + k) (length-append own (above_words setting statics at vals)
         ∙ ap (λ k. k + length (above_words setting statics at vals)) long_own)
 
-    long_moved : (vals : List Value) → length (moved_words vals) ≡ 16 + length vals
-    long_moved vals = length-append (replicate {A = ℕ} 16 0) (words vals) ∙ ap (λ k. 16 + k) (length_words vals)
+    long_moved : (vals : List Value) → length (moved_words vals) ≡ FIRST_VARIABLE + length vals
+    long_moved vals = length-append (replicate {A = ℕ} FIRST_VARIABLE 0) (words vals)
+        ∙ ap (λ k. FIRST_VARIABLE + k) (length_words vals)
 
-    free_above : (vals : List Value) → length vals < 32 → 512 * length callers + 1024 ≤ M
+    free_above : (vals : List Value) → length vals < 32 → FRAME_WORDS * length callers + 1024 ≤ M
         → memory setting statics at store (with_above vals)
         ≡ until ++ (moved_words vals ++ (0 ∷ replicate (left vals) 0))
     free_above [] few room =
         let l = long_above [] in
-        let e : M - length (with_above []) ≡ 16 + suc (left []) = omega (arith, l, room) in
+        let e : M - length (with_above []) ≡ FIRST_VARIABLE + suc (left []) = omega (arith, l, room) in
         regroup [] (replicate (M - length (with_above [])) 0)
-        ∙ ap (λ t. until ++ t) (ap (λ k. replicate k 0) e ∙ sym (replicate-append-replicate 16 (suc (left [])) 0)
-        ∙ ap (λ t. t ++ (0 ∷ replicate (left []) 0)) (sym (append-nil (replicate 16 0))))
+        ∙ ap (λ t. until ++ t) (ap (λ k. replicate k 0) e ∙ sym
+        (replicate-append-replicate FIRST_VARIABLE (suc (left [])) 0)
+        ∙ ap (λ t. t ++ (0 ∷ replicate (left []) 0)) (sym (append-nil (replicate FIRST_VARIABLE 0))))
     free_above (y ∷ ys) few room =
         let l = long_above (y ∷ ys) in
         let m = long_moved (y ∷ ys) in
@@ -225,7 +238,7 @@ module _ (setting : Setting) (statics : List ℕ) (at : Placing) where
         regroup (moved_words (y ∷ ys)) (replicate (M - length (with_above (y ∷ ys))) 0)
         ∙ ap (λ k. until ++ (moved_words (y ∷ ys) ++ replicate k 0)) e
 
-    one_above : (v : Value) (vals : List Value) → length vals < 32 → 512 * length callers + 1024 ≤ M
+    one_above : (v : Value) (vals : List Value) → length vals < 32 → FRAME_WORDS * length callers + 1024 ≤ M
         → memory setting statics at store (with_above (v ∷ vals))
         ≡ until ++ (moved_words vals ++ (word v ∷ replicate (left vals) 0))
     one_above v vals few room =
@@ -235,61 +248,70 @@ module _ (setting : Setting) (statics : List ℕ) (at : Placing) where
         let e : M - length (with_above (v ∷ vals)) ≡ left vals = omega (arith, l, m, n, room, few) in
         regroup (moved_words (v ∷ vals)) (replicate (M - length (with_above (v ∷ vals))) 0)
         ∙ ap (λ k. until ++ (moved_words (v ∷ vals) ++ replicate k 0)) e
-        ∙ ap (λ t. until ++ t) (append_assoc (replicate 16 0) (words vals ++ (word v ∷ [])) (replicate (left vals) 0)
-        ∙ ap (λ t. replicate 16 0 ++ t) (append_assoc (words vals) (word v ∷ []) (replicate (left vals) 0))
-        ∙ sym (append_assoc (replicate 16 0) (words vals) (word v ∷ replicate (left vals) 0)))
+        ∙ ap (λ t. until ++ t) (append_assoc (replicate FIRST_VARIABLE 0) (words vals ++ (word v ∷ []))
+        (replicate (left vals) 0)
+        ∙ ap (λ t. replicate FIRST_VARIABLE 0 ++ t) (append_assoc (words vals) (word v ∷ []) (replicate (left vals) 0))
+        ∙ sym (append_assoc (replicate FIRST_VARIABLE 0) (words vals) (word v ∷ replicate (left vals) 0)))
 
     -- a word is put there, is read there, and goes
-    pub above_set : (v : Value) (vals : List Value) (n : ℕ) → length vals < 32 → 512 * length callers + 1024 ≤ M
-        → n ≡ length until + (16 + length vals) → slice_set (memory setting statics at store (with_above vals)) n
+    pub above_set : (v : Value) (vals : List Value) (n : ℕ) → length vals < 32 → FRAME_WORDS * length callers + 1024 ≤ M
+        → n ≡ length until + (FIRST_VARIABLE + length vals)
+        → slice_set (memory setting statics at store (with_above vals)) n
         (word v) ≡ memory setting statics at store (with_above (v ∷ vals))
     above_set v vals n few room e =
         let m = long_moved vals in
-        let z : 16 + length vals ≡ length (moved_words vals) + 0 = omega (arith, m) in
+        let z : FIRST_VARIABLE + length vals ≡ length (moved_words vals) + 0 = omega (arith, m) in
         ap (λ c. slice_set c n (word v)) (free_above vals few room)
-        ∙ set_right until (moved_words vals ++ (0 ∷ replicate (left vals) 0)) n (16 + length vals) (word v) e
-        ∙ ap (λ t. until ++ t) (set_right (moved_words vals) (0 ∷ replicate (left vals) 0) (16 + length vals) 0 (word v)
+        ∙ set_right until (moved_words vals ++ (0 ∷ replicate (left vals) 0)) n (FIRST_VARIABLE + length vals) (word v)
+        e
+        ∙ ap (λ t. until ++ t) (set_right (moved_words vals) (0 ∷ replicate (left vals) 0)
+        (FIRST_VARIABLE + length vals) 0 (word v)
         z)
         ∙ sym (one_above v vals few room)
 
-    pub above_zero_word : (vals : List Value) (n : ℕ) → length vals < 32 → 512 * length callers + 1024 ≤ M
-        → n ≡ length until + (16 + length vals) → slice_index (memory setting statics at store (with_above vals)) n ≡ 0
+    pub above_zero_word : (vals : List Value) (n : ℕ) → length vals < 32 → FRAME_WORDS * length callers + 1024 ≤ M
+        → n ≡ length until + (FIRST_VARIABLE + length vals)
+        → slice_index (memory setting statics at store (with_above vals)) n ≡ 0
     above_zero_word vals n few room e =
         let m = long_moved vals in
-        let z : 16 + length vals ≡ length (moved_words vals) + 0 = omega (arith, m) in
+        let z : FIRST_VARIABLE + length vals ≡ length (moved_words vals) + 0 = omega (arith, m) in
         ap (λ c. slice_index c n) (free_above vals few room)
-        ∙ get_right until (moved_words vals ++ (0 ∷ replicate (left vals) 0)) n (16 + length vals) e
-        ∙ get_right (moved_words vals) (0 ∷ replicate (left vals) 0) (16 + length vals) 0 z
+        ∙ get_right until (moved_words vals ++ (0 ∷ replicate (left vals) 0)) n (FIRST_VARIABLE + length vals) e
+        ∙ get_right (moved_words vals) (0 ∷ replicate (left vals) 0) (FIRST_VARIABLE + length vals) 0 z
 
-    pub above_get : (v : Value) (vals : List Value) (n : ℕ) → length vals < 32 → 512 * length callers + 1024 ≤ M
-        → n ≡ length until + (16 + length vals) → slice_index (memory setting statics at store (with_above (v ∷ vals)))
+    pub above_get : (v : Value) (vals : List Value) (n : ℕ) → length vals < 32 → FRAME_WORDS * length callers + 1024 ≤ M
+        → n ≡ length until + (FIRST_VARIABLE + length vals)
+        → slice_index (memory setting statics at store (with_above (v ∷ vals)))
         n ≡ word v
     above_get v vals n few room e =
         let m = long_moved vals in
-        let z : 16 + length vals ≡ length (moved_words vals) + 0 = omega (arith, m) in
+        let z : FIRST_VARIABLE + length vals ≡ length (moved_words vals) + 0 = omega (arith, m) in
         ap (λ c. slice_index c n) (one_above v vals few room)
-        ∙ get_right until (moved_words vals ++ (word v ∷ replicate (left vals) 0)) n (16 + length vals) e
-        ∙ get_right (moved_words vals) (word v ∷ replicate (left vals) 0) (16 + length vals) 0 z
+        ∙ get_right until (moved_words vals ++ (word v ∷ replicate (left vals) 0)) n (FIRST_VARIABLE + length vals) e
+        ∙ get_right (moved_words vals) (word v ∷ replicate (left vals) 0) (FIRST_VARIABLE + length vals) 0 z
 
-    pub above_clear : (v : Value) (vals : List Value) (n : ℕ) → length vals < 32 → 512 * length callers + 1024 ≤ M
-        → n ≡ length until + (16 + length vals) → slice_set (memory setting statics at store (with_above (v ∷ vals))) n
+    pub above_clear : (v : Value) (vals : List Value) (n : ℕ) → length vals < 32
+        → FRAME_WORDS * length callers + 1024 ≤ M
+        → n ≡ length until + (FIRST_VARIABLE + length vals)
+        → slice_set (memory setting statics at store (with_above (v ∷ vals))) n
         0 ≡ memory setting statics at store (with_above vals)
     above_clear v vals n few room e =
         let m = long_moved vals in
-        let z : 16 + length vals ≡ length (moved_words vals) + 0 = omega (arith, m) in
+        let z : FIRST_VARIABLE + length vals ≡ length (moved_words vals) + 0 = omega (arith, m) in
         ap (λ c. slice_set c n 0) (one_above v vals few room)
-        ∙ set_right until (moved_words vals ++ (word v ∷ replicate (left vals) 0)) n (16 + length vals) 0 e
-        ∙ ap (λ t. until ++ t) (set_right (moved_words vals) (word v ∷ replicate (left vals) 0) (16 + length vals) 0 0
+        ∙ set_right until (moved_words vals ++ (word v ∷ replicate (left vals) 0)) n (FIRST_VARIABLE + length vals) 0 e
+        ∙ ap (λ t. until ++ t) (set_right (moved_words vals) (word v ∷ replicate (left vals) 0)
+        (FIRST_VARIABLE + length vals) 0 0
         z)
         ∙ sym (free_above vals few room)
 
-    pub above_in : (vals : List Value) → length vals < 32 → 512 * length callers + 1024 ≤ M
-        → length until + (16 + length vals) < length (memory setting statics at store (with_above vals))
+    pub above_in : (vals : List Value) → length vals < 32 → FRAME_WORDS * length callers + 1024 ≤ M
+        → length until + (FIRST_VARIABLE + length vals) < length (memory setting statics at store (with_above vals))
     above_in vals few room =
         let m = long_moved vals in
         let l = length-append until (moved_words vals ++ (0 ∷ replicate (left vals) 0)) in
         let l2 = length-append (moved_words vals) (0 ∷ replicate (left vals) 0) in
-        subst (λ c. length until + (16 + length vals) < length c) (sym (free_above vals few room))
+        subst (λ c. length until + (FIRST_VARIABLE + length vals) < length c) (sym (free_above vals few room))
         (omega (arith, l, l2, m))
 
 -- ---- words of values
@@ -314,9 +336,10 @@ module _ (setting : Setting) (statics : List ℕ) where
 -- ---- a new variable
 
 module _ (setting : Setting) (statics : List ℕ) (at : Placing) (store : Store) (u : Under)
-    (put_long : length u.put_by ≡ 16) (cs_long : length (callers_words setting statics at u.callers)
-    ≡ 512 * length u.callers) (long : length (before_stack setting statics at store) ≡ stack_base setting statics)
-    (frame : List Binding) (few : length frame < 48) where
+    (put_long : length u.put_by ≡ FIRST_VARIABLE) (cs_long : length (callers_words setting statics at u.callers)
+    ≡ FRAME_WORDS * length u.callers) (long : length (before_stack setting statics at store)
+    ≡ stack_base setting statics)
+    (frame : List Binding) (few : length frame < MOST_VARIABLES) where
   abbrev low_part : List ℕ
   low_part = below setting statics at store u.callers u.put_by put_long cs_long []
 
@@ -324,7 +347,7 @@ module _ (setting : Setting) (statics : List ℕ) (at : Placing) (store : Store)
   rest_part = behind setting statics at store u.callers u.put_by put_long cs_long [] (suc (length frame))
 
   abbrev new_place : ℕ
-  new_place = frame_at setting statics u + (16 + length frame)
+  new_place = frame_at setting statics u + (FIRST_VARIABLE + length frame)
 
   new_is : new_place ≡ length low_part + length frame
   new_is =
@@ -342,10 +365,12 @@ module _ (setting : Setting) (statics : List ℕ) (at : Placing) (store : Store)
   free_split : memory setting statics at store (stack_words setting statics at u frame [])
       ≡ low_part ++ (value_words setting statics at vs ++ (0 ∷ rest_part))
   free_split =
-      let e : 512 - (16 + length frame) ≡ suc (512 - (16 + suc (length frame))) = omega (arith, few) in
+      let e : FRAME_WORDS - (FIRST_VARIABLE + length frame)
+      ≡ suc (FRAME_WORDS - (FIRST_VARIABLE + suc (length frame))) = omega (arith, few) in
       split setting statics at store u.callers u.put_by put_long cs_long [] frame (omega (arith, few))
       ∙ ap (λ k. low_part ++ (value_words setting statics at vs
-      ++ (replicate k 0 ++ ([] ++ replicate (512 * setting.limits.deep - (512 * length u.callers + (512 + 0)))
+      ++ (replicate k 0 ++ ([] ++ replicate (FRAME_WORDS * setting.limits.deep -
+      (FRAME_WORDS * length u.callers + (FRAME_WORDS + 0)))
       0)))) e
 
   with_split : (b : Binding) → memory setting statics at store (stack_words setting statics at u (b ∷ frame) [])

@@ -4,6 +4,7 @@ use Rattle.std.proofs.Common.{arith, length-append}
 use Rattle.std.proofs.lemmas.List.{length-replicate}
 use Rattle.std.specs.Prelude.{replicate}
 use Rattle.std.specs.List.{All}
+use Rattle.code_conventions.specs.declared.memory.TheConstants.{HEADER_WORDS}
 use Rattle.rpp_tree.specs.Tree.{Source}
 use Rattle.pisa_isa.specs.Image.{Segments}
 use Rattle.class_table.specs.Classes.{main_of}
@@ -45,7 +46,7 @@ statics_words program image has few short inside =
     let main = main_statics program in
     let total : length image.statics ≡ length main + length (tables 1 places) = ap (length {A = ℕ}) has.words
     ∙ length-append main (tables 1 places) in
-    let front : length main ≡ 2 + length (main_fields program) =
+    let front : length main ≡ HEADER_WORDS + length (main_fields program) =
     omega (arith, length-replicate {A = ℕ} (length (main_fields program)) 0) in
     let long = tables_long 1 places in
     let low = offset_low 1 places (main_of program).class in

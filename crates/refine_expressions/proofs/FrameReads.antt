@@ -4,6 +4,8 @@ use Rattle.std.proofs.Common.{◌≡◌, ℕ, ◌+◌, ◌-◌, ◌*◌, ◌<◌
 use Rattle.std.proofs.Common.{length-append}
 use Rattle.std.proofs.lemmas.List.{get_or-replicate, length-replicate, length-map}
 use Rattle.std.specs.Prelude.{replicate, slice_index, Some}
+use Rattle.code_conventions.specs.declared.memory.TheConstants.{FIRST_VARIABLE}
+use Rattle.rpp_words.specs.declared.input.TheConstants.{FRAME_WORDS}
 use Rattle.class_table.specs.declared.kind.Kind.{Kind}
 use Rattle.buddy_book.specs.Place.{Placing}
 use Rattle.roopl_semantics.specs.Store.{Binding, State}
@@ -34,17 +36,17 @@ module _ (setting : Setting) (statics : List ℕ) (s : Scope) (u : Under) (st : 
 
   -- a cell stands below the free words
   pub cell_low : (c : Cell) (k : Kind) → cell_kind setting.program (shape_of setting.program s) st.store c ≡ Some k
-      → place_of setting statics at u st c < frame_address setting statics u + (16 + length s.vars)
+      → place_of setting statics at u st c < frame_address setting statics u + (FIRST_VARIABLE + length s.vars)
   cell_low c k has =
       subst (λ (a : Placing). place_of setting statics a u st c < frame_address setting statics u +
-      (16 + length s.vars)) (sym (same_at setting statics s u [] st cells h))
+      (FIRST_VARIABLE + length s.vars)) (sym (same_at setting statics s u [] st cells h))
       (let l = cell_below setting statics s u [] st cells h c k has in
       let n = as_many_vars setting statics s u [] st cells h in omega (arith, l, n))
 
-  pub all_cells : length cells ≡ stack_base setting statics + 512 * setting.limits.deep
+  pub all_cells : length cells ≡ stack_base setting statics + FRAME_WORDS * setting.limits.deep
   all_cells = frame_long setting statics s u [] st cells h
 
-  pub in_cells : frame_address setting statics u + 512 ≤ length cells
+  pub in_cells : frame_address setting statics u + FRAME_WORDS ≤ length cells
   in_cells = let l = all_cells in let d = h.frame.depth_is in let i = h.frame.in_depth in omega (arith, l, d, i)
 
   -- the present object
@@ -62,7 +64,7 @@ module _ (setting : Setting) (statics : List ℕ) (s : Scope) (u : Under) (st : 
       (h.frame.cells_are ∙ sym (same_memory setting statics h.frame.at st.store
       (stack_words setting statics h.frame.at u st.frame []) (stack_fits setting statics s u [] st cells h)))
 
-  abbrev cl : length (callers_words setting statics h.frame.at u.callers) ≡ 512 * length u.callers
+  abbrev cl : length (callers_words setting statics h.frame.at u.callers) ≡ FRAME_WORDS * length u.callers
   cl = callers_long setting statics s u [] st cells h
 
   abbrev low_words : List ℕ
@@ -71,7 +73,7 @@ module _ (setting : Setting) (statics : List ℕ) (s : Scope) (u : Under) (st : 
   abbrev own_words : List ℕ
   own_words = value_words setting statics h.frame.at (values_of setting statics st.frame)
 
-  long_low : length low_words ≡ frame_address setting statics u + 16
+  long_low : length low_words ≡ frame_address setting statics u + FIRST_VARIABLE
   long_low =
       let a = length-append (before_stack setting statics h.frame.at st.store
       ++ callers_words setting statics h.frame.at u.callers) u.put_by in
@@ -87,15 +89,16 @@ module _ (setting : Setting) (statics : List ℕ) (s : Scope) (u : Under) (st : 
       ∙ length-map st.frame (λ (b : Binding). b.value)
 
   -- the words behind the variables are free
-  pub free_words : (a : ℕ) → frame_address setting statics u + (16 + length s.vars) ≤ a
-      → a < frame_address setting statics u + 512 → slice_index cells a ≡ 0
+  pub free_words : (a : ℕ) → frame_address setting statics u + (FIRST_VARIABLE + length s.vars) ≤ a
+      → a < frame_address setting statics u + FRAME_WORDS → slice_index cells a ≡ 0
   free_words a lo hi =
       let n = as_many_vars setting statics s u [] st cells h in
       let rest = behind setting statics h.frame.at st.store u.callers u.put_by h.frame.put_long cl [] (length st.frame)
       in
-      let i = a - (frame_address setting statics u + (16 + length st.frame)) in
-      let k = 512 - (16 + length st.frame) in
-      let zeros : List ℕ = replicate (512 * setting.limits.deep - (512 * length u.callers + (512 + 0))) 0 in
+      let i = a - (frame_address setting statics u + (FIRST_VARIABLE + length st.frame)) in
+      let k = FRAME_WORDS - (FIRST_VARIABLE + length st.frame) in
+      let zeros : List ℕ = replicate (FRAME_WORDS * setting.limits.deep -
+      (FRAME_WORDS * length u.callers + (FRAME_WORDS + 0))) 0 in
       let there : i < k = omega (arith, n, lo, hi) in
       let z = length-replicate {A = ℕ} k 0 in
       let first : a ≡ length low_words + (length st.frame + i) = (let l = long_low in omega (arith, l, n, lo)) in

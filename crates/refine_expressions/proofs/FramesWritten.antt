@@ -3,6 +3,7 @@
 use Rattle.std.proofs.Common.{◌≡◌, ℕ, ◌+◌, ◌-◌, List, [], length, Some, refl, sym, ap, ◌∙◌, arith}
 use Rattle.std.specs.Prelude.{slice_index, Ok}
 use Rattle.std.specs.Option.{unwrap_or}
+use Rattle.code_conventions.specs.declared.memory.TheConstants.{FIRST_VARIABLE, HEADER_WORDS}
 use Rattle.pisa_isa.specs.Machine.{Memory}
 use Rattle.rpp_tree.specs.Tree.{Lvalue, Source}
 use Rattle.class_table.specs.declared.kind.Kind.{Kind}
@@ -36,7 +37,7 @@ module _ (p : Place) (classes : KnowsClasses p.setting.program) (s : Scope) (u :
   A st n = address_of p.setting p.statics (unwrap_or (place p.setting.limits.heap st.log) no_placing) n
 
   abbrev pub L : State → ℕ → ℕ
-  L st i = frame_address p.setting p.statics u + (16 + (length st.frame - 1 - i))
+  L st i = frame_address p.setting p.statics u + (FIRST_VARIABLE + (length st.frame - 1 - i))
 
   abbrev pub R : State → Memory → Type 0
   R = Open (world_of p) s u
@@ -52,9 +53,9 @@ module _ (p : Place) (classes : KnowsClasses p.setting.program) (s : Scope) (u :
     pub place_is : (c : Cell) → place_of p.setting p.statics h.frame.at u st c ≡ cell_address (A st) (L st) c
     place_is (Slot i) = refl
     place_is (Part n i) =
-        let e : address_of p.setting p.statics h.frame.at n + (2 + i)
-        ≡ address_of p.setting p.statics h.frame.at n + i + 2 = omega arith in
-        e ∙ ap (λ a. a + i + 2) (sym (address_is n))
+        let e : address_of p.setting p.statics h.frame.at n + (HEADER_WORDS + i)
+        ≡ address_of p.setting p.statics h.frame.at n + i + HEADER_WORDS = omega arith in
+        e ∙ ap (λ a. a + i + HEADER_WORDS) (sym (address_is n))
 
     pub cell_holds : (c : Cell) (k : Kind) → cell_kind P (shape_of P s) st.store c ≡ Some k
         → slice_index cells (cell_address (A st) (L st) c) ≡ value_word p.setting p.statics h.frame.at (read st c)
@@ -87,14 +88,14 @@ module _ (p : Place) (classes : KnowsClasses p.setting.program) (s : Scope) (u :
   same_names st (Part m j) v n = refl
 
   pub same_slots : (st : State) (c : Cell) (v : Value) (i : ℕ) → L (written st c v) i ≡ L st i
-  same_slots st (Slot j) v i = ap (λ k. frame_address p.setting p.statics u + (16 + (k - 1 - i)))
+  same_slots st (Slot j) v i = ap (λ k. frame_address p.setting p.statics u + (FIRST_VARIABLE + (k - 1 - i)))
       (length_with st.frame j v)
   same_slots st (Part m j) v i = refl
 
   pub same_place : (st : State) (c : Cell) (v : Value) (d : Cell)
       → cell_address (A (written st c v)) (L (written st c v)) d ≡ cell_address (A st) (L st) d
   same_place st c v (Slot i) = same_slots st c v i
-  same_place st c v (Part n i) = ap (λ a. a + i + 2) (same_names st c v n)
+  same_place st c v (Part n i) = ap (λ a. a + i + HEADER_WORDS) (same_names st c v n)
 
   pub same_placing : (st : State) (c : Cell) (v : Value) (cells cells' : List ℕ)
       (h : Reads p.setting p.statics s u [] st cells) (h' : Reads p.setting p.statics s u [] (written st c v) cells')

@@ -4,6 +4,7 @@ use Rattle.std.proofs.Common.{ap, ◌∙◌, subst, arith}
 use Rattle.std.proofs.lemmas.List.{get_or_append_left, get_or-append_right, get_or-replicate}
 use Rattle.std.specs.Prelude.{replicate, slice_index, bit_xor, if◌then◌else◌, Result, Ok, Err}
 use Rattle.std.specs.Option.{unwrap_or}
+use Rattle.rpp_words.specs.declared.input.TheConstants.{FRAME_WORDS}
 use Rattle.rpp_tree.specs.Tree.{Expression, nodes}
 use Rattle.class_table.specs.declared.kind.Kind.{Kind}
 use Rattle.class_table.specs.declared.kind.Kind.TheVariants as kind
@@ -116,7 +117,7 @@ module _ (p : Place) (few : length p.statics ≤ 262144) (classes : KnowsClasses
     abbrev L : ℕ → ℕ
     L = slots_at p.setting p.statics classes s u st cells h
 
-    pub ready : (n flag place : ℕ) → free_in P s + n ≤ 512
+    pub ready : (n flag place : ℕ) → free_in P s + n ≤ FRAME_WORDS
         → Ready (free_in P s) n (record {
           regs = registers 0 u.object (frame_address p.setting p.statics u) 0 0 0 flag
               place;

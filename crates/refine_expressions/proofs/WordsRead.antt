@@ -5,6 +5,7 @@ use Rattle.std.proofs.lemmas.List.{length-replicate}
 use Rattle.std.specs.Prelude.{slice_index, slice_get, position, if◌then◌else◌, Ok}
 use Rattle.std.specs.Option.{unwrap_or, option_map, option_or}
 use Rattle.std.specs.Str.{bytes_eq}
+use Rattle.code_conventions.specs.declared.memory.TheConstants.{FIRST_VARIABLE, HEADER_WORDS}
 use Rattle.rpp_tree.specs.declared.tree.Ident.{Ident}
 use Rattle.class_table.specs.declared.kind.Kind.{Kind}
 use Rattle.class_table.specs.declared.kind.Kind.TheVariants as kind
@@ -57,7 +58,7 @@ module _ (setting : Setting) (statics : List ℕ) (classes : KnowsClasses settin
   names_at n = address_of setting statics (unwrap_or (place setting.limits.heap st.log) no_placing) n
 
   abbrev pub slots_at : ℕ → ℕ
-  slots_at i = frame_address setting statics u + (16 + (length st.frame - 1 - i))
+  slots_at i = frame_address setting statics u + (FIRST_VARIABLE + (length st.frame - 1 - i))
 
   abbrev pub program : Rattle.rpp_tree.specs.Tree.Source
   program = setting.program
@@ -121,7 +122,8 @@ module _ (setting : Setting) (statics : List ℕ) (classes : KnowsClasses settin
             let own = field_number_is setting classes (extra u []) shape shape s.class h.keeps.class_inside
             (same_means shape) st name.text i (typed setting statics s u [] st cells h) is in
             let o = object_is setting statics s u st cells h in
-            let z : u.object + (2 + i) ≡ address_of setting statics at st.self + (2 + i) = omega (arith, o) in
+            let z : u.object + (HEADER_WORDS + i) ≡ address_of setting statics at st.self + (HEADER_WORDS + i) =
+            omega (arith, o) in
             z ∙ ap (λ f. place_of setting statics at u st (Part st.self (unwrap_or f 0))) (sym own)
         fields e None is = absurd (let q = some_of (kind_in typing shape name.text) (unknown_name name.at) k t in
             let z = nothing in cc)
@@ -139,8 +141,8 @@ module _ (setting : Setting) (statics : List ℕ) (classes : KnowsClasses settin
             ≡ place_of setting statics at u st (slot_or_field program st name.text (slot_of st.frame name.text))
         by (Some i) e =
             let n = as_many_vars setting statics s u [] st cells h in
-            let z : frame_address setting statics u + (16 + (length s.vars - 1 - i))
-            ≡ frame_address setting statics u + (16 + (length st.frame - 1 - i)) = omega (arith, n) in
+            let z : frame_address setting statics u + (FIRST_VARIABLE + (length s.vars - 1 - i))
+            ≡ frame_address setting statics u + (FIRST_VARIABLE + (length st.frame - 1 - i)) = omega (arith, n) in
             ap (λ w. spot_address bases (spot_by w (field_in (table_of program) s.class name.text)))
             (word_here (Some i) e)
             ∙ z
@@ -170,8 +172,9 @@ module _ (setting : Setting) (statics : List ℕ) (classes : KnowsClasses settin
       where
         by : (c : Cell) → place_of setting statics at u st c ≡ cell_address names_at slots_at c
         by (Slot i) = refl
-        by (Part n i) = let e : address_of setting statics at n + (2 + i) ≡ address_of setting statics at n + i + 2 =
-            omega arith in e ∙ ap (λ a. a + i + 2) (sym (names_are n))
+        by (Part n i) = let e : address_of setting statics at n + (HEADER_WORDS + i)
+            ≡ address_of setting statics at n + i + HEADER_WORDS =
+            omega arith in e ∙ ap (λ a. a + i + HEADER_WORDS) (sym (names_are n))
 
   -- ---- an array
 
@@ -179,8 +182,8 @@ module _ (setting : Setting) (statics : List ℕ) (classes : KnowsClasses settin
     pub apart : names_at n ≢ 0
     pub length_word : slice_index cells (names_at n) ≡ length (object_at st.store n).cells
     pub elements : (i : ℕ) → i < length (object_at st.store n).cells
-        → slice_index cells (names_at n + i + 2) ≡ shown names_at slots_at (read st (Part n i))
-    pub low : names_at n + 2 + length (object_at st.store n).cells ≤ stack_base setting statics
+        → slice_index cells (names_at n + i + HEADER_WORDS) ≡ shown names_at slots_at (read st (Part n i))
+    pub low : names_at n + HEADER_WORDS + length (object_at st.store n).cells ≤ stack_base setting statics
 
   -- a name that stands in a cell of a type of arrays
   pub array_stands : (c : Cell) (array k : Kind) (n : ℕ) → cell_kind program shape st.store c ≡ Some array
@@ -216,7 +219,7 @@ module _ (setting : Setting) (statics : List ℕ) (classes : KnowsClasses settin
         elements = λ i l.
             let kind_is : cell_kind program shape st.store (Part n i) ≡ Some k = ap (λ z. part_kind program z i) head_is
             ∙ ap (λ ks. slice_get ks i) is.kinds ∙ same_elements k is.count i (omega (arith, cells_count, l)) in
-            let p : names_at n + i + 2 ≡ address_of setting statics at n + (2 + i) =
+            let p : names_at n + i + HEADER_WORDS ≡ address_of setting statics at n + (HEADER_WORDS + i) =
             (let q = names_are n in omega (arith, q)) in
             ap (slice_index cells) p ∙ cell_at_word (Part n i) k kind_is;
         low = omega (arith, where_is, region, kinds_count, cells_count);

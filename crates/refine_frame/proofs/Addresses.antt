@@ -5,6 +5,7 @@ use Rattle.std.proofs.lemmas.Bool.{eqb-true}
 use Rattle.std.proofs.lemmas.List.{length-map}
 use Rattle.std.specs.Prelude.{nat_eq, ◌&&◌, slice_get}
 use Rattle.std.specs.Option.{option_map}
+use Rattle.code_conventions.specs.declared.memory.TheConstants.{HEADER_WORDS}
 use Rattle.class_table.specs.declared.kind.Kind.{Kind}
 use Rattle.class_table.specs.Scope.{Locals}
 use Rattle.buddy_book.specs.Place.{Placing}
@@ -32,7 +33,7 @@ module _ (u : Setup) (extra : ℕ → ℕ) (shape : Locals) (class : ℕ) (st : 
     pub object : Object
     pub named : object_named st.store n ≡ Some object
     pub inside : i < length (cell_kinds u.setting.program object.head)
-    pub below : address_of u at.blocks n + 2 + i < stack_at u
+    pub below : address_of u at.blocks n + HEADER_WORDS + i < stack_at u
 
   slot_in : (i : ℕ) (k : Kind) → slice_get (map local_type shape) i ≡ Some k → i < length st.frame
   slot_in i k h = let l = all_inside u.setting.program st.store (map local_type shape) (map value_of st.frame) i k
@@ -52,7 +53,7 @@ module _ (u : Setup) (extra : ℕ → ℕ) (shape : Locals) (class : ℕ) (st : 
     where
       by : (o : Object) → object_named st.store n ≡ Some o → object_at st.store n ≡ o
           → i < length (cell_kinds u.setting.program o.head) → (b : Bool) → nat_eq n main_name ≡ b
-          → address_of u at.blocks n + 2 + i < stack_at u
+          → address_of u at.blocks n + HEADER_WORDS + i < stack_at u
       by o named at_o inside true e =
           let same = eqb-true n main_name e in
           let cells = main_cells u extra shape class st s g in
@@ -87,7 +88,7 @@ module _ (u : Setup) (extra : ℕ → ℕ) (shape : Locals) (class : ℕ) (st : 
       q = part_place m j l hb
 
       -- the main object's cells stand before the heap
-      main_low : (x y : ℕ) → PartPlace x y → x ≡ main_name → address_of u at.blocks x + 2 + y < base_of u
+      main_low : (x y : ℕ) → PartPlace x y → x ≡ main_name → address_of u at.blocks x + HEADER_WORDS + y < base_of u
       main_low x y place same =
           let cells = main_cells u extra shape class st s g in
           let sized = all_length u.setting.program st.store (cell_kinds u.setting.program place.object.head)

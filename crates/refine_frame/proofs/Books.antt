@@ -5,6 +5,7 @@ use Rattle.std.proofs.lemmas.Bool.{eqb-true, ltb-true, ltb-false}
 use Rattle.std.proofs.lemmas.List.{length-map, length-replicate, get_or-replicate, get_or_append_left}
 use Rattle.std.specs.Prelude.{nat_eq, nat_lt, slice_get, slice_index, replicate, if◌then◌else◌}
 use Rattle.std.specs.Option.{unwrap_or, option_or}
+use Rattle.rpp_words.specs.declared.input.TheConstants.{FIXED_CELLS, FRAME_WORDS}
 use Rattle.class_table.specs.Scope.{Locals}
 use Rattle.buddy_book.specs.Book.{Book}
 use Rattle.buddy_book.specs.Place.{Placing}
@@ -138,7 +139,7 @@ module _ (u : Setup) (extra : ℕ → ℕ) (shape : Locals) (class : ℕ) (st : 
   abbrev heap_part : List ℕ
   heap_part = heap_words u.setting.program (2 ^ u.setting.limits.heap) base st.store other
 
-  length_heads : length heads ≡ 40
+  length_heads : length heads ≡ FIXED_CELLS
   length_heads =
       let hs = map (first_address base) book in
       let n = length-map book (first_address base) in
@@ -174,14 +175,14 @@ module _ (u : Setup) (extra : ℕ → ℕ) (shape : Locals) (class : ℕ) (st : 
     where
       past_nine : (ws : List ℕ) (k : ℕ) → 1 ≤ k → slice_index
           (0 ∷ u.setting.limits.heap ∷ base ∷ (base + 2 ^ u.setting.limits.heap)
-          ∷ (base + 2 ^ u.setting.limits.heap + 512 * u.setting.limits.deep) ∷ 0 ∷ 0 ∷ 0 ∷ 0 ∷ ws) (8 + k)
+          ∷ (base + 2 ^ u.setting.limits.heap + FRAME_WORDS * u.setting.limits.deep) ∷ 0 ∷ 0 ∷ 0 ∷ 0 ∷ ws) (8 + k)
           ≡ slice_index ws (k - 1)
       past_nine ws zero h = absurd (omega arith)
       past_nine ws (suc k) h =
           let e : 8 + suc k ≡ suc (suc (suc (suc (suc (suc (suc (suc (suc k)))))))) = omega arith in
           let d : suc k - 1 ≡ k = omega arith in
           ap (slice_index (0 ∷ u.setting.limits.heap ∷ base ∷ (base + 2 ^ u.setting.limits.heap)
-          ∷ (base + 2 ^ u.setting.limits.heap + 512 * u.setting.limits.deep) ∷ 0 ∷ 0 ∷ 0 ∷ 0 ∷ ws)) e
+          ∷ (base + 2 ^ u.setting.limits.heap + FRAME_WORDS * u.setting.limits.deep) ∷ 0 ∷ 0 ∷ 0 ∷ 0 ∷ ws)) e
           ∙ ap (slice_index ws) (sym d)
 
       mapped : (b : Book) (i : ℕ) → i < length b → slice_index (map (first_address base) b) i

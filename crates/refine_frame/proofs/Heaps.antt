@@ -5,6 +5,7 @@ use Rattle.std.proofs.lemmas.Bool.{eqb-true}
 use Rattle.std.proofs.lemmas.List.{length-map, map-set, length-replicate}
 use Rattle.std.specs.Prelude.{nat_eq, slice_get, slice_index, slice_set, replicate, if◌then◌else◌}
 use Rattle.std.specs.Option.{unwrap_or, option_map}
+use Rattle.code_conventions.specs.declared.memory.TheConstants.{HEADER_WORDS}
 use Rattle.rpp_tree.specs.Tree.{Source}
 use Rattle.buddy_book.specs.Book.{Book}
 use Rattle.buddy_book.specs.Place.{block_of}
@@ -47,16 +48,16 @@ length_heap program size base store at =
     ∙ length_book base at.book (replicate size 0) ∙ length-replicate size 0
 
 pub length_words : (program : Source) (base : ℕ) (blocks : List (ℕ × ℕ)) (o : Object)
-    → length (object_words program base blocks o) ≡ 2 + length o.cells
+    → length (object_words program base blocks o) ≡ HEADER_WORDS + length o.cells
 length_words program base blocks o = omega (arith, length-map o.cells (word_of base blocks))
 
 -- ---- a word of an object
 
-pub index_words : (x y : ℕ) (ws : List ℕ) (i : ℕ) → slice_index (x ∷ y ∷ ws) (2 + i) ≡ slice_index ws i
-index_words x y ws i = let e : 2 + i ≡ suc (suc i) = omega arith in ap (slice_index (x ∷ y ∷ ws)) e
+pub index_words : (x y : ℕ) (ws : List ℕ) (i : ℕ) → slice_index (x ∷ y ∷ ws) (HEADER_WORDS + i) ≡ slice_index ws i
+index_words x y ws i = let e : HEADER_WORDS + i ≡ suc (suc i) = omega arith in ap (slice_index (x ∷ y ∷ ws)) e
 
-set_words : (x y : ℕ) (ws : List ℕ) (i w : ℕ) → slice_set (x ∷ y ∷ ws) (2 + i) w ≡ x ∷ y ∷ slice_set ws i w
-set_words x y ws i w = let e : 2 + i ≡ suc (suc i) = omega arith in ap (λ z. slice_set (x ∷ y ∷ ws) z w) e
+set_words : (x y : ℕ) (ws : List ℕ) (i w : ℕ) → slice_set (x ∷ y ∷ ws) (HEADER_WORDS + i) w ≡ x ∷ y ∷ slice_set ws i w
+set_words x y ws i w = let e : HEADER_WORDS + i ≡ suc (suc i) = omega arith in ap (λ z. slice_set (x ∷ y ∷ ws) z w) e
 
 index_map : (f : Value → ℕ) (vs : List Value) (i : ℕ) → i < length vs
     → slice_index (map f vs) i ≡ f (unwrap_or (slice_get vs i) Nil)
@@ -65,7 +66,7 @@ index_map f (v ∷ vs) zero h = refl
 index_map f (v ∷ vs) (suc i) h = index_map f vs i (omega arith)
 
 pub index_object : (program : Source) (base : ℕ) (blocks : List (ℕ × ℕ)) (o : Object) (i : ℕ) → i < length o.cells
-    → slice_index (object_words program base blocks o) (2 + i)
+    → slice_index (object_words program base blocks o) (HEADER_WORDS + i)
     ≡ word_of base blocks (unwrap_or (slice_get o.cells i) Nil)
 index_object program base blocks o i h = index_words (head_word program o.head) o.count
     (map (word_of base blocks) o.cells) i ∙ index_map (word_of base blocks) o.cells i h
@@ -75,7 +76,7 @@ abbrev pub with_cell : ℕ → Value → Object → Object
 with_cell index v object = record object { cells = slice_set object.cells index v }
 
 pub set_object : (program : Source) (base : ℕ) (blocks : List (ℕ × ℕ)) (o : Object) (i : ℕ) (v : Value)
-    → slice_set (object_words program base blocks o) (2 + i) (word_of base blocks v)
+    → slice_set (object_words program base blocks o) (HEADER_WORDS + i) (word_of base blocks v)
     ≡ object_words program base blocks (with_cell i v o)
 set_object program base blocks o i v =
     set_words (head_word program o.head) o.count (map (word_of base blocks) o.cells) i (word_of base blocks v)
@@ -143,10 +144,10 @@ module _ (setting : Setting) (store : Store) (log : Rattle.buddy_book.specs.Plac
   live_head n live = ap (option_map head_of) (live_object store n live)
 
   sized : (n : ℕ) → is_live store n ≡ true → length (object_words program base blocks (object_at store n))
-      ≡ 2 + length (cell_kinds program (object_at store n).head)
+      ≡ HEADER_WORDS + length (cell_kinds program (object_at store n).head)
   sized n live =
       length_words program base blocks (object_at store n)
-      ∙ ap (λ k. 2 + k) (all_length program store (cell_kinds program (object_at store n).head)
+      ∙ ap (λ k. HEADER_WORDS + k) (all_length program store (cell_kinds program (object_at store n).head)
       (object_at store n).cells (objects n (object_at store n) (live_object store n live)))
 
   -- a place in an object's region is in no other's

@@ -5,7 +5,6 @@ pub mod Frames
 pub mod Tells
 pub mod Addresses
 pub mod Moving
-pub mod LocalCounts
 pub mod Removed
 pub mod Making
 pub mod Books

@@ -7,6 +7,8 @@ use Rattle.std.proofs.lemmas.List.{get_or_append_left, get_or-append_right, set-
 use Rattle.std.proofs.lemmas.List.{length-map, length-replicate}
 use Rattle.std.specs.Prelude.{nat_eq, is_some, slice_get, slice_index, slice_set, replicate, if◌then◌else◌}
 use Rattle.std.specs.Option.{unwrap_or, option_map}
+use Rattle.rpp_words.specs.declared.input.TheConstants.{FIXED_CELLS}
+use Rattle.code_conventions.specs.declared.memory.TheConstants.{HEADER_WORDS}
 use Rattle.rpp_tree.specs.Tree.{Source}
 use Rattle.class_table.specs.Scope.{Locals}
 use Rattle.buddy_book.specs.Place.{Log, Placing, block_of, place}
@@ -156,10 +158,10 @@ module _ (u : Setup) (extra : ℕ → ℕ) (shape : Locals) (class : ℕ) (st : 
       ∙ ap (λ h. length (cell_kinds program h)) main_head ∙ length-map (main_fields program) (kind_of_var program)
 
   pub main_long : length (object_words program base at.blocks (object_at st.store main_name))
-      ≡ 2 + length (main_fields program)
+      ≡ HEADER_WORDS + length (main_fields program)
   main_long = omega (arith, length_words program base at.blocks (object_at st.store main_name), main_cells)
 
-  pub length_fixed : length fixed ≡ 40
+  pub length_fixed : length fixed ≡ FIXED_CELLS
   length_fixed =
       let heads = map (first_address base) at.book in
       let n = length-map at.book (first_address base) in
@@ -177,7 +179,7 @@ module _ (u : Setup) (extra : ℕ → ℕ) (shape : Locals) (class : ℕ) (st : 
       let r = g.room in
       omega (arith, length-append main (drop (length main) u.statics), length-drop (length main) u.statics, main_long)
 
-  pub length_gap : length gap ≡ base - 40 - length u.statics
+  pub length_gap : length gap ≡ base - FIXED_CELLS - length u.statics
   length_gap = length-replicate {A = ℕ} (base - statics_at - length u.statics) 0
 
   pub length_heap_is : length heap ≡ size
@@ -212,20 +214,20 @@ module _ (u : Setup) (extra : ℕ → ℕ) (shape : Locals) (class : ℕ) (st : 
   address_other n h = ap (λ t. if t then statics_at else base + block_of at.blocks n) (other_number n main_name h)
 
   pub read_main : (stack : List ℕ) (i : ℕ) → i < length (object_at st.store main_name).cells
-      → slice_index (memory u at st.store stack) (statics_at + 2 + i)
+      → slice_index (memory u at st.store stack) (statics_at + HEADER_WORDS + i)
       ≡ word_of base at.blocks (unwrap_or (slice_get (object_at st.store main_name).cells i) Nil)
   read_main stack i h =
       let main = object_words program base at.blocks (object_at st.store main_name) in
       let l = main_long in
       let c = main_cells in
-      second fixed statics gap heap (stack_part stack) (statics_at + 2 + i) (2 + i)
+      second fixed statics gap heap (stack_part stack) (statics_at + HEADER_WORDS + i) (HEADER_WORDS + i)
       (let f = length_fixed in omega arith) (let n = length_statics in let r = g.room in omega arith)
-      ∙ get_or_append_left main (drop (length main) u.statics) 0 (2 + i) (omega arith)
+      ∙ get_or_append_left main (drop (length main) u.statics) 0 (HEADER_WORDS + i) (omega arith)
       ∙ index_object program base at.blocks (object_at st.store main_name) i h
 
   pub read_object : (stack : List ℕ) (n i : ℕ) → is_live st.store n ≡ true → n ≢ main_name
       → i < length (object_at st.store n).cells → slice_index (memory u at st.store stack)
-      (base + block_of at.blocks n + 2 + i) ≡ word_of base at.blocks
+      (base + block_of at.blocks n + HEADER_WORDS + i) ≡ word_of base at.blocks
       (unwrap_or (slice_get (object_at st.store n).cells i) Nil)
   read_object stack n i live no_main h =
       let named = live_object st.store n live in
@@ -235,15 +237,15 @@ module _ (u : Setup) (extra : ℕ → ℕ) (shape : Locals) (class : ℕ) (st : 
       (object_at st.store n).cells (s.objects n (object_at st.store n) named) in
       let words = with_book base at.book (replicate size 0) in
       let total = length_heap_is in
-      fourth fixed statics gap heap (stack_part stack) (base + block_of at.blocks n + 2 + i)
-      (block_of at.blocks n + (2 + i)) (let b = before_heap in omega arith) (omega arith)
+      fourth fixed statics gap heap (stack_part stack) (base + block_of at.blocks n + HEADER_WORDS + i)
+      (block_of at.blocks n + (HEADER_WORDS + i)) (let b = before_heap in omega arith) (omega arith)
       ∙ read_heap u.setting st.store st.log s.placed base s.objects n live no_main
       (2 + Rattle.buddy_book.specs.Place.count_taken st.log) at.blocks words
       (blocks_descend u.setting st.store st.log (2 + Rattle.buddy_book.specs.Place.count_taken st.log) s.placed
       s.fresh) (entries_are u.setting st.store st.log (2 + Rattle.buddy_book.specs.Place.count_taken st.log)
       s.placed s.fresh)
       (entry_of (2 + Rattle.buddy_book.specs.Place.count_taken st.log) st.store at.blocks n s.placed.names live no_main)
-      (block_of at.blocks n + (2 + i)) (2 + i) refl
+      (block_of at.blocks n + (HEADER_WORDS + i)) (HEADER_WORDS + i) refl
       (let z = length_words program base at.blocks (object_at st.store n) in omega arith)
       (let z = length_with_book in omega arith)
       ∙ index_object program base at.blocks (object_at st.store n) i h
@@ -335,12 +337,13 @@ module _ (u : Setup) (extra : ℕ → ℕ) (shape : Locals) (class : ℕ) (st : 
 
   pub write_part : (stack : List ℕ) (n i : ℕ) (v : Value) → is_live st.store n ≡ true
       → i < length (object_at st.store n).cells → slice_set (memory u at st.store stack)
-      (address_of u at.blocks n + 2 + i) (word_of base at.blocks v)
+      (address_of u at.blocks n + HEADER_WORDS + i) (word_of base at.blocks v)
       ≡ memory u at (changed_at st.store n (with_cell i v)) stack
   write_part stack n i v live h =
-      let e : address_of u at.blocks n + 2 + i ≡ address_of u at.blocks n + (2 + i) = omega arith in
+      let e : address_of u at.blocks n + HEADER_WORDS + i ≡ address_of u at.blocks n + (HEADER_WORDS + i) =
+      omega arith in
       ap (λ a. slice_set (memory u at st.store stack) a (word_of base at.blocks v)) e
-      ∙ write_word stack n live (with_cell i v) (2 + i) (word_of base at.blocks v)
+      ∙ write_word stack n live (with_cell i v) (HEADER_WORDS + i) (word_of base at.blocks v)
       (omega (arith, length_words program base at.blocks (object_at st.store n)))
       (set_object program base at.blocks (object_at st.store n) i v)
 
@@ -354,23 +357,23 @@ module _ (u : Setup) (extra : ℕ → ℕ) (shape : Locals) (class : ℕ) (st : 
       (set_count program base at.blocks (object_at st.store n) change)
 
   pub read_part : (stack : List ℕ) (n i : ℕ) → is_live st.store n ≡ true → i < length (object_at st.store n).cells
-      → slice_index (memory u at st.store stack) (address_of u at.blocks n + 2 + i)
+      → slice_index (memory u at st.store stack) (address_of u at.blocks n + HEADER_WORDS + i)
       ≡ word_of base at.blocks (unwrap_or (slice_get (object_at st.store n).cells i) Nil)
   read_part stack n i live h = by (nat_eq n main_name) refl
     where
       by : (b : Bool) → nat_eq n main_name ≡ b → slice_index (memory u at st.store stack)
-          (address_of u at.blocks n + 2 + i) ≡ word_of base at.blocks
+          (address_of u at.blocks n + HEADER_WORDS + i) ≡ word_of base at.blocks
           (unwrap_or (slice_get (object_at st.store n).cells i) Nil)
       by true e =
           let same = eqb-true n main_name e in
           let inside : i < length (object_at st.store main_name).cells =
           subst (λ k. i < length (object_at st.store k).cells) same h in
-          subst (λ k. slice_index (memory u at st.store stack) (address_of u at.blocks k + 2 + i)
+          subst (λ k. slice_index (memory u at st.store stack) (address_of u at.blocks k + HEADER_WORDS + i)
           ≡ word_of base at.blocks (unwrap_or (slice_get (object_at st.store k).cells i) Nil)) (sym same)
           (read_main stack i inside)
       by false e =
           let apart = Rattle.meaning_sound.proofs.Stores.differs n main_name e in
-          ap (λ a. slice_index (memory u at st.store stack) (a + 2 + i)) (address_other n apart)
+          ap (λ a. slice_index (memory u at st.store stack) (a + HEADER_WORDS + i)) (address_other n apart)
           ∙ read_object stack n i live apart h
 
   -- the number of cells

@@ -5,6 +5,7 @@ use Rattle.std.proofs.Common.{◌++◌, map, length, Some, arith, append_assoc, 
 use Rattle.std.proofs.lemmas.List.{get_or_append_left, get_or-append_right, set-append_left, set-append_right}
 use Rattle.std.proofs.lemmas.List.{length-replicate, length-set, length-map, set_at}
 use Rattle.std.specs.Prelude.{slice_get, slice_index, slice_set, replicate}
+use Rattle.code_conventions.specs.declared.memory.TheConstants.{HEADER_WORDS}
 use Rattle.class_table.specs.declared.kind.Kind.{Kind}
 use Rattle.class_table.specs.Scope.{Locals}
 use Rattle.buddy_book.specs.Place.{Placing, block_of, place}
@@ -133,7 +134,7 @@ module _ (u : Setup) (extra : ℕ → ℕ) (shape : Locals) (class : ℕ) (st : 
       let p = part_of u.setting.program st.store n i k h in
       let inside = all_inside u.setting.program st.store (cell_kinds u.setting.program p.object.head) p.object.cells i k
       (s.objects n p.object p.named) p.kind_is in
-      ap (λ z. slice_index z (address_of u at.blocks n + 2 + i)) o.cells
+      ap (λ z. slice_index z (address_of u at.blocks n + HEADER_WORDS + i)) o.cells
       ∙ read_part u extra shape class st s g stack n i (live_named st.store n p.object p.named)
       (subst (λ (x : Object). i < length x.cells) (sym p.at) inside)
 
@@ -180,7 +181,7 @@ module _ (u : Setup) (extra : ℕ → ℕ) (shape : Locals) (class : ℕ) (st : 
       record {
         placed = o.placed;
         cells =
-            ap (λ z. slice_set z (address_of u at.blocks n + 2 + i) w) o.cells
+            ap (λ z. slice_set z (address_of u at.blocks n + HEADER_WORDS + i) w) o.cells
             ∙ write_part u extra shape class st s g stack n i v (live_named st.store n p.object p.named)
             (subst (λ (x : Object). i < length x.cells) (sym p.at) inside);
         level = o.level;

@@ -6,6 +6,7 @@ use Rattle.std.proofs.lemmas.Bool.{eqb-true, ltb-true, ltb-false}
 use Rattle.std.proofs.lemmas.List.{ext_get_or}
 use Rattle.std.specs.Prelude.{nat_eq, nat_lt, slice_index, if◌then◌else◌}
 use Rattle.std.specs.Option.{unwrap_or, option_map}
+use Rattle.code_conventions.specs.declared.memory.TheConstants.{HEADER_WORDS}
 use Rattle.rpp_tree.specs.Tree.{Source}
 use Rattle.buddy_book.specs.Book.{Book}
 use Rattle.buddy_book.specs.Place.{Placing, block_of, without_name, count_taken}
@@ -140,10 +141,10 @@ module _ (setting : Setting) (store : Store) (log : Rattle.buddy_book.specs.Plac
   live_head m l = ap (option_map head_of) (live_object store m l)
 
   pub sized : (m : ℕ) → is_live store m ≡ true → length (object_words program base blocks (object_at store m))
-      ≡ 2 + length (cell_kinds program (object_at store m).head)
+      ≡ HEADER_WORDS + length (cell_kinds program (object_at store m).head)
   sized m l =
       length_words program base blocks (object_at store m)
-      ∙ ap (λ k. 2 + k) (all_length program store (cell_kinds program (object_at store m).head)
+      ∙ ap (λ k. HEADER_WORDS + k) (all_length program store (cell_kinds program (object_at store m).head)
       (object_at store m).cells (objects m (object_at store m) (live_object store m l)))
 
   abbrev own_words : List ℕ
@@ -267,7 +268,7 @@ module _ (setting : Setting) (store : Store) (log : Rattle.buddy_book.specs.Plac
   -- other objects' blocks are elsewhere
   pub skip_others : (bound : ℕ) (rest : List (ℕ × ℕ)) (words : List ℕ) (q i : ℕ) → BlocksDescend bound rest
       → EntriesAre store blocks rest → q ≡ block_of blocks n + i
-      → i < 2 + length (cell_kinds program (object_at store n).head)
+      → i < HEADER_WORDS + length (cell_kinds program (object_at store n).head)
       → slice_index (with_objects program base (without store n) less (without_name rest n) words) q
       ≡ slice_index words q
   skip_others bound [] words q i d e at l = refl

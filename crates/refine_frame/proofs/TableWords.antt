@@ -5,6 +5,7 @@ use Rattle.std.proofs.lemmas.Bool.{ltb-true, ltb-false}
 use Rattle.std.proofs.lemmas.List.{get_or_append_left, get_or-append_right, drop_at, length-map, length-replicate}
 use Rattle.std.specs.Prelude.{nat_lt, slice_get, slice_index}
 use Rattle.std.specs.Option.{unwrap_or}
+use Rattle.code_conventions.specs.declared.memory.TheConstants.{HEADER_WORDS}
 use Rattle.rpp_tree.specs.Tree.{Source}
 use Rattle.class_table.specs.Classes.{class_slots}
 use Rattle.class_table.specs.Scope.{Locals}
@@ -83,7 +84,8 @@ module _ (program : Source) (image : Segments) (has : HasStatics program image) 
       ∙ each_below-get (λ class. length (class_slots program class)) (length program.classes) class 0 h
 
   pub table_place : (class : ℕ) → class ≤ length program.classes
-      → table_at program class ≡ statics_at + 2 + length (main_fields program) + table_offset has.places class
+      → table_at program class ≡ statics_at + HEADER_WORDS + length (main_fields program) + table_offset has.places
+      class
   table_place zero h = let z : table_offset has.places zero ≡ 0 = first has.places in omega arith
     where
       first : (places : List (List ℕ)) → table_offset places zero ≡ 0
@@ -113,13 +115,13 @@ read_table u extra shape class st s g image has same stack own slot inside h =
     let l = places_length program image has own inside in
     let t = table_place program image has own (omega arith) in
     let statics_are : u.statics ≡ main_statics program ++ tables 1 places = same ∙ has.words in
-    let front : length (main_statics program) ≡ 2 + length (main_fields program) =
+    let front : length (main_statics program) ≡ HEADER_WORDS + length (main_fields program) =
     omega (arith, length-replicate {A = ℕ} (length (main_fields program)) 0) in
     let dropped : drop (length main) u.statics ≡ tables 1 places = ap (drop (length main)) statics_are
     ∙ drop_at (main_statics program) (tables 1 places) (length main) (omega arith) in
     let total : length u.statics ≡ length (main_statics program) + length (tables 1 places) = ap length statics_are
     ∙ length-append (main_statics program) (tables 1 places) in
-    let j = 2 + length (main_fields program) + (table_offset places own + 1 + slot) in
+    let j = HEADER_WORDS + length (main_fields program) + (table_offset places own + 1 + slot) in
     let low = table_inside 1 places own slot (omega arith) in
     let back : j - length main ≡ table_offset places own + 1 + slot = omega arith in
     second (fixed u extra shape class st s g) (statics u extra shape class st s g) (gap u extra shape class st s g)
@@ -139,7 +141,7 @@ table_low program image has own slot inside h =
     let places = has.places in
     let l = places_length program image has own inside in
     let t = table_place program image has own (omega arith) in
-    let front : length (main_statics program) ≡ 2 + length (main_fields program) =
+    let front : length (main_statics program) ≡ HEADER_WORDS + length (main_fields program) =
     omega (arith, length-replicate {A = ℕ} (length (main_fields program)) 0) in
     let total : length image.statics ≡ length (main_statics program) + length (tables 1 places) = ap length has.words
     ∙ length-append (main_statics program) (tables 1 places) in

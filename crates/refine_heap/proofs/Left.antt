@@ -4,6 +4,7 @@ use Rattle.std.proofs.Common.{List, [], ◌∷◌, ◌++◌, length, refl, sym, 
 use Rattle.std.proofs.Common.{nat_eq, ltb-true, ltb-false, eqb-true, false-eqb}
 use Rattle.std.proofs.lemmas.List.{get_or_append_left, length-append, length-replicate, get_or-replicate, length-map}
 use Rattle.std.proofs.Math.Seq.{get_or-append_right}
+use Rattle.rpp_words.specs.declared.input.TheConstants.{FIXED_CELLS}
 use Rattle.rpp_words.specs.declared.input.Limits.{Limits}
 use Rattle.rpp_tree.specs.Tree.{Source}
 use Rattle.pisa_isa.specs.Loaded.{statics_at, heap_base, fixed_cells}
@@ -41,7 +42,7 @@ agree_append a b c d i n left right = by (nat_lt i (length a)) refl
 
 -- the fixed cells but for the heads
 fixed_agree : (h deep base : ℕ) (heads others : List ℕ) (y : ℕ) → length heads ≡ h → length others ≡ h
-    → (y < 9) ⊎ (8 + h < y) → y < 40 → get_or (fixed_cells h deep base heads) y 0
+    → (y < 9) ⊎ (8 + h < y) → y < FIXED_CELLS → get_or (fixed_cells h deep base heads) y 0
     ≡ get_or (fixed_cells h deep base others) y 0
 fixed_agree h deep base heads others zero n k out lo = refl
 fixed_agree h deep base heads others (suc zero) n k out lo = refl
@@ -172,7 +173,7 @@ module _ (program : Source) (limits : Limits) (statics : List ℕ) (store : Stor
     abbrev zeros : List ℕ
     zeros = replicate (base - statics_at - length statics) 0
 
-    fixed_length : (heads : List ℕ) → length heads ≡ h → length (fixed_cells h limits.deep base heads) ≡ 40
+    fixed_length : (heads : List ℕ) → length heads ≡ h → length (fixed_cells h limits.deep base heads) ≡ FIXED_CELLS
     fixed_length heads e =
         let pad : List ℕ = replicate (31 - length heads) 0 in
         let r : length pad ≡ 31 - length heads = length-replicate (31 - length heads) 0 in

@@ -25,6 +25,7 @@ use Rattle.refine_heap.specs.Laid.{StandApart, LayoutLaw}
 use Rattle.refine_heap.proofs.Overlays.{overlaid_length, overlaid_before, overlaid_after, LinkedList, LinkedLists}
 use Rattle.refine_heap.proofs.Overlays.{FitList, FitLists, lists_agree, book_other, book_linked}
 use Rattle.std.proofs.lemmas.Nat.{pow_pos}
+use Rattle.rpp_words.specs.declared.input.TheConstants.{FIXED_CELLS}
 
 -- ---- the objects
 
@@ -122,20 +123,21 @@ lists_held base head size top (free ∷ higher) words cells one heads at fit h =
       ∙ heads (suc j) (omega arith)) at fit.1 h.1,
 )
 
-base_room : (h n : ℕ) → 0 < 2 ^ h → 40 + n ≤ heap_base h n
-base_room h n p = let m = mod-add-div' (40 + n + 2 ^ h - 1) (2 ^ h) in let r : (40 + n + 2 ^ h - 1) % 2 ^ h < 2 ^ h =
-    mod-lt (40 + n + 2 ^ h - 1) p in omega arith
+base_room : (h n : ℕ) → 0 < 2 ^ h → FIXED_CELLS + n ≤ heap_base h n
+base_room h n p = let m = mod-add-div' (FIXED_CELLS + n + 2 ^ h - 1) (2 ^ h) in
+    let r : (FIXED_CELLS + n + 2 ^ h - 1) % 2 ^ h < 2 ^ h =
+    mod-lt (FIXED_CELLS + n + 2 ^ h - 1) p in omega arith
 
 -- a memory in parts: cells of its own, others up to the heap's base, the heap, and what stands behind it
 module _ (h deep base : ℕ) (heads statics zeros words stack : List ℕ) (small : length heads ≤ 31)
-    (to_base : 40 + length statics + length zeros ≡ base) where
+    (to_base : FIXED_CELLS + length statics + length zeros ≡ base) where
   abbrev fixed : List ℕ
   fixed = fixed_cells h deep base heads
 
   abbrev memory : List ℕ
   memory = fixed ++ statics ++ zeros ++ words ++ stack
 
-  fixed_length : length fixed ≡ 40
+  fixed_length : length fixed ≡ FIXED_CELLS
   fixed_length =
       let pad : List ℕ = replicate (31 - length heads) 0 in
       let r : length pad ≡ 31 - length heads = length-replicate (31 - length heads) 0 in
@@ -150,7 +152,7 @@ module _ (h deep base : ℕ) (heads statics zeros words stack : List ℕ) (small
   memory_length = let f = before_length in let a = length-append (fixed ++ statics ++ zeros) words in let b =
       length-append (fixed ++ statics ++ zeros ++ words) stack in omega arith
 
-  in_front : (y : ℕ) → y < 40 → get_or memory y 0 ≡ get_or fixed y 0
+  in_front : (y : ℕ) → y < FIXED_CELLS → get_or memory y 0 ≡ get_or fixed y 0
   in_front y k =
       let f = fixed_length in
       let a = length-append fixed statics in let b = length-append (fixed ++ statics) zeros in let c =
@@ -218,7 +220,7 @@ module _ (program : Source) (limits : Limits) (statics : List ℕ) (store : Stor
   abbrev heads : List ℕ
   heads = map (first_address base) placing.book
 
-  pub room : 40 + n ≤ base
+  pub room : FIXED_CELLS + n ≤ base
   room = base_room h n (let p = pow_pos h in omega arith)
 
   heap : Heap base (2 ^ h) placing.book words
@@ -237,9 +239,9 @@ module _ (program : Source) (limits : Limits) (statics : List ℕ) (store : Stor
   pub small : length heads ≤ 31
   small = let e = heads_length in omega arith
 
-  pub to_base : 40 + length own + length zeros ≡ base
+  pub to_base : FIXED_CELLS + length own + length zeros ≡ base
   to_base =
-      let z : length zeros ≡ base - 40 - n = length-replicate (base - statics_at - n) 0 in
+      let z : length zeros ≡ base - FIXED_CELLS - n = length-replicate (base - statics_at - n) 0 in
       let o = own_length in let r = room in
       omega arith
 

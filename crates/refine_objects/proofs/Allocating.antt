@@ -3,6 +3,7 @@ use Rattle.std.proofs.Common.{◌≡◌, ◌≢◌, ◌∙◌, sym, ap, subst, r
 use Rattle.std.proofs.Common.{false, List, [], ◌∷◌, length, Option, Some, None, arith, append-nil}
 use Rattle.std.specs.Prelude.{is_none}
 use Rattle.std.specs.Option.{option_map}
+use Rattle.rpp_words.specs.declared.input.TheConstants.{FRAME_WORDS}
 use Rattle.rpp_tree.specs.declared.tree.Ident.{Ident}
 use Rattle.rpp_tree.specs.Tree.{Source}
 use Rattle.class_table.specs.Scope.{Locals}
@@ -50,7 +51,7 @@ module _ (p : Place) (routine : ℕ → Ident → ℕ) (linked : IsLinked p rout
   abbrev b : ℕ
   b = base p.setting p.statics
 
-  pub cells_low : b + 2 ^ h + 512 * p.setting.limits.deep ≤ 2 ^ 23
+  pub cells_low : b + 2 ^ h + FRAME_WORDS * p.setting.limits.deep ≤ 2 ^ 23
   cells_low = cells_small (setup p.setting p.statics) g.limits linked.few
 
   base_low : b ≤ 2 ^ 21
@@ -153,7 +154,7 @@ module _ (p : Place) (routine : ℕ → Ident → ℕ) (linked : IsLinked p rout
             is_taken = order_in-with block order t.placed.taken unused;
             address_small = omega (arith, f, c);
           })
-          (filled_to p.setting p.statics (512 * p.setting.limits.deep) words) low n
+          (filled_to p.setting p.statics (FRAME_WORDS * p.setting.limits.deep) words) low n
           (subst (λ z. length z ≤ low) (sym (append-nil (before_stack p.setting p.statics at st.store))) long) inside
           (memory_small p.setting p.statics at st.store after t.placed.taken later_taken t.placed.kept later_kept
           cells_low words).count
@@ -169,7 +170,7 @@ module _ (p : Place) (routine : ℕ → Ident → ℕ) (linked : IsLinked p rout
         lacks object frame order a v sh object_small frame_small order_small place_small length_small left p.im
         linked.allocator.top linked.allocator.body linked.allocator.law linked.allocator.routine linked.tidy from P
         p.setting.limits p.statics st.store at t.placed.taken
-        (filled_to p.setting p.statics (512 * p.setting.limits.deep) words) low n heap_placed none
+        (filled_to p.setting p.statics (FRAME_WORDS * p.setting.limits.deep) words) low n heap_placed none
         (subst (λ z. length z ≤ low) (sym (append-nil (before_stack p.setting p.statics at st.store))) long) inside
 
   -- where a request finds none, there is none

@@ -6,6 +6,7 @@ use Rattle.std.proofs.lemmas.Bool.Decides.{nat_tests}
 use Rattle.std.proofs.lemmas.List.{length-replicate}
 use Rattle.std.specs.Prelude.{replicate, Ok}
 use Rattle.std.specs.Option.{option_map}
+use Rattle.code_conventions.specs.declared.memory.TheConstants.{HEADER_WORDS}
 use Rattle.rpp_words.specs.Words.{is_less}
 use Rattle.rpp_tree.specs.declared.tree.Ident.{Ident}
 use Rattle.rpp_tree.specs.Tree.{Expression, Lvalue, Whole, Item, Creation, Ints, Objects, New, Delete, Source}
@@ -211,7 +212,7 @@ module _ (p : Place) (routine : ℕ → Ident → ℕ) (linked : IsLinked p rout
           (subst (λ z. facts.is_full p.setting z st ≡ false) (sym many) not_full)
           (let e = mark in omega (arith, e, v_small))
           v v (order_of_cells v) n Lengthy (sym many) (ap order_of_cells (sym many)) (sym (length-replicate v first))
-          (sym mark) (omega (arith, v_small)) (order_word (2 + v)) tt
+          (sym mark) (omega (arith, v_small)) (order_word (HEADER_WORDS + v)) tt
 
     abbrev C : Context p.setting
     C = good_context p.setting p.statics few s h.keeps.class_inside u st m.cells h
@@ -232,7 +233,7 @@ module _ (p : Place) (routine : ℕ → Ident → ℕ) (linked : IsLinked p rout
         → Lacks p.im u.object F (order_of_cells v) (at st) v Lengthy (free_at free m) n
         (most_steps p.setting.limits.heap + 7) m.cells
     lacks v v_small full = lacks_block p routine linked classes s u st m r (own st) array has v v n Lengthy v_small
-        (order_word (2 + v)) tt full
+        (order_word (HEADER_WORDS + v)) tt full
 
     -- ---- an array given back
 
@@ -245,7 +246,7 @@ module _ (p : Place) (routine : ℕ → Ident → ℕ) (linked : IsLinked p rout
           gives_block p routine linked classes s u st m r (own st) array has (no_int P array element head first arrays)
           k named single zeros
           v (order_of_cells v) n Lengthy (ap order_of_cells (sym is ∙ many_kinds k named)) (sym is)
-          (sym (marked k named ∙ is)) (omega (arith, l, is)) (order_word (2 + v)) tt
+          (sym (marked k named ∙ is)) (omega (arith, l, is)) (order_word (HEADER_WORDS + v)) tt
 
       freed_same : SameValues P st (freed p.setting (own st) k st) size
       freed_same =

@@ -7,6 +7,8 @@ use Rattle.std.proofs.lemmas.List.{get_or-set_other}
 use Rattle.std.specs.Prelude.{nat_eq, nat_lt, nat_le, is_none, ◌||◌, ◌&&◌, slice_get, slice_index, slice_set}
 use Rattle.std.specs.Prelude.{if◌then◌else◌}
 use Rattle.std.specs.Option.{option_map, unwrap_or}
+use Rattle.rpp_words.specs.declared.input.TheConstants.{FRAME_WORDS}
+use Rattle.code_conventions.specs.declared.memory.TheConstants.{FIRST_VARIABLE, HEADER_WORDS}
 use Rattle.pisa_isa.specs.Machine.{Memory}
 use Rattle.rpp_tree.specs.declared.tree.Ident.{Ident}
 use Rattle.rpp_tree.specs.Tree.{Source}
@@ -142,12 +144,12 @@ module _ (p : Place) (routine : ℕ → Ident → ℕ) (linked : IsLinked p rout
     t = typed p.setting p.statics s u [] st m.cells (reads_of r.open_frame)
 
     abbrev low : ℕ
-    low = F + (16 + length s.vars)
+    low = F + (FIRST_VARIABLE + length s.vars)
 
     low_is : free_at free m ≡ low
     low_is = ap (free_at free) (known p classes s u st m r)
 
-    small : base p.setting p.statics + 2 ^ p.setting.limits.heap + 512 * p.setting.limits.deep ≤ 2 ^ 23
+    small : base p.setting p.statics + 2 ^ p.setting.limits.heap + FRAME_WORDS * p.setting.limits.deep ≤ 2 ^ 23
     small = cells_small (setup p.setting p.statics) h.keeps.grounded.limits linked.few
 
     same : h.keeps.placed.at ≡ h.frame.at
@@ -224,7 +226,7 @@ module _ (p : Place) (routine : ℕ → Ident → ℕ) (linked : IsLinked p rout
       sized = all_length P st.store (cell_kinds P (object_at st.store name).head) (object_at st.store name).cells
           (h.keeps.objects name (object_at st.store name) (live_object st.store name f.live))
 
-      pub object_inside : Ad st name + 2 + length_at st name ≤ stack_base p.setting p.statics
+      pub object_inside : Ad st name + HEADER_WORDS + length_at st name ≤ stack_base p.setting p.statics
       object_inside =
           let i = region_inside p.setting st.store st.log h.keeps.placed name (object_at st.store name).head
           (ap (option_map head_of) (live_object st.store name f.live)) f.no_main in
@@ -234,7 +236,7 @@ module _ (p : Place) (routine : ℕ → Ident → ℕ) (linked : IsLinked p rout
           omega (arith, i, b, a, l)
 
       full : is_empty st name ≡ false → (i : ℕ) × (i < length_at st name)
-          × (slice_index m.cells (Ad st name + 2 + i) ≢ 0)
+          × (slice_index m.cells (Ad st name + HEADER_WORDS + i) ≢ 0)
       full some =
           let z = not_zero (object_at st.store name).cells some in
           let l = sized in
@@ -243,7 +245,7 @@ module _ (p : Place) (routine : ℕ → Ident → ℕ) (linked : IsLinked p rout
           let has : cell_kind P (shape_of P s) st.store (Part name z.at) ≡ Some k.kind =
           ap (λ o. part_kind P o z.at) (ap (option_map head_of) (live_object st.store name f.live)) ∙ k.is in
           let holds = cell_holds p classes s u st m.cells rd (Part name z.at) k.kind has in
-          let e : Ad st name + 2 + z.at ≡ Ad st name + z.at + 2 = omega arith in (
+          let e : Ad st name + HEADER_WORDS + z.at ≡ Ad st name + z.at + HEADER_WORDS = omega arith in (
             z.at,
             z.inside,
             λ q. no_zero (read st (Part name z.at)) z.some

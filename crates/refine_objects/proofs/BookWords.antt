@@ -4,6 +4,7 @@ use Rattle.std.proofs.Common.{⊎_elim, List, [], ◌∷◌, ◌++◌, map, leng
 use Rattle.std.proofs.lemmas.Bool.{cases_lt}
 use Rattle.std.proofs.lemmas.List.{length-map, length-replicate, get_or_append_left, get_or-append_right}
 use Rattle.std.specs.Prelude.{slice_index, replicate}
+use Rattle.rpp_words.specs.declared.input.TheConstants.{FRAME_WORDS}
 use Rattle.rpp_tree.specs.Tree.{Source}
 use Rattle.buddy_book.specs.Book.{Book}
 use Rattle.buddy_book.specs.Place.{Placing}
@@ -137,7 +138,7 @@ module _ (setting : Setting) (statics : List ℕ) (at : Placing) (store : Store)
       free = at.book;
       taken = taken;
     })) (kept' : IsKept (record { h = setting.limits.heap; base = 0; free = book; taken = taken' }))
-    (low : base setting statics + 2 ^ setting.limits.heap + 512 * setting.limits.deep ≤ 2 ^ 23) where
+    (low : base setting statics + 2 ^ setting.limits.heap + FRAME_WORDS * setting.limits.deep ≤ 2 ^ 23) where
   abbrev pub rebooked : Placing
   rebooked = record { book = book; blocks = at.blocks }
 
@@ -175,7 +176,7 @@ module _ (setting : Setting) (statics : List ℕ) (at : Placing) (store : Store)
       small_words (heads at.book) (heads book) (length_heads book kept'.lists ∙ sym (length_heads at.book kept.lists))
       (words_cons 0 _ z (words_cons setting.limits.heap _ (omega (arith, t))
       (words_cons n _ (omega (arith, low)) (words_cons (n + size) _ (omega (arith, low))
-      (words_cons (n + size + 512 * setting.limits.deep) _ (omega (arith, low))
+      (words_cons (n + size + FRAME_WORDS * setting.limits.deep) _ (omega (arith, low))
       (words_cons 0 _ z (words_cons 0 _ z
       (words_cons 0 _ z (words_cons 0 _ z tail)))))))))
 
@@ -201,7 +202,7 @@ module _ (setting : Setting) (statics : List ℕ) (at : Placing) (store : Store)
   pub memory_small : (stack : List ℕ) → Small (memory setting statics at store stack)
       (memory setting statics rebooked store stack)
   memory_small stack =
-      let rest = filled_to setting statics (512 * setting.limits.deep) stack in
+      let rest = filled_to setting statics (FRAME_WORDS * setting.limits.deep) stack in
       small_append (before_stack setting statics at store) rest (before_stack setting statics rebooked store) rest
       before_small (small_same rest)
 
@@ -214,7 +215,7 @@ module _ (setting : Setting) (statics : List ℕ) (at : Placing) (store : Store)
       → slice_index (memory setting statics rebooked store stack) a
       ≡ slice_index (memory setting statics at store stack) a
   memory_above stack a l =
-      let rest = filled_to setting statics (512 * setting.limits.deep) stack in
+      let rest = filled_to setting statics (FRAME_WORDS * setting.limits.deep) stack in
       get_or-append_right (before_stack setting statics rebooked store) rest
       (length (before_stack setting statics at store)) a 0 before_small.count l
       ∙ sym (get_or-append_right (before_stack setting statics at store) rest

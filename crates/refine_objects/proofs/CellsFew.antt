@@ -5,6 +5,7 @@ use Rattle.std.proofs.Common.{[], ◌∷◌, ◌++◌, map, length, Some, arith}
 use Rattle.std.proofs.lemmas.List.{length-map}
 use Rattle.std.specs.Prelude.{nat_eq, slice_index, if◌then◌else◌}
 use Rattle.std.specs.Option.{unwrap_or, option_map}
+use Rattle.code_conventions.specs.declared.memory.TheConstants.{HEADER_WORDS}
 use Rattle.buddy_book.specs.Place.{Log, Placing, count_taken}
 use Rattle.buddy_book.specs.Shown.{TakenBlocks, order_in, without_taken, size_of, taken_weight}
 use Rattle.buddy_book.proofs.Requests.{order_in-without_other}
@@ -83,7 +84,7 @@ module _ (setting : Setting) (store : Store) (log : Log) (p : IsPlaced setting s
   abbrev main_size : ℕ
   main_size = length (object_at store main_name).cells
 
-  room_most : (n w x y t : ℕ) → 2 + n ≤ w → x ≡ w + y → t ≤ main_size + y → n + t ≤ main_size + x
+  room_most : (n w x y t : ℕ) → HEADER_WORDS + n ≤ w → x ≡ w + y → t ≤ main_size + y → n + t ≤ main_size + x
   room_most n w x y t a b c = omega (arith, a, b, c)
 
   few_in : (bound top : ℕ) (part : Store) (blocks : List (ℕ × ℕ)) (taken : TakenBlocks)
@@ -118,7 +119,7 @@ module _ (setting : Setting) (store : Store) (log : Log) (p : IsPlaced setting s
       let r = few_in m n part blocks (without_taken x taken) rest d.1 b.2 a.2 (part_less store part bound m o d h)
       (orders_without p.taken taken x blocks apart s.1) in
       room_most (length o.cells) (2 ^ order) (taken_weight size_of taken) (taken_weight size_of (without_taken x taken))
-      (cells_in part) (subst (λ k. 2 + k ≤ 2 ^ order) (sym long) room) w r
+      (cells_in part) (subst (λ k. HEADER_WORDS + k ≤ 2 ^ order) (sym long) room) w r
 
   -- no more cells than those of the main object, and a heap of words
   few_cells : Descending (2 + count_taken log) store → cells_in store ≤ main_size + 2 ^ setting.limits.heap

@@ -5,6 +5,8 @@ use Rattle.std.proofs.Common.{Some, refl, sym, ap, ◌∙◌, arith}
 use Rattle.std.proofs.lemmas.Bool.{eqb-true}
 use Rattle.std.specs.Prelude.{nat_eq, slice_index, if◌then◌else◌}
 use Rattle.std.specs.Option.{unwrap_or, option_map}
+use Rattle.rpp_words.specs.declared.input.TheConstants.{FRAME_WORDS}
+use Rattle.code_conventions.specs.declared.memory.TheConstants.{FIRST_VARIABLE, HEADER_WORDS}
 use Rattle.class_table.specs.declared.kind.Kind.{Kind}
 use Rattle.buddy_book.specs.Place.{Placing, block_of}
 use Rattle.pisa_isa.specs.Loaded.{statics_at}
@@ -62,7 +64,7 @@ module _ (setting : Setting) (statics : List ℕ) (s : Scope) (u : Under) (st : 
   pub above_nil : (n : ℕ) → IsRefers n → address_of setting statics at n ≢ 0
   above_nil n r z = let a = at_block n r in let b = base_above x in omega (arith, a, b, z)
 
-  region : (n : ℕ) → IsRefers n → block_of at.blocks n + 2 ≤ 2 ^ setting.limits.heap
+  region : (n : ℕ) → IsRefers n → block_of at.blocks n + HEADER_WORDS ≤ 2 ^ setting.limits.heap
   region n r =
       let inside = region_inside setting st.store st.log h.keeps.placed n (object_at st.store n).head
       (ap (option_map head_of) (live_object st.store n r.live)) r.no_main in
@@ -132,11 +134,12 @@ module _ (setting : Setting) (statics : List ℕ) (s : Scope) (u : Under) (st : 
   cell_is (Slot i) =
       let d = h.frame.depth_is in
       let z : length u.callers ≡ st.depth - 1 = omega (arith, d) in
-      let e : stack_base setting statics + 512 * length u.callers + (16 + (length st.frame - 1 - i))
-      ≡ stack_base setting statics + 512 * (st.depth - 1) + (16 + (length st.frame - 1 - i)) =
-      ap (λ j. stack_base setting statics + 512 * j + (16 + (length st.frame - 1 - i))) z in
+      let e : stack_base setting statics + FRAME_WORDS * length u.callers + (FIRST_VARIABLE + (length st.frame - 1 - i))
+      ≡ stack_base setting statics + FRAME_WORDS * (st.depth - 1) + (FIRST_VARIABLE + (length st.frame - 1 - i)) =
+      ap (λ j. stack_base setting statics + FRAME_WORDS * j + (FIRST_VARIABLE + (length st.frame - 1 - i))) z in
       e
-  cell_is (Part n i) = let z : address_of setting statics at n + (2 + i) ≡ address_of setting statics at n + 2 + i =
+  cell_is (Part n i) = let z : address_of setting statics at n + (HEADER_WORDS + i)
+      ≡ address_of setting statics at n + HEADER_WORDS + i =
       omega arith in z
 
   pub cells_apart : (a b : Cell) (k l : Kind) → HasKind a k → HasKind b l → same_cell a b ≡ false

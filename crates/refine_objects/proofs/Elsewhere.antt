@@ -1,6 +1,7 @@
 -- Where no frame names an object, its going or coming changes no word of the stack, and no frame below.
 use Rattle.std.proofs.Common.{◌≡◌, ◌≢◌, ◌∙◌, ap, refl, ℕ, ◌+◌, ◌<◌, true, List, [], ◌∷◌, ◌++◌, map, arith}
 use Rattle.std.specs.Prelude.{nat_eq, is_some, if◌then◌else◌}
+use Rattle.rpp_words.specs.declared.input.TheConstants.{FRAME_WORDS}
 use Rattle.class_table.specs.declared.kind.Kind.TheVariants as kind
 use Rattle.buddy_book.specs.Place.{Placing, block_of}
 use Rattle.pisa_isa.specs.Loaded.{statics_at}
@@ -44,7 +45,7 @@ module _ (setting : Setting) (statics : List ℕ) (at at' : Placing) (n : ℕ)
   frame_same : (put_by : List ℕ) (frame : List Binding) → holders_among n (map value_of frame) ≡ 0
       → frame_words setting statics at' put_by (values_of setting statics frame)
       ≡ frame_words setting statics at put_by (values_of setting statics frame)
-  frame_same put_by frame h = ap (λ z. filled_to setting statics 512 (put_by ++ z))
+  frame_same put_by frame h = ap (λ z. filled_to setting statics FRAME_WORDS (put_by ++ z))
       (words_same (values_of setting statics frame) h)
 
   callers_same : (callers : List Caller) → Avoids n callers

@@ -4,6 +4,8 @@ use Rattle.std.proofs.Common.{true, false, List, [], ◌∷◌, length, Some, No
 use Rattle.std.specs.Prelude.{nat_eq, is_some, slice_get, slice_index, slice_set, not}
 use Rattle.std.specs.Option.{option_map, unwrap_or}
 use Rattle.std.proofs.lemmas.List.{set-set, set-get_or, get_or-set_other, get_or-set_same}
+use Rattle.rpp_words.specs.declared.input.TheConstants.{FRAME_WORDS}
+use Rattle.code_conventions.specs.declared.memory.TheConstants.{FIRST_VARIABLE, HEADER_WORDS}
 use Rattle.class_table.specs.declared.kind.Kind.{Kind}
 use Rattle.class_table.specs.declared.kind.Kind.TheVariants as kind
 use Rattle.class_table.specs.Expressions.{is_int}
@@ -298,9 +300,10 @@ module _ (setting : Setting) (statics : List ℕ) (s : Scope) (u : Under) (st : 
       ∙ ap (slice_set cells place_at) (sym place_word) ∙ set-get_or cells place_at 0 in
       sym one ∙ ap (λ z. slice_set z place_at x) nil_cells_are
 
-  pub taken_zero : (i : ℕ) → i < 2 + length (object_at st.store n).cells → slice_index taken (x + i) ≡ 0
+  pub taken_zero : (i : ℕ) → i < HEADER_WORDS + length (object_at st.store n).cells → slice_index taken (x + i) ≡ 0
   taken_zero i l = bare_zero setting statics s u cleared (slice_set cells place_at 0) nil_reads.keeps nil_reads.frame n
-      live_now no_main unheld_now avoids i (subst (λ (o : Object). i < 2 + length o.cells) (sym object_same) l)
+      live_now no_main unheld_now avoids i (subst (λ (o : Object). i < HEADER_WORDS + length o.cells) (sym object_same)
+      l)
 
   -- the block was taken with this order
   back : GivenBack (record {
@@ -327,7 +330,7 @@ module _ (setting : Setting) (statics : List ℕ) (s : Scope) (u : Under) (st : 
   takes_again = gave.undone
 
   pub outside : (place_of setting statics before u cleared cell < x)
-      ⊎ (x + (2 + length (object_at cleared.store n).cells) ≤ place_of setting statics before u cleared cell)
+      ⊎ (x + (HEADER_WORDS + length (object_at cleared.store n).cells) ≤ place_of setting statics before u cleared cell)
   outside =
       cell_outside setting statics s u cleared (slice_set cells place_at 0) nil_reads.keeps nil_reads.frame n live_now
       no_main unheld_now cell k
@@ -338,7 +341,8 @@ module _ (setting : Setting) (statics : List ℕ) (s : Scope) (u : Under) (st : 
   taken_words : (a : ℕ) → slice_index taken a < 2 ^ 32
   taken_words a = by (nat_eq a x) refl (nat_eq a (x + 1)) refl
     where
-      zero_at : (i : ℕ) → i < 2 + length (object_at st.store n).cells → a ≡ x + i → slice_index taken a < 2 ^ 32
+      zero_at : (i : ℕ) → i < HEADER_WORDS + length (object_at st.store n).cells → a ≡ x + i
+          → slice_index taken a < 2 ^ 32
       zero_at i l e = subst (λ z. z < 2 ^ 32) (sym (ap (slice_index taken) e ∙ taken_zero i l)) (omega arith)
 
       by : (b : Bool) → nat_eq a x ≡ b → (c : Bool) → nat_eq a (x + 1) ≡ c → slice_index taken a < 2 ^ 32
@@ -350,7 +354,7 @@ module _ (setting : Setting) (statics : List ℕ) (s : Scope) (u : Under) (st : 
           let second = get_or-set_other taken x a mark 0 (Rattle.meaning_sound.proofs.Stores.differs a x e) in
           subst (λ z. z < 2 ^ 32) (ap (λ z. slice_index z a) nil_cells_are ∙ first ∙ second) (nil_reads.words a)
 
-  module _ (low : base setting statics + 2 ^ setting.limits.heap + 512 * setting.limits.deep ≤ 2 ^ 23) where
+  module _ (low : base setting statics + 2 ^ setting.limits.heap + FRAME_WORDS * setting.limits.deep ≤ 2 ^ 23) where
     pub given_words : (a : ℕ) → slice_index given a < 2 ^ 32
     given_words =
         let from = order_from_one (length (cell_kinds setting.program (object_at st.store n).head)) in
@@ -377,7 +381,7 @@ module _ (setting : Setting) (statics : List ℕ) (s : Scope) (u : Under) (st : 
     -- ---- the block that was taken
 
     abbrev pub low_word : ℕ
-    low_word = frame_address setting statics u + (16 + length s.vars)
+    low_word = frame_address setting statics u + (FIRST_VARIABLE + length s.vars)
 
     abbrev small_reads : Reads setting statics s u [] small given
     small_reads = record { frame = small_frame; keeps = small_keeps; words = given_words }
@@ -395,14 +399,15 @@ module _ (setting : Setting) (statics : List ℕ) (s : Scope) (u : Under) (st : 
       where
         by : (c : Cell) → place_of setting statics before u (written st c Nil) c
             ≡ place_of setting statics before u st c
-        by (Slot i) = ap (λ l. frame_address setting statics u + (16 + (l - 1 - i))) (length_with st.frame i Nil)
+        by (Slot i) = ap (λ l. frame_address setting statics u + (FIRST_VARIABLE + (l - 1 - i)))
+            (length_with st.frame i Nil)
         by (Part m i) = refl
 
-    out : (place_at < x) ⊎ (x + (2 + length (object_at st.store n).cells) ≤ place_at)
+    out : (place_at < x) ⊎ (x + (HEADER_WORDS + length (object_at st.store n).cells) ≤ place_at)
     out =
-        subst (λ a. (a < x) ⊎ (x + (2 + length (object_at st.store n).cells) ≤ a)) place_now
+        subst (λ a. (a < x) ⊎ (x + (HEADER_WORDS + length (object_at st.store n).cells) ≤ a)) place_now
         (subst (λ (o : Object). (place_of setting statics before u cleared cell < x)
-        ⊎ (x + (2 + length o.cells) ≤ place_of setting statics before u cleared cell)) object_same outside)
+        ⊎ (x + (HEADER_WORDS + length o.cells) ≤ place_of setting statics before u cleared cell)) object_same outside)
 
     pub place_low : place_at < low_word
     place_low = let c = cell_low setting statics s u [] st cells (reads_of h) cell k has in let v =
@@ -417,8 +422,8 @@ module _ (setting : Setting) (statics : List ℕ) (s : Scope) (u : Under) (st : 
         ∙ get_or-set_other taken x place_at mark 0 apart_x)
         ∙ get_or-set_same cells place_at 0 0 (cell_inside setting statics s u [] st cells (reads_of h) cell k has)
 
-    pub x_inside : x + (2 + length (object_at st.store n).cells) ≤ stack_base setting statics
-    x_inside = subst (λ (o : Object). x + (2 + length o.cells) ≤ stack_base setting statics) object_same
+    pub x_inside : x + (HEADER_WORDS + length (object_at st.store n).cells) ≤ stack_base setting statics
+    x_inside = subst (λ (o : Object). x + (HEADER_WORDS + length o.cells) ≤ stack_base setting statics) object_same
         (block_inside setting statics s u cleared (slice_set cells place_at 0) nil_reads.keeps nil_reads.frame n
         live_now no_main unheld_now)
 
@@ -449,7 +454,7 @@ module _ (setting : Setting) (statics : List ℕ) (s : Scope) (u : Under) (st : 
         by : (c : Cell) → ((m i : ℕ) → c ≡ Part m i → n ≢ m)
             → place_of setting statics after u small c ≡ place_of setting statics before u cleared c
         by (Slot i) other = refl
-        by (Part m i) other = ap (λ a. a + (2 + i)) (address_same setting statics before after n blocks m
+        by (Part m i) other = ap (λ a. a + (HEADER_WORDS + i)) (address_same setting statics before after n blocks m
             (other m i refl))
 
     given_nil : slice_index given place_at ≡ 0

@@ -29,6 +29,8 @@ use Rattle.refine_form.specs.Stands.{shape_of, extra, setup, HasElements, Caller
 use Rattle.refine_calls.proofs.Bridge.{typed, reads_of, same_at, set_words, before_long, as_many_vars}
 use Rattle.refine_calls.proofs.MovesFit.{frame_address, place_of, class_at, frame_read, cell_low}
 use Rattle.std.proofs.lemmas.List.{get_or-set_other}
+use Rattle.rpp_words.specs.declared.input.TheConstants.{FRAME_WORDS}
+use Rattle.code_conventions.specs.declared.memory.TheConstants.{FIRST_VARIABLE, HEADER_WORDS}
 use Rattle.refine_frame.proofs.Memory.{base_above}
 use Rattle.refine_expressions.proofs.CellsWritten.{reads_after}
 use Rattle.refine_objects.proofs.BookWords.{memory_small, memory_words, memory_above}
@@ -64,7 +66,7 @@ module _ (setting : Setting) (statics : List ℕ) (s : Scope) (u : Under) (st : 
     (place setting.limits.heap (Taken (2 + count_taken st.log)
     (order_of_cells (length (cell_kinds setting.program head))) ∷ st.log))) ≡ false)
     (mark_small : head_word setting.program head < 2 ^ 32)
-    (low : base setting statics + 2 ^ setting.limits.heap + 512 * setting.limits.deep ≤ 2 ^ 23) where
+    (low : base setting statics + 2 ^ setting.limits.heap + FRAME_WORDS * setting.limits.deep ≤ 2 ^ 23) where
   abbrev P : Source
   P = setting.program
 
@@ -251,13 +253,13 @@ module _ (setting : Setting) (statics : List ℕ) (s : Scope) (u : Under) (st : 
       block_is
       ∙ ap (λ (o : Object). slice_set (slice_set taken x (head_word setting.program o.head)) (x + 1) 1) object_is
 
-  pub taken_zero : (i : ℕ) → i < 2 + length values → slice_index taken (x + i) ≡ 0
+  pub taken_zero : (i : ℕ) → i < HEADER_WORDS + length values → slice_index taken (x + i) ≡ 0
   taken_zero i l =
       ap (λ z. slice_index z (x + i)) (sym bare_is) ∙ ap (λ b. slice_index
       (bare setting statics s u big big_cells big_keeps big_frame n live_new no_main unheld_new) (b + i))
       (sym block_is)
       ∙ bare_zero setting statics s u big big_cells big_keeps big_frame n live_new no_main unheld_new avoids i
-      (subst (λ (o : Object). i < 2 + length o.cells) (sym object_is) l)
+      (subst (λ (o : Object). i < HEADER_WORDS + length o.cells) (sym object_is) l)
 
   -- ---- the state after it
 
@@ -329,7 +331,7 @@ module _ (setting : Setting) (statics : List ℕ) (s : Scope) (u : Under) (st : 
       by : (c : Cell) → cell_kind setting.program (shape_of setting.program s) st.store c ≡ Some k
           → place_of setting statics at' u big c ≡ place_of setting statics h.keeps.placed.at u st c
       by (Slot i) q = refl
-      by (Part m i) q = ap (λ a. a + (2 + i)) (address_same setting statics h.keeps.placed.at at' n blocks m
+      by (Part m i) q = ap (λ a. a + (HEADER_WORDS + i)) (address_same setting statics h.keeps.placed.at at' n blocks m
           (λ e. clash (is_live st.store n) (ap (is_live st.store) e ∙ live (head_named st.store m) i q) dead))
 
   pub name_word : value_word setting statics at' (Name n) ≡ x
@@ -370,17 +372,19 @@ module _ (setting : Setting) (statics : List ℕ) (s : Scope) (u : Under) (st : 
       })
 
   -- the place stands outside the block
-  pub made_outside : (place_at < x) ⊎ (x + (2 + length values) ≤ place_at)
+  pub made_outside : (place_at < x) ⊎ (x + (HEADER_WORDS + length values) ≤ place_at)
   made_outside =
       let c = cell_outside setting statics s u big big_cells big_keeps big_frame n live_new no_main unheld_new cell k
       has_big (λ m i e q. clash (is_live st.store n) (live_part m i
       (subst (λ z. cell_kind setting.program (shape_of setting.program s) st.store z ≡ Some k) e has) q) dead)
       in
-      subst (λ a. (a < x) ⊎ (x + (2 + length values) ≤ a)) place_same
+      subst (λ a. (a < x) ⊎ (x + (HEADER_WORDS + length values) ≤ a)) place_same
       (subst (λ l. (place_of setting statics at' u big cell < x)
-      ⊎ (x + (2 + l) ≤ place_of setting statics at' u big cell)) (ap (λ (o : Object). length o.cells) object_is)
+      ⊎ (x + (HEADER_WORDS + l) ≤ place_of setting statics at' u big cell))
+      (ap (λ (o : Object). length o.cells) object_is)
       (subst (λ y. (place_of setting statics at' u big cell < y)
-      ⊎ (y + (2 + length (object_at big.store n).cells) ≤ place_of setting statics at' u big cell)) block_is c))
+      ⊎ (y + (HEADER_WORDS + length (object_at big.store n).cells) ≤ place_of setting statics at' u big cell)) block_is
+      c))
     where
       live_part : (m i : ℕ) → cell_kind setting.program (shape_of setting.program s) st.store (Part m i) ≡ Some k
           → n ≡ m → is_live st.store n ≡ true
@@ -394,7 +398,7 @@ module _ (setting : Setting) (statics : List ℕ) (s : Scope) (u : Under) (st : 
   -- ---- the block that is taken
 
   abbrev pub low_word : ℕ
-  low_word = frame_address setting statics u + (16 + length s.vars)
+  low_word = frame_address setting statics u + (FIRST_VARIABLE + length s.vars)
 
   cells_now : cells ≡ memory setting statics h.keeps.placed.at st.store
       (stack_words setting statics h.keeps.placed.at u st.frame [])
@@ -410,11 +414,11 @@ module _ (setting : Setting) (statics : List ℕ) (s : Scope) (u : Under) (st : 
       (let c = cell_low setting statics s u [] st cells r cell k has in
       let v = as_many_vars setting statics s u [] st cells r in omega (arith, c, v))
 
-  pub x_inside : x + (2 + length values) ≤ stack_base setting statics
+  pub x_inside : x + (HEADER_WORDS + length values) ≤ stack_base setting statics
   x_inside =
-      subst (λ y. y + (2 + length values) ≤ stack_base setting statics) block_is
+      subst (λ y. y + (HEADER_WORDS + length values) ≤ stack_base setting statics) block_is
       (subst (λ l. Rattle.refine_objects.proofs.MadeMemory.block setting statics s u big big_cells big_keeps big_frame n
-      live_new no_main unheld_new + (2 + l) ≤ stack_base setting statics)
+      live_new no_main unheld_new + (HEADER_WORDS + l) ≤ stack_base setting statics)
       (ap (λ (o : Object). length o.cells) object_is)
       (block_inside setting statics s u big big_cells big_keeps big_frame n live_new no_main unheld_new))
 

@@ -8,6 +8,8 @@ use Rattle.std.proofs.lemmas.List.{length-map, length-replicate}
 use Rattle.std.specs.Prelude.{nat_eq, slice_index, slice_set, replicate, if◌then◌else◌}
 use Rattle.pisa_isa.specs.Loaded.{statics_at}
 use Rattle.std.specs.Option.{option_map}
+use Rattle.rpp_words.specs.declared.input.TheConstants.{FRAME_WORDS}
+use Rattle.code_conventions.specs.declared.memory.TheConstants.{HEADER_WORDS}
 use Rattle.class_table.specs.declared.kind.Kind.{Kind}
 use Rattle.rpp_tree.specs.Tree.{Source}
 use Rattle.buddy_book.specs.Place.{Placing, block_of, without_name}
@@ -80,11 +82,11 @@ module _ (setting : Setting) (statics : List ℕ) (s : Scope) (u : Under) (st : 
       (object_at st.store n).cells (k.objects n (object_at st.store n) (live_object st.store n live))
 
   long : length (object_words setting.program (base setting statics) at.blocks (object_at st.store n))
-      ≡ 2 + length (object_at st.store n).cells
+      ≡ HEADER_WORDS + length (object_at st.store n).cells
   long = length_words setting.program (base setting statics) at.blocks (object_at st.store n)
 
   -- the block lies in the heap
-  pub block_inside : block + (2 + fields) ≤ stack_base setting statics
+  pub block_inside : block + (HEADER_WORDS + fields) ≤ stack_base setting statics
   block_inside = let r = region_inside setting st.store st.log k.placed n (object_at st.store n).head named no_main in
       omega (arith, r, sized)
 
@@ -98,7 +100,7 @@ module _ (setting : Setting) (statics : List ℕ) (s : Scope) (u : Under) (st : 
   callers_stand = subst (λ (a : Placing). CallersStand setting statics a st.store u.callers) (sym same_at)
       f.callers_stand
 
-  stack_long : length stack ≡ 512 * st.depth
+  stack_long : length stack ≡ FRAME_WORDS * st.depth
   stack_long =
       let c = length_callers setting statics at st.store u.callers callers_stand in
       let o = length_frame setting statics at u.put_by (values_of setting statics st.frame) f.put_long
@@ -110,19 +112,19 @@ module _ (setting : Setting) (statics : List ℕ) (s : Scope) (u : Under) (st : 
       let d = f.depth_is in
       omega (arith, a, b, c, o, d)
 
-  fits : length stack ≤ 512 * setting.limits.deep
+  fits : length stack ≤ FRAME_WORDS * setting.limits.deep
   fits = let l = stack_long in let i = f.in_depth in omega (arith, l, i)
 
   cells_are : cells ≡ memory setting statics at st.store stack
   cells_are = f.cells_are ∙ ap (λ (a : Placing). memory setting statics a st.store
       (stack_words setting statics a u st.frame [])) (sym same_at)
 
-  pub cells_long : length cells ≡ stack_base setting statics + 512 * setting.limits.deep
+  pub cells_long : length cells ≡ stack_base setting statics + FRAME_WORDS * setting.limits.deep
   cells_long =
       let a = length-append (before_stack setting statics at st.store)
-      (filled_to setting statics (512 * setting.limits.deep) stack) in
-      let b = length-append stack (replicate (512 * setting.limits.deep - length stack) 0) in
-      let c = length-replicate {A = ℕ} (512 * setting.limits.deep - length stack) 0 in
+      (filled_to setting statics (FRAME_WORDS * setting.limits.deep) stack) in
+      let b = length-append stack (replicate (FRAME_WORDS * setting.limits.deep - length stack) 0) in
+      let c = length-replicate {A = ℕ} (FRAME_WORDS * setting.limits.deep - length stack) 0 in
       let d : length (before_stack setting statics at st.store) ≡ stack_base setting statics =
       subst (λ (a : Placing). length (before_stack setting statics a st.store) ≡ stack_base setting statics)
       (sym same_at) (long_by setting statics s u [] st k [] cells f) in
@@ -152,7 +154,7 @@ module _ (setting : Setting) (statics : List ℕ) (s : Scope) (u : Under) (st : 
         (object_words setting.program (base setting statics) at.blocks (object_at st.store n)))
 
     -- all is zero in its block
-    pub bare_zero : (i : ℕ) → i < 2 + fields → slice_index bare (block + i) ≡ 0
+    pub bare_zero : (i : ℕ) → i < HEADER_WORDS + fields → slice_index bare (block + i) ≡ 0
     bare_zero i l =
         ap (λ z. slice_index z (block + i)) (bare_is ∙ sym (same_memory setting statics less (without st.store n) stack
         fits))
@@ -177,7 +179,7 @@ module _ (setting : Setting) (statics : List ℕ) (s : Scope) (u : Under) (st : 
   -- a cell of another object, or of the frame, stands outside the block
   pub cell_outside : (c : Cell) (kd : Kind) → cell_kind setting.program (shape_of setting.program s) st.store c
       ≡ Some kd → ((m i : ℕ) → c ≡ Part m i → n ≢ m) → (place_of setting statics at u st c < block)
-      ⊎ (block + (2 + fields) ≤ place_of setting statics at u st c)
+      ⊎ (block + (HEADER_WORDS + fields) ≤ place_of setting statics at u st c)
   cell_outside (Slot i) kd has other = inr (let b = block_inside in omega (arith, b))
   cell_outside (Part m i) kd has other = by (nat_eq m main_name) refl
     where
@@ -194,7 +196,7 @@ module _ (setting : Setting) (statics : List ℕ) (s : Scope) (u : Under) (st : 
           (k.objects m part.object part.named)
 
       by : (b : Bool) → nat_eq m main_name ≡ b → (place_of setting statics at u st (Part m i) < block)
-          ⊎ (block + (2 + fields) ≤ place_of setting statics at u st (Part m i))
+          ⊎ (block + (HEADER_WORDS + fields) ≤ place_of setting statics at u st (Part m i))
       by true e =
           let same = eqb-true m main_name e in
           let a : address_of setting statics at m ≡ statics_at = ap (address_of setting statics at) same in

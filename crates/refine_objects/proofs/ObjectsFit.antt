@@ -5,6 +5,7 @@ use Rattle.std.proofs.lemmas.Bool.{eqb-true}
 use Rattle.std.proofs.lemmas.List.{length-map}
 use Rattle.std.specs.Prelude.{◌&&◌, Ok}
 use Rattle.std.specs.Option.{option_map, unwrap_or}
+use Rattle.code_conventions.specs.declared.memory.TheConstants.{HEADER_WORDS}
 use Rattle.rpp_tree.specs.declared.tree.Ident.{Ident}
 use Rattle.rpp_tree.specs.declared.tree.Var.{Var}
 use Rattle.rpp_tree.specs.declared.tree.VarType.{VarType}
@@ -137,10 +138,10 @@ module _ (p : Place) (routine : ℕ → Ident → ℕ) (linked : IsLinked p rout
         linked.few) (class_of P class) (let i = number_inside in omega (arith, i))
 
     abbrev order : ℕ
-    order = order_for (2 + fields_of P class)
+    order = order_for (HEADER_WORDS + fields_of P class)
 
-    order_small : order_for (2 + fields_of P class) < 2 ^ 32
-    order_small = blocks.order_word (2 + fields_of P class)
+    order_small : order_for (HEADER_WORDS + fields_of P class) < 2 ^ 32
+    order_small = blocks.order_word (HEADER_WORDS + fields_of P class)
 
     abbrev fresh : List Value
     fresh = fresh_cells p.setting class
@@ -154,11 +155,12 @@ module _ (p : Place) (routine : ℕ → Ident → ℕ) (linked : IsLinked p rout
     fresh_kinds : length (fresh_cells p.setting class) ≡ length (cell_kinds P (OfClass (class_of P class)))
     fresh_kinds = fresh_long ∙ sym (kinds_long (class_of P class))
 
-    order_is : order_for (2 + fields_of P class) ≡ order_of_cells (length (cell_kinds P (OfClass (class_of P class))))
-    order_is = ap (λ n. order_for (2 + n)) (sym (kinds_long (class_of P class)))
+    order_is : order_for (HEADER_WORDS + fields_of P class)
+        ≡ order_of_cells (length (cell_kinds P (OfClass (class_of P class))))
+    order_is = ap (λ n. order_for (HEADER_WORDS + n)) (sym (kinds_long (class_of P class)))
 
-    fresh_order : order_of_cells (length (fresh_cells p.setting class)) ≡ order_for (2 + fields_of P class)
-    fresh_order = ap (λ n. order_for (2 + n)) fresh_long
+    fresh_order : order_of_cells (length (fresh_cells p.setting class)) ≡ order_for (HEADER_WORDS + fields_of P class)
+    fresh_order = ap (λ n. order_for (HEADER_WORDS + n)) fresh_long
 
     -- the head of an object of the class
     of_class : (head : Head) → is_of_class head (class_number P class.text) ≡ true → head ≡ OfClass (class_of P class)
@@ -311,7 +313,7 @@ module _ (p : Place) (routine : ℕ → Ident → ℕ) (linked : IsLinked p rout
               blocks.gives_block p routine linked classes s u st m r cell parts.type has no_int name reads single zeros
               0
               order (place_words target) (Fixed table fields)
-              (ap (λ n. order_for (2 + n)) (sym kinds)) (sym (long ∙ kinds)) (sym (ap (head_word P) head_is))
+              (ap (λ n. order_for (HEADER_WORDS + n)) (sym kinds)) (sym (long ∙ kinds)) (sym (ap (head_word P) head_is))
               (omega arith) order_small refl
 
           freed_same : sharing st ≡ false → SameCells P st (freed p.setting cell name st) target
@@ -365,7 +367,7 @@ new_object_fits p routine linked s at class target ok q law n owes d u =
           (rows.new_does p.setting (A p classes s u) (L p classes s u) (R p classes s u) (spot_in p.setting.program s)
           (free_in p.setting.program s) u.object (frame_address p.setting p.statics u) p.im class target
           (table_at p.setting.program (class_of p.setting.program class)) (fields_of p.setting.program class)
-          (order_for (2 + fields_of p.setting.program class))
+          (order_for (HEADER_WORDS + fields_of p.setting.program class))
           (rates_of p.setting) (some_counts _) (omega arith) r.open_frame.keeps.grounded.limits.heap_from
           (few_fields p routine linked classes s u at class target ok.rules ok.has_words.1 ok.room) q law fs (suc n)
           d at n (exec p.setting n)).does st m r;
@@ -386,7 +388,7 @@ delete_object_fits p routine linked s at class target ok q law n owes d u =
           (spot_in p.setting.program s) (free_in p.setting.program s) u.object
           (frame_address p.setting p.statics u) p.im class target
           (table_at p.setting.program (class_of p.setting.program class)) (fields_of p.setting.program class)
-          (order_for (2 + fields_of p.setting.program class))
+          (order_for (HEADER_WORDS + fields_of p.setting.program class))
           (rates_of p.setting) (some_counts _) (omega arith) r.open_frame.keeps.grounded.limits.heap_from
           (few_fields p routine linked classes s u at class target ok.rules ok.has_words.1 ok.room) q law fs (suc n)
           d at n (exec p.setting n)).does st m r;

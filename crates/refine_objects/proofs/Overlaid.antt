@@ -4,6 +4,7 @@ use Rattle.std.proofs.Common.{false, List, [], ◌∷◌, map, length, arith, le
 use Rattle.std.proofs.lemmas.Bool.{cases_lt, eqb-true}
 use Rattle.std.proofs.lemmas.List.{ext_get_or, get_or-set_same, get_or-set_other}
 use Rattle.std.specs.Prelude.{nat_eq, ◌&&◌, slice_index, slice_set}
+use Rattle.code_conventions.specs.declared.memory.TheConstants.{HEADER_WORDS}
 use Rattle.roopl_semantics.specs.Store.{Value, Word, Nil, Name, is_zero}
 use Rattle.roopl_semantics.specs.Execution.{all_zero}
 use Rattle.roopl_semantics.specs.Layout.{overlaid, word_of}
@@ -29,8 +30,9 @@ zeros_words base blocks (v ∷ vs) h i = by v h i (λ q j. zeros_words base bloc
     by Nil q (suc i) rest = rest q i
     by (Name n) q i rest = absurd (cc)
 
-module _ (xs ws : List ℕ) (x mark : ℕ) (room : x + (2 + length ws) ≤ length xs) (zeros : (i : ℕ) → slice_index ws i ≡ 0)
-    (empty : (i : ℕ) → i < 2 + length ws → slice_index xs (x + i) ≡ 0) where
+module _ (xs ws : List ℕ) (x mark : ℕ) (room : x + (HEADER_WORDS + length ws) ≤ length xs)
+    (zeros : (i : ℕ) → slice_index ws i ≡ 0)
+    (empty : (i : ℕ) → i < HEADER_WORDS + length ws → slice_index xs (x + i) ≡ 0) where
   abbrev one : List ℕ
   one = slice_set xs x mark
 
@@ -46,7 +48,7 @@ module _ (xs ws : List ℕ) (x mark : ℕ) (room : x + (2 + length ws) ≤ lengt
   apart k (inr h) = get_or-set_other one (x + 1) k 1 0 (λ e. omega (arith, e, h))
       ∙ get_or-set_other xs x k mark 0 (λ e. omega (arith, e, h))
 
-  inside : (i k : ℕ) → k ≡ x + i → i < 2 + length ws → k < length xs → slice_index over k ≡ slice_index two k
+  inside : (i k : ℕ) → k ≡ x + i → i < HEADER_WORDS + length ws → k < length xs → slice_index over k ≡ slice_index two k
   inside zero k e l h =
       index_inside xs x (mark ∷ 1 ∷ ws) k 0 e (omega arith) h
       ∙ sym (ap (slice_index two) (omega (arith, e)) ∙ get_or-set_other one (x + 1) x 1 0 (λ q. omega (arith, q))
@@ -64,9 +66,10 @@ module _ (xs ws : List ℕ) (x mark : ℕ) (room : x + (2 + length ws) ≤ lengt
       ext_get_or 0 over two (length_overlaid xs x (mark ∷ 1 ∷ ws)
       ∙ sym (length-set one (x + 1) 1 ∙ length-set xs x mark))
       (λ k h. by k (omega (arith, h, length_overlaid xs x (mark ∷ 1 ∷ ws))) (cases_lt k x)
-      (cases_lt k (x + (2 + length ws))))
+      (cases_lt k (x + (HEADER_WORDS + length ws))))
     where
-      by : (k : ℕ) → k < length xs → (k < x) ⊎ (x ≤ k) → (k < x + (2 + length ws)) ⊎ (x + (2 + length ws) ≤ k)
+      by : (k : ℕ) → k < length xs → (k < x) ⊎ (x ≤ k) → (k < x + (HEADER_WORDS + length ws))
+          ⊎ (x + (HEADER_WORDS + length ws) ≤ k)
           → slice_index over k ≡ slice_index two k
       by k h (inl l) q = index_outside xs x (mark ∷ 1 ∷ ws) k (inl l) ∙ sym (apart k (inl l))
       by k h (inr l) (inr m) = index_outside xs x (mark ∷ 1 ∷ ws) k (inr (omega (arith, m)))

@@ -7,6 +7,7 @@ use Rattle.std.proofs.lemmas.Bool.{ltb-true, ltb-false, cases_lt}
 use Rattle.std.proofs.lemmas.List.{length-replicate}
 use Rattle.std.specs.Prelude.{nat_lt}
 use Rattle.std.specs.Option.{unwrap_or}
+use Rattle.code_conventions.specs.declared.memory.TheConstants.{HEADER_WORDS}
 use Rattle.rpp_tree.specs.Tree.{ClassText, Source}
 use Rattle.class_table.specs.First.{first_of, first_at, refused_if}
 use Rattle.class_table.specs.Classes.{class_fields}
@@ -78,7 +79,7 @@ table_small program image has few class inside =
     let main = main_statics program in
     let total : length image.statics ≡ length main + length (tables 1 has.places) = ap (length {A = ℕ}) has.words
     ∙ length-append main (tables 1 has.places) in
-    let front : length main ≡ 2 + length (main_fields program) =
+    let front : length main ≡ HEADER_WORDS + length (main_fields program) =
     omega (arith, length-replicate {A = ℕ} (length (main_fields program)) 0) in
     let low = offset_low 1 has.places class in
     let table = table_place program image has class inside in

@@ -3,6 +3,7 @@ use Rattle.std.proofs.Common.{◌≡◌, ℕ, zero, suc, ◌+◌, ◌*◌, ◌<�
 use Rattle.std.proofs.Common.{Option, Some, None, refl, sym, ap, ◌∙◌, arith, length-append, nat_lt, slice_get}
 use Rattle.std.proofs.lemmas.Bool.Decides.{nat_tests}
 use Rattle.std.proofs.lemmas.List.{length-map, length-replicate}
+use Rattle.code_conventions.specs.declared.memory.TheConstants.{HEADER_WORDS}
 use Rattle.rpp_tree.specs.Tree.{Source}
 use Rattle.rpp_tree.specs.declared.limits.LimitKind.TheVariants as limit
 use Rattle.class_table.specs.declared.error.ClassError.TheVariants.{Limit}
@@ -80,7 +81,7 @@ statics_are_few program accepted before places =
     let fields : length (main_fields program) ≤ 64 = few_fields program accepted (main_of program).class
     (class_inside program accepted) in
     let classes = accepted.limits.classes_few in
-    let front : length (main_statics program) ≡ 2 + length (main_fields program) =
+    let front : length (main_statics program) ≡ HEADER_WORDS + length (main_fields program) =
     omega (arith, length-replicate {A = ℕ} (length (main_fields program)) 0) in
     let whole = length-append (main_statics program) (tables 1 (table_places program before places)) in
     omega (arith, slots, fields, classes, front, whole)

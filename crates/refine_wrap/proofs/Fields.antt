@@ -5,39 +5,38 @@ use Rattle.std.specs.Prelude.{slice_index}
 use Rattle.std.specs.Option.{unwrap_or}
 use Rattle.std.proofs.lemmas.List.{get_or_append_left, get_or-append-add, get_or-map, length-map, length-replicate}
 use Rattle.rpp_words.specs.declared.input.Limits.{Limits}
-use Rattle.rpp_words.specs.declared.input.TheConstants.{FRAME_WORDS}
+use Rattle.rpp_words.specs.declared.input.TheConstants.{FIXED_CELLS, FRAME_WORDS}
 use Rattle.rpp_tree.specs.Tree.{Source}
 use Rattle.pisa_isa.specs.Loaded.{statics_at, heap_base, fixed_cells}
 use Rattle.buddy_book.specs.Place.{Log, Placing, place}
+use Rattle.code_conventions.specs.declared.memory.TheConstants.{HEADER_WORDS}
 use Rattle.roopl_semantics.specs.Store.{Word, Store, Object, main_name, object_at}
 use Rattle.roopl_semantics.specs.Layout.{layout, no_placing, word_of, object_words, first_address, heap_words}
 use Rattle.refine_wrap.specs.Programs.{field_cell}
 
--- the fixed cells are 40
-
 length-fixed : (heap deep base : ℕ) (heads : List ℕ) → length heads ≤ 31
-    → length (fixed_cells heap deep base heads) ≡ 40
+    → length (fixed_cells heap deep base heads) ≡ FIXED_CELLS
 length-fixed heap deep base heads h = omega (
   arith,
   length-append heads (replicate (31 - length heads) 0),
   length-replicate {A = ℕ} (31 - length heads) 0,
 )
 
-third_on : (a b : ℕ) (xs : List ℕ) (k : ℕ) → get_or (a ∷ b ∷ xs) (2 + k) 0 ≡ get_or xs k 0
-third_on a b xs k = get_or-append-add (a ∷ b ∷ []) xs k 0
+behind_header : (a b : ℕ) (xs : List ℕ) (k : ℕ) → get_or (a ∷ b ∷ xs) (HEADER_WORDS + k) 0 ≡ get_or xs k 0
+behind_header a b xs k = get_or-append-add (a ∷ b ∷ []) xs k 0
 
-inside : (fixed main rest gap heap stack : List ℕ) (j : ℕ) → length fixed ≡ 40 → j < length main
-    → get_or (fixed ++ (main ++ rest) ++ gap ++ heap ++ stack) (40 + j) 0 ≡ get_or main j 0
+inside : (fixed main rest gap heap stack : List ℕ) (j : ℕ) → length fixed ≡ FIXED_CELLS → j < length main
+    → get_or (fixed ++ (main ++ rest) ++ gap ++ heap ++ stack) (FIXED_CELLS + j) 0 ≡ get_or main j 0
 inside fixed main rest gap heap stack j e h =
-    let within : 40 + j < length (fixed ++ (main ++ rest)) =
+    let within : FIXED_CELLS + j < length (fixed ++ (main ++ rest)) =
     omega (arith, length-append fixed (main ++ rest), length-append main rest) in
-    let within2 : 40 + j < length (fixed ++ (main ++ rest) ++ gap) =
+    let within2 : FIXED_CELLS + j < length (fixed ++ (main ++ rest) ++ gap) =
     omega (arith, length-append (fixed ++ (main ++ rest)) gap) in
-    let within3 : 40 + j < length (fixed ++ (main ++ rest) ++ gap ++ heap) =
+    let within3 : FIXED_CELLS + j < length (fixed ++ (main ++ rest) ++ gap ++ heap) =
     omega (arith, length-append (fixed ++ (main ++ rest) ++ gap) heap) in
-    get_or_append_left (fixed ++ (main ++ rest) ++ gap ++ heap) stack 0 (40 + j) within3
-    ∙ get_or_append_left (fixed ++ (main ++ rest) ++ gap) heap 0 (40 + j) within2
-    ∙ get_or_append_left (fixed ++ (main ++ rest)) gap 0 (40 + j) within
+    get_or_append_left (fixed ++ (main ++ rest) ++ gap ++ heap) stack 0 (FIXED_CELLS + j) within3
+    ∙ get_or_append_left (fixed ++ (main ++ rest) ++ gap) heap 0 (FIXED_CELLS + j) within2
+    ∙ get_or_append_left (fixed ++ (main ++ rest)) gap 0 (FIXED_CELLS + j) within
     ∙ ap (λ n. get_or (fixed ++ (main ++ rest)) (n + j) 0) (sym e)
     ∙ get_or-append-add fixed (main ++ rest) j 0
     ∙ get_or_append_left main rest 0 j h
@@ -57,13 +56,14 @@ field_at program limits statics store log at k w placed low h is =
     let heads : length (map (first_address base) placing.book) ≤ 31 =
     omega (arith, length-map placing.book (first_address base)) in
     let long : length words ≡ length object.cells = length-map object.cells (word_of base placing.blocks) in
-    let within : 2 + k < length main = omega arith in
-    let there : field_cell k ≡ 40 + (2 + k) = omega arith in
+    let within : HEADER_WORDS + k < length main = omega arith in
+    let there : field_cell k ≡ FIXED_CELLS + (HEADER_WORDS + k) = omega arith in
     ap (slice_index (layout program limits statics store log)) there
     ∙ inside (fixed_cells limits.heap limits.deep base (map (first_address base) placing.book)) main
     (drop (length main) statics) (replicate (base - statics_at - length statics) 0)
-    (heap_words program (2 ^ limits.heap) base store placing) (replicate (FRAME_WORDS * limits.deep) 0) (2 + k)
+    (heap_words program (2 ^ limits.heap) base store placing) (replicate (FRAME_WORDS * limits.deep) 0)
+    (HEADER_WORDS + k)
     (length-fixed limits.heap limits.deep base (map (first_address base) placing.book) heads) within
-    ∙ third_on _ _ words k
+    ∙ behind_header _ _ words k
     ∙ get_or-map (word_of base placing.blocks) object.cells k (Word 0) 0 h
     ∙ ap (word_of base placing.blocks) is

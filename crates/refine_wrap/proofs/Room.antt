@@ -8,8 +8,10 @@ use Rattle.std.proofs.lemmas.Option.{slice_get_read}
 use Rattle.rpp_words.specs.Words.{IsWord}
 use Rattle.rpp_words.specs.declared.input.FieldWord.{FieldWord}
 use Rattle.rpp_words.specs.declared.input.Limits.{Limits}
+use Rattle.rpp_words.specs.declared.input.TheConstants.{FIXED_CELLS, FRAME_WORDS, MOST_DEEP, MOST_HEAP}
 use Rattle.rpp_tree.specs.Tree.{Source}
 use Rattle.pisa_isa.specs.declared.cell.Cell.{Cell}
+use Rattle.pisa_isa.specs.declared.image.TheConstants.{MOST_STATICS}
 use Rattle.pisa_isa.specs.Image.{Segments, IsImage}
 use Rattle.pisa_isa.specs.Loaded.{loaded, heap_base}
 use Rattle.pisa_isa.proofs.Loaded.{heap_base-ge, length-loaded}
@@ -32,17 +34,17 @@ base_le : (x k : ℕ) → (x + k - 1) / k * k ≤ x + k
 base_le x k = omega (arith, mul_comm ((x + k - 1) / k) k, div-add-mod (x + k - 1) k)
 
 loaded_fifth : (statics : List ℕ) (limits : Limits) (input : List FieldWord)
-    → slice_get (loaded statics limits input) 4 ≡ Some (heap_base limits.heap (length statics) + 2 ^ limits.heap + 512 *
-    limits.deep)
+    → slice_get (loaded statics limits input) 4
+    ≡ Some (heap_base limits.heap (length statics) + 2 ^ limits.heap + FRAME_WORDS * limits.deep)
 loaded_fifth statics limits input = fifth (loaded statics limits input) _ refl refl
 
 layout_fifth : (program : Source) (limits : Limits) (statics : List ℕ) (store : Store) (log : Log)
     → slice_get (layout program limits statics store log) 4
-    ≡ Some (heap_base limits.heap (length statics) + 2 ^ limits.heap + 512 * limits.deep)
+    ≡ Some (heap_base limits.heap (length statics) + 2 ^ limits.heap + FRAME_WORDS * limits.deep)
 layout_fifth program limits statics store log = fifth (layout program limits statics store log) _ refl refl
 
-room_of : (s p h d m n : ℕ) → s ≤ 262144 → p ≤ 2 ^ 20 → h ≤ 40 + s + p → d ≤ 8192 → m ≤ 64 → n ≡ h + p + 512 * d
-    → n + m < 2 ^ 32
+room_of : (s p h d m n : ℕ) → s ≤ MOST_STATICS → p ≤ 2 ^ MOST_HEAP → h ≤ FIXED_CELLS + s + p → d ≤ MOST_DEEP → m ≤ 64
+    → n ≡ h + p + FRAME_WORDS * d → n + m < 2 ^ 32
 room_of s p h d m n a b c e f g = omega arith
 
 pub has_room : (image : Segments) (cells : List ℕ) (limits : Limits) (input : List FieldWord) → IsImage image
@@ -54,14 +56,15 @@ has_room image cells limits input i few statics l words =
     let deep = l.deep_to in
     let many = length-loaded image.statics limits input (omega arith) (omega arith) in
     let small = i.statics_in_limit in
-    let power : 2 ^ limits.heap ≤ 2 ^ 20 = pow-le-pow_right {n = 2} (omega arith) {i = limits.heap} {j = 20} high in
+    let power : 2 ^ limits.heap ≤ 2 ^ MOST_HEAP = pow-le-pow_right {n = 2} (omega arith) {i = limits.heap}
+    {j = MOST_HEAP} high in
     let from = heap_base-ge limits.heap (length image.statics) in
     record {
       words = words;
       counted = loaded_fifth image.statics limits input ∙ ap (λ x. Some x) (sym many);
       among = λ k d h. let c = statics k d h in let upper = c.1 in omega arith;
       room = room_of (length image.statics) (2 ^ limits.heap) (heap_base limits.heap (length image.statics)) limits.deep
-          (length cells) _ small power (base_le (40 + length image.statics) (2 ^ limits.heap)) deep few many;
+          (length cells) _ small power (base_le (FIXED_CELLS + length image.statics) (2 ^ limits.heap)) deep few many;
     }
 
 pub wraps_program : (program : Source) (image : Segments) (cells : List ℕ) (wrapped : List Cell) (limits : Limits)

@@ -129,6 +129,3 @@ fn sign_at(rest: &[u8], at: u32) -> Result<Token, LexError>
         None => Err(LexError::BadByte { at }),
     }
 }
-
-#[cfg(test)]
-mod tests;

@@ -203,17 +203,7 @@ tail_at (suc k) p i s = More (suc k) p i ∷ s
 
 statement_depth_some : (x : Statement) → 0 < statement_depth x
 statement_depth_some (Update at op target value) = omega arith
-statement_depth_some (Swap at left right) = omega arith
-statement_depth_some (If at test taken other after) = omega arith
-statement_depth_some (From at entry first again exit) = omega arith
-statement_depth_some (Construct at owner name body end) = omega arith
-statement_depth_some (Local at v value body end_var end_value) = omega arith
-statement_depth_some (New at what target) = omega arith
-statement_depth_some (Delete at what target) = omega arith
-statement_depth_some (Copy at k source target) = omega arith
-statement_depth_some (Uncopy at k source target) = omega arith
-statement_depth_some (Call at back receiver called args) = omega arith
-statement_depth_some (Skip at) = omega arith
+statement_depth_some _ = omega arith
 
 pub nested_once : {d l : ℕ} {x : Statement} → Fits d l x → d < MOST_NESTING
 nested_once {d} {l} {x} f = let m : 0 < statement_depth x = statement_depth_some x in

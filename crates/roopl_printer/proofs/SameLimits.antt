@@ -1,17 +1,20 @@
 -- A tree that is equal but for places keeps the same limits.
 use Rattle.std.proofs.lemmas.List.{length-map}
-use Rattle.std.proofs.Common.{◌≡◌, ◌+◌, ◌≤◌, List, map, length, Option, Some, None, refl, sym, ◌∙◌, ap, subst, arith}
+use Rattle.std.proofs.Common.{◌≡◌, ◌↔◌, ℕ, ◌+◌, ◌≤◌, max, List, map, length, Option, Some, None, refl, sym, ◌∙◌, ap}
+use Rattle.std.proofs.Common.{subst}
+use Rattle.std.proofs.Common.{arith}
 use Rattle.rpp_tree.specs.declared.tree.Var.{Var}
 use Rattle.rpp_tree.specs.declared.limits.TheConstants.{MOST_NODES, MOST_INDEX_DEPTH}
 use Rattle.rpp_tree.specs.Tree.{Expression, Number, Null, Variable, Element, Binary, Lvalue, Whole, Item, Creation}
-use Rattle.rpp_tree.specs.Tree.{Object, Ints, Objects, Statement, Statements, Update, Swap, If, From, Construct, Local}
-use Rattle.rpp_tree.specs.Tree.{New, Delete, Copy, Uncopy, Call, Skip, End, Then, Procedure, nodes, index_nodes}
-use Rattle.rpp_tree.specs.Tree.{creation_nodes, receiver_nodes, statement_nodes, statement_depth, depth}
-use Rattle.rpp_tree.specs.Bare.{bare_var, bare_expression, bare_lvalue, bare_receiver, bare_creation, bare_statement}
-use Rattle.rpp_tree.specs.Bare.{bare, bare_procedure}
+use Rattle.rpp_tree.specs.Tree.{Object, Ints, Objects, Statement, Statements, Procedure, Part, Operand, Target, Typed}
+use Rattle.rpp_tree.specs.Tree.{Creates, Invokes, own_parts, each_part, nodes, index_nodes, creation_nodes}
+use Rattle.rpp_tree.specs.Tree.{receiver_nodes, part_nodes, statement_nodes, nesting, depth}
+use Rattle.rpp_tree.specs.Bare.{bare_var, bare_expression, bare_lvalue, bare_receiver, bare_creation, bare_part}
+use Rattle.rpp_tree.specs.Bare.{bare_statement, bare, bare_procedure}
 use Rattle.rpp_tree.specs.Limits.{index_depth, lvalue_index_depth, creation_index_depth, receiver_index_depth}
-use Rattle.rpp_tree.specs.Limits.{statement_index_depth, receiver_locals, statement_locals, locals, IsSmallStatement}
-use Rattle.rpp_tree.specs.Limits.{AreSmall, AreInnerSmall, IsSmallMethod}
+use Rattle.rpp_tree.specs.Limits.{part_index_depth, statement_index_depth, receiver_locals, part_locals, held_locals}
+use Rattle.rpp_tree.specs.Limits.{locals, IsSmallStatement, small, AreSmall, IsSmallMethod}
+use Rattle.rpp_tree.proofs.Walks.{IsBlind, block_bare, own_parts_bare, each_bare}
 
 same_nodes : (e : Expression) → nodes (bare_expression e) ≡ nodes e
 same_nodes (Number at n) = refl
@@ -58,121 +61,86 @@ same_receiver_locals None = refl
 same_receiver_locals (Some (Whole name)) = refl
 same_receiver_locals (Some (Item name index)) = refl
 
+same_part_nodes : (p : Part) → part_nodes (bare_part p) ≡ part_nodes p
+same_part_nodes (Operand value) = same_nodes value
+same_part_nodes (Target place) = same_index_nodes place
+same_part_nodes (Typed kind place) = same_index_nodes place
+same_part_nodes (Creates made) = same_creation_nodes made
+same_part_nodes (Invokes receiver method args) = same_receiver_nodes receiver
+
+same_part_depth : (p : Part) → part_index_depth (bare_part p) ≡ part_index_depth p
+same_part_depth (Operand value) = same_index_depth value
+same_part_depth (Target place) = same_place_depth place
+same_part_depth (Typed kind place) = same_place_depth place
+same_part_depth (Creates made) = same_creation_depth made
+same_part_depth (Invokes receiver method args) = same_receiver_depth receiver
+
+same_part_locals : (p : Part) → part_locals (bare_part p) ≡ part_locals p
+same_part_locals (Invokes receiver method args) = same_receiver_locals receiver
+same_part_locals (Operand value) = refl
+same_part_locals _ = refl
+
 same_statement_nodes : (s : Statement) → statement_nodes (bare_statement s) ≡ statement_nodes s
-same_statement_nodes (Update at op p e) = let a = same_index_nodes p in let b = same_nodes e in omega arith
-same_statement_nodes (Swap at p q) = let a = same_index_nodes p in let b = same_index_nodes q in omega arith
-same_statement_nodes (If at e b c f) = let a = same_nodes e in let d = same_nodes f in omega arith
-same_statement_nodes (From at e b c f) = let a = same_nodes e in let d = same_nodes f in omega arith
-same_statement_nodes (Construct at class name body last) = refl
-same_statement_nodes (Local at v e body w f) = let a = same_nodes e in let d = same_nodes f in omega arith
-same_statement_nodes (New at m p) = let a = same_creation_nodes m in let b = same_index_nodes p in omega arith
-same_statement_nodes (Delete at m p) = let a = same_creation_nodes m in let b = same_index_nodes p in omega arith
-same_statement_nodes (Copy at k p q) = let a = same_index_nodes p in let b = same_index_nodes q in omega arith
-same_statement_nodes (Uncopy at k p q) = let a = same_index_nodes p in let b = same_index_nodes q in omega arith
-same_statement_nodes (Call at back r method args) = same_receiver_nodes r
-same_statement_nodes (Skip at) = refl
+same_statement_nodes s = ap (each_part ◌+◌ part_nodes 0) (own_parts_bare s)
+    ∙ each_bare ◌+◌ part_nodes 0 same_part_nodes (own_parts s)
 
 same_statement_depth : (s : Statement) → statement_index_depth (bare_statement s) ≡ statement_index_depth s
-same_statement_depth (Update at op p e) = let a = same_place_depth p in let b = same_index_depth e in cc
-same_statement_depth (Swap at p q) = let a = same_place_depth p in let b = same_place_depth q in cc
-same_statement_depth (If at e b c f) = let a = same_index_depth e in let d = same_index_depth f in cc
-same_statement_depth (From at e b c f) = let a = same_index_depth e in let d = same_index_depth f in cc
-same_statement_depth (Construct at class name body last) = refl
-same_statement_depth (Local at v e body w f) = let a = same_index_depth e in let d = same_index_depth f in cc
-same_statement_depth (New at m p) = let a = same_creation_depth m in let b = same_place_depth p in cc
-same_statement_depth (Delete at m p) = let a = same_creation_depth m in let b = same_place_depth p in cc
-same_statement_depth (Copy at k p q) = let a = same_place_depth p in let b = same_place_depth q in cc
-same_statement_depth (Uncopy at k p q) = let a = same_place_depth p in let b = same_place_depth q in cc
-same_statement_depth (Call at back r method args) = same_receiver_depth r
-same_statement_depth (Skip at) = refl
+same_statement_depth s = ap (each_part max part_index_depth 0) (own_parts_bare s)
+    ∙ each_bare max part_index_depth 0 same_part_depth (own_parts s)
 
-mutual
-  same_nesting : (s : Statement) → statement_depth (bare_statement s) ≡ statement_depth s
-  same_nesting (Update at op p e) = refl
-  same_nesting (Swap at p q) = refl
-  same_nesting (If at e b c f) = let x = same_depth b in let y = same_depth c in cc
-  same_nesting (From at e b c f) = let x = same_depth b in let y = same_depth c in cc
-  same_nesting (Construct at class name body last) = ap (λ n. 1 + n) (same_depth body)
-  same_nesting (Local at v e body w f) = ap (λ n. 1 + n) (same_depth body)
-  same_nesting (New at m p) = refl
-  same_nesting (Delete at m p) = refl
-  same_nesting (Copy at k p q) = refl
-  same_nesting (Uncopy at k p q) = refl
-  same_nesting (Call at back r method args) = refl
-  same_nesting (Skip at) = refl
-
-  same_depth : (b : Statements) → depth (bare b) ≡ depth b
-  same_depth End = refl
-  same_depth (Then one more) = let x = same_nesting one in let y = same_depth more in cc
-
-mutual
-  same_held : (s : Statement) → statement_locals (bare_statement s) ≡ statement_locals s
-  same_held (Update at op p e) = refl
-  same_held (Swap at p q) = refl
-  same_held (If at e b c f) = let x = same_locals b in let y = same_locals c in cc
-  same_held (From at e b c f) = let x = same_locals b in let y = same_locals c in cc
-  same_held (Construct at class name body last) = ap (λ n. 1 + n) (same_locals body)
-  same_held (Local at v e body w f) = ap (λ n. 1 + n) (same_locals body)
-  same_held (New at m p) = refl
-  same_held (Delete at m p) = refl
-  same_held (Copy at k p q) = refl
-  same_held (Uncopy at k p q) = refl
-  same_held (Call at back r method args) = same_receiver_locals r
-  same_held (Skip at) = refl
-
-  same_locals : (b : Statements) → locals (bare b) ≡ locals b
-  same_locals End = refl
-  same_locals (Then one more) = let x = same_held one in let y = same_locals more in cc
-
-bare_of_small : (s : Statement) → IsSmallStatement s → IsSmallStatement (bare_statement s)
-bare_of_small s h = record {
-  nodes = subst (λ n. n ≤ MOST_NODES) (sym (same_statement_nodes s)) h.nodes;
-  indexes = subst (λ n. n ≤ MOST_INDEX_DEPTH) (sym (same_statement_depth s)) h.indexes;
+blind_nesting : IsBlind (λ (a b : ℕ). a ≡ b) nesting
+blind_nesting = record {
+  plain = λ at parts. refl;
+  forked = λ at before a b c d after h k. omega (arith, h, k);
+  construct = λ at class name a c end h. omega (arith, h);
+  local = λ at var value a c end_var end_value h. omega (arith, h);
+  none = refl;
+  next = λ first a b c d h k. omega (arith, h, k);
 }
 
-small_of_bare : (s : Statement) → IsSmallStatement (bare_statement s) → IsSmallStatement s
-small_of_bare s h = record {
-  nodes = subst (λ n. n ≤ MOST_NODES) (same_statement_nodes s) h.nodes;
-  indexes = subst (λ n. n ≤ MOST_INDEX_DEPTH) (same_statement_depth s) h.indexes;
+same_depth : (b : Statements) → depth (bare b) ≡ depth b
+same_depth b = block_bare blind_nesting b
+
+blind_locals : IsBlind (λ (a b : ℕ). a ≡ b) held_locals
+blind_locals = record {
+  plain = λ at parts. each_bare max part_locals 0 same_part_locals parts;
+  forked = λ at before a b c d after h k. omega (arith, h, k);
+  construct = λ at class name a c end h. omega (arith, h);
+  local = λ at var value a c end_var end_value h. omega (arith, h);
+  none = refl;
+  next = λ first a b c d h k. omega (arith, h, k);
 }
 
-mutual
-  bare_inner : (s : Statement) → AreInnerSmall s → AreInnerSmall (bare_statement s)
-  bare_inner (Update at op p e) h = tt
-  bare_inner (Swap at p q) h = tt
-  bare_inner (If at e b c f) h = (bare_all b h.0, bare_all c h.1)
-  bare_inner (From at e b c f) h = (bare_all b h.0, bare_all c h.1)
-  bare_inner (Construct at class name body last) h = bare_all body h
-  bare_inner (Local at v e body w f) h = bare_all body h
-  bare_inner (New at m p) h = tt
-  bare_inner (Delete at m p) h = tt
-  bare_inner (Copy at k p q) h = tt
-  bare_inner (Uncopy at k p q) h = tt
-  bare_inner (Call at back r method args) h = tt
-  bare_inner (Skip at) h = tt
+same_locals : (b : Statements) → locals (bare b) ≡ locals b
+same_locals b = block_bare blind_locals b
 
-  bare_all : (b : Statements) → AreSmall b → AreSmall (bare b)
-  bare_all End h = tt
-  bare_all (Then one more) h = (bare_of_small one h.0, bare_inner one h.1, bare_all more h.2)
+small_bare : (s : Statement) → IsSmallStatement (bare_statement s) ↔ IsSmallStatement s
+small_bare s = (
+  λ h. record {
+    nodes = subst (λ n. n ≤ MOST_NODES) (same_statement_nodes s) h.nodes;
+    indexes = subst (λ n. n ≤ MOST_INDEX_DEPTH) (same_statement_depth s) h.indexes;
+  },
+  λ h. record {
+    nodes = subst (λ n. n ≤ MOST_NODES) (sym (same_statement_nodes s)) h.nodes;
+    indexes = subst (λ n. n ≤ MOST_INDEX_DEPTH) (sym (same_statement_depth s)) h.indexes;
+  },
+)
 
-mutual
-  inner_of_bare : (s : Statement) → AreInnerSmall (bare_statement s) → AreInnerSmall s
-  inner_of_bare (Update at op p e) h = tt
-  inner_of_bare (Swap at p q) h = tt
-  inner_of_bare (If at e b c f) h = (all_of_bare b h.0, all_of_bare c h.1)
-  inner_of_bare (From at e b c f) h = (all_of_bare b h.0, all_of_bare c h.1)
-  inner_of_bare (Construct at class name body last) h = all_of_bare body h
-  inner_of_bare (Local at v e body w f) h = all_of_bare body h
-  inner_of_bare (New at m p) h = tt
-  inner_of_bare (Delete at m p) h = tt
-  inner_of_bare (Copy at k p q) h = tt
-  inner_of_bare (Uncopy at k p q) h = tt
-  inner_of_bare (Call at back r method args) h = tt
-  inner_of_bare (Skip at) h = tt
+blind_small : IsBlind (λ (A B : Type 0). A ↔ B) small
+blind_small = record {
+  plain = λ at parts. (λ h. h, λ h. h);
+  forked = λ at before a b c d after h k. (λ x. (h.0 x.0, k.0 x.1), λ x. (h.1 x.0, k.1 x.1));
+  construct = λ at class name a c end h. h;
+  local = λ at var value a c end_var end_value h. h;
+  none = (λ h. h, λ h. h);
+  next = λ first a b c d h k. (
+    λ x. ((small_bare first).0 x.0, h.0 x.1, k.0 x.2),
+    λ x. ((small_bare first).1 x.0, h.1 x.1, k.1 x.2),
+  );
+}
 
-  all_of_bare : (b : Statements) → AreSmall (bare b) → AreSmall b
-  all_of_bare End h = tt
-  all_of_bare (Then one more) h = (small_of_bare one h.0, inner_of_bare one h.1, all_of_bare more h.2)
+all_small_bare : (b : Statements) → AreSmall (bare b) ↔ AreSmall b
+all_small_bare b = block_bare blind_small b
 
 same_count : (xs ys : List Var) → map bare_var xs ≡ map bare_var ys → length xs ≡ length ys
 same_count xs ys same = sym (length-map xs bare_var) ∙ ap length same ∙ length-map ys bare_var
@@ -192,5 +160,6 @@ small_method tree method same small =
       parameters = omega arith;
       locals_nested = omega arith;
       nesting = omega arith;
-      statements = all_of_bare tree.body (subst AreSmall (sym body) (bare_all method.body small.statements));
+      statements = (all_small_bare tree.body).0
+          (subst AreSmall (sym body) ((all_small_bare method.body).1 small.statements));
     }

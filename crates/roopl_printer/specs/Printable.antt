@@ -1,8 +1,7 @@
 -- Tokens that a source may hold, and trees of the grammar.
 use Rattle.std.specs.Prelude.{◌≤◌, All}
 use Rattle.rpp_tree.specs.Names.{IsName}
-use Rattle.rpp_tree.specs.Tree.{Statement, Statements, Update, Swap, If, From, Construct, Local}
-use Rattle.rpp_tree.specs.Tree.{New, Delete, Copy, Uncopy, Call, Skip, End, Then, Source}
+use Rattle.rpp_tree.specs.Tree.{Statement, Statements, Source, Walk, walk, walk_block}
 use Rattle.roopl_lexer.specs.declared.token.TokenKind.{TokenKind}
 use Rattle.roopl_lexer.specs.declared.token.TokenKind.TheVariants.{Word, Name, Number, Sign}
 use Rattle.rpp_tree.specs.declared.limits.TheConstants.{MOST_NUMBER}
@@ -22,33 +21,29 @@ IsSmallNumber (Name text) = Unit {0}
 IsSmallNumber (Number n) = n ≤ MOST_NUMBER
 IsSmallNumber (Sign sign) = Unit {0}
 
+-- that a block has a statement, and that the blocks inside it, or inside a statement, have
+abbrev pub fullness : Walk (Type 0 × Type 0)
+fullness = record {
+  plain = λ at parts. (Unit {0}, Unit {0});
+  forked = λ at before first second after.
+      (Unit {0}, first.0 × first.1 × second.0 × second.1);
+  construct = λ at class name body end. (Unit {0}, body.0 × body.1);
+  local = λ at var value body end_var end_value. (Unit {0}, body.0 × body.1);
+  none = (⊥, Unit {0});
+  next = λ first said rest. (Unit {0}, said.1 × rest.1);
+}
+
 -- a block has a statement
 abbrev pub HasStatement : Statements → Type 0
-HasStatement End = ⊥
-HasStatement (Then one more) = Unit {0}
+HasStatement body = (walk_block fullness body).0
 
-abbrev mutual
-  -- the blocks inside a statement have statements
-  pub HasFullBlocks : Statement → Type 0
-  HasFullBlocks (Update at op target value) = Unit {0}
-  HasFullBlocks (Swap at left right) = Unit {0}
-  HasFullBlocks (If at test taken other after) = HasStatement taken × AreFull taken
-      × HasStatement other × AreFull other
-  HasFullBlocks (From at entry first again exit) = HasStatement first × AreFull first
-      × HasStatement again × AreFull again
-  HasFullBlocks (Construct at class name body end) = HasStatement body × AreFull body
-  HasFullBlocks (Local at var value body end_var end_value) = HasStatement body × AreFull body
-  HasFullBlocks (New at made target) = Unit {0}
-  HasFullBlocks (Delete at made target) = Unit {0}
-  HasFullBlocks (Copy at kind source target) = Unit {0}
-  HasFullBlocks (Uncopy at kind source target) = Unit {0}
-  HasFullBlocks (Call at back receiver method args) = Unit {0}
-  HasFullBlocks (Skip at) = Unit {0}
+-- the blocks inside a statement have statements
+abbrev pub HasFullBlocks : Statement → Type 0
+HasFullBlocks s = (walk fullness s).1
 
-  -- the same of the statements of a block
-  pub AreFull : Statements → Type 0
-  AreFull End = Unit {0}
-  AreFull (Then one more) = HasFullBlocks one × AreFull more
+-- the same of the statements of a block
+abbrev pub AreFull : Statements → Type 0
+AreFull body = (walk_block fullness body).1
 
 -- a tree of the grammar: each block has a statement, and each number is one that a source may hold
 pub record IsOfGrammar (program : Source) : Type 0 where

@@ -1,9 +1,9 @@
 -- The bound on depth alone never ends a run: where its cost is within the bound, the run is over.
 use Rattle.std.proofs.Common.{◌≡◌, ℕ, zero, suc, ◌+◌, ◌-◌, ◌<◌, ◌≤◌, Bool, true, false, cond, not, refl, ap, subst, ◌∙◌}
 use Rattle.std.proofs.Common.{arith, List, [], ◌∷◌, length, Some, None}
-use Rattle.rpp_tree.specs.Tree.{Expression, Null, Whole, Item, Object as AnObject, Ints, Objects, nodes, Number}
-use Rattle.rpp_tree.specs.Tree.{Variable, Element, Binary, Statement, Statements, Update, Swap, If, From, Construct}
-use Rattle.rpp_tree.specs.Tree.{Local, New, Delete, Copy, Uncopy, Call, Skip, End, Then, Procedure}
+use Rattle.rpp_tree.specs.Tree.{Expression, Null, Whole, Item, Object as AnObject, nodes, Number, Variable, Element}
+use Rattle.rpp_tree.specs.Tree.{Binary, Statement, Statements, If, From, Construct, Local, New, Delete, Call, End, Then}
+use Rattle.rpp_tree.specs.Tree.{Procedure}
 use Rattle.std.specs.Prelude.{Result, Ok, Err}
 use Rattle.roopl_semantics.specs.Run.{Run, Done, Fault, More, after_cost, given, ◌>>=◌, spend, fault_if}
 use Rattle.roopl_semantics.specs.Store.{Value, State, number_of, is_nil}
@@ -126,8 +126,6 @@ module _ (setting : Setting) (run run' : Runner) (bound : ℕ)
 
   statement_alike : (n : ℕ) (s : Statement) (st : State)
       → Alike (suc bound) (statement setting n run s st) (statement setting bound run' s st)
-  statement_alike n (Update at op target value) st = alike_itself _ _
-  statement_alike n (Swap at left right) st = alike_itself _ _
   statement_alike n (If at test taken other after) st =
       alike_on (suc bound) (evaluated setting.program test st) _ _
       (λ v. alike_then (suc bound) _ _ _ _ (same (cond (holds v) taken other) st) (λ end. alike_itself _ _))
@@ -138,13 +136,7 @@ module _ (setting : Setting) (run run' : Runner) (bound : ℕ)
       local_alike name.text (Null at) (constructed at class name body) (Null at) st
   statement_alike n (Local at var value body end_var end_value) st = local_alike var.name.text value body end_value st
   statement_alike n (New at (AnObject class) target) st = alike_itself _ _
-  statement_alike n (New at (Ints size) target) st = alike_itself _ _
-  statement_alike n (New at (Objects class size) target) st = alike_itself _ _
   statement_alike n (Delete at (AnObject class) target) st = alike_itself _ _
-  statement_alike n (Delete at (Ints size) target) st = alike_itself _ _
-  statement_alike n (Delete at (Objects class size) target) st = alike_itself _ _
-  statement_alike n (Copy at kind source target) st = alike_itself _ _
-  statement_alike n (Uncopy at kind source target) st = alike_itself _ _
   statement_alike n (Call at back None method args) st =
       alike_on (suc bound) (spend (length args)) _ _ (λ u. alike_on (suc bound)
       (fault_if too_deep_fault (is_too_deep setting st)) _ _ (λ w.
@@ -160,7 +152,7 @@ module _ (setting : Setting) (run run' : Runner) (bound : ℕ)
       (cells_named setting st args) st)))
   statement_alike n (Call at back (Some (Item name index)) method args) st =
       local_alike (element_name at).text (Null at) (element_call at back name index method args) (Null at) st
-  statement_alike n (Skip at) st = alike_itself _ _
+  statement_alike n _ st = alike_itself _ _
 
 -- two bounds on depth give the same run, as long as its cost is within the second
 pub exec_alike : (setting : Setting) (n m : ℕ) (b : Statements) (st : State)

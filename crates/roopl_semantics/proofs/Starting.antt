@@ -8,6 +8,8 @@ use Rattle.std.proofs.lemmas.List.{append_assoc, length-append, length-replicate
 use Rattle.std.proofs.lemmas.List.{set-append_left, drop_at, take_all}
 use Rattle.std.proofs.lemmas.List.Elements.{All-head, All-tail}
 use Rattle.std.proofs.lemmas.Nat.{pow_pos}
+use Rattle.rpp_words.specs.declared.input.TheConstants.{FRAME_WORDS}
+use Rattle.code_conventions.specs.declared.memory.TheConstants.{HEADER_WORDS}
 use Rattle.rpp_words.specs.declared.input.FieldWord.{FieldWord}
 use Rattle.rpp_words.specs.declared.input.Limits.{Limits}
 use Rattle.rpp_tree.specs.declared.tree.Var.{Var}
@@ -51,7 +53,7 @@ program_statics program places = main_statics program ++ tables 1 places
 
 -- the number of static cells
 abbrev pub size : Shape → ℕ
-size shape = 2 + shape.fields + length shape.tables
+size shape = HEADER_WORDS + shape.fields + length shape.tables
 
 abbrev pub statics_of : Shape → List ℕ
 statics_of shape = (shape.table ∷ 1 ∷ replicate shape.fields 0) ++ shape.tables
@@ -70,7 +72,7 @@ front limits shape =
 abbrev pub back : Limits → Shape → List ℕ
 back limits shape =
     shape.tables ++ (replicate (base limits shape - statics_at - size shape) 0 ++ replicate (2 ^ limits.heap) 0
-    ++ replicate (512 * limits.deep) 0)
+    ++ replicate (FRAME_WORDS * limits.deep) 0)
 
 pub length-statics : (shape : Shape) → length (statics_of shape) ≡ size shape
 length-statics shape = omega (
@@ -86,7 +88,7 @@ with_parts limits size heads statics heap =
     ++ statics
     ++ replicate (heap_base limits.heap size - statics_at - size) 0
     ++ heap
-    ++ replicate (512 * limits.deep) 0
+    ++ replicate (FRAME_WORDS * limits.deep) 0
 
 regrouped : (before words tabs room heap stack : List ℕ) (a b : ℕ)
     → before ++ (a ∷ b ∷ (words ++ tabs)) ++ room ++ heap ++ stack
@@ -101,14 +103,14 @@ of_parts limits shape words =
     regrouped (fixed_cells limits.heap limits.deep (base limits shape) (empty_heads limits.heap (base limits shape)))
     words shape.tables
     (replicate (base limits shape - statics_at - size shape) 0) (replicate (2 ^ limits.heap) 0)
-    (replicate (512 * limits.deep) 0) shape.table 1
+    (replicate (FRAME_WORDS * limits.deep) 0) shape.table 1
 
 -- the input's words in the fields
 
 set-third : (a b : ℕ) (words rest : List ℕ) (i word : ℕ) → i < length words
-    → slice_set (a ∷ b ∷ (words ++ rest)) (2 + i) word ≡ a ∷ b ∷ (slice_set words i word ++ rest)
+    → slice_set (a ∷ b ∷ (words ++ rest)) (HEADER_WORDS + i) word ≡ a ∷ b ∷ (slice_set words i word ++ rest)
 set-third a b words rest i word h =
-    let e : 2 + i ≡ suc (suc i) = omega arith in
+    let e : HEADER_WORDS + i ≡ suc (suc i) = omega arith in
     ap (λ k. slice_set (a ∷ b ∷ (words ++ rest)) k word) e
     ∙ ap (λ (cells : List ℕ). a ∷ b ∷ cells) (set-append_left words rest i word h)
 

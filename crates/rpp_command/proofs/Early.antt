@@ -7,8 +7,8 @@ use Rattle.std.proofs.Common.{arith}
 use Rattle.rpp_ports.specs.Ports.{Texts, Rose}
 use Rattle.rpp_probes.specs.Tally.{Watch}
 use Rattle.command_plan.specs.Plans.{Planned, Written}
-use Rattle.rpp_command.specs.declared.finish.Broken.{Broken}
-use Rattle.rpp_command.specs.declared.finish.Broken.TheVariants.{Outside, NoMemory}
+use Rattle.command_plan.specs.declared.status.Broken.{Broken}
+use Rattle.command_plan.specs.declared.status.Broken.TheVariants.{Outside, NoMemory}
 use Rattle.command_line.specs.Lines.{Asked, Turn, Profile}
 use Rattle.rpp_command.specs.Plans.{IsPlan, LeavesProbes}
 use Rattle.rpp_command.specs.Answers.{LeavesUnwritten, BreaksOff, EndsEarly}
@@ -44,13 +44,14 @@ breaks_by before after rose rose' failed lacks old new p broken f (inr at_text) 
 -- a plan of the line was broken off
 pub ends_early : (line : Asked) (probes kept : List Watch) (told mid after : Option Texts) (before at now : ℕ)
     (failed lacks : Type 0) (old new : Option (List ℕ)) (p : Planned) (broken : Broken)
-    → IsPlan line probes kept told p → mid ≡ told → before ≤ at
+    → (count made : ℕ) → count ≡ 0 → IsPlan line probes kept count made told p → mid ≡ told → before ≤ at
     → BreaksOff mid after (Rose at now) failed lacks old new p broken
     → EndsEarly (Some line) probes kept told (Rose before now) failed lacks after old new broken
-ends_early line probes kept told mid after before at now failed lacks old new p broken is same later h =
+ends_early line probes kept told mid after before at now failed lacks old new p broken count made none is same later h =
     inr (record {
       plan = p;
-      is_plan = is;
+      made = made;
+      is_plan = subst (λ (n : ℕ). IsPlan line probes kept n made told p) none is;
       broken_off = breaks_by told after (Rose at now) (Rose before now) failed lacks old new p broken
           (rose_before before at now later)
           (subst (λ (texts : Option Texts). BreaksOff texts after (Rose at now) failed lacks old new p broken) same h);

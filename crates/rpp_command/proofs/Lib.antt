@@ -1,2 +1,3 @@
+mod Carried
 pub mod Early
 pub mod Targets

@@ -17,30 +17,33 @@ use Rattle.text_commands.proofs.TextTargets.{shows_inverse_writes, generates_wri
 use Rattle.image_commands.proofs.ImageTargets.{assembles_file_writes, lists_file_writes, flips_file_writes}
 use Rattle.image_commands.proofs.ImageTargets.{runs_file_writes, debugs_file_writes}
 
-plan_writes : (line : Asked) (before after : List Watch) (told : Option Texts) (p : Planned)
-    → IsPlan line before after told p → WritesOnly p (target_of line)
+plan_writes : (line : Asked) (before after : List Watch) (count counted : ℕ) (told : Option Texts) (p : Planned)
+    → IsPlan line before after count counted told p → WritesOnly p (target_of line)
 unfolding IsPlan target_of
-plan_writes (Check file) before after told p h = checks_file_writes file told p h
-plan_writes (Compile file image) before after told p h = compiles_file_writes file image told p h
-plan_writes (Asm text image) before after told p h = assembles_file_writes text image told p h
-plan_writes (ListImage image text) before after told p h = lists_file_writes image text told p h
-plan_writes (Flip image flipped) before after told p h = flips_file_writes image flipped told p h
-plan_writes (ShowInverse file out) before after told p h = shows_inverse_writes file out told p h
-plan_writes (Generate seed size out) before after told p h = generates_writes seed size out told p h
-plan_writes (Cluster script cells images) before after told p h = clusters_files_writes script cells images told p h
-plan_writes (RunImage image heap deep steps state save) before after told p h =
-    runs_file_writes image heap deep steps state save told p h
-plan_writes (Debug image heap deep script) before after told p h = debugs_file_writes image heap deep script told p h
-plan_writes (Trace file heap deep script input) before after told p h =
+plan_writes (Check file) before after count counted told p h = checks_file_writes file told p h
+plan_writes (Compile file image) before after count counted told p h = compiles_file_writes file image told p h
+plan_writes (Asm text image) before after count counted told p h = assembles_file_writes text image told p h
+plan_writes (ListImage image text) before after count counted told p h = lists_file_writes image text told p h
+plan_writes (Flip image flipped) before after count counted told p h = flips_file_writes image flipped told p h
+plan_writes (ShowInverse file out) before after count counted told p h = shows_inverse_writes file out told p h
+plan_writes (Generate seed size out) before after count counted told p h = generates_writes seed size out told p h
+plan_writes (Cluster script cells images) before after count counted told p h =
+    clusters_files_writes script cells images told p h
+plan_writes (RunImage image heap deep steps state save) before after count counted told p h =
+    runs_file_writes image heap deep steps state save count counted told p h
+plan_writes (Debug image heap deep script) before after count counted told p h =
+    debugs_file_writes image heap deep script count counted told p h
+plan_writes (Trace file heap deep script input) before after count counted told p h =
     traces_writes file script input heap deep told p h
-plan_writes (Go file heap deep steps input) before after told p h = goes_on_writes file input heap deep steps told p h
-plan_writes (Turn file heap deep steps input) before after told p h =
-    turns_file_writes before after file input heap deep steps told p h
-plan_writes (Profile file heap deep steps) before after told p h =
-    profiles_file_writes before after file heap deep steps told p h
-plan_writes (Wrap file heap deep steps names input) before after told p h =
-    wraps_file_writes file names input heap deep steps told p h
-plan_writes (Explain file heap deep fuel input) before after told p h =
+plan_writes (Go file heap deep steps input) before after count counted told p h =
+    goes_on_writes count counted file input heap deep steps told p h
+plan_writes (Turn file heap deep steps input) before after count counted told p h =
+    turns_file_writes before after count counted file input heap deep steps told p h
+plan_writes (Profile file heap deep steps) before after count counted told p h =
+    profiles_file_writes before after count counted file heap deep steps told p h
+plan_writes (Wrap file heap deep steps names input) before after count counted told p h =
+    wraps_file_writes count counted file names input heap deep steps told p h
+plan_writes (Explain file heap deep fuel input) before after count counted told p h =
     explains_writes file input heap deep fuel told p h
 
 -- where nothing is written, each name keeps its text
@@ -57,8 +60,8 @@ kept_where old new p name (inl none) kept = kept_all old new name
 kept_where old new p name (inr same) kept = subst (KeepsButTarget old new) same kept
 
 -- so what it leaves is as the line says
-pub kept_by_plan : (line : Asked) (before after : List Watch) (old new : Option Texts) (p : Planned)
-    → IsPlan line before after old p
+pub kept_by_plan : (line : Asked) (before after : List Watch) (count counted : ℕ) (old new : Option Texts)
+    (p : Planned) → IsPlan line before after count counted old p
     → KeepsButTarget old new (option_map (λ w. w.name) p.writing) → KeepsButTarget old new (target_of line)
-kept_by_plan line before after old new p is kept =
-    kept_where old new p (target_of line) (plan_writes line before after old p is) kept
+kept_by_plan line before after count counted old new p is kept =
+    kept_where old new p (target_of line) (plan_writes line before after count counted old p is) kept

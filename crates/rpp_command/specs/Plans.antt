@@ -1,5 +1,5 @@
 -- The plans of each line.
-use Rattle.std.specs.Prelude.{◌≡◌, List}
+use Rattle.std.specs.Prelude.{◌≡◌, ℕ, List}
 use Rattle.std.specs.declared.option.Option.{Option}
 use Rattle.rpp_ports.specs.Ports.{Texts}
 use Rattle.rpp_probes.specs.Tally.{Watch}
@@ -18,28 +18,35 @@ use Rattle.command_line.specs.Lines.{Asked, Check, Compile, Asm, ListImage, Flip
 use Rattle.command_line.specs.Lines.{Generate, Cluster, RunImage, Debug, Trace, Go, Turn, Profile}
 use Rattle.command_line.specs.Lines.{Wrap, Explain}
 
--- a plan of the line, where the shelf tells these texts, if it does, and the list of probes is
--- `before` as it is handed in and `after` as it is left
-unfoldable pub IsPlan : Asked → (before after : List Watch) → Option Texts → Planned → Type 0
-IsPlan (Check file) before after = ChecksFile file
-IsPlan (Compile file image) before after = CompilesFile file image
-IsPlan (Asm text image) before after = AssemblesFile text image
-IsPlan (ListImage image text) before after = ListsFile image text
-IsPlan (Flip image flipped) before after = FlipsFile image flipped
-IsPlan (ShowInverse file out) before after = ShowsInverse file out
-IsPlan (Generate seed size out) before after = Generates seed size out
-IsPlan (Cluster script cells images) before after = ClustersFiles script cells images
-IsPlan (RunImage image heap deep steps state save) before after =
-    RunsFile image heap deep steps state save
-IsPlan (Debug image heap deep script) before after = DebugsFile image heap deep script
-IsPlan (Trace file heap deep script input) before after = Traces file script input heap deep
-IsPlan (Go file heap deep steps input) before after = GoesOn file input heap deep steps
-IsPlan (Turn file heap deep steps input) before after =
-    TurnsFile before after file input heap deep steps
-IsPlan (Profile file heap deep steps) before after = ProfilesFile before after file heap deep steps
-IsPlan (Wrap file heap deep steps names input) before after =
-    WrapsFile file names input heap deep steps
-IsPlan (Explain file heap deep fuel input) before after = Explains file input heap deep fuel
+-- A plan of the line, where the shelf tells these texts, if it does, and the list of probes is
+-- `before` as it is handed in and `after` as it is left; so `count` and `counted` are the counter
+-- of machine steps.
+unfoldable pub IsPlan : Asked → (before after : List Watch) → (count counted : ℕ) → Option Texts
+    → Planned → Type 0
+IsPlan (Check file) before after count counted = ChecksFile file
+IsPlan (Compile file image) before after count counted = CompilesFile file image
+IsPlan (Asm text image) before after count counted = AssemblesFile text image
+IsPlan (ListImage image text) before after count counted = ListsFile image text
+IsPlan (Flip image flipped) before after count counted = FlipsFile image flipped
+IsPlan (ShowInverse file out) before after count counted = ShowsInverse file out
+IsPlan (Generate seed size out) before after count counted = Generates seed size out
+IsPlan (Cluster script cells images) before after count counted = ClustersFiles script cells images
+IsPlan (RunImage image heap deep steps state save) before after count counted =
+    RunsFile image heap deep steps state save count counted
+IsPlan (Debug image heap deep script) before after count counted =
+    DebugsFile image heap deep script count counted
+IsPlan (Trace file heap deep script input) before after count counted =
+    Traces file script input heap deep
+IsPlan (Go file heap deep steps input) before after count counted =
+    GoesOn count counted file input heap deep steps
+IsPlan (Turn file heap deep steps input) before after count counted =
+    TurnsFile before after count counted file input heap deep steps
+IsPlan (Profile file heap deep steps) before after count counted =
+    ProfilesFile before after count counted file heap deep steps
+IsPlan (Wrap file heap deep steps names input) before after count counted =
+    WrapsFile count counted file names input heap deep steps
+IsPlan (Explain file heap deep fuel input) before after count counted =
+    Explains file input heap deep fuel
 
 -- what is left of the probes where want of memory, or a file that could not be read, keeps the line
 -- from a plan

@@ -6,13 +6,13 @@ ghost use Rattle.command_plan.specs.Plans.{GivesPlan, code_of};
 ghost use Rattle.rpp_command.specs.Plans.{IsPlan, LeavesProbes};
 ghost use Rattle.command_plan.specs.Files.{OnlyReads, Unreadable, UnreadCause, LacksOne};
 ghost use Rattle.rpp_command.specs.Causes.{KeepsButTarget, files_of, needed, target, target_of, tell, tells};
-ghost use Rattle.rpp_command.specs.Answers.{CarriesOut, Answers, EndsEarly, served_status};
+ghost use Rattle.rpp_command.specs.Answers.{CarriesOut, Answers, EndsEarly};
 
-use crate::finish::{Broken, finish, say};
+use crate::finish::{finish, say};
 use cluster_commands::cluster;
 use command_line::{Line, read_words};
-use command_plan::{NoPlan, Plan, Sizes, Verdict};
-use image_commands::{Room, asm, debug, flip, list, run};
+use command_plan::{Broken, NoPlan, Plan, Room, Sizes, Verdict, status_of};
+use image_commands::{asm, debug, flip, list, run};
 use pisa_machine::Steps;
 use program_commands::{check, compile_file, explain, go, profile, turn};
 use rpp_ports::{Shelf, Sink};
@@ -39,12 +39,14 @@ pub fn rooplpp<S: Shelf, K: Sink, P: Probes>(
 
     // 1 comes exactly where the words are no line.
     ensures words { result ≡ 1 → line_of (map string_bytes words.now) ≡ None }
-    ensures no_line { line_of (map string_bytes words.now) ≡ None → result ≢ 2 → result ≢ 7 → result ≡ 1 }
+    ensures no_line { line_of (map string_bytes words.now) ≡ None → result ≢ 2 → result ≢ 7
+        → result ≡ 1 }
 
     // 2 comes only where a count rose, or a told map lacks a file that is to be read.
     ensures outside { result ≡ 2 → Unreadable (S.texts shelf.old)
         (needed (line_of (map string_bytes words.now)))
-        (Rose (S.faults shelf.old) (S.faults shelf.new) ⊎ Rose (K.faults out.old) (K.faults out.new)) }
+        (Rose (S.faults shelf.old) (S.faults shelf.new)
+        ⊎ Rose (K.faults out.old) (K.faults out.new)) }
 
     // Where a told map lacks a file that is to be read, nothing else comes but want of memory.
     ensures lacking { IfSome (S.texts shelf.old)
@@ -93,18 +95,6 @@ pub fn rooplpp<S: Shelf, K: Sink, P: Probes>(
     }
 }
 
-// The status of what was served: of words that are no line, of a plan that was carried out, or of
-// what broke off.
-fn status_of(served: Option<Result<Verdict, Broken>>) -> u8
-    ensures { result ≡ served_status served }
-{
-    match served {
-        None => 1,
-        Some(Ok(verdict)) => verdict.code(),
-        Some(Err(broken)) => broken.code(),
-    }
-}
-
 // Drops a line. The proof of what drops one goes by its variants, so no larger function does.
 fn discard(_line: Line) {}
 
@@ -127,7 +117,8 @@ fn serve<S: Shelf, K: Sink, P: Probes, L: Ledger>(
         (K.written out.new)) }
     ensures outside { IsErrOf result Broken.Outside
         → Unreadable (S.texts shelf.old) (files_of (asked line.now))
-        (Rose (S.faults shelf.old) (S.faults shelf.new) ⊎ Rose (K.faults out.old) (K.faults out.new)) }
+        (Rose (S.faults shelf.old) (S.faults shelf.new)
+        ⊎ Rose (K.faults out.old) (K.faults out.new)) }
     ensures early { IfErr result (λ broken.
         EndsEarly (Some (asked line.now)) (P.watches probes.old) (P.watches probes.new)
         (S.texts shelf.old) (Rose (S.faults shelf.old) (S.faults shelf.new))
@@ -135,7 +126,8 @@ fn serve<S: Shelf, K: Sink, P: Probes, L: Ledger>(
         (S.texts shelf.new) (K.written out.old) (K.written out.new) broken) }
     ensures whole { OnOk result (IfSome (S.texts shelf.old)
         (λ texts. ¬ LacksOne texts (files_of (asked line.now)))) }
-    ensures kept { KeepsButTarget (S.texts shelf.old) (S.texts shelf.new) (target_of (asked line.now)) }
+    ensures kept { KeepsButTarget (S.texts shelf.old) (S.texts shelf.new)
+        (target_of (asked line.now)) }
     ensures later { S.faults shelf.old ≤ S.faults shelf.new }
     ensures later_sink { K.faults out.old ≤ K.faults out.new }
     ensures probes { tells (asked line.now) ≡ false → probes.new ≡ probes.old }
@@ -166,7 +158,8 @@ fn plan_line<S: Shelf, P: Probes, L: Ledger>(
 ) -> Result<Plan, NoPlan>
     requires { HasShortNumbers (asked line.now) }
     ensures plan { GivesPlan (S.texts shelf.old)
-        (IsPlan (asked line.now) (P.watches probes.old) (P.watches probes.new)) result }
+        (IsPlan (asked line.now) (P.watches probes.old) (P.watches probes.new) counter.old
+        counter.new) result }
     ensures reads { OnlyReads (S.texts shelf.old) (S.texts shelf.new) (S.faults shelf.old)
         (S.faults shelf.new) (files_of (asked line.now)) result }
     ensures untold { IfErr result (UnreadCause (P.watches probes.new ≡ P.watches probes.old)) }
@@ -201,8 +194,10 @@ fn plan_line<S: Shelf, P: Probes, L: Ledger>(
             image.as_str(),
             states,
             Sizes {
-                heap: *heap,
-                deep: *deep,
+                room: Room {
+                    heap: *heap,
+                    deep: *deep,
+                },
                 bound: *steps,
             },
             counter,
@@ -252,8 +247,10 @@ fn plan_line<S: Shelf, P: Probes, L: Ledger>(
             file.as_str(),
             input,
             Sizes {
-                heap: *heap,
-                deep: *deep,
+                room: Room {
+                    heap: *heap,
+                    deep: *deep,
+                },
                 bound: *steps,
             },
             counter,
@@ -270,8 +267,10 @@ fn plan_line<S: Shelf, P: Probes, L: Ledger>(
             file.as_str(),
             input,
             Sizes {
-                heap: *heap,
-                deep: *deep,
+                room: Room {
+                    heap: *heap,
+                    deep: *deep,
+                },
                 bound: *steps,
             },
             probes,
@@ -287,8 +286,10 @@ fn plan_line<S: Shelf, P: Probes, L: Ledger>(
             shelf,
             file.as_str(),
             Sizes {
-                heap: *heap,
-                deep: *deep,
+                room: Room {
+                    heap: *heap,
+                    deep: *deep,
+                },
                 bound: *steps,
             },
             probes,
@@ -308,8 +309,10 @@ fn plan_line<S: Shelf, P: Probes, L: Ledger>(
             names.as_str(),
             input,
             Sizes {
-                heap: *heap,
-                deep: *deep,
+                room: Room {
+                    heap: *heap,
+                    deep: *deep,
+                },
                 bound: *steps,
             },
             counter,
@@ -326,8 +329,10 @@ fn plan_line<S: Shelf, P: Probes, L: Ledger>(
             file.as_str(),
             input,
             Sizes {
-                heap: *heap,
-                deep: *deep,
+                room: Room {
+                    heap: *heap,
+                    deep: *deep,
+                },
                 bound: *fuel,
             },
         ),

@@ -1,3 +1,4 @@
 pub mod Blocks
 pub mod PartByPart
 pub mod Statements
+pub mod Walks

@@ -5,8 +5,9 @@ use Rattle.rpp_tree.specs.declared.limits.TheConstants.{MOST_NUMBER, MOST_INDEX_
 use Rattle.rpp_tree.specs.declared.limits.TheConstants.{MOST_PARAMETERS, MOST_LOCALS, MOST_NESTING}
 use Rattle.rpp_tree.specs.Tree.{Expression, Number, Null, Variable, Element, Binary, Lvalue, Whole}
 use Rattle.rpp_tree.specs.Tree.{Item, Creation, Object, Ints, Objects, Statement, Statements}
-use Rattle.rpp_tree.specs.Tree.{Update, Swap, If, From, Construct, Local, New, Delete, Copy, Uncopy}
-use Rattle.rpp_tree.specs.Tree.{Call, Skip, End, Then, Procedure, Source, statement_nodes, depth}
+use Rattle.rpp_tree.specs.Tree.{Procedure, Source, Part, Operand, Target, Typed, Creates, Invokes}
+use Rattle.rpp_tree.specs.Tree.{Walk, walk, walk_block, own_parts, each_part, statement_nodes}
+use Rattle.rpp_tree.specs.Tree.{depth}
 use Rattle.rpp_tree.specs.Names.{IsName}
 use Rattle.rpp_tree.specs.Numbers.{source_numbers}
 use Rattle.rpp_tree.specs.Parts.{source_names, source_places, source_tokens}
@@ -33,27 +34,16 @@ abbrev pub receiver_index_depth : Option Lvalue → ℕ
 receiver_index_depth None = 0
 receiver_index_depth (Some receiver) = lvalue_index_depth receiver
 
+abbrev pub part_index_depth : Part → ℕ
+part_index_depth (Operand value) = index_depth value
+part_index_depth (Target place) = lvalue_index_depth place
+part_index_depth (Typed kind place) = lvalue_index_depth place
+part_index_depth (Creates made) = creation_index_depth made
+part_index_depth (Invokes receiver method args) = receiver_index_depth receiver
+
 -- the same of a statement itself, without the statements inside it
 abbrev pub statement_index_depth : Statement → ℕ
-statement_index_depth (Update at op target value) =
-    max (lvalue_index_depth target) (index_depth value)
-statement_index_depth (Swap at left right) = max (lvalue_index_depth left)
-    (lvalue_index_depth right)
-statement_index_depth (If at test taken other after) = max (index_depth test) (index_depth after)
-statement_index_depth (From at entry first again exit) = max (index_depth entry) (index_depth exit)
-statement_index_depth (Construct at class name body end) = 0
-statement_index_depth (Local at var value body end_var end_value) =
-    max (index_depth value) (index_depth end_value)
-statement_index_depth (New at made target) = max (creation_index_depth made)
-    (lvalue_index_depth target)
-statement_index_depth (Delete at made target) =
-    max (creation_index_depth made) (lvalue_index_depth target)
-statement_index_depth (Copy at kind source target) =
-    max (lvalue_index_depth source) (lvalue_index_depth target)
-statement_index_depth (Uncopy at kind source target) =
-    max (lvalue_index_depth source) (lvalue_index_depth target)
-statement_index_depth (Call at back receiver method args) = receiver_index_depth receiver
-statement_index_depth (Skip at) = 0
+statement_index_depth s = each_part max part_index_depth 0 (own_parts s)
 
 -- a call of a method of an element holds the element in a local
 abbrev pub receiver_locals : Option Lvalue → ℕ
@@ -61,50 +51,48 @@ receiver_locals None = 0
 receiver_locals (Some (Whole name)) = 0
 receiver_locals (Some (Item name index)) = 1
 
-abbrev mutual
-  -- the most locals at one point of a statement, those of `construct` and of element calls counted
-  pub statement_locals : Statement → ℕ
-  statement_locals (Update at op target value) = 0
-  statement_locals (Swap at left right) = 0
-  statement_locals (If at test taken other after) = max (locals taken) (locals other)
-  statement_locals (From at entry first again exit) = max (locals first) (locals again)
-  statement_locals (Construct at class name body end) = 1 + locals body
-  statement_locals (Local at var value body end_var end_value) = 1 + locals body
-  statement_locals (New at made target) = 0
-  statement_locals (Delete at made target) = 0
-  statement_locals (Copy at kind source target) = 0
-  statement_locals (Uncopy at kind source target) = 0
-  statement_locals (Call at back receiver method args) = receiver_locals receiver
-  statement_locals (Skip at) = 0
+abbrev pub part_locals : Part → ℕ
+part_locals (Invokes receiver method args) = receiver_locals receiver
+part_locals _ = 0
 
-  pub locals : Statements → ℕ
-  locals End = 0
-  locals (Then first rest) = max (statement_locals first) (locals rest)
+abbrev pub held_locals : Walk ℕ
+held_locals = record {
+  plain = λ at parts. each_part max part_locals 0 parts;
+  forked = λ at before first second after. max first second;
+  construct = λ at class name body end. 1 + body;
+  local = λ at var value body end_var end_value. 1 + body;
+  none = 0;
+  next = λ first said rest. max said rest;
+}
+
+-- the most locals at one point of a statement, those of `construct` and of element calls counted
+abbrev pub statement_locals : Statement → ℕ
+statement_locals = walk held_locals
+
+abbrev pub locals : Statements → ℕ
+locals = walk_block held_locals
 
 -- a statement keeps the limits of expressions
 pub record IsSmallStatement (statement : Statement) : Type 0 where
   pub nodes : statement_nodes statement ≤ MOST_NODES
   pub indexes : statement_index_depth statement ≤ MOST_INDEX_DEPTH
 
-abbrev mutual
-  -- each statement keeps them, those inside others too
-  pub AreSmall : Statements → Type 0
-  AreSmall End = Unit {0}
-  AreSmall (Then first rest) = IsSmallStatement first × AreInnerSmall first × AreSmall rest
+abbrev pub small : Walk (Type 0)
+small = record {
+  plain = λ at parts. Unit {0};
+  forked = λ at before first second after. first × second;
+  construct = λ at class name body end. body;
+  local = λ at var value body end_var end_value. body;
+  none = Unit {0};
+  next = λ first said rest. IsSmallStatement first × said × rest;
+}
 
-  pub AreInnerSmall : Statement → Type 0
-  AreInnerSmall (Update at op target value) = Unit {0}
-  AreInnerSmall (Swap at left right) = Unit {0}
-  AreInnerSmall (If at test taken other after) = AreSmall taken × AreSmall other
-  AreInnerSmall (From at entry first again exit) = AreSmall first × AreSmall again
-  AreInnerSmall (Construct at class name body end) = AreSmall body
-  AreInnerSmall (Local at var value body end_var end_value) = AreSmall body
-  AreInnerSmall (New at made target) = Unit {0}
-  AreInnerSmall (Delete at made target) = Unit {0}
-  AreInnerSmall (Copy at kind source target) = Unit {0}
-  AreInnerSmall (Uncopy at kind source target) = Unit {0}
-  AreInnerSmall (Call at back receiver method args) = Unit {0}
-  AreInnerSmall (Skip at) = Unit {0}
+-- each statement keeps them, those inside others too
+abbrev pub AreSmall : Statements → Type 0
+AreSmall = walk_block small
+
+abbrev pub AreInnerSmall : Statement → Type 0
+AreInnerSmall = walk small
 
 -- a method keeps the limits of methods
 pub record IsSmallMethod (method : Procedure) : Type 0 where

@@ -7,8 +7,8 @@ use Rattle.rpp_tree.specs.declared.tree.VarType.{VarType}
 use Rattle.rpp_tree.specs.declared.tree.VarType.TheVariants as kind
 use Rattle.rpp_tree.specs.Tree.{Expression, Number, Null, Variable, Element, Binary, Lvalue, Whole}
 use Rattle.rpp_tree.specs.Tree.{Item, Creation, Object, Ints, Objects, Statement, Statements}
-use Rattle.rpp_tree.specs.Tree.{Update, Swap, If, From, Construct, Local, New, Delete, Copy, Uncopy}
-use Rattle.rpp_tree.specs.Tree.{Call, Skip, End, Then, Procedure, ClassText, Source}
+use Rattle.rpp_tree.specs.Tree.{Procedure, ClassText, Source, Part, Operand, Target, Typed, Creates}
+use Rattle.rpp_tree.specs.Tree.{Invokes, Walk, walk, walk_block, each_part, each_after}
 
 -- ---- names
 
@@ -41,30 +41,31 @@ type_names (kind.ClassArray class) = class ∷ []
 abbrev pub var_names : Var → List Ident
 var_names var = type_names var.kind ++ var.name ∷ []
 
-abbrev mutual
-  pub statement_names : Statement → List Ident
-  statement_names (Update at op target value) = lvalue_names target ++ expression_names value
-  statement_names (Swap at left right) = lvalue_names left ++ lvalue_names right
-  statement_names (If at test taken other after) =
-      expression_names test ++ block_names taken ++ block_names other ++ expression_names after
-  statement_names (From at entry first again exit) =
-      expression_names entry ++ block_names first ++ block_names again ++ expression_names exit
-  statement_names (Construct at class name body end) = class ∷ name ∷ block_names body ++ end ∷ []
-  statement_names (Local at var value body end_var end_value) =
-      var_names var ++ expression_names value ++ block_names body ++ var_names end_var
-      ++ expression_names end_value
-  statement_names (New at made target) = creation_names made ++ lvalue_names target
-  statement_names (Delete at made target) = creation_names made ++ lvalue_names target
-  statement_names (Copy at kind source target) =
-      type_names kind ++ lvalue_names source ++ lvalue_names target
-  statement_names (Uncopy at kind source target) =
-      type_names kind ++ lvalue_names source ++ lvalue_names target
-  statement_names (Call at back receiver method args) = receiver_names receiver ++ method ∷ args
-  statement_names (Skip at) = []
+abbrev pub part_names : Part → List Ident
+part_names (Operand value) = expression_names value
+part_names (Target place) = lvalue_names place
+part_names (Typed kind place) = type_names kind ++ lvalue_names place
+part_names (Creates made) = creation_names made
+part_names (Invokes receiver method args) = receiver_names receiver ++ method ∷ args
 
-  pub block_names : Statements → List Ident
-  block_names End = []
-  block_names (Then first rest) = statement_names first ++ block_names rest
+abbrev pub names : Walk (List Ident)
+names = record {
+  plain = λ at parts. each_part ◌++◌ part_names [] parts;
+  forked = λ at before first second after.
+      expression_names before ++ first ++ second ++ expression_names after;
+  construct = λ at class name body end. class ∷ name ∷ body ++ end ∷ [];
+  local = λ at var value body end_var end_value.
+      var_names var ++ expression_names value ++ body ++ var_names end_var
+      ++ expression_names end_value;
+  none = [];
+  next = λ first said rest. said ++ rest;
+}
+
+abbrev pub statement_names : Statement → List Ident
+statement_names = walk names
+
+abbrev pub block_names : Statements → List Ident
+block_names = walk_block names
 
 abbrev pub procedure_names : Procedure → List Ident
 procedure_names method = method.name ∷ flat_map var_names method.params ++ block_names method.body
@@ -108,35 +109,32 @@ creation_places (Objects class length) = class.at ∷ expression_places length
 abbrev pub var_places : Var → List ℕ
 var_places var = name_places (var_names var)
 
-abbrev mutual
-  pub statement_places : Statement → List ℕ
-  statement_places (Update at op target value) =
-      at ∷ lvalue_places target ++ expression_places value
-  statement_places (Swap at left right) = at ∷ lvalue_places left ++ lvalue_places right
-  statement_places (If at test taken other after) =
-      at ∷ expression_places test ++ block_places taken ++ block_places other
-      ++ expression_places after
-  statement_places (From at entry first again exit) =
-      at ∷ expression_places entry ++ block_places first ++ block_places again
-      ++ expression_places exit
-  statement_places (Construct at class name body end) =
-      at ∷ class.at ∷ name.at ∷ block_places body ++ end.at ∷ []
-  statement_places (Local at var value body end_var end_value) =
-      at ∷ var_places var ++ expression_places value ++ block_places body ++ var_places end_var
-      ++ expression_places end_value
-  statement_places (New at made target) = at ∷ creation_places made ++ lvalue_places target
-  statement_places (Delete at made target) = at ∷ creation_places made ++ lvalue_places target
-  statement_places (Copy at kind source target) =
-      at ∷ name_places (type_names kind) ++ lvalue_places source ++ lvalue_places target
-  statement_places (Uncopy at kind source target) =
-      at ∷ name_places (type_names kind) ++ lvalue_places source ++ lvalue_places target
-  statement_places (Call at back receiver method args) =
-      at ∷ receiver_places receiver ++ method.at ∷ name_places args
-  statement_places (Skip at) = at ∷ []
+abbrev pub part_places : Part → List ℕ
+part_places (Operand value) = expression_places value
+part_places (Target place) = lvalue_places place
+part_places (Typed kind place) = name_places (type_names kind) ++ lvalue_places place
+part_places (Creates made) = creation_places made
+part_places (Invokes receiver method args) = receiver_places receiver ++ method.at
+    ∷ name_places args
 
-  pub block_places : Statements → List ℕ
-  block_places End = []
-  block_places (Then first rest) = statement_places first ++ block_places rest
+abbrev pub places : Walk (List ℕ)
+places = record {
+  plain = λ at parts. at ∷ each_part ◌++◌ part_places [] parts;
+  forked = λ at before first second after.
+      at ∷ expression_places before ++ first ++ second ++ expression_places after;
+  construct = λ at class name body end. at ∷ class.at ∷ name.at ∷ body ++ end.at ∷ [];
+  local = λ at var value body end_var end_value.
+      at ∷ var_places var ++ expression_places value ++ body ++ var_places end_var
+      ++ expression_places end_value;
+  none = [];
+  next = λ first said rest. said ++ rest;
+}
+
+abbrev pub statement_places : Statement → List ℕ
+statement_places = walk places
+
+abbrev pub block_places : Statements → List ℕ
+block_places = walk_block places
 
 abbrev pub procedure_places : Procedure → List ℕ
 procedure_places method = method.name.at ∷ flat_map var_places method.params
@@ -187,31 +185,34 @@ list_tokens size [] = 0
 list_tokens size (first ∷ []) = size first
 list_tokens size (first ∷ second ∷ rest) = size first + 1 + list_tokens size (second ∷ rest)
 
-abbrev mutual
-  pub statement_tokens : Statement → ℕ
-  statement_tokens (Update at op target value) = lvalue_tokens target + 1 + expression_tokens value
-  statement_tokens (Swap at left right) = lvalue_tokens left + 1 + lvalue_tokens right
-  statement_tokens (If at test taken other after) =
-      4 + expression_tokens test + block_tokens taken + block_tokens other + expression_tokens after
-  statement_tokens (From at entry first again exit) =
-      4 + expression_tokens entry + block_tokens first + block_tokens again + expression_tokens exit
-  statement_tokens (Construct at class name body end) = 5 + block_tokens body
-  statement_tokens (Local at var value body end_var end_value) =
-      4 + var_tokens var + expression_tokens value + block_tokens body + var_tokens end_var +
-      expression_tokens end_value
-  statement_tokens (New at made target) = 1 + creation_tokens made + lvalue_tokens target
-  statement_tokens (Delete at made target) = 1 + creation_tokens made + lvalue_tokens target
-  statement_tokens (Copy at kind source target) =
-      1 + type_tokens kind + lvalue_tokens source + lvalue_tokens target
-  statement_tokens (Uncopy at kind source target) =
-      1 + type_tokens kind + lvalue_tokens source + lvalue_tokens target
-  statement_tokens (Call at back receiver method args) =
-      4 + receiver_tokens receiver + list_tokens (λ name. 1) args
-  statement_tokens (Skip at) = 1
+-- a call's parentheses are counted with what it calls
+abbrev pub part_tokens : Part → ℕ
+part_tokens (Operand value) = expression_tokens value
+part_tokens (Target place) = lvalue_tokens place
+part_tokens (Typed kind place) = type_tokens kind + lvalue_tokens place
+part_tokens (Creates made) = creation_tokens made
+part_tokens (Invokes receiver method args) = receiver_tokens receiver + 3
+    + list_tokens (λ name. 1) args
 
-  pub block_tokens : Statements → ℕ
-  block_tokens End = 0
-  block_tokens (Then first rest) = statement_tokens first + block_tokens rest
+-- a statement without blocks has one word or sign beside its parts
+abbrev pub tokens : Walk ℕ
+tokens = record {
+  plain = λ at parts. each_after ◌+◌ part_tokens 1 parts;
+  forked = λ at before first second after.
+      4 + expression_tokens before + first + second + expression_tokens after;
+  construct = λ at class name body end. 5 + body;
+  local = λ at var value body end_var end_value.
+      4 + var_tokens var + expression_tokens value + body + var_tokens end_var
+      + expression_tokens end_value;
+  none = 0;
+  next = λ first said rest. said + rest;
+}
+
+abbrev pub statement_tokens : Statement → ℕ
+statement_tokens = walk tokens
+
+abbrev pub block_tokens : Statements → ℕ
+block_tokens = walk_block tokens
 
 abbrev pub procedure_tokens : Procedure → ℕ
 procedure_tokens method = 4 + list_tokens var_tokens method.params + block_tokens method.body

@@ -10,6 +10,7 @@ mod copy_code;
 mod copy_program;
 mod count;
 pub mod limits;
+mod places;
 pub mod text;
 pub mod tree;
 
@@ -21,6 +22,7 @@ pub use limits::{
     LimitKind, MOST_BYTES, MOST_CLASSES, MOST_FIELDS, MOST_INDEX_DEPTH, MOST_LOCALS, MOST_METHODS,
     MOST_NESTING, MOST_NODES, MOST_NUMBER, MOST_PARAMETERS, MOST_PARENS, MOST_TOKENS,
 };
+pub use places::place_of;
 pub use text::Text;
 pub use tree::{
     BinOp, Block, Class, Expr, Ident, Made, Method, Place, Program, Stmt, UpdateOp, Var, VarType,

@@ -8,7 +8,9 @@ mod names;
 mod order;
 mod words;
 
-pub use input::{FIXED_CELLS, FRAME_WORDS, FieldWord, Input, Limits, MOST_DEEP, MOST_HEAP};
+pub use input::{
+    FIXED_CELLS, FRAME_WORDS, FieldWord, HEADER_WORDS, Input, Limits, MOST_DEEP, MOST_HEAP,
+};
 pub use memory::NoMemory;
 pub use names::is_name_byte;
 pub use order::order_for;

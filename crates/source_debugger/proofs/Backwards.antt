@@ -6,8 +6,8 @@ use Rattle.std.specs.Ordering.{int_eq}
 use Rattle.std.proofs.lemmas.Bool.{eqb-true, eqb-false, lt-ltb, le-ltb, ltb-true, ltb-false, le-leb, lt-leb}
 use Rattle.meaning_points.specs.Points.{Point}
 use Rattle.meaning_points.specs.Trail.{Trail}
-use Rattle.source_blocks.specs.declared.watch.Watching.TheVariants as watch
-use Rattle.source_blocks.specs.Watched.{Watched, Passed, Met, watched}
+use Rattle.source_debugger.specs.declared.watching.Watching.TheVariants as watch
+use Rattle.source_debugger.specs.Watched.{Watched, Passed, Met, watched}
 use Rattle.source_debugger.specs.declared.moves.Walk.{Walk}
 use Rattle.source_debugger.specs.declared.moves.Ending.TheVariants.{Made, Start}
 use Rattle.source_debugger.specs.declared.running.Ended.{Ended}

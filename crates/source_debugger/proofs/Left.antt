@@ -6,8 +6,8 @@ use Rattle.std.proofs.lemmas.Bool.{eqb-true, eqb-false}
 use Rattle.roopl_semantics.specs.Run.{Run, Done, Fault, More}
 use Rattle.meaning_points.specs.Points.{Point}
 use Rattle.meaning_points.specs.Trail.{Trail}
-use Rattle.source_blocks.specs.declared.watch.Watching.TheVariants as watch
-use Rattle.source_blocks.specs.Watched.{Watched, Passed, Met, is_given, watched}
+use Rattle.source_debugger.specs.declared.watching.Watching.TheVariants as watch
+use Rattle.source_debugger.specs.Watched.{Watched, Passed, Met, is_given, watched}
 use Rattle.source_debugger.specs.Ended.{left_of}
 use Rattle.source_debugger.specs.Walks.{AtPoint, Unknown, end_stand, point_stand, stand_at, has_place, is_at}
 

@@ -7,8 +7,8 @@ use Rattle.roopl_semantics.specs.Run.{Run, Done, Fault, More}
 use Rattle.roopl_semantics.specs.Store.{State}
 use Rattle.meaning_points.specs.Points.{Point}
 use Rattle.meaning_points.specs.Trail.{Trail}
-use Rattle.source_blocks.specs.declared.watch.Watching.TheVariants as watch
-use Rattle.source_blocks.specs.Watched.{Watched, Passed, Met, is_given, watched}
+use Rattle.source_debugger.specs.declared.watching.Watching.TheVariants as watch
+use Rattle.source_debugger.specs.Watched.{Watched, Passed, Met, is_given, watched}
 use Rattle.source_debugger.specs.declared.moves.TheConstants.{LAST_POSITION}
 use Rattle.source_debugger.specs.declared.moves.Walk.{Walk}
 use Rattle.source_debugger.specs.declared.moves.Ending.TheVariants.{Made, Faulted}

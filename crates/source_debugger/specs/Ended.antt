@@ -1,16 +1,18 @@
 -- How a run under a watch ended.
-use Rattle.std.specs.Prelude.{◌≡◌, ℕ, ◌-◌, max, nat_eq, nat_lt, if◌then◌else◌, [], Option, Some}
-use Rattle.std.specs.Prelude.{None}
+use Rattle.std.specs.Prelude.{◌≡◌, ◌<◌, ℕ, ◌-◌, max, nat_eq, nat_lt, if◌then◌else◌, [], Option}
+use Rattle.std.specs.Prelude.{Some, None}
 use Rattle.roopl_semantics.specs.Run.{Done, Fault}
 use Rattle.roopl_semantics.specs.Store.{State, main_name}
 use Rattle.source_store.specs.HeapView.{Kept}
 use Rattle.meaning_points.specs.Trail.{Trail}
+use Rattle.meaning_machine.specs.Machine.{Config}
 use Rattle.source_steps.specs.declared.stop.Stop.{Stop}
 use Rattle.source_steps.specs.declared.stop.Stop.TheVariants as stop
-use Rattle.source_blocks.specs.declared.watch.Arrival.{Arrival}
-use Rattle.source_blocks.specs.declared.watch.Watching.{Watching}
-use Rattle.source_blocks.specs.declared.watch.Watching.TheVariants as watch
-use Rattle.source_blocks.specs.Watched.{Passed, Met, watched, point_of}
+use Rattle.source_execution.specs.Standing.{next_place}
+use Rattle.source_debugger.specs.declared.watching.Watching.{Watching}
+use Rattle.source_debugger.specs.declared.watching.Watching.TheVariants as watch
+use Rattle.source_debugger.specs.declared.running.Arrival.{Arrival}
+use Rattle.source_debugger.specs.Watched.{Passed, Met, watched, point_of}
 use Rattle.source_debugger.specs.declared.moves.Walk.{Walk}
 use Rattle.source_debugger.specs.declared.moves.Ending.TheVariants.{Made, Start, Faulted}
 use Rattle.source_debugger.specs.declared.running.Ended.{Ended}
@@ -44,17 +46,22 @@ IsEnded (ended.At arrival heap last) first trail =
 IsEnded (ended.Over heap last) first trail = IsOver heap first last trail
 IsEnded (ended.Fault code last) first trail = IsFaulted code first last trail
 
--- the end of a run at the point that was met
-abbrev pub IsMet : Option Arrival → Kept → Watching → Ended → Type 0
-IsMet None heap last e = ⊥
-IsMet (Some arrival) heap last e = e ≡ ended.At arrival heap last
+-- a run ended at the point where it stands, with some fuel left
+pub record HasStopped (x : Config) (last : Watching) (fuel : ℕ) (e : Ended) : Type 0 where
+  pub arrival : Arrival
+  pub heap : Kept
+  pub is : e ≡ ended.At arrival heap last
+  pub begins : next_place x.rest ≡ Some arrival.place
+  pub point : point_of arrival heap
+      ≡ record { place = arrival.place; params = x.params; state = x.state }
+  pub some : 0 < fuel
 
--- the end of a run that stopped so
-abbrev pub IsBroken : Stop → Kept → Watching → Option Arrival → Ended → Type 0
-IsBroken (stop.Fault code) heap last arrival e = e ≡ ended.Fault code last
-IsBroken stop.More heap last arrival e = ⊥
-IsBroken stop.Arrived heap last arrival e = IsMet arrival heap last e
-IsBroken stop.NoMemory heap last arrival e = ⊥
+-- a run ended that stopped so
+abbrev pub IsStopped : Stop → Watching → Ended → Type 0
+IsStopped (stop.Fault code) last e = e ≡ ended.Fault code last
+IsStopped stop.More last e = ⊥
+IsStopped stop.Arrived last e = ⊥
+IsStopped stop.NoMemory last e = ⊥
 
 -- the watch as the run left it
 abbrev pub watching_of : Ended → Watching
@@ -64,12 +71,10 @@ watching_of (ended.Fault code last) = last
 
 -- how many points it had left to pass, and how many at the last one at its place
 abbrev pub left_of : Watching → ℕ
-left_of watch.Nothing = 0
 left_of (watch.First place skip left) = left
 left_of (watch.Latest place skip left latest) = left
 
 abbrev pub latest_of : Watching → Option ℕ
-latest_of watch.Nothing = None
 latest_of (watch.First place skip left) = None
 latest_of (watch.Latest place skip left latest) = latest
 

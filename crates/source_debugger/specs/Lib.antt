@@ -1,3 +1,4 @@
+pub mod Watched
 pub mod Ended
 pub mod Walks
 pub mod Named

@@ -10,6 +10,7 @@ mod lines;
 mod moves;
 mod running;
 mod shown;
+mod watching;
 
 pub use debugger::SourceDebugger;
 pub use moves::LAST_POSITION;

@@ -8,13 +8,13 @@ ghost use Rattle.class_table.specs.Classes.{class_fields};
 ghost use Rattle.roopl_semantics.specs.Store.{object_named};
 ghost use Rattle.roopl_semantics.specs.Report.{signed_decimal, head_shown};
 ghost use Rattle.source_store.specs.ValueView.{value_of, values_of, head_of, object_of};
-ghost use Rattle.source_blocks.specs.Watched.{binding_of};
+ghost use Rattle.source_execution.specs.Variables.{binding_of};
 ghost use Rattle.source_debugger.specs.Named.{value_named, name_line, fields_named, elements_named, cells_named, object_lines, objects_from, variable_line, params_named, frame_named};
 
 use class_table::Checked;
 use rpp_tree::tree::{Program, Var};
 use rpp_words::NoMemory;
-use source_blocks::Variable;
+use source_execution::Variable;
 use source_store::{Head, Heap, Object, Value};
 use std::alloc::AllocError;
 
@@ -208,12 +208,10 @@ fn add_named(out: &mut String, checked: &Checked, heap: &Heap, name: u64) -> Res
     if name >= heap.names() as u64 {
         return Ok(());
     }
-    match u32::try_from(name) {
-        Err(_) => Err(NoMemory),
-        Ok(name) => match heap.object(name) {
-            None => Ok(()),
-            Some(object) => add_object(out, checked, name, object),
-        },
+    let name = name as u32;
+    match heap.object(name) {
+        None => Ok(()),
+        Some(object) => add_object(out, checked, name, object),
     }
 }
 

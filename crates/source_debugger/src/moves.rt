@@ -8,8 +8,8 @@ ghost use Rattle.source_debugger.specs.Standing.{IsValidRun};
 ghost use Rattle.source_debugger.specs.Ended.{watching_of, left_of, latest_of, reached_by, back_by as back_at, back_to as back_to_latest};
 
 use crate::running::{Ended, Run, run_to};
+use crate::watching::Watching;
 use rpp_words::NoMemory;
-use source_blocks::Watching;
 
 /// The last position that a debugger moves to.
 pub const LAST_POSITION: u64 = (1 << 63) - 1;
@@ -44,7 +44,6 @@ pub(crate) fn left_in(watching: Watching) -> u64
     ensures { result ≡ left_of watching }
 {
     match watching {
-        Watching::Nothing => 0,
         Watching::First { left, .. } => left,
         Watching::Latest { left, .. } => left,
     }
@@ -55,7 +54,6 @@ fn latest_in(watching: Watching) -> Option<u64>
     ensures { result ≡ latest_of watching }
 {
     match watching {
-        Watching::Nothing => None,
         Watching::First { .. } => None,
         Watching::Latest { latest, .. } => latest,
     }

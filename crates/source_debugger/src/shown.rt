@@ -9,18 +9,19 @@ ghost use Rattle.source_debugger.specs.Named.{fields_named, frame_named};
 ghost use Rattle.class_table.specs.Classes.{class_fields};
 ghost use Rattle.roopl_semantics.specs.Store.{class_of_head, object_at};
 ghost use Rattle.source_store.specs.ValueView.{values_of};
-ghost use Rattle.source_blocks.specs.Watched.{binding_of};
+ghost use Rattle.source_execution.specs.Variables.{binding_of};
 ghost use Rattle.source_debugger.specs.Standing.{IsValidRun};
 ghost use Rattle.source_debugger.specs.Placed.{stand_of};
 
 use crate::lines::{add_class_fields, add_frame, add_objects};
 use crate::moves::{Ending, Walk, left_in};
-use crate::running::{Ended, Run, run_to};
+use crate::running::{Arrival, Ended, Run, run_to};
+use crate::watching::Watching;
 use class_table::Checked;
 use pisa_isa::Stop;
 use pisa_scripts::add_stop;
 use rpp_words::NoMemory;
-use source_blocks::{Arrival, Variable, Watching};
+use source_execution::Variable;
 use source_store::{Heap, Value};
 use std::alloc::{AllocError, Global};
 

@@ -1,36 +1,31 @@
 -- A run with so much fuel, and a run within it.
-use Rattle.std.proofs.Common.{◌≡◌, ℕ, ◌-◌, ◌≤◌, refl, sym, ap, subst, ◌∙◌, arith, Bool, true, false, if◌then◌else◌}
-use Rattle.std.proofs.Common.{Some, None}
-use Rattle.std.proofs.lemmas.Bool.{leb-true}
+use Rattle.std.proofs.Common.{◌≡◌, ◌<◌, ℕ, ◌-◌, ◌≤◌, refl, sym, ap₂, subst, ◌∙◌, arith, Bool, true, false, if◌then◌else◌}
+use Rattle.std.proofs.Common.{Some, None, List}
+use Rattle.std.proofs.lemmas.Bool.{leb-true, leb-false}
 use Rattle.std.specs.Prelude.{nat_le, Result, Ok, Err, IfOk}
-use Rattle.roopl_semantics.specs.Run.{Run, Done, Fault, More}
-use Rattle.std.proofs.Common.{List, [], ◌∷◌}
 use Rattle.rpp_words.specs.declared.input.FieldWord.{FieldWord}
-use Rattle.rpp_tree.specs.declared.tree.Var.{Var}
-use Rattle.rpp_tree.specs.Tree.{Source}
-use Rattle.class_table.specs.declared.method.MethodId.{MethodId}
-use Rattle.class_table.specs.Table.{Table, table_of, fields_in}
-use Rattle.class_table.specs.Classes.{class_fields, main_of}
-use Rattle.buddy_book.specs.Place.{Log}
-use Rattle.roopl_semantics.specs.Store.{Value, Binding, OfClass, Object, State, Store, zero_values}
-use Rattle.roopl_semantics.specs.Source.{within, source, main_body, with_input, main_object, starting}
-use Rattle.roopl_semantics.specs.Execution.{exec}
 use Rattle.rpp_words.specs.declared.input.Limits.{Limits}
-use Rattle.source_store.specs.HeapView.{Kept}
 use Rattle.rpp_words.specs.Limits.{IsLimits}
+use Rattle.rpp_tree.specs.Tree.{Source}
 use Rattle.class_table.specs.Program.{IsAccepted}
-use Rattle.roopl_semantics.specs.Source.{IsValid}
+use Rattle.roopl_semantics.specs.Run.{Run, Done, Fault, More}
+use Rattle.roopl_semantics.specs.Store.{Store}
+use Rattle.roopl_semantics.specs.Source.{within, source, IsValid}
+use Rattle.roopl_semantics.specs.Execution.{Setting}
 use Rattle.roopl_semantics.specs.Laws.{CountsReferences}
-use Rattle.roopl_semantics.proofs.MoreFuel.{source_done, source_fault}
+use Rattle.roopl_semantics.proofs.MoreFuel.{source_done, source_fault, within_done, within_fault}
+use Rattle.meaning_machine.specs.Machine.{Config, walk}
+use Rattle.meaning_machine.specs.SourceLaws.{set_for, start_of, Exceeds}
+use Rattle.meaning_machine.proofs.Sources.{joined}
 use Rattle.meaning_sound.proofs.Stated.{counts_are_held}
 use Rattle.meaning_inverse.proofs.Law.{leads_back}
-use Rattle.source_meaning.specs.declared.outcome.Outcome.{Outcome}
-use Rattle.source_meaning.specs.declared.outcome.Outcome.TheVariants as outcome
 use Rattle.source_steps.specs.declared.stop.Stop.{Stop}
 use Rattle.source_steps.specs.declared.stop.Stop.TheVariants as stop
-use Rattle.source_meaning.specs.Outcomes.{EndsWith, IsOutcome, IsStop, StaysSo, IsUndone, IsStart}
-use Rattle.source_steps.proofs.Tables.{fields_read}
-use Rattle.source_steps.specs.Metered.{Went, Stopped, Out, went, stopped, metered, Failed}
+use Rattle.source_steps.specs.Metered.{Went, Stopped, Out, went, stopped, metered, left_of, Failed}
+use Rattle.source_execution.specs.Standing.{Standing, IsOver, Walks, config_at, setting_at}
+use Rattle.source_meaning.specs.declared.outcome.Outcome.{Outcome}
+use Rattle.source_meaning.specs.declared.outcome.Outcome.TheVariants as outcome
+use Rattle.source_meaning.specs.Outcomes.{EndsWith, IsOutcome, IsStop, StaysSo, IsUndone}
 
 by_done : {A : Type 0} (t : Bool) (fuel cost : ℕ) (x end : A) (left : ℕ) → (t ≡ true → cost ≤ fuel)
     → went x (if t then Some (fuel - cost) else None) ≡ Went end left
@@ -92,125 +87,92 @@ ends_more fuel (Done x cost) e = out_done (nat_le cost fuel) fuel cost x e
 ends_more fuel (Fault code cost) e = out_fault (nat_le cost fuel) fuel cost code e
 ends_more fuel More e = refl
 
-pub main_is : (program : Source) (table : Table) (main : MethodId) (vars : List Var) (words same : List FieldWord)
-    (zeros after : List Value) → table ≡ table_of program → main ≡ table.main → vars ≡ fields_in table main.class
-    → zeros ≡ zero_values vars → words ≡ same → after ≡ with_input words zeros
-    → ◌≡◌ {A = Object} (record { head = OfClass main.class; count = 1; cells = after }) (main_object program same)
-main_is program table main vars words same zeros after e f g h i k =
-    let which : main ≡ main_of program = f ∙ ap (λ t. t.main) e in
-    let own : vars ≡ class_fields program main.class = g ∙
-    (ap (λ t. fields_in t main.class) e ∙ fields_read program main.class) in
-    let cells : after ≡ with_input same (zero_values (class_fields program main.class)) = k
-    ∙ (ap (λ w. with_input w zeros) i ∙ ap (with_input same) (h ∙ ap (λ vs. zero_values vs) own)) in
-    let build : List Value → Object = λ cs. record { head = OfClass main.class; count = 1; cells = cs } in
-    let whole : MethodId → Object = λ m. record {
-      head = OfClass m.class;
-      count = 1;
-      cells = with_input same (zero_values (class_fields program m.class));
-    } in
-    ap build cells ∙ ap whole which
+-- ---- a run of the machine
 
-pub start_is : {E : Type 0} (r : Result Kept E) (order : ℕ) (program : Source) (table : Table) (main : MethodId)
-    (vars : List Var) (words same : List FieldWord) (zeros after : List Value)
-    → table ≡ table_of program → main ≡ table.main → vars ≡ fields_in table main.class → zeros ≡ zero_values vars
-    → words ≡ same → after ≡ with_input words zeros
-    → IfOk r (λ heap. heap ≡ record {
-      order = order;
-      store
-          = (1, record { head = OfClass main.class; count = 1; cells = after }) ∷ [];
-      log = [];
-    })
-    → IfOk r (λ heap. IsStart program same order heap)
-start_is (Err why) order program table main vars words same zeros after e f g h i k is = tt
-start_is (Ok heap) order program table main vars words same zeros after e f g h i k is = record {
-  store = ap (λ z. z.store) is ∙ ap (λ o. (1, o) ∷ []) (main_is program table main vars words same zeros after e f g h i
-      k);
-  log = ap (λ z. z.log) is;
-  order = ap (λ z. z.order) is;
-}
+out_went : {A : Type 0} (fuel cost : ℕ) (x : A) → went x (left_of fuel cost) ≡ Out → fuel < cost
+out_went fuel cost x e = by (nat_le cost fuel) refl e
+  where
+    by : (t : Bool) → nat_le cost fuel ≡ t → went x (if t then Some (fuel - cost) else None) ≡ Out → fuel < cost
+    by true q e = cc
+    by false q e = leb-false cost fuel q
 
-pub start_state : (st : State) (program : Source) (input : List FieldWord) → st.frame ≡ [] → st.self ≡ 1 → st.depth ≡ 1
-    → st.store ≡ (1, main_object program input) ∷ [] → st.log ≡ [] → st ≡ starting program input
-start_state st program input f i d s l =
-    let one : List Binding → State = λ frame. record {
-      frame = frame;
-      self = st.self;
-      depth = st.depth;
-      store = st.store;
-      log = st.log;
-    } in
-    let two : ℕ → State = λ k. record { frame = []; self = k; depth = st.depth; store = st.store; log = st.log } in
-    let three : ℕ → State = λ k. record { frame = []; self = 1; depth = k; store = st.store; log = st.log } in
-    let four : Store → State = λ store. record { frame = []; self = 1; depth = 1; store = store; log = st.log } in
-    let five : Log → State = λ log. record {
-      frame = [];
-      self = 1;
-      depth = 1;
-      store = (1, main_object program input) ∷ [];
-      log = log;
-    } in
-    ap one f ∙ (ap two i ∙ (ap three d ∙ (ap four s ∙ ap five l)))
+out_stopped : {A : Type 0} (fuel cost code : ℕ) → stopped {A = A} code (left_of fuel cost) ≡ Out → fuel < cost
+out_stopped {A = A} fuel cost code e = by (nat_le cost fuel) refl e
+  where
+    by : (t : Bool) → nat_le cost fuel ≡ t → stopped {A = A} code (if t then Some (fuel - cost) else None) ≡ Out
+        → fuel < cost
+    by true q e = cc
+    by false q e = leb-false cost fuel q
 
-module _ (program : Source) (limits : Limits) (input : List FieldWord) (fuel left : ℕ) (store : Store) (st end : State)
-    (e : metered fuel (exec (record { program = program; limits = limits }) fuel (main_body program) st)
-    ≡ Went end left)
-    (f : st.frame ≡ []) (i : st.self ≡ 1) (d : st.depth ≡ 1) (s : st.store ≡ (1, main_object program input) ∷ [])
-    (l : st.log ≡ []) (es : end.store ≡ store) where
-  ends_done_with : source program limits input fuel ≡ Done end (fuel - left)
-  ends_done_with =
-      ends_done fuel (exec (record { program = program; limits = limits }) fuel (main_body program)
-      (starting program input)) end left
-      (ap (λ st. metered fuel (exec (record { program = program; limits = limits }) fuel (main_body program) st))
-      (sym (start_state st program input f i d s l)) ∙ e)
+module _ (program : Source) (limits : Limits) (input : List FieldWord) (fuel left steps : ℕ) where
+  abbrev walked : Run Config
+  walked = walk (set_for program limits) steps (start_of program input)
 
-  pub main_done : EndsWith (source program limits input fuel) store (fuel - left)
-  main_done = record { end = end; done = ends_done_with; same = es }
+  walked_done : (to : Config) → metered fuel walked ≡ Went to left → IsOver to
+      → source program limits input fuel ≡ Done to.state (fuel - left)
+  walked_done to e over =
+      let w = within_done fuel walked to (fuel - left) (ends_done fuel walked to left e) in
+      (joined program limits input fuel).over steps to (fuel - left) w.is over.rest over.around w.in_fuel
 
-  pub main_counts : IsAccepted program → IsLimits limits → IsValid program input → CountsReferences store
-  main_counts accepted inside valid = subst CountsReferences es
-      (counts_are_held program limits input fuel end (fuel - left) accepted inside valid ends_done_with)
+  walked_fault : (code : ℕ) → metered fuel walked ≡ Stopped code left
+      → source program limits input fuel ≡ Fault code (fuel - left)
+  walked_fault code e =
+      let w = within_fault fuel walked code (fuel - left) (ends_fault fuel walked code left e) in
+      (joined program limits input fuel).fault_only steps code (fuel - left) w.is w.in_fuel
 
--- the same of a fault, or where no fuel is left
-pub main_fault : (program : Source) (limits : Limits) (input : List FieldWord) (fuel left code : ℕ) (st : State)
-    → metered fuel (exec (record { program = program; limits = limits }) fuel (main_body program) st)
-    ≡ Stopped code left
-    → st.frame ≡ [] → st.self ≡ 1 → st.depth ≡ 1 → st.store ≡ (1, main_object program input) ∷ [] → st.log ≡ []
-    → source program limits input fuel ≡ Fault code (fuel - left)
-main_fault program limits input fuel left code st e f i d s l =
-    ends_fault fuel (exec (record { program = program; limits = limits }) fuel (main_body program)
-    (starting program input)) code left
-    (ap (λ st. metered fuel (exec (record { program = program; limits = limits }) fuel (main_body program) st))
-    (sym (start_state st program input f i d s l)) ∙ e)
+  walked_more : metered fuel walked ≡ Out → source program limits input fuel ≡ More
+  walked_more e = by walked refl e
+    where
+      by : (r : Run Config) → walked ≡ r → metered fuel r ≡ Out → source program limits input fuel ≡ More
+      by (Done to cost) is out = (joined program limits input fuel).more_only
+          (record { steps = steps; exceeds = subst (Exceeds fuel) (sym is) (out_went fuel cost to out) })
+      by (Fault code cost) is out = (joined program limits input fuel).more_only
+          (record {
+            steps = steps;
+            exceeds = subst (Exceeds fuel) (sym is) (out_stopped {A = Config} fuel cost code
+                out);
+          })
+      by More is out = (joined program limits input fuel).not_over steps is
 
-pub main_more : (program : Source) (limits : Limits) (input : List FieldWord) (fuel : ℕ) (st : State)
-    → metered fuel (exec (record { program = program; limits = limits }) fuel (main_body program) st) ≡ Out
-    → st.frame ≡ [] → st.self ≡ 1 → st.depth ≡ 1 → st.store ≡ (1, main_object program input) ∷ [] → st.log ≡ []
-    → source program limits input fuel ≡ More
-main_more program limits input fuel st e f i d s l =
-    ends_more fuel (exec (record { program = program; limits = limits }) fuel (main_body program)
-    (starting program input))
-    (ap (λ st. metered fuel (exec (record { program = program; limits = limits }) fuel (main_body program) st))
-    (sym (start_state st program input f i d s l)) ∙ e)
+module _ (program : Source) (limits : Limits) (input : List FieldWord) (fuel left : ℕ) (first now : Standing)
+    (setting : setting_at first ≡ set_for program limits) (start : config_at first ≡ start_of program input) where
+  -- where the run is over
+  module _ {E : Type 0} (e : E) (walks : Walks first now fuel (Ok e) left) (over : IsOver (config_at now))
+      (store : Store) (same : store ≡ (config_at now).state.store) where
+    over_is : source program limits input fuel ≡ Done (config_at now).state (fuel - left)
+    over_is = walked_done program limits input fuel left walks.steps (config_at now)
+        (ap₂ (λ (s : Setting) (x : Config). metered fuel (walk s walks.steps x)) (sym setting) (sym start)
+        ∙ walks.gives) over
+
+    pub main_done : EndsWith (source program limits input fuel) store (fuel - left)
+    main_done = record { end = (config_at now).state; done = over_is; same = sym same }
+
+    pub main_counts : IsAccepted program → IsLimits limits → IsValid program input → CountsReferences store
+    main_counts accepted inside valid = subst CountsReferences (sym same)
+        (counts_are_held program limits input fuel (config_at now).state (fuel - left) accepted inside valid over_is)
+
+  -- where it stops before its end
+  pub main_stops : {E F : Type 0} (r : Result Outcome E) (why : Stop) → Walks {E = F} first now fuel (Err why) left
+      → IfOk r (λ o. IsStop why (fuel - left) o) → IfOk r (λ o. IsOutcome o (source program limits input fuel))
+  main_stops (Err none) why walks is = tt
+  main_stops (Ok o) why walks is =
+      by why (subst (λ (x : Config). Failed why left (metered fuel (walk (set_for program limits) walks.steps x))) start
+      (subst (λ (s : Setting). Failed why left (metered fuel (walk s walks.steps (config_at first)))) setting
+      walks.gives)) is
+    where
+      by : (k : Stop) → Failed k left (metered fuel (walk (set_for program limits) walks.steps
+          (start_of program input))) → IsStop k (fuel - left) o → IsOutcome o (source program limits input fuel)
+      by (stop.Fault code) e is = subst (λ o. IsOutcome o (source program limits input fuel)) (sym is)
+          (walked_fault program limits input fuel left walks.steps code e)
+      by stop.More e is = subst (λ o. IsOutcome o (source program limits input fuel)) (sym is)
+          (walked_more program limits input fuel left walks.steps e)
+      by stop.Arrived e is = absurd is
+      by stop.NoMemory e is = absurd is
 
 pub done_as : {E : Type 0} (r : Result Outcome E) (x : Outcome) (P : Outcome → Type 0) → P x → IfOk r (λ o. o ≡ x)
     → IfOk r P
 done_as (Err why) x P p e = tt
 done_as (Ok o) x P p e = subst P (sym e) p
-
-pub main_stops : {E : Type 0} (r : Result Outcome E) (why : Stop) (program : Source) (limits : Limits)
-    (input : List FieldWord) (fuel left : ℕ) (st : State)
-    → Failed why left (metered fuel (exec (record { program = program; limits = limits }) fuel (main_body program) st))
-    → st.frame ≡ [] → st.self ≡ 1 → st.depth ≡ 1 → st.store ≡ (1, main_object program input) ∷ [] → st.log ≡ []
-    → IfOk r (λ o. IsStop why (fuel - left) o) → IfOk r (λ o. IsOutcome o (source program limits input fuel))
-main_stops (Err none) why program limits input fuel left st e f i d s l is = tt
-main_stops (Ok o) (stop.Fault code) program limits input fuel left st e f i d s l is =
-    subst (λ o. IsOutcome o (source program limits input fuel)) (sym is)
-    (main_fault program limits input fuel left code st e f i d s l)
-main_stops (Ok o) stop.More program limits input fuel left st e f i d s l is =
-    subst (λ o. IsOutcome o (source program limits input fuel)) (sym is)
-    (main_more program limits input fuel st e f i d s l)
-main_stops (Ok o) stop.Arrived program limits input fuel left st e f i d s l is = absurd is
-main_stops (Ok o) stop.NoMemory program limits input fuel left st e f i d s l is = absurd is
 
 -- ---- the laws of an answer
 

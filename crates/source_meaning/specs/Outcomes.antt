@@ -1,12 +1,11 @@
 -- How a run ends, and how it begins.
-use Rattle.std.specs.Prelude.{◌≡◌, ◌≤◌, ℕ, List, [], ◌∷◌}
+use Rattle.std.specs.Prelude.{◌≡◌, ◌≤◌, ℕ, List}
 use Rattle.rpp_words.specs.declared.input.FieldWord.{FieldWord}
 use Rattle.rpp_words.specs.declared.input.Limits.{Limits}
 use Rattle.rpp_tree.specs.Tree.{Source}
 use Rattle.roopl_semantics.specs.Run.{Run, Done, Fault, More}
-use Rattle.roopl_semantics.specs.Store.{State, Store, main_name}
-use Rattle.roopl_semantics.specs.Source.{main_object, main_body, starting, source}
-use Rattle.source_store.specs.HeapView.{Kept}
+use Rattle.roopl_semantics.specs.Store.{State, Store}
+use Rattle.roopl_semantics.specs.Source.{main_body, starting, source}
 use Rattle.source_steps.specs.declared.stop.Stop.{Stop}
 use Rattle.source_steps.specs.declared.stop.Stop.TheVariants as stop
 use Rattle.meaning_inverse.specs.InverseLaws.{LeadsBack}
@@ -52,10 +51,3 @@ IsUndone (outcome.Done store cost) program limits input fuel =
     ComesBack program limits input fuel store cost
 IsUndone (outcome.Fault code cost) program limits input fuel = Unit {0}
 IsUndone outcome.More program limits input fuel = Unit {0}
-
--- a heap with the main object alone
-pub record IsStart (program : Source) (input : List FieldWord) (highest : ℕ) (heap : Kept) : Type 0
-  where
-    pub store : heap.store ≡ (main_name, main_object program input) ∷ []
-    pub log : heap.log ≡ []
-    pub order : heap.order ≡ highest

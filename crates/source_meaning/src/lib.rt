@@ -11,4 +11,4 @@ mod whole;
 pub use outcome::Outcome;
 pub use source_store::Head;
 pub use store::{Object, Store};
-pub use whole::{MOST_OPEN, interpret, run_main, start};
+pub use whole::{MOST_OPEN, interpret};

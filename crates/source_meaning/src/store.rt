@@ -1,5 +1,5 @@
 // The objects and arrays that a run leaves.
-ghost use Rattle.std.specs.Prelude.{◌≡◌, ◌<◌, ◌≤◌, ℕ, IfOk, length, map, slice_get, Some, None};
+ghost use Rattle.std.specs.Prelude.{◌≡◌, ◌<◌, ◌≤◌, ◌^◌, ℕ, IfOk, length, map, slice_get, Some, None};
 ghost use Rattle.std.specs.Option.{unwrap_or, option_map};
 ghost use Rattle.roopl_semantics.specs.Store.{Nil, main_name, number_of, object_at, object_named};
 ghost use Rattle.roopl_semantics.specs.Laws.{CountsReferences};
@@ -18,7 +18,7 @@ pub struct Object {
     /// What it is.
     pub head: Head,
     /// How many variables, fields and elements refer to it.
-    pub count: u32,
+    pub count: u64,
     /// The number in each field or element.
     pub cells: Vec<u32>,
 }
@@ -54,7 +54,7 @@ impl Store {
         ensures { IfOk result (λ store. store ≡ heap.store) }
     {
         let objects = all_numbers(alloc, &heap)?;
-        let live = live_number(&heap)?;
+        let live = live_number(&heap);
         Ok(Store {
             heap,
             objects,
@@ -125,32 +125,26 @@ fn numbers(alloc: Global, values: &[Value]) -> Result<Vec<u32>, NoMemory>
     Ok(numbers)
 }
 
-// An object or array by its numbers; one with more references than a word can count takes too much
-// memory.
+// An object or array by its numbers.
 fn with_numbers(alloc: Global, object: &source_store::Object) -> Result<Object, NoMemory>
     ensures { IfOk result (λ shown. seen_object shown ≡ numbers_of (object_of object.now)) }
 {
-    match u32::try_from(object.count) {
-        Err(_) => Err(NoMemory),
-        Ok(count) => Ok(Object {
-            head: object.head,
-            count,
-            cells: numbers(alloc, &object.cells)?,
-        }),
-    }
+    Ok(Object {
+        head: object.head,
+        count: object.count,
+        cells: numbers(alloc, &object.cells)?,
+    })
 }
 
 // What is live at a name, by its numbers.
 fn numbers_at(alloc: Global, heap: &Heap, name: usize) -> Result<Option<Object>, NoMemory>
+    requires { name < 2 ^ 32 }
     ensures { IfOk result (λ shown. option_map seen_object shown
         ≡ option_map numbers_of (object_named heap.now.store name)) }
 {
-    match u32::try_from(name) {
-        Err(_) => Err(NoMemory),
-        Ok(name) => match heap.object(name) {
-            None => Ok(None),
-            Some(object) => Ok(Some(with_numbers(alloc, object)?)),
-        },
+    match heap.object(name as u32) {
+        None => Ok(None),
+        Some(object) => Ok(Some(with_numbers(alloc, object)?)),
     }
 }
 
@@ -166,11 +160,9 @@ fn all_numbers(alloc: Global, heap: &Heap) -> Result<Vec<Option<Object>>, NoMemo
 }
 
 // How many live but for the main object.
-fn live_number(heap: &Heap) -> Result<u32, NoMemory>
-    ensures { IfOk result (λ live. live ≡ live_count heap.now.store) }
+fn live_number(heap: &Heap) -> u32
+    ensures { result ≡ live_count heap.now.store }
 {
-    match u32::try_from(heap.live().saturating_sub(1)) {
-        Err(_) => Err(NoMemory),
-        Ok(live) => Ok(live),
-    }
+    let live = heap.live();
+    live.saturating_sub(1) as u32
 }

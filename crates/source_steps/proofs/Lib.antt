@@ -4,3 +4,5 @@ pub mod LocalRuns
 pub mod Elements
 pub mod Moves
 pub mod Allocated
+pub mod Scopes
+pub mod Restored

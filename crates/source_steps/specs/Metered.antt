@@ -42,6 +42,13 @@ Failed stop.More left run = run ≡ Out
 Failed stop.Arrived left run = Unit {0}
 Failed stop.NoMemory left run = Unit {0}
 
+-- a run that stopped by itself, and not at a point that is watched for
+abbrev pub IsOwnStop : Stop → Type 0
+IsOwnStop (stop.Fault code) = Unit {0}
+IsOwnStop stop.More = Unit {0}
+IsOwnStop stop.Arrived = ⊥
+IsOwnStop stop.NoMemory = Unit {0}
+
 -- what a call that answered so gave: its value, or why it stopped
 abbrev pub Gives : {A B : Type 0} → (A → B) → Result A Stop → ℕ → Metered B → Type 0
 Gives f (Ok a) left run = run ≡ Went (f a) left

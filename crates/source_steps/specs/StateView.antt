@@ -1,5 +1,5 @@
 -- What contracts see of the state of a run.
-use Rattle.std.specs.Prelude.{◌≡◌, ℕ, ◌+◌, nat_lt, if◌then◌else◌, List, [], ◌∷◌, map, length}
+use Rattle.std.specs.Prelude.{◌≡◌, ℕ, ◌+◌, nat_lt, if◌then◌else◌, List, [], ◌∷◌, ◌++◌, map, length}
 use Rattle.std.specs.Prelude.{Result, Ok, Err}
 use Rattle.rpp_tree.specs.declared.tree.Var.{Var}
 use Rattle.rpp_tree.specs.Views.{source_of}
@@ -10,13 +10,12 @@ use Rattle.source_store.specs.declared.value.Value.{Value as Held}
 use Rattle.source_store.specs.ValueView.{values_of}
 use Rattle.source_store.specs.HeapView.{Kept}
 use Rattle.source_steps.specs.declared.scope.Scope.{Scope as Chain}
-use Rattle.source_steps.specs.declared.scope.Scope.TheVariants as chain
 use Rattle.source_steps.specs.declared.expressions.Setting.{Setting as Here}
 
 -- the names of the variables, the innermost first
 abbrev pub names_of : Chain → List (List ℕ)
-names_of (chain.Params vars) = map (λ var. var.name.text) vars.now
-names_of (chain.Local' name p outer) = name.now ∷ names_of outer
+names_of scope = map (λ own. own.now) scope.locals.now
+    ++ map (λ var. var.name.text) scope.params.now
 
 abbrev pub bindings : List (List ℕ) → List Value → List Binding
 bindings [] values = []

@@ -1,10 +1,10 @@
 // The values that move into a call and back.
-ghost use Rattle.std.specs.Prelude.{◌≡◌, ◌≤◌, ◌++◌, IfOk, OnOk, MatchResult, length, map, not};
+ghost use Rattle.std.specs.Prelude.{◌≡◌, ◌≤◌, ◌++◌, IfOk, OnOk, OnErr, MatchResult, length, map, not, IfErr};
 ghost use Rattle.roopl_semantics.specs.Value.{read};
 ghost use Rattle.roopl_semantics.specs.Execution.{cells_named, moved_out, moved_back};
 ghost use Rattle.source_store.specs.ValueView.{value_of, values_of};
 ghost use Rattle.source_steps.specs.CellView.{cell_of};
-ghost use Rattle.source_steps.specs.Metered.{metered};
+ghost use Rattle.source_steps.specs.Metered.{metered, IsOwnStop};
 ghost use Rattle.source_steps.specs.Ends.{Ends};
 ghost use Rattle.source_steps.specs.StateView.{IsFramed, state_of, setting_of};
 
@@ -78,7 +78,8 @@ pub fn move_out(
     }
 }
 
-/// The values move back, each into a cell that still reads 0 or nil.
+/// The values move back, each into a cell that still reads 0 or nil. Where one does not, all stays.
+#[tactic(auto, using(crate::proofs::Restored::taken_back, crate::proofs::Fuelled::handed))]
 pub fn move_back(
     setting: &Setting,
     scope: &Scope,
@@ -92,18 +93,28 @@ pub fn move_back(
     ensures ends { Ends setting.now scope.now result heap.new values.new.items fuel.new
         (metered fuel.old (moved_back (map cell_of cells.now) (values_of moved.now)
         (state_of setting.now scope.now heap.old values.old.items))) }
-    ensures framed { OnOk result (IsFramed setting.now scope.now heap.new values.new.items) }
+    ensures stays { OnErr result (state_of setting.now scope.now heap.new values.new.items
+        ≡ state_of setting.now scope.now heap.old values.old.items) }
+    ensures framed { IsFramed setting.now scope.now heap.new values.new.items }
     ensures same { fuel.new ≡ fuel.old }
+    ensures own { IfErr result IsOwnStop }
 {
     match cells {
         [] => Ok(()),
         [cell, cells @ ..] => match moved {
             [] => Ok(()),
             [value, moved @ ..] => {
-                let now = read_cell(setting, scope, heap, values, *cell);
+                let place = *cell;
+                let now = read_cell(setting, scope, heap, values, place);
                 refuse(fuel, 15, !now.is_zero())?;
-                write_cell(setting, scope, heap, values, *cell, *value);
-                move_back(setting, scope, heap, values, fuel, cells, moved)
+                write_cell(setting, scope, heap, values, place, *value);
+                match move_back(setting, scope, heap, values, fuel, cells, moved) {
+                    Ok(()) => Ok(()),
+                    Err(why) => {
+                        write_cell(setting, scope, heap, values, place, now);
+                        Err(why)
+                    }
+                }
             }
         },
     }
@@ -130,7 +141,8 @@ pub fn cells_of(
     }
 }
 
-/// The values of a receiver and of arguments move back.
+/// The values of a receiver and of arguments move back. Where one finds its cell written, all stays.
+#[tactic(auto, using(crate::proofs::Restored::taken_back, crate::proofs::Fuelled::handed))]
 pub fn return_values(
     setting: &Setting,
     scope: &Scope,
@@ -148,9 +160,31 @@ pub fn return_values(
         (metered fuel.old (moved_back (map cell_of receiver.now ++ map cell_of args.now)
         (values_of held.now ++ values_of inside.now)
         (state_of setting.now scope.now heap.old values.old.items))) }
-    ensures framed { OnOk result (IsFramed setting.now scope.now heap.new values.new.items) }
-    ensures less { fuel.new ≤ fuel.old }
+    ensures stays { OnErr result (state_of setting.now scope.now heap.new values.new.items
+        ≡ state_of setting.now scope.now heap.old values.old.items) }
+    ensures framed { IsFramed setting.now scope.now heap.new values.new.items }
+    ensures same { fuel.new ≡ fuel.old }
+    ensures own { IfErr result IsOwnStop }
 {
-    move_back(setting, scope, heap, values, fuel, receiver, held)?;
-    move_back(setting, scope, heap, values, fuel, args, inside)
+    match receiver {
+        [] => move_back(setting, scope, heap, values, fuel, args, inside),
+        [cell, receiver @ ..] => match held {
+            [] => Ok(()),
+            [value, held @ ..] => {
+                let place = *cell;
+                let before = read_cell(setting, scope, heap, values, place);
+                refuse(fuel, 15, !before.is_zero())?;
+                write_cell(setting, scope, heap, values, place, *value);
+                match return_values(
+                    setting, scope, heap, values, fuel, receiver, args, held, inside,
+                ) {
+                    Ok(()) => Ok(()),
+                    Err(why) => {
+                        write_cell(setting, scope, heap, values, place, before);
+                        Err(why)
+                    }
+                }
+            }
+        },
+    }
 }

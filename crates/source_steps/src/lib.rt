@@ -22,7 +22,7 @@ pub use copies::{copy, uncopy};
 pub use expressions::Setting;
 pub use locals::{close_local, close_nil, element_place, whole_place};
 pub use objects::{delete_made, delete_object, new_made, new_object, zeros};
-pub use scope::{Scope, inner_scope, params_in};
+pub use scope::{Scope, params_in};
 pub use simple::{swap, turned_call, undone, update};
 pub use steps::{evaluate, is_true, open_value, refuse, spend};
 pub use stop::Stop;

@@ -1,5 +1,5 @@
 // Objects and arrays that are made and deleted.
-ghost use Rattle.std.specs.Prelude.{◌≡◌, ◌+◌, ◌≤◌, ◌<◌, ◌^◌, IfOk, OnOk, MatchResult, length, replicate};
+ghost use Rattle.std.specs.Prelude.{◌≡◌, ◌+◌, ◌≤◌, ◌<◌, ◌^◌, IfOk, OnOk, MatchResult, length, replicate, IfErr};
 ghost use Rattle.std.specs.Option.{unwrap_or};
 ghost use Rattle.rpp_tree.specs.Tree.{New, Delete, Object as AnObject};
 ghost use Rattle.rpp_tree.specs.Views.{source_of, creation_of, expression_of, lvalue_of};
@@ -9,7 +9,7 @@ ghost use Rattle.roopl_semantics.specs.Execution.{allocated, freed, new_array as
 ghost use Rattle.source_store.specs.ValueView.{value_of, values_of, head_of};
 ghost use Rattle.source_steps.specs.CellView.{cell_of};
 ghost use Rattle.source_steps.specs.Ends.{Ends, does_simply, array_head, first_element, new_of, made, filled, made_array, emptied, gone, gone_array};
-ghost use Rattle.source_steps.specs.Metered.{metered};
+ghost use Rattle.source_steps.specs.Metered.{metered, IsOwnStop};
 ghost use Rattle.source_steps.specs.StateView.{IsFramed, state_of, setting_of};
 
 use crate::apart::place_apart;
@@ -65,6 +65,7 @@ fn allocate(
         (state_of setting.now scope.now heap.old values.old.items))) }
     ensures framed { OnOk result (IsFramed setting.now scope.now heap.new values.new.items) }
     ensures same { fuel.new ≡ fuel.old }
+    ensures own { IfErr result IsOwnStop }
 {
     if heap.is_too_large(cells.len() as u32) {
         return Err(Stop::Fault(8));
@@ -94,6 +95,7 @@ fn make(
         (state_of setting.now scope.now heap.old values.old.items))) }
     ensures framed { OnOk result (IsFramed setting.now scope.now heap.new values.new.items) }
     ensures less { fuel.new ≤ fuel.old }
+    ensures own { IfErr result IsOwnStop }
 {
     let old = read_cell(setting, scope, heap, values, cell);
     refuse(fuel, 4, !old.is_nil())?;
@@ -117,6 +119,7 @@ fn allocate_object(
         (state_of setting.now scope.now heap.old values.old.items))) }
     ensures framed { OnOk result (IsFramed setting.now scope.now heap.new values.new.items) }
     ensures less { fuel.new ≤ fuel.old }
+    ensures own { IfErr result IsOwnStop }
 {
     let number = class_of_name(setting, class);
     let cells = zeros(setting.alloc, fields_of(setting, number))?;
@@ -167,6 +170,7 @@ pub fn new_object(
         (state_of setting.now scope.now heap.old values.old.items)) }
     ensures framed { OnOk result (IsFramed setting.now scope.now heap.new values.new.items) }
     ensures less { fuel.new ≤ fuel.old }
+    ensures own { IfErr result IsOwnStop }
 {
     let cell = locate(setting, scope, heap, values, fuel, place)?;
     place_apart(setting, scope, heap, values, fuel, place)?;
@@ -218,6 +222,7 @@ fn allocate_array(
         (state_of setting.now scope.now heap.old values.old.items))) }
     ensures framed { OnOk result (IsFramed setting.now scope.now heap.new values.new.items) }
     ensures same { fuel.new ≡ fuel.old }
+    ensures own { IfErr result IsOwnStop }
 {
     if heap.is_too_large(count) {
         return Err(Stop::Fault(8));
@@ -253,6 +258,7 @@ fn make_array(
         (state_of setting.now scope.now heap.old values.old.items))) }
     ensures framed { OnOk result (IsFramed setting.now scope.now heap.new values.new.items) }
     ensures less { fuel.new ≤ fuel.old }
+    ensures own { IfErr result IsOwnStop }
 {
     let old = read_cell(setting, scope, heap, values, cell);
     let count = size.number();
@@ -279,6 +285,7 @@ fn fill_array(
         (first_element kind) count (state_of setting.now scope.now heap.old values.old.items))) }
     ensures framed { OnOk result (IsFramed setting.now scope.now heap.new values.new.items) }
     ensures less { fuel.new ≤ fuel.old }
+    ensures own { IfErr result IsOwnStop }
 {
     spend(fuel, setting.limits.heap as u64 + 1)?;
     allocate_array(setting, scope, heap, values, fuel, cell, kind, count)?;
@@ -303,6 +310,7 @@ pub fn new_array(
         (state_of setting.now scope.now heap.old values.old.items))) }
     ensures framed { OnOk result (IsFramed setting.now scope.now heap.new values.new.items) }
     ensures less { fuel.new ≤ fuel.old }
+    ensures own { IfErr result IsOwnStop }
 {
     let cell = locate(setting, scope, heap, values, fuel, place)?;
     let value = evaluate(setting, scope, heap, values, fuel, size)?;
@@ -352,6 +360,7 @@ fn empty_out(
         (state_of setting.now scope.now heap.old values.old.items))) }
     ensures framed { OnOk result (IsFramed setting.now scope.now heap.new values.new.items) }
     ensures less { fuel.new ≤ fuel.old }
+    ensures own { IfErr result IsOwnStop }
 {
     spend(fuel, setting.limits.heap as u64 + 1 + cells as u64)?;
     refuse(fuel, 7, !heap.is_empty(name))?;
@@ -374,6 +383,7 @@ fn drop_object(
         (state_of setting.now scope.now heap.old values.old.items))) }
     ensures framed { OnOk result (IsFramed setting.now scope.now heap.new values.new.items) }
     ensures less { fuel.new ≤ fuel.old }
+    ensures own { IfErr result IsOwnStop }
 {
     let value = read_cell(setting, scope, heap, values, cell);
     let name = value.number();
@@ -401,6 +411,7 @@ pub fn delete_object(
         (state_of setting.now scope.now heap.old values.old.items)) }
     ensures framed { OnOk result (IsFramed setting.now scope.now heap.new values.new.items) }
     ensures less { fuel.new ≤ fuel.old }
+    ensures own { IfErr result IsOwnStop }
 {
     let cell = locate(setting, scope, heap, values, fuel, place)?;
     place_apart(setting, scope, heap, values, fuel, place)?;
@@ -423,6 +434,7 @@ fn drop_array(
         (state_of setting.now scope.now heap.old values.old.items))) }
     ensures framed { OnOk result (IsFramed setting.now scope.now heap.new values.new.items) }
     ensures less { fuel.new ≤ fuel.old }
+    ensures own { IfErr result IsOwnStop }
 {
     let value = read_cell(setting, scope, heap, values, cell);
     let name = value.number();
@@ -458,6 +470,7 @@ pub fn delete_array(
         (expression_of size.now) (state_of setting.now scope.now heap.old values.old.items))) }
     ensures framed { OnOk result (IsFramed setting.now scope.now heap.new values.new.items) }
     ensures less { fuel.new ≤ fuel.old }
+    ensures own { IfErr result IsOwnStop }
 {
     let cell = locate(setting, scope, heap, values, fuel, place)?;
     let value = evaluate(setting, scope, heap, values, fuel, size)?;
@@ -481,6 +494,7 @@ pub fn new_made(
         (state_of setting.now scope.now heap.old values.old.items)) }
     ensures framed { OnOk result (IsFramed setting.now scope.now heap.new values.new.items) }
     ensures less { fuel.new ≤ fuel.old }
+    ensures own { IfErr result IsOwnStop }
 {
     match made {
         Made::Object(class) => new_object(setting, scope, heap, values, fuel, at, class, place),
@@ -518,6 +532,7 @@ pub fn delete_made(
         (state_of setting.now scope.now heap.old values.old.items)) }
     ensures framed { OnOk result (IsFramed setting.now scope.now heap.new values.new.items) }
     ensures less { fuel.new ≤ fuel.old }
+    ensures own { IfErr result IsOwnStop }
 {
     match made {
         Made::Object(class) => delete_object(setting, scope, heap, values, fuel, at, class, place),

@@ -56,6 +56,7 @@ pub heap_stays : (order : ℕ) (book : Shown) (table after : List (Option Live))
 heap_stays order book table after requests same heap = record {
   same = heap.same;
   next = same.length ∙ heap.next;
+  few = let l = same.length in let f = heap.few in omega arith;
   placed = moved_over book (block_at table) (block_at after) (log_of requests) same.blocks heap.placed;
 }
 
@@ -241,6 +242,7 @@ starts_so order book table first requests from to is items alone nothing =
     subst (IsHeap order book table) (sym nothing) (record {
       same = ap (λ b. b.h) is;
       next = ap length items;
+      few = let l = ap length items in omega arith;
       placed = record {
         kept = rw is (start-kept order 2097152 from to (omega arith));
         blocks = [];
@@ -272,10 +274,10 @@ module _ (order : ℕ) (book after : Shown) (table : List (Option Live)) (reques
   log_after : log_of (requests ++ asked ∷ []) ≡ Taken (length table) k ∷ log_of requests
   log_after = one_more requests asked ∙ ap (λ r. r ∷ log_of requests) request
 
-  pub took_heap : after.taken ≡ with_taken (at - book.base) k book.taken
+  pub took_heap : suc (length table) < 2 ^ 32 → after.taken ≡ with_taken (at - book.base) k book.taken
       → after ≡ record { h = book.h; base = book.base; free = after.free; taken = after.taken }
       → IsHeap order after (table ++ Some live ∷ []) (requests ++ asked ∷ [])
-  took_heap taken whole =
+  took_heap few taken whole =
       let full = with_taken_block book after (at - book.base) k taken whole in
       let placed = took_placed book (block_at table) (block_at (table ++ Some live ∷ [])) (log_of requests) heap.placed
       (length table) (length live.cells.items) k at after.free is base took
@@ -285,6 +287,7 @@ module _ (order : ℕ) (book after : Shown) (table : List (Option Live)) (reques
         same = ap (λ b. b.h) full ∙ heap.same;
         next = let p = pushed_length table (Some live) in let h = heap.next in let l =
             ap (λ l. count_taken l) log_after in omega arith;
+        few = let p = pushed_length table (Some live) in omega arith;
         placed = subst (λ b. IsPlaced b (block_at (table ++ Some live ∷ [])) (log_of (requests ++ asked ∷ [])))
             (sym full) (subst (λ l. IsPlaced (record {
               h = book.h;
@@ -419,6 +422,7 @@ module _ (order : ℕ) (book : Shown) (table : List (Option Live)) (requests : L
           same = ap (λ b. b.h) full ∙ heap.same;
           next = let p = length_set table name None in let h = heap.next in let l = ap (λ l. count_taken l) log_given in
               omega arith;
+          few = let p = length_set table name None in let f = heap.few in omega arith;
           placed = subst (λ b. IsPlaced b (block_at (slice_set table name None)) (log_of (requests ++ asked ∷ [])))
               (sym full) (subst (λ l. IsPlaced (given_to book (give book.free (order_of_cells size)
               (block_of heap.placed.blocks name)) (without_taken (block_of heap.placed.blocks name) book.taken))
@@ -451,15 +455,17 @@ module _ (order : ℕ) (book : Shown) (table : List (Option Live)) (requests : L
 
 pub took_so : (order : ℕ) (book after : Shown) (table grown : List (Option Live)) (requests more : List Asked)
     (live : Live) (asked : Asked) (k at : ℕ)
-    → IsHeap order book table requests → k ≡ order_of_cells (length live.cells.items) → live.block ≡ Some at
+    → IsHeap order book table requests → suc (length table) < 2 ^ 32
+    → k ≡ order_of_cells (length live.cells.items) → live.block ≡ Some at
     → request_of asked ≡ Taken (length table) k
     → book.base ≤ at → take book.free k ≡ Some (at - book.base, after.free)
     → after.taken ≡ with_taken (at - book.base) k book.taken
     → after ≡ record { h = book.h; base = book.base; free = after.free; taken = after.taken }
     → grown ≡ table ++ Some live ∷ [] → more ≡ requests ++ asked ∷ [] → IsHeap order after grown more
-took_so order book after table grown requests more live asked k at heap is block request base took taken whole g m =
+took_so order book after table grown requests more live asked k at heap few is block request base took taken whole g m
+    =
     subst (λ t. IsHeap order after t more) (sym g) (subst (λ r. IsHeap order after (table ++ Some live ∷ []) r) (sym m)
-    (took_heap order book after table requests live asked k at heap is block request base took taken whole))
+    (took_heap order book after table requests live asked k at heap is block request base took few taken whole))
 
 pub took_shown : (order : ℕ) (book after : Shown) (table grown : List (Option Live)) (requests more : List Asked)
     (live : Live) (asked : Asked) (k at name : ℕ) (kept : Kept) (head : Head) (cells : List Value)

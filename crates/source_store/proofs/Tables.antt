@@ -3,7 +3,7 @@ use Rattle.std.proofs.Common.{◌≡◌, ℕ, zero, suc, ◌+◌, ◌<◌, ◌�
 use Rattle.std.proofs.Common.{Some, None, eq-eqb, Bool, true, false, if◌then◌else◌, map}
 use Rattle.std.proofs.lemmas.Bool.{eqb-true, eqb-false, ltb-true, ltb-false}
 use Rattle.std.proofs.lemmas.Option.{slice_get_past}
-use Rattle.std.specs.Prelude.{Result, Ok, Err, OnOk, Option, slice_get, slice_set, nat_eq, nat_lt}
+use Rattle.std.specs.Prelude.{Result, Ok, Err, OnOk, OnErr, Option, slice_get, slice_set, nat_eq, nat_lt}
 use Rattle.std.specs.Option.{option_map}
 use Rattle.roopl_semantics.specs.Store.{Object, Store, object_named, changed_at, without}
 use Rattle.source_store.specs.declared.object.Object.{Object as Live}
@@ -267,6 +267,17 @@ pub changed_if : {E : Type 0} (table : List (Option Live)) (name : ℕ) (old slo
     → OnOk r (store_of (slice_set table name slot) ≡ changed_at (store_of table) name change)
 changed_if table name old slot change (Ok u) at h e = changed_store table name old slot change at e h
 changed_if table name old slot change (Err why) at h e = tt
+
+set_same : {A : Type 0} (xs : List A) (i : ℕ) (x : A) → slice_get xs i ≡ Some x → slice_set xs i x ≡ xs
+set_same [] i x e = refl
+set_same (y ∷ xs) zero x e = let same : x ≡ y = cc in ap (λ z. z ∷ xs) same
+set_same (y ∷ xs) (suc i) x e = ap (λ r. y ∷ r) (set_same xs i x e)
+
+pub stays_if : {E : Type 0} (table : List (Option Live)) (name : ℕ) (old slot : Option Live)
+    (r : Result (Unit {0}) E) → slice_get table name ≡ Some old → OnErr r (slot ≡ old)
+    → OnErr r (slice_set table name slot ≡ table)
+stays_if table name old slot (Ok u) at e = tt
+stays_if table name old slot (Err why) at e = ap (slice_set table name) e ∙ set_same table name old at
 
 -- ---- how many live
 

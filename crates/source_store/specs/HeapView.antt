@@ -1,5 +1,6 @@
 -- What contracts see of a heap, and what every heap keeps.
-use Rattle.std.specs.Prelude.{◌≡◌, ℕ, zero, suc, ◌+◌, List, [], ◌∷◌, map, length, reverse, Option}
+use Rattle.std.specs.Prelude.{◌≡◌, ℕ, zero, suc, ◌+◌, ◌^◌, ◌<◌, List, [], ◌∷◌, map, length}
+use Rattle.std.specs.Prelude.{reverse, Option}
 use Rattle.std.specs.Prelude.{Some, None, slice_get, is_none, true, false}
 use Rattle.buddy_book.specs.Place.{Request, Taken, Given, Log, count_taken, block_of, place}
 use Rattle.buddy_book.specs.Shown.{Shown, order_in, IsKept}
@@ -80,12 +81,13 @@ pub record IsPlaced (book : Shown) (block_of_name : ℕ → Option (ℕ × ℕ))
   pub apart : (n m address size other : ℕ) → block_of_name n ≡ Some (address, size)
       → block_of_name m ≡ Some (address, other) → n ≡ m
 
--- what every heap keeps: the next name is the table's length, and each block stands where the
--- requests place it
+-- what every heap keeps: the next name is the table's length, and a word, and each block stands
+-- where the requests place it
 pub record IsHeap (order : ℕ) (book : Shown) (table : List (Option Live))
     (requests : List Asked) : Type 0 where
   pub same : book.h ≡ order
   pub next : length table ≡ 2 + count_taken (log_of requests)
+  pub few : length table < 2 ^ 32
   pub placed : IsPlaced book (block_at table) (log_of requests)
 
 -- two tables with the same blocks

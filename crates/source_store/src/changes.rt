@@ -1,5 +1,5 @@
 // The changes of a heap.
-ghost use Rattle.std.specs.Prelude.{◌≡◌, ◌≤◌, ◌<◌, ◌^◌, ◌∷◌, suc, None, IfOk, OnOk, MatchResult, length, Some};
+ghost use Rattle.std.specs.Prelude.{◌≡◌, ◌≤◌, ◌<◌, ◌^◌, ◌∷◌, suc, None, IfOk, OnOk, OnErr, length, Some};
 ghost use Rattle.std.specs.Option.{option_map};
 ghost use Rattle.buddy_book.specs.Place.{Given};
 ghost use Rattle.roopl_semantics.specs.Store.{changed_at, object_at, without};
@@ -22,10 +22,12 @@ impl Heap {
         set_part(&mut self.objects, name, index, value);
     }
 
-    /// One more variable refers to the object of a name.
+    /// One more variable refers to the object of a name. Where its count is as high as counts go,
+    /// that is refused, as want of memory.
     pub fn raise(&mut self, name: u32) -> Result<(), NoMemory>
-        ensures { OnOk result (self.new ≡ record self.old
+        ensures raised { OnOk result (self.new ≡ record self.old
             { store = changed_at self.old.store name (with_count suc) }) }
+        ensures stays { OnErr result (self.new ≡ self.old) }
     {
         raise_at(&mut self.objects, name)
     }
@@ -39,10 +41,12 @@ impl Heap {
     }
 
     /// A new object or array with these cells and the next name, where the heap has a block for it.
+    /// Where no name is left, that is refused, as want of memory.
     pub fn take(&mut self, head: Head, cells: Vec<Value>) -> Result<Option<u32>, NoMemory>
         requires small { length cells.items < 2 ^ 31 }
-        ensures { IfOk result (λ name. Took name self.old self.new (head_of head)
+        ensures took { IfOk result (λ name. Took name self.old self.new (head_of head)
             (values_of cells.items)) }
+        ensures stays { OnErr result (self.new ≡ self.old) }
     {
         let name = self.objects.len();
         if name >= u32::MAX as usize {
@@ -72,11 +76,12 @@ impl Heap {
     /// The object of a name goes, and its block goes back. It is refused, as want of memory, for a
     /// name without a block.
     pub fn give(&mut self, name: u32) -> Result<(), NoMemory>
-        ensures { OnOk result (self.new ≡ record self.old {
+        ensures given { OnOk result (self.new ≡ record self.old {
           store = without self.old.store name;
           log = Given name (order_of_cells (length (object_at self.old.store name).cells))
               ∷ self.old.log;
         }) }
+        ensures stays { OnErr result (self.new ≡ self.old) }
     {
         self.log.reserve(1)?;
         match block_of(&self.objects, name as usize) {
@@ -151,6 +156,7 @@ fn set_part(objects: &mut Vec<Option<Object>>, name: u32, index: usize, value: V
 
 fn raise(object: &mut Object) -> Result<(), NoMemory>
     ensures object { OnOk result (object_of object.new ≡ with_count suc (object_of object.old)) }
+    ensures stays { OnErr result (object.new ≡ object.old) }
     ensures block { block_in (Some (Some object.new)) ≡ block_in (Some (Some object.old)) }
 {
     if object.count == u64::MAX {
@@ -163,6 +169,7 @@ fn raise(object: &mut Object) -> Result<(), NoMemory>
 fn raise_in_slot(slot: &mut Option<Object>) -> Result<(), NoMemory>
     ensures object { OnOk result (live_in (Some slot.new)
         ≡ option_map (with_count suc) (live_in (Some slot.old))) }
+    ensures stays { OnErr result (slot.new ≡ slot.old) }
     ensures block { block_in (Some slot.new) ≡ block_in (Some slot.old) }
 {
     match slot {
@@ -175,6 +182,7 @@ fn raise_in_slot(slot: &mut Option<Object>) -> Result<(), NoMemory>
 fn raise_at(objects: &mut Vec<Option<Object>>, name: u32) -> Result<(), NoMemory>
     ensures store { OnOk result (store_of objects.new.items
         ≡ changed_at (store_of objects.old.items) name (with_count suc)) }
+    ensures stays { OnErr result (objects.new.items ≡ objects.old.items) }
     ensures blocks { SameBlocks objects.old.items objects.new.items }
 {
     if (name as usize) >= objects.len() {

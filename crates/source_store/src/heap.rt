@@ -11,7 +11,7 @@ use crate::object::{Head, Object, cell_in, is_all_zero};
 use crate::requests::Request;
 use crate::value::Value;
 use buddy_book::Book;
-use rpp_words::{NoMemory, order_for};
+use rpp_words::{HEADER_WORDS, NoMemory, order_for};
 use std::alloc::Global;
 use std::marker::Model;
 
@@ -86,6 +86,7 @@ impl Heap {
 
     /// A name above that of each object, also of those that are gone.
     pub fn names(&self) -> usize
+        ensures few { result < 2 ^ 32 }
         ensures above { result ≡ 2 + count_taken self.now.log }
         ensures past { (name : ℕ) → result ≤ name → object_named self.now.store name ≡ None }
     {
@@ -94,7 +95,8 @@ impl Heap {
 
     /// How many objects and arrays live, the main object among them.
     pub fn live(&self) -> usize
-        ensures { result ≡ length self.now.store }
+        ensures few { result < 2 ^ 32 }
+        ensures length { result ≡ length self.now.store }
     {
         live_among(&self.objects)
     }
@@ -175,7 +177,7 @@ pub(crate) fn order_of(size: u32) -> u32
     requires { size < 2 ^ 31 }
     ensures { result ≡ order_of_cells size }
 {
-    order_for(size as u64 + 2)
+    order_for(size as u64 + HEADER_WORDS as u64)
 }
 
 // How many places the table has.

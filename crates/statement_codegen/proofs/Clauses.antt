@@ -1,6 +1,7 @@
 -- The laws of the calls, from those of their parts.
 use Rattle.std.proofs.Common.{◌≡◌, ℕ, ◌+◌, ◌<◌, ◌≤◌, ◌⊎◌, inl, inr, List, length, refl, sym, ap, ◌∙◌, subst, arith}
 use Rattle.std.specs.Prelude.{Result, Ok, Err, IfOk}
+use Rattle.code_conventions.specs.declared.memory.TheConstants.{MOST_VARIABLES}
 use Rattle.rpp_tree.specs.declared.tree.Var.{Var}
 use Rattle.rpp_tree.specs.Tree.{Expression, Number, Null, Variable, Element, Binary, Source}
 use Rattle.class_table.specs.declared.kind.Kind.TheVariants as kind
@@ -48,7 +49,7 @@ value_in known e p law place laid s names var init room = by init.value
 -- the code of nil
 nil_in : (known : Known) (e : Expression) (p : List Symbol) → code.ValueLaw (spot_of known) (free_of known) VALUE e p
     → (place : Place) → IsLaidOut place → (s : Scope) → known_of place.setting.program s ≡ known → (at : ℕ)
-    → e ≡ Null at → length s.vars < 48 → ValueLaw (world_of place) s (Null at) p
+    → e ≡ Null at → length s.vars < MOST_VARIABLES → ValueLaw (world_of place) s (Null at) p
 nil_in known e p law place laid s names at is few =
     values_are_told place laid s (Null at) kind.Nil
     (record { typed = refl; has_words = tt; room = (let r : 16 + length s.vars + 0 ≤ 512 = omega (arith, few) in r) }) p

@@ -5,6 +5,7 @@ use Rattle.std.proofs.Common.{refl, sym, ap, ◌∙◌, subst, arith, append-nil
 use Rattle.std.specs.Prelude.{Result, Ok, Err, IfOk, Box}
 use Rattle.std.specs.declared.alloc.Global.{Global}
 use Rattle.std.specs.Option.{option_map}
+use Rattle.code_conventions.specs.declared.memory.TheConstants.{MOST_VARIABLES}
 use Rattle.rpp_tree.specs.declared.tree.Ident.{Ident}
 use Rattle.rpp_tree.specs.declared.tree.Expr.{Expr}
 use Rattle.rpp_tree.specs.declared.tree.Place.{Place}
@@ -85,7 +86,7 @@ module _ (v : Visible) (at : ℕ) (back : Bool) (array : Ident) (index : Express
       (sym (kind_is program (scope_of v) array.text) ∙ some_of (kind_in typing shape array.text) (unknown_name array.at)
       (kind.ClassArray rules.class) rules.array)
 
-  few : length v.variables < 48
+  few : length v.variables < MOST_VARIABLES
   few = let f = fine.few_locals in omega (arith, f)
 
   swap_allowed : IsAllowed inside (Swap at (Whole (element_name at)) (Item array index))

@@ -8,6 +8,7 @@ use Rattle.std.proofs.lemmas.Bool.{ltb-true, ltb-false}
 use Rattle.std.proofs.lemmas.List.{length-map}
 use Rattle.std.proofs.lemmas.List.Quantifiers.{position-Some}
 use Rattle.std.proofs.lemmas.Option.{slice_get_past}
+use Rattle.code_conventions.specs.declared.memory.TheConstants.{MOST_VARIABLES}
 use Rattle.rpp_tree.specs.declared.tree.Ident.{Ident}
 use Rattle.rpp_tree.specs.declared.tree.Var.{Var}
 use Rattle.rpp_tree.specs.declared.tree.VarType.{VarType}
@@ -49,7 +50,7 @@ array_first (Some class) = refl
 -- ---- near spots
 
 -- a word of a frame of few variables
-word_near : (name : List ℕ) (vars : List Var) → length vars ≤ 48 → (field : Option Spot)
+word_near : (name : List ℕ) (vars : List Var) → length vars ≤ MOST_VARIABLES → (field : Option Spot)
     → IsNear (unwrap_or field (Field 0)) → IsNear (unwrap_or (option_or (option_map Frame (word_named name vars)) field)
     (Field 0))
 word_near name [] few field near = near
@@ -63,7 +64,7 @@ word_near name (var ∷ vars) few field near = by (bytes_eq var.name.text name)
     by false rest = rest
 
 -- names stand near, where there are few
-pub spot_near : (known : Known) (name : List ℕ) → length known.variables ≤ 48 → length known.fields ≤ 64
+pub spot_near : (known : Known) (name : List ℕ) → length known.variables ≤ MOST_VARIABLES → length known.fields ≤ 64
     → IsNear (spot_of known name)
 spot_near known name few few_fields = word_near name known.variables few (option_map Field (field_of known.fields name))
     (by (field_of known.fields name) refl)

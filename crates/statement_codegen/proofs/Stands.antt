@@ -5,6 +5,7 @@ use Rattle.std.proofs.Common.{subst, arith}
 use Rattle.std.specs.Prelude.{Ok, Option, Some, None, not, ◌&&◌, ◌||◌, if◌then◌else◌}
 use Rattle.std.specs.Option.{is_none}
 use Rattle.std.specs.Str.{bytes_eq}
+use Rattle.code_conventions.specs.declared.memory.TheConstants.{MOST_VARIABLES}
 use Rattle.rpp_tree.specs.declared.tree.Var.{Var}
 use Rattle.rpp_tree.specs.declared.tree.VarType.{VarType}
 use Rattle.rpp_tree.specs.declared.tree.VarType.TheVariants as type
@@ -52,14 +53,16 @@ names_same v place same = ap (λ program. known_of program (scope_of v)) same
 
 -- ---- room in the frame
 
-pub room_for : (v : Visible) (n : ℕ) → length v.variables ≤ 48 → n ≤ 64 → HasRoom (source_of v.program) (scope_of v) n
+pub room_for : (v : Visible) (n : ℕ) → length v.variables ≤ MOST_VARIABLES → n ≤ 64
+    → HasRoom (source_of v.program) (scope_of v) n
 room_for v n few small = let q : 16 + length v.variables + n ≤ 512 = omega (arith, few, small) in q
 
 few_words : (e : Expression) → nodes e ≤ 64 → words e ≤ 64
 few_words e h = let w = words_most e in omega (arith, w, h)
 
 test_in : (v : Visible) (e : Expression) → type_of (typing_in (source_of v.program) (scope_of v))
-    (shape_of (source_of v.program) (scope_of v)) e ≡ Ok kind.Int → HasWords e → nodes e ≤ 64 → length v.variables ≤ 48
+    (shape_of (source_of v.program) (scope_of v)) e ≡ Ok kind.Int → HasWords e → nodes e ≤ 64
+    → length v.variables ≤ MOST_VARIABLES
     → IsTyped (source_of v.program) (scope_of v) e kind.Int
 test_in v e typed has small few = record {
   typed = typed;
@@ -138,7 +141,7 @@ if_stands v at test after taken other p q all made fine hp hq = record {
       (in_turn (check_statements typing shape taken) (check_statements typing shape other)) fine.rules in
       let ints = both_ints typing shape test after rules.0 in
       let few = fine.few_locals in
-      let few' : length v.variables ≤ 48 = omega (arith, few) in
+      let few' : length v.variables ≤ MOST_VARIABLES = omega (arith, few) in
       let small = fine.few_nodes in
       let small_test : nodes test ≤ 64 = omega (arith, small) in
       let small_after : nodes after ≤ 64 = omega (arith, small) in
@@ -162,7 +165,7 @@ from_stands v at entry exit first again p q all made fine hp hq = record {
       (in_turn (check_statements typing shape first) (check_statements typing shape again)) fine.rules in
       let ints = both_ints typing shape entry exit rules.0 in
       let few = fine.few_locals in
-      let few' : length v.variables ≤ 48 = omega (arith, few) in
+      let few' : length v.variables ≤ MOST_VARIABLES = omega (arith, few) in
       let small = fine.few_nodes in
       let small_entry : nodes entry ≤ 64 = omega (arith, small) in
       let small_exit : nodes exit ≤ 64 = omega (arith, small) in
@@ -189,7 +192,7 @@ array_no_int None = refl
 array_no_int (Some c) = refl
 
 -- what the rules say of one value of a local
-init_is : (program : Source) (s : Scope) (var : Var) (e : Expression) (k : Kind) → length s.vars < 48
+init_is : (program : Source) (s : Scope) (var : Var) (e : Expression) (k : Kind) → length s.vars < MOST_VARIABLES
     → type_of (typing_in program s) (shape_of program s) e ≡ Ok k → HasWords e → occurs var.name.text e ≡ false
     → (if is_type_int var.kind then is_int k else is_nil_word e) ≡ true → IsInit program s var e
 init_is program s var e k few typed has apart fits = by var.kind refl fits
@@ -238,7 +241,7 @@ local_values v at var value body end_var end_value fine =
     let typing = typing_in program (scope_of v) in
     let shape = shape_of program (scope_of v) in
     let few = fine.few_locals in
-    let few' : length v.variables < 48 = omega (arith, few) in
+    let few' : length v.variables < MOST_VARIABLES = omega (arith, few) in
     let has = fine.has_words in
     let a = both_passed (local_rules typing shape at var value end_var end_value)
     (check_statements typing (with_local typing shape var) body) fine.rules in
@@ -270,7 +273,7 @@ local_stands v at var value body end_var end_value p all made fine hp = record {
   law = λ place routine linked same.
       let x = local_values v at var value body end_var end_value fine in
       let few = fine.few_locals in
-      let few' : length v.variables ≤ 48 = omega (arith, few) in
+      let few' : length v.variables ≤ MOST_VARIABLES = omega (arith, few) in
       let small = fine.few_nodes in
       let small_value : nodes value ≤ 64 = omega (arith, small) in
       let small_end : nodes end_value ≤ 64 = omega (arith, small) in

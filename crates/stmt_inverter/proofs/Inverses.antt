@@ -1,8 +1,8 @@
 -- The inverse of a list of statements, and what inverting twice gives.
 use Rattle.std.proofs.Common.{◌≡◌, refl, sym, ap, ◌∙◌, List, [], ◌∷◌, ◌++◌, map, reverse, Bool, true, false}
 use Rattle.std.proofs.lemmas.List.{reverse-append}
-use Rattle.rpp_tree.specs.Tree.{Statement, Statements, Update, Swap, If, From, Construct, Local, New, Delete, Copy}
-use Rattle.rpp_tree.specs.Tree.{Uncopy, Call, Skip, End, Then, joined, Procedure, ClassText, Source}
+use Rattle.rpp_tree.specs.Tree.{Statement, Statements, Update, If, From, Construct, Local, Call, End, Then, joined}
+use Rattle.rpp_tree.specs.Tree.{Procedure, ClassText, Source}
 use Rattle.rpp_tree.specs.declared.tree.UpdateOp.{UpdateOp}
 use Rattle.rpp_tree.specs.declared.tree.UpdateOp.TheVariants as update
 use Rattle.rpp_tree.specs.declared.tree.Stmt.{Stmt}
@@ -84,7 +84,6 @@ module _ (turn : Bool) where
     -- what is undone twice is as it was
     pub inverse_statement-twice : (s : Statement) → inverse_statement_as turn (inverse_statement_as turn s) ≡ s
     inverse_statement-twice (Update at op target value) = ap (λ o. Update at o target value) (inverse_operator-twice op)
-    inverse_statement-twice (Swap at left right) = refl
     inverse_statement-twice (If at test taken other after) =
         ap (λ b. If at test b (inverse_as turn (inverse_as turn other)) after) (inverse-twice taken)
         ∙ ap (λ b. If at test taken b after) (inverse-twice other)
@@ -95,13 +94,9 @@ module _ (turn : Bool) where
         ap (λ b. Construct at class name b end) (inverse-twice body)
     inverse_statement-twice (Local at var value body end_var end_value) =
         ap (λ b. Local at var value b end_var end_value) (inverse-twice body)
-    inverse_statement-twice (New at made target) = refl
-    inverse_statement-twice (Delete at made target) = refl
-    inverse_statement-twice (Copy at kind source target) = refl
-    inverse_statement-twice (Uncopy at kind source target) = refl
     inverse_statement-twice (Call at back receiver method args) =
         ap (λ b. Call at b receiver method args) (call_direction-twice turn back)
-    inverse_statement-twice (Skip at) = refl
+    inverse_statement-twice _ = refl
 
     pub inverse-twice : (b : Statements) → inverse_as turn (inverse_as turn b) ≡ b
     inverse-twice End = refl

@@ -1,2 +1,3 @@
 pub mod Inverses
+pub mod InverseWalks
 mod InverseRows

@@ -8,6 +8,7 @@ use Rattle.std.specs.Fmt.{decimal}
 use Rattle.rpp_words.specs.Texts.{line_end}
 use Rattle.rpp_tree.specs.declared.tree.VarType.{VarType}
 use Rattle.rpp_tree.specs.Tree.{Source}
+use Rattle.code_conventions.specs.declared.memory.TheConstants.{COUNT_WORD, HEADER_WORDS}
 use Rattle.roopl_semantics.specs.Store.{Value, Word, Nil, Name, Head, Object, Store, main_name, no_object, object_named}
 use Rattle.roopl_semantics.specs.Store.{object_at}
 use Rattle.roopl_semantics.specs.Source.{main_fields}
@@ -70,7 +71,8 @@ module _ (program : Source) (store : Store) (base : ℕ) (blocks : List (ℕ × 
 
   -- the cells of what a reference leads to
   match_tells : (r : Reference) (n : ℕ) → Match program store base blocks mem facts r n
-      → Tells program store base blocks mem facts (r.at + 2) (types_at program mem r) (object_at store n).cells
+      → Tells program store base blocks mem facts (r.at + HEADER_WORDS) (types_at program mem r)
+      (object_at store n).cells
   match_tells r n m =
       let o = object_at store n in
       let word : word_at mem r.at ≡ head_word program o.head = ap (word_at mem) m.at ∙ facts.head n m.good in
@@ -78,11 +80,12 @@ module _ (program : Source) (store : Store) (base : ℕ) (blocks : List (ℕ × 
       let fit = facts.typed n o (live_object store n m.good.live) in
       let types : types_at program mem r ≡ cell_types program r.type (head_word program o.head) =
       ap (cell_types program r.type) word in
-      subst (λ ts. Tells program store base blocks mem facts (r.at + 2) ts o.cells) (sym types)
-      (tells_from program store base blocks mem facts (r.at + 2) (cell_types program r.type (head_word program o.head))
+      subst (λ ts. Tells program store base blocks mem facts (r.at + HEADER_WORDS) ts o.cells) (sym types)
+      (tells_from program store base blocks mem facts (r.at + HEADER_WORDS)
+      (cell_types program r.type (head_word program o.head))
       o.cells
       (subst (λ ks. AllFit program store ks o.cells) (sym told.kinds) fit)
-      (λ i l. ap (λ a. word_at mem (a + 2 + i)) m.at ∙ facts.part n i m.good l))
+      (λ i l. ap (λ a. word_at mem (a + HEADER_WORDS + i)) m.at ∙ facts.part n i m.good l))
 
   main_types : (f : Rattle.rpp_tree.specs.declared.tree.VarType.VarType
       → Rattle.class_table.specs.declared.kind.Kind.Kind) (vars : List Rattle.rpp_tree.specs.declared.tree.Var.Var)
@@ -90,7 +93,7 @@ module _ (program : Source) (store : Store) (base : ℕ) (blocks : List (ℕ × 
   main_types f [] = refl
   main_types f (var ∷ vars) = ap (λ z. f var.kind ∷ z) (main_types f vars)
 
-  main_tells : Tells program store base blocks mem facts (statics_at + 2) (types_of (main_fields program))
+  main_tells : Tells program store base blocks mem facts (statics_at + HEADER_WORDS) (types_of (main_fields program))
       (object_at store main_name).cells
   main_tells =
       let o = object_at store main_name in
@@ -98,7 +101,8 @@ module _ (program : Source) (store : Store) (base : ℕ) (blocks : List (ℕ × 
       let kinds : map (kind_told program store base blocks mem facts) (types_of (main_fields program))
       ≡ cell_kinds program o.head = main_types (kind_told program store base blocks mem facts) (main_fields program)
       ∙ ap (cell_kinds program) (sym facts.main_head) in
-      tells_from program store base blocks mem facts (statics_at + 2) (types_of (main_fields program)) o.cells
+      tells_from program store base blocks mem facts (statics_at + HEADER_WORDS) (types_of (main_fields program))
+      o.cells
       (subst (λ ks. AllFit program store ks o.cells) (sym kinds) fit) facts.main_part
 
   walks_told : (steps : ℕ) (met pending : List Reference) (names rest : List ℕ) → Related met names
@@ -109,9 +113,10 @@ module _ (program : Source) (store : Store) (base : ℕ) (blocks : List (ℕ × 
   walks_told (suc steps) met (r ∷ pending) names [] h k = absurd k
   walks_told (suc steps) met (r ∷ pending) names (n ∷ rest) h k =
       let cells = (object_at store n).cells in
-      let new = newly_told program store base blocks mem facts met names (r.at + 2) (types_at program mem r) cells h
+      let new = newly_told program store base blocks mem facts met names (r.at + HEADER_WORDS) (types_at program mem r)
+      cells h
       (match_tells r n k.0) (good_at n) in
-      let refs = newly_reached mem met (r.at + 2) (types_at program mem r) in
+      let refs = newly_reached mem met (r.at + HEADER_WORDS) (types_at program mem r) in
       walks_told steps (met ++ refs) (pending ++ refs) (names ++ newly_met names cells) (rest ++ newly_met names cells)
       (rel_append program store base blocks mem facts met names refs (newly_met names cells) h new)
       (rel_append program store base blocks mem facts pending rest refs (newly_met names cells) k.1 new)
@@ -122,8 +127,9 @@ module _ (program : Source) (store : Store) (base : ℕ) (blocks : List (ℕ × 
   reached_is_numbered bound d small =
       let cells = (object_at store main_name).cells in
       let first = newly_met [] cells in
-      let refs = newly_reached mem [] (statics_at + 2) (types_of (main_fields program)) in
-      let start = newly_told program store base blocks mem facts [] [] (statics_at + 2) (types_of (main_fields program))
+      let refs = newly_reached mem [] (statics_at + HEADER_WORDS) (types_of (main_fields program)) in
+      let start = newly_told program store base blocks mem facts [] [] (statics_at + HEADER_WORDS)
+      (types_of (main_fields program))
       cells tt main_tells (good_at main_name) in
       let counted = new_count bound store [] cells d (λ m p. (good_at main_name m p).live) in
       let all = unmet_all store in
@@ -177,8 +183,9 @@ module _ (program : Source) (store : Store) (base : ℕ) (blocks : List (ℕ × 
       let o = object_at store n in
       let word : word_at mem r.at ≡ head_word program o.head = ap (word_at mem) m.at ∙ facts.head n m.good in
       let told = head_is_told program store base blocks mem facts r.type o.head m.fit in
-      three (ap (head_told program r.type) word ∙ told.told) (ap (λ a. word_at mem (a + 1)) m.at ∙ facts.count n m.good)
-      (values_are_told program store base blocks mem facts (r.at + 2) (types_at program mem r) o.cells
+      three (ap (head_told program r.type) word ∙ told.told)
+      (ap (λ a. word_at mem (a + COUNT_WORD)) m.at ∙ facts.count n m.good)
+      (values_are_told program store base blocks mem facts (r.at + HEADER_WORDS) (types_at program mem r) o.cells
       (match_tells r n m) (good_at n))
     where
       object_of : Head → ℕ → List Value → Object
@@ -220,8 +227,9 @@ module _ (program : Source) (store : Store) (base : ℕ) (blocks : List (ℕ × 
       let rel = reached_is_numbered bound d small in
       let all = all_good refs names rel in
       let cells = (object_at store main_name).cells in
-      let told = values_told mem (statics_at + 2) (types_of (main_fields program)) in
-      let main_is : told ≡ map (renamed A) cells = values_are_told program store base blocks mem facts (statics_at + 2)
+      let told = values_told mem (statics_at + HEADER_WORDS) (types_of (main_fields program)) in
+      let main_is : told ≡ map (renamed A) cells = values_are_told program store base blocks mem facts
+      (statics_at + HEADER_WORDS)
       (types_of (main_fields program)) cells main_tells (good_at main_name) in
       ap (λ xs. field_lines [] xs (main_fields program) told ++ lines_told program mem xs refs
       ++ live_line (length refs)) (addresses_are refs names rel)

@@ -10,6 +10,7 @@ use Rattle.rpp_tree.specs.Tree.{Source}
 use Rattle.class_table.specs.Classes.{main_of}
 use Rattle.class_table.specs.Program.{IsAccepted}
 use Rattle.buddy_book.specs.Place.{block_of, count_taken}
+use Rattle.code_conventions.specs.declared.memory.TheConstants.{COUNT_WORD, HEADER_WORDS}
 use Rattle.roopl_semantics.specs.Store.{OfClass, State, main_name, object_at}
 use Rattle.roopl_semantics.specs.Source.{starting}
 use Rattle.roopl_semantics.specs.Laws.{holders}
@@ -71,11 +72,11 @@ module _ (u : Setup) (class : ℕ) (st : State) (s : Sound u.setting main_alone 
       positive = λ n x. (name_word u main_alone [] class st t s.main_unheld n (reference_of n x)).0;
       head = λ n x. word_is mem (base_of u + block_of s.placed.at.blocks n) ∙ ap (slice_index mem) (sym (other n x))
           ∙ read_head u main_alone [] class st t s.main_unheld g [] n x.live;
-      count = λ n x. word_is mem (base_of u + block_of s.placed.at.blocks n + 1)
-          ∙ ap (λ a. slice_index mem (a + 1)) (sym (other n x))
+      count = λ n x. word_is mem (base_of u + block_of s.placed.at.blocks n + COUNT_WORD)
+          ∙ ap (λ a. slice_index mem (a + COUNT_WORD)) (sym (other n x))
           ∙ read_count u main_alone [] class st t s.main_unheld g [] n x.live;
-      part = λ n i x l. word_is mem (base_of u + block_of s.placed.at.blocks n + 2 + i)
-          ∙ ap (λ a. slice_index mem (a + 2 + i)) (sym (other n x))
+      part = λ n i x l. word_is mem (base_of u + block_of s.placed.at.blocks n + HEADER_WORDS + i)
+          ∙ ap (λ a. slice_index mem (a + HEADER_WORDS + i)) (sym (other n x))
           ∙ read_part u main_alone [] class st t g [] n i x.live l;
       main_part = λ i l. word_is mem _ ∙ read_main u main_alone [] class st t g [] i l;
       typed = s.objects;

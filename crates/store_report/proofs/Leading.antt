@@ -19,6 +19,7 @@ use Rattle.class_table.specs.Classes.{class_fields}
 use Rattle.class_table.specs.Members.{fields_of}
 use Rattle.class_table.specs.Table.{Table, table_of, fields_in}
 use Rattle.class_table.proofs.Numbers.{length-each_below, each_below-get}
+use Rattle.code_conventions.specs.declared.memory.TheConstants.{COUNT_WORD, HEADER_WORDS}
 use Rattle.roopl_semantics.specs.Source.{main_fields}
 use Rattle.roopl_semantics.specs.Report.{number_shown, field_lines, element_lines, head_shown, cell_lines, live_line}
 use Rattle.roopl_semantics.specs.Layout.{table_at, table_addresses}
@@ -182,24 +183,26 @@ module _ (program : Source) where
 
     behind_is : (cells : List ℕ) (references : List Reference) (r : Reference)
         → meets_behind T tables cells (map pair references) (pair r)
-        ≡ map pair references ++ map pair (newly_reached cells references (r.at + 2) (types_at program cells r))
+        ≡ map pair references ++ map pair (newly_reached cells references (r.at + HEADER_WORDS)
+        (types_at program cells r))
     behind_is cells references r = by r.type (word_at cells r.at)
       where
-        by : (t : VarType) (word : ℕ) → meets cells (map pair references) (r.at + 2)
+        by : (t : VarType) (word : ℕ) → meets cells (map pair references) (r.at + HEADER_WORDS)
             (leads_at T tables (lead_of T t) word) ≡ map pair references
-            ++ map pair (newly_reached cells references (r.at + 2) (cell_types program t word))
+            ++ map pair (newly_reached cells references (r.at + HEADER_WORDS) (cell_types program t word))
         by type.Int word = sym (append-nil (map pair references))
         by (type.Class name) word =
-            ap (λ vars. meets cells (map pair references) (r.at + 2) (leads_of T vars)) (fields_same word)
-            ∙ ap (meets cells (map pair references) (r.at + 2))
+            ap (λ vars. meets cells (map pair references) (r.at + HEADER_WORDS) (leads_of T vars)) (fields_same word)
+            ∙ ap (meets cells (map pair references) (r.at + HEADER_WORDS))
             (leads_are (class_fields program (class_at_table tables word)))
-            ∙ meets_are cells (map pair references) references (r.at + 2)
+            ∙ meets_are cells (map pair references) references (r.at + HEADER_WORDS)
             (types_of (class_fields program (class_at_table tables word))) (same_pairs references)
         by type.IntArray word = sym (ap (λ z. map pair references ++ map pair z)
-            (no_ints cells references word (r.at + 2)) ∙ append-nil (map pair references))
+            (no_ints cells references word (r.at + HEADER_WORDS)) ∙ append-nil (map pair references))
         by (type.ClassArray name) word =
-            ap (meets cells (map pair references) (r.at + 2)) (sym (map_replicate (lead_of T) word (type.Class name)))
-            ∙ meets_are cells (map pair references) references (r.at + 2) (replicate word (type.Class name))
+            ap (meets cells (map pair references) (r.at + HEADER_WORDS))
+            (sym (map_replicate (lead_of T) word (type.Class name)))
+            ∙ meets_are cells (map pair references) references (r.at + HEADER_WORDS) (replicate word (type.Class name))
             (same_pairs references)
 
     -- ---- the walk
@@ -231,7 +234,7 @@ module _ (program : Source) where
         (λ entry. walks steps T tables cells (meets_behind T tables cells (map pair references) entry) (k + 1)))
         (dropped_none references k h)
     walks_are cells (suc steps) references (r ∷ pending) k h =
-        let new = newly_reached cells references (r.at + 2) (types_at program cells r) in
+        let new = newly_reached cells references (r.at + HEADER_WORDS) (types_at program cells r) in
         let one : k + 1 ≡ suc k = omega arith in
         ap (λ o. goes_on o (map pair references) (λ entry. walks steps T tables cells
         (meets_behind T tables cells (map pair references) entry) (k + 1)))
@@ -243,9 +246,9 @@ module _ (program : Source) where
 
     pub met_is : (cells : List ℕ) → met_all T tables (main_fields program) cells ≡ map pair (reached program cells)
     met_is cells =
-        let first = newly_reached cells [] (statics_at + 2) (types_of (main_fields program)) in
-        ap (λ m. walks (length cells) T tables cells m 0) (ap (meets cells [] (statics_at + 2))
-        (leads_are (main_fields program)) ∙ meets_are cells [] [] (statics_at + 2)
+        let first = newly_reached cells [] (statics_at + HEADER_WORDS) (types_of (main_fields program)) in
+        ap (λ m. walks (length cells) T tables cells m 0) (ap (meets cells [] (statics_at + HEADER_WORDS))
+        (leads_are (main_fields program)) ∙ meets_are cells [] [] (statics_at + HEADER_WORDS)
         (types_of (main_fields program)) (λ w. refl))
         ∙ walks_are cells (length cells) first first 0 refl
 
@@ -277,26 +280,28 @@ module _ (program : Source) where
 
     cells_are : (cells names : List ℕ) (at : ℕ) (t : VarType) (w : ℕ)
         → cells_by T tables cells names at (lead_of T t) w ≡ cell_lines program names (head_told program t w)
-        (values_told cells (at + 2) (cell_types program t w))
+        (values_told cells (at + HEADER_WORDS) (cell_types program t w))
     cells_are cells names at type.Int w = refl
     cells_are cells names at (type.Class name) w =
-        ap (λ vars. field_lines (codes "  ") names vars (values_by cells (at + 2) (leads_of T vars))) (fields_same w)
+        ap (λ vars. field_lines (codes "  ") names vars (values_by cells (at + HEADER_WORDS) (leads_of T vars)))
+        (fields_same w)
         ∙ ap (field_lines (codes "  ") names (class_fields program (class_at_table tables w)))
-        (field_values cells (at + 2) (class_fields program (class_at_table tables w)))
+        (field_values cells (at + HEADER_WORDS) (class_fields program (class_at_table tables w)))
     cells_are cells names at type.IntArray w =
-        ap (λ ls. element_lines names 0 (values_by cells (at + 2) ls)) (sym (map_replicate (lead_of T) w type.Int))
-        ∙ ap (element_lines names 0) (values_are cells (at + 2) (replicate w type.Int))
+        ap (λ ls. element_lines names 0 (values_by cells (at + HEADER_WORDS) ls))
+        (sym (map_replicate (lead_of T) w type.Int))
+        ∙ ap (element_lines names 0) (values_are cells (at + HEADER_WORDS) (replicate w type.Int))
     cells_are cells names at (type.ClassArray name) w =
-        ap (λ ls. element_lines names 0 (values_by cells (at + 2) ls))
+        ap (λ ls. element_lines names 0 (values_by cells (at + HEADER_WORDS) ls))
         (sym (map_replicate (lead_of T) w (type.Class name)))
-        ∙ ap (element_lines names 0) (values_are cells (at + 2) (replicate w (type.Class name)))
+        ∙ ap (element_lines names 0) (values_are cells (at + HEADER_WORDS) (replicate w (type.Class name)))
 
     objects_are : (cells names : List ℕ) (references : List Reference)
         → objects_by program T tables cells names (map pair references) ≡ lines_told program cells names references
     objects_are cells names [] = refl
     objects_are cells names (r ∷ references) =
         let word = word_at cells r.at in
-        let count = decimal (word_at cells (r.at + 1)) in
+        let count = decimal (word_at cells (r.at + COUNT_WORD)) in
         let rest = objects_by program T tables cells names (map pair references) in
         ap (λ h. number_shown names r.at ++ codes " " ++ head_shown program h ++ codes " count " ++ count ++ line_end
         ++ cells_by T tables cells names r.at (lead_of T r.type) word ++ rest) (head_is r.type word)
@@ -304,7 +309,7 @@ module _ (program : Source) where
         ++ codes " count " ++ count ++ line_end ++ z ++ rest) (cells_are cells names r.at r.type word)
         ∙ ap (λ z. number_shown names r.at ++ codes " " ++ head_shown program (head_told program r.type word)
         ++ codes " count " ++ count ++ line_end ++ cell_lines program names (head_told program r.type word)
-        (values_told cells (r.at + 2) (types_at program cells r)) ++ z) (objects_are cells names references)
+        (values_told cells (r.at + HEADER_WORDS) (types_at program cells r)) ++ z) (objects_are cells names references)
 
     addresses_are : (references : List Reference) → addresses_of (map pair references) ≡ map address_of references
     addresses_are [] = refl
@@ -315,17 +320,18 @@ module _ (program : Source) where
     report_is cells =
         let references = reached program cells in
         let names = map address_of references in
-        let first = values_told cells (statics_at + 2) (types_of (main_fields program)) in
+        let first = values_told cells (statics_at + HEADER_WORDS) (types_of (main_fields program)) in
         ap (λ m. field_lines [] (addresses_of m) (main_fields program)
-        (values_by cells (statics_at + 2) (leads_of T (main_fields program)))
+        (values_by cells (statics_at + HEADER_WORDS) (leads_of T (main_fields program)))
         ++ objects_by program T tables cells (addresses_of m) m ++ live_line (length m)) (met_is cells)
         ∙ ap (λ xs. field_lines [] xs (main_fields program)
-        (values_by cells (statics_at + 2) (leads_of T (main_fields program)))
+        (values_by cells (statics_at + HEADER_WORDS) (leads_of T (main_fields program)))
         ++ objects_by program T tables cells xs (map pair references) ++ live_line (length (map pair references)))
         (addresses_are references)
         ∙ ap (λ vs. field_lines [] names (main_fields program) vs
         ++ objects_by program T tables cells names (map pair references)
-        ++ live_line (length (map pair references))) (field_values cells (statics_at + 2) (main_fields program))
+        ++ live_line (length (map pair references))) (field_values cells (statics_at + HEADER_WORDS)
+        (main_fields program))
         ∙ ap (λ z. field_lines [] names (main_fields program) first ++ z ++ live_line (length (map pair references)))
         (objects_are cells names references)
         ∙ ap (λ k. field_lines [] names (main_fields program) first ++ lines_told program cells names references

@@ -11,6 +11,7 @@ use Rattle.class_table.specs.Table.{table_of, fields_in, slots_in}
 use Rattle.class_table.specs.Program.{IsAccepted}
 use Rattle.class_table.proofs.Numbers.{each_below-get}
 use Rattle.class_table.specs.Classes.{main_of}
+use Rattle.code_conventions.specs.declared.memory.TheConstants.{HEADER_WORDS, TABLE_HEADER}
 use Rattle.roopl_semantics.specs.Source.{main_fields}
 use Rattle.roopl_semantics.specs.Layout.{table_at, table_addresses}
 use Rattle.roopl_semantics.proofs.MainPlace.{class_inside}
@@ -27,11 +28,12 @@ main_fields_are program accepted = each_below-get (fields_of program) (length pr
 
 place_is : (program : Source) → IsAccepted program → (class : ℕ) → class ≤ length program.classes
     → table_in (table_of program) class ≡ table_at program class
-place_is program accepted zero h = ap (λ (vars : List Var). statics_at + 2 + length vars)
+place_is program accepted zero h = ap (λ (vars : List Var). statics_at + HEADER_WORDS + length vars)
     (main_fields_are program accepted)
 place_is program accepted (suc class) h =
-    ap (λ k. k + (1 + length (slots_in (table_of program) class))) (place_is program accepted class (omega arith))
-    ∙ ap (λ (s : Slots). table_at program class + (1 + length s))
+    ap (λ k. k + (TABLE_HEADER + length (slots_in (table_of program) class)))
+    (place_is program accepted class (omega arith))
+    ∙ ap (λ (s : Slots). table_at program class + (TABLE_HEADER + length s))
     (each_below-get (slots_of program) (length program.classes) class [] (omega arith))
 
 places_are : (program : Source) → IsAccepted program → (n : ℕ) → n ≤ length program.classes

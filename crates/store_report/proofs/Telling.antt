@@ -15,6 +15,7 @@ use Rattle.class_table.specs.Classes.{class_fields}
 use Rattle.class_table.specs.Table.{table_of, class_of}
 use Rattle.class_table.specs.Scope.{kind_of, class_kind, array_kind}
 use Rattle.buddy_book.specs.Place.{block_of}
+use Rattle.code_conventions.specs.declared.memory.TheConstants.{COUNT_WORD, HEADER_WORDS}
 use Rattle.roopl_semantics.specs.Store.{Value, Word, Nil, Name, Head, OfClass, OfInts, OfObjects, Object, Store}
 use Rattle.roopl_semantics.specs.Store.{main_name, object_named, object_at}
 use Rattle.class_table.specs.Classes.{main_of}
@@ -45,12 +46,12 @@ pub record Facts (program : Source) (store : Store) (base : ℕ) (blocks : List 
   pub positive : (n : ℕ) → IsGood store n → 0 < base + block_of blocks n
   pub head : (n : ℕ) → IsGood store n → word_at mem (base + block_of blocks n)
       ≡ head_word program (object_at store n).head
-  pub count : (n : ℕ) → IsGood store n → word_at mem (base + block_of blocks n + 1) ≡ (object_at store n).count
+  pub count : (n : ℕ) → IsGood store n → word_at mem (base + block_of blocks n + COUNT_WORD) ≡ (object_at store n).count
   pub part : (n i : ℕ) → IsGood store n → i < length (object_at store n).cells
-      → word_at mem (base + block_of blocks n + 2 + i) ≡ word_of base blocks
+      → word_at mem (base + block_of blocks n + HEADER_WORDS + i) ≡ word_of base blocks
       (unwrap_or (slice_get (object_at store n).cells i) Nil)
   pub main_part : (i : ℕ) → i < length (object_at store main_name).cells
-      → word_at mem (statics_at + 2 + i) ≡ word_of base blocks
+      → word_at mem (statics_at + HEADER_WORDS + i) ≡ word_of base blocks
       (unwrap_or (slice_get (object_at store main_name).cells i) Nil)
   pub typed : (n : ℕ) (o : Object) → object_named store n ≡ Some o
       → AllFit program store (cell_kinds program o.head) o.cells

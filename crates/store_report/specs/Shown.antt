@@ -10,7 +10,7 @@ use Rattle.roopl_semantics.specs.Report.{Text, number_shown, field_lines, elemen
 use Rattle.roopl_semantics.specs.Report.{live_line}
 use Rattle.pisa_isa.specs.Loaded.{statics_at}
 use Rattle.pisa_isa.specs.Machine.{word_at}
-use Rattle.code_conventions.specs.declared.memory.TheConstants.{HEADER_WORDS}
+use Rattle.code_conventions.specs.declared.memory.TheConstants.{COUNT_WORD, HEADER_WORDS}
 use Rattle.store_report.specs.declared.leads.Lead.{Lead}
 use Rattle.store_report.specs.declared.leads.Lead.TheVariants as lead
 use Rattle.store_report.specs.Told.{reference_told}
@@ -55,7 +55,7 @@ abbrev pub object_by : Source → Table → List ℕ → List ℕ → List ℕ �
 object_by program table tables cells names entry =
     number_shown names entry.0 ++ codes " "
     ++ head_shown program (head_by tables entry.1 (word_at cells entry.0))
-    ++ codes " count " ++ decimal (word_at cells (entry.0 + 1)) ++ line_end
+    ++ codes " count " ++ decimal (word_at cells (entry.0 + COUNT_WORD)) ++ line_end
     ++ cells_by table tables cells names entry.0 entry.1 (word_at cells entry.0)
 
 abbrev pub objects_by : Source → Table → List ℕ → List ℕ → List ℕ → Met → Text

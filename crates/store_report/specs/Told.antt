@@ -18,7 +18,7 @@ use Rattle.roopl_semantics.specs.Walk.{class_with_table, types_of, Reference, ty
 use Rattle.roopl_semantics.specs.Walk.{reached}
 use Rattle.pisa_isa.specs.Loaded.{statics_at}
 use Rattle.pisa_isa.specs.Machine.{word_at}
-use Rattle.code_conventions.specs.declared.memory.TheConstants.{HEADER_WORDS}
+use Rattle.code_conventions.specs.declared.memory.TheConstants.{COUNT_WORD, HEADER_WORDS}
 
 -- what a word tells in a cell of a reference type: nil, or the address of a block
 abbrev pub reference_told : ℕ → Value
@@ -50,7 +50,7 @@ head_told program (kind.ClassArray class) word =
 abbrev pub object_told : Source → List ℕ → Reference → Object
 object_told program cells reference = record {
   head = head_told program reference.type (word_at cells reference.at);
-  count = word_at cells (reference.at + 1);
+  count = word_at cells (reference.at + COUNT_WORD);
   cells = values_told cells (reference.at + HEADER_WORDS) (types_at program cells reference);
 }
 

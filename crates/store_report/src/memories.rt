@@ -22,7 +22,7 @@ use crate::lines::{add_bytes, add_live, add_name, add_word, class_name};
 use crate::tables::table_addresses;
 use crate::walking::{Memory, met_all};
 use class_table::Checked;
-use code_conventions::memory::FIRST_FIELD;
+use code_conventions::memory::{COUNT_WORD, FIRST_FIELD, HEADER_WORDS};
 use indexmap::IndexMap;
 use pisa_machine::{Machine, word_at};
 use rpp_tree::text::Text;
@@ -243,7 +243,7 @@ fn add_cells(
         ≡ string_bytes out.old ++ cells_by memory.now.table.now memory.now.tables.now
         memory.now.machine.now.state.cells (addresses_of met.now.entries) at lead word) }
 {
-    let first = u64::from(at) + 2;
+    let first = u64::from(at) + u64::from(HEADER_WORDS);
     match lead {
         Lead::Int => Ok(()),
         Lead::Object => add_fields(
@@ -275,7 +275,7 @@ fn add_object(
         memory.now.machine.now.state.cells (addresses_of met.now.entries) (at, lead)) }
 {
     let head = word_at(memory.machine, u64::from(at));
-    let count = word_at(memory.machine, u64::from(at) + 1);
+    let count = word_at(memory.machine, u64::from(at) + u64::from(COUNT_WORD));
     add_number(out, met, at)?;
     out.push_str(" ")?;
     add_head(out, memory, lead, head)?;

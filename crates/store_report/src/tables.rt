@@ -4,7 +4,7 @@ ghost use Rattle.class_table.specs.First.{each_below};
 ghost use Rattle.store_report.specs.Tables.{table_in};
 
 use class_table::ClassTable;
-use code_conventions::memory::FIRST_FIELD;
+use code_conventions::memory::{FIRST_FIELD, TABLE_HEADER};
 use std::alloc::{AllocError, Global};
 
 /// The addresses of the classes' tables, in the order of the classes.
@@ -17,7 +17,7 @@ pub fn table_addresses(alloc: Global, table: &ClassTable) -> Result<Vec<u32>, Al
     let mut at = FIRST_FIELD + table.fields(table.main().class).len() as u32;
     for class in 0..table.class_count() {
         tables.push(at)?;
-        at += 1 + table.slot_count(class);
+        at += TABLE_HEADER + table.slot_count(class);
     }
     Ok(tables)
 }

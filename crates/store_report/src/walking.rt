@@ -6,7 +6,7 @@ ghost use Rattle.store_report.specs.Leads.{meets_one, meets, leads_of, meets_beh
 
 use crate::leads::{Lead, class_at_table, lead_of};
 use class_table::ClassTable;
-use code_conventions::memory::FIRST_FIELD;
+use code_conventions::memory::{FIRST_FIELD, HEADER_WORDS};
 use indexmap::IndexMap;
 use pisa_machine::{Machine, word_at};
 use rpp_tree::tree::{Program, Var};
@@ -94,7 +94,7 @@ fn meet_behind(
         ≡ meets_behind memory.now.table.now memory.now.tables.now memory.now.machine.now.state.cells
         met.old.entries (at, lead)) }
 {
-    let first = u64::from(at) + 2;
+    let first = u64::from(at) + u64::from(HEADER_WORDS);
     let head = word_at(memory.machine, u64::from(at));
     match lead {
         Lead::Int => Ok(()),

@@ -1,13 +1,44 @@
-// Blocks that the allocator takes and gives back, by rows and beside plain lists.
-ghost use Rattle.std.specs.Prelude.{◌≢◌, ◌<◌};
+// Blocks that the allocator takes and gives back, through a linked image of its routine alone.
+ghost use Rattle.std.specs.Prelude.{◌≢◌, ◌<◌, ◌^◌, length};
 
-use crate::running::{Words, at_start};
 use buddy_pisa::{BLOCK, ORDER, allocator};
 use paired_code::{Piece, cells_of, empty, enter, link, marks_in, plain, seq};
-use pisa_isa::{Cell, Core, Image, Op, Stop, step};
+use pisa_isa::{Cell, Cells, Core, Image, Op, Stop, step};
 use std::alloc::Global;
 use std::process::Abort;
 use std::test::Fail;
+
+/// Data cells in a vector.
+#[derive(Drop)]
+struct Words {
+    words: Vec<u32>,
+    ghost in_limit: { length words.items < 2 ^ 32 },
+}
+
+impl Cells for Words {
+    ghost words = { λ s. s.words.items };
+
+    fn len(&self) -> u32 {
+        self.words.len() as u32
+    }
+
+    fn exchange(&mut self, at: u32, word: &mut u32) {
+        let i = at as usize;
+        let old = self.words[i];
+        self.words[i] = *word;
+        *word = old;
+    }
+}
+
+/// The machine at the first cell of its code, forward, with zero registers.
+fn at_start() -> Core {
+    Core {
+        pc: 0,
+        br: 0,
+        back: false,
+        regs: [0; 32],
+    }
+}
 
 /// The cells of an empty heap of order `h` at `base`, and 12 more behind it.
 fn empty_heap<R: Abort>(rt: &R, alloc: Global, h: u32, base: u32) -> Result<Words, Fail> {
@@ -143,185 +174,5 @@ fn blocks_are_taken_and_given(rt: HostRuntime) -> Result<(), Fail> {
         let heads = (words.words[9], words.words[10], words.words[40]);
         assert_eq!(rt; heads, row.heads, "{}", row.title);
     }
-    Ok(())
-}
-
-/// The plain lists of an empty heap of order 8, the head of each last.
-fn plain_start(alloc: Global) -> Result<Vec<Vec<u32>>, Fail> {
-    let mut lists = Vec::new(alloc);
-    for _ in 1..8 {
-        lists.push(Vec::new(alloc))?;
-    }
-    lists.push(vec![in alloc; 0; 1]?)?;
-    Ok(lists)
-}
-
-/// Halves a block of a higher order down to order `k`: the lower halves become free.
-fn plain_halve<R: Abort>(
-    rt: &R,
-    lists: &mut Vec<Vec<u32>>,
-    k: u32,
-    order: u32,
-    block: u32,
-) -> Result<u32, Fail> {
-    let mut upper = block;
-    for step in k..order {
-        let lower = order.wrapping_sub(1).wrapping_sub(step.wrapping_sub(k));
-        assert!(rt; 1 <= lower && lower <= 8 && (lower as usize) <= lists.len());
-        lists[(lower - 1) as usize].push(upper)?;
-        upper = upper.wrapping_add(1 << lower);
-    }
-    Ok(upper)
-}
-
-/// Takes a block from plain lists: the first free one of the least order from `k` on, halved.
-fn plain_take<R: Abort>(rt: &R, lists: &mut Vec<Vec<u32>>, k: u32) -> Result<Option<u32>, Fail> {
-    for order in k..9 {
-        assert!(rt; 1 <= order && (order as usize) <= lists.len());
-        match lists[(order - 1) as usize].pop() {
-            None => {}
-            Some(block) => return Ok(Some(plain_halve(rt, lists, k, order, block)?)),
-        }
-    }
-    Ok(None)
-}
-
-/// Gives a block back to plain lists: it merges while its list holds its lower half alone.
-fn plain_give<R: Abort>(rt: &R, lists: &mut Vec<Vec<u32>>, k: u32, block: u32) -> Result<(), Fail> {
-    let mut given = block;
-    for order in k..9 {
-        assert!(rt; 1 <= order && order <= 8 && (order as usize) <= lists.len());
-        let low = given.wrapping_sub(1 << order);
-        let aligned = low & (2u32 << order).wrapping_sub(1) == 0;
-        let list = &mut lists[(order - 1) as usize];
-        if !aligned || list.len() != 1 || list[0] != low {
-            list.push(given)?;
-            return Ok(());
-        }
-        list.clear();
-        given = low;
-    }
-    Ok(())
-}
-
-/// The list of order `at + 1` stands in memory.
-fn list_stands<R: Abort>(rt: &R, words: &Words, list: &[u32], at: u32) {
-    assert!(rt; at < 8 && words.words.len() > 512);
-    let mut next = words.words[(9 + at) as usize];
-    for block in list.iter().rev() {
-        let address = block.wrapping_add(256);
-        assert_eq!(rt; next, address);
-        assert!(rt; address < 512);
-        next = words.words[address as usize];
-    }
-    assert_eq!(rt; next, 0);
-}
-
-fn lists_stand<R: Abort>(rt: &R, words: &Words, lists: &[Vec<u32>]) {
-    let mut at = 0u32;
-    for list in lists {
-        list_stands(rt, words, list.as_slice(), at);
-        at = at.wrapping_add(1);
-    }
-}
-
-/// One run of the routine with the registers ORDER and BLOCK: where it finishes, BLOCK is answered.
-fn called<R: Abort>(
-    rt: &R,
-    image: &Image,
-    words: &mut Words,
-    order: u32,
-    block: u32,
-) -> Result<Option<u32>, Fail> {
-    let mut core = at_start();
-    core.regs[ORDER as usize] = order;
-    core.regs[BLOCK as usize] = block;
-    match run(image, &mut core, words) {
-        Some(Stop::Finished) => {
-            let answer = core.regs[BLOCK as usize];
-            core.regs[ORDER as usize] = 0;
-            core.regs[BLOCK as usize] = 0;
-            assert_eq!(rt; core.regs, [0; 32]);
-            Ok(Some(answer))
-        }
-        stop => {
-            assert_eq!(rt; stop, Some(Stop::Trap(8)));
-            Ok(None)
-        }
-    }
-}
-
-/// A heap on the machine beside plain lists, the blocks that are taken, and all takes and gives.
-#[derive(Drop)]
-struct Trial {
-    words: Words,
-    lists: Vec<Vec<u32>>,
-    /// The order and the address of each taken block.
-    held: Vec<(u32, u32)>,
-    /// The order, the address, and whether it was a take.
-    log: Vec<(u32, u32, bool)>,
-}
-
-/// A take on both sides: the same block, or none and a trap.
-fn take_one<R: Abort>(rt: &R, image: &Image, trial: &mut Trial, order: u32) -> Result<(), Fail> {
-    let block = plain_take(rt, &mut trial.lists, order)?;
-    let taken = called(rt, image, &mut trial.words, order, 0)?;
-    match block {
-        Some(block) => {
-            let at = block.wrapping_add(256);
-            assert_eq!(rt; taken, Some(at));
-            trial.held.push((order, at))?;
-            trial.log.push((order, at, true))?;
-        }
-        None => assert_eq!(rt; taken, None),
-    }
-    Ok(())
-}
-
-/// A give of a held block on both sides.
-fn give_one<R: Abort>(rt: &R, image: &Image, trial: &mut Trial, choice: u32) -> Result<(), Fail> {
-    if trial.held.is_empty() {
-        return Ok(());
-    }
-    let (order, at) = trial.held.swap_remove(choice as usize % trial.held.len());
-    plain_give(rt, &mut trial.lists, order, at.wrapping_sub(256))?;
-    assert_eq!(rt; called(rt, image, &mut trial.words, order, at)?, Some(0));
-    trial.log.push((order, at, false))?;
-    Ok(())
-}
-
-#[test]
-fn mixed_takes_and_gives_lead_back(rt: HostRuntime) -> Result<(), Fail> {
-    let alloc = rt.alloc();
-    let takes = image_of(&rt, alloc, enter(alloc, 0, false)?)?;
-    let gives = image_of(&rt, alloc, enter(alloc, 0, true)?)?;
-    let mut trial = Trial {
-        words: empty_heap(&rt, alloc, 8, 256)?,
-        lists: plain_start(alloc)?,
-        held: Vec::new(alloc),
-        log: Vec::new(alloc),
-    };
-    let mut number = 7u32;
-    for _ in 0..1500 {
-        number = number.wrapping_mul(1664525).wrapping_add(1013904223);
-        if (number >> 20) % 2 == 0 {
-            take_one(&rt, &takes, &mut trial, 1 + (number >> 16) % 5)?;
-        } else {
-            give_one(&rt, &gives, &mut trial, number >> 8)?;
-        }
-        lists_stand(&rt, &trial.words, trial.lists.as_slice());
-    }
-    assert!(rt; trial.log.len() > 1000);
-    for _ in 0..1500 {
-        if let Some((order, at, took)) = trial.log.pop() {
-            if took {
-                assert_eq!(rt; called(&rt, &gives, &mut trial.words, order, at)?, Some(0));
-            } else {
-                assert_eq!(rt; called(&rt, &takes, &mut trial.words, order, 0)?, Some(at));
-            }
-        }
-    }
-    let empty = empty_heap(&rt, alloc, 8, 256)?;
-    assert!(rt; trial.words.words == empty.words);
     Ok(())
 }

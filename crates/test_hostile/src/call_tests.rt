@@ -5,43 +5,35 @@ use std::test::Fail;
 const FIRST: &[u8] = b"class P int x method main() x += 5";
 
 #[test]
-fn compiles_whose_calls_fail(rt: HostRuntime) -> Result<(), Fail> {
+fn lines_whose_calls_fail(rt: HostRuntime) -> Result<(), Fail> {
     let alloc = rt.alloc();
-    let calls: [(&[u64], &[u64], &str, bool); 3] = [
-        (&[1], &[], "cannot read F: failed\n", false),
-        (&[2], &[], "cannot write IMG: failed\n", false),
-        (&[], &[1], "", true),
+    let calls: [(&[u64], &[u64], &str, &str, bool); 6] = [
+        (&[1], &[], "compile F IMG", "cannot read F: failed\n", false),
+        (
+            &[2],
+            &[],
+            "compile F IMG",
+            "cannot write IMG: failed\n",
+            false,
+        ),
+        (&[], &[1], "compile F IMG", "", true),
+        (&[1], &[], "go F 1 1 5", "cannot read F: failed\n", false),
+        (&[2], &[], "go F 1 1 5 I", "cannot read I: failed\n", false),
+        (&[], &[1], "go F 1 1 5", "", false),
     ];
-    let image = made_by(alloc, &[("F", FIRST)], "compile F IMG", "IMG")?;
-    for (failing, failing_puts, line, is_written) in calls {
-        let mut shelf = shelf_of(alloc, &[("F", FIRST)], failing)?;
-        let (status, said) = answer_on(alloc, &mut shelf, "compile F IMG", failing_puts)?;
-        assert_eq!(rt; status, 2, "{line}");
-        assert_eq!(rt; said.as_slice(), line.as_bytes(), "{line}");
+    let files: [(&str, &[u8]); 2] = [("F", FIRST), ("I", b"x = 1")];
+    let image = made_by(alloc, &files, "compile F IMG", "IMG")?;
+    for (failing, failing_puts, words, line, is_written) in calls {
+        let mut shelf = shelf_of(alloc, &files, failing)?;
+        let (status, said) = answer_on(alloc, &mut shelf, words, failing_puts)?;
+        assert_eq!(rt; status, 2, "{words}, {line}");
+        assert_eq!(rt; said.as_slice(), line.as_bytes(), "{words}, {line}");
         let wanted = if is_written {
             Some(image.as_slice())
         } else {
             None
         };
-        assert!(rt; shelf.text("IMG") == wanted, "{line}");
-    }
-    Ok(())
-}
-
-#[test]
-fn runs_whose_calls_fail(rt: HostRuntime) -> Result<(), Fail> {
-    let alloc = rt.alloc();
-    let calls: [(&[u64], &[u64], &str, &str); 3] = [
-        (&[1], &[], "go F 1 1 5", "cannot read F: failed\n"),
-        (&[2], &[], "go F 1 1 5 I", "cannot read I: failed\n"),
-        (&[], &[1], "go F 1 1 5", ""),
-    ];
-    for (failing, failing_puts, words, line) in calls {
-        let files: [(&str, &[u8]); 2] = [("F", FIRST), ("I", b"x = 1")];
-        let mut shelf = shelf_of(alloc, &files, failing)?;
-        let (status, said) = answer_on(alloc, &mut shelf, words, failing_puts)?;
-        assert_eq!(rt; status, 2, "{words}");
-        assert_eq!(rt; said.as_slice(), line.as_bytes(), "{words}");
+        assert!(rt; shelf.text("IMG") == wanted, "{words}, {line}");
     }
     Ok(())
 }

@@ -62,33 +62,6 @@ fn numbers_of(alloc: Global, text: &[u8]) -> Result<Vec<u64>, AllocError> {
     Ok(numbers)
 }
 
-// The steps forward and back are those of the run, and no more places are met than up to the deepest one.
-#[test]
-fn probes_tell_of_the_whole_run(rt: HostRuntime) -> Result<(), Fail> {
-    let alloc = rt.alloc();
-    let mut probes = watching(alloc, 1_000_000)?;
-    let (code, said, left) = answer_as_watch(alloc, "profile F 1 1 1000000", &mut probes)?;
-    assert_eq!(rt; code, 0);
-    assert!(rt; said.as_slice().starts_with(b"x = 5\nlive 0\nsteps "));
-    assert!(rt; said.as_slice().ends_with(left.as_str().as_bytes()));
-    let told = numbers_of(alloc, said.as_slice())?;
-    assert_eq!(rt; told.len(), 7);
-    assert!(rt; told[3].wrapping_add(told[4]) == told[2]);
-    assert!(rt; told[5] <= told[6].wrapping_add(1));
-
-    // After a finish `turn` tells the steps back, as many as the steps there.
-    let mut probes = watching(alloc, 1_000_000)?;
-    let (code, said, left) = answer_as_watch(alloc, "turn F 1 1 1000000", &mut probes)?;
-    assert_eq!(rt; code, 0);
-    let there = numbers_of(alloc, said.as_slice())?;
-    let back = numbers_of(alloc, left.as_str().as_bytes())?;
-    assert_eq!(rt; there.len(), 7);
-    assert_eq!(rt; back.len(), 4);
-    assert!(rt; there[2] == told[2]);
-    assert!(rt; back[0].wrapping_add(back[1]) == there[3]);
-    Ok(())
-}
-
 // What is printed in front of the numbers that the code decides, and the first line of those probes
 // that are left.
 #[test]

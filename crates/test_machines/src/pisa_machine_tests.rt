@@ -1,8 +1,7 @@
 // What probes say of a run of a hand-written image.
 ghost use Rattle.std.specs.Prelude.{◌≡◌};
 
-use crate::cells::{cell, image};
-use pisa_isa::{Image, Op, Stop};
+use pisa_isa::{Cell, Image, MOST_CELLS, Op, Stop};
 use pisa_machine::{Machine, RunEnd, Steps};
 use rpp_probes::{Coverage, DeepestPlace, Probe, Probes, StepTally};
 use std::alloc::Global;
@@ -10,6 +9,24 @@ use std::marker::Brand;
 use std::process::Abort;
 use std::sync::ledger::{Blank, Ledger};
 use std::test::Fail;
+
+fn cell(op: Op, a: u8, b: u8, imm: u32) -> Cell {
+    Cell {
+        op,
+        a,
+        b,
+        c: 0,
+        imm,
+    }
+}
+
+/// An image of these cells.
+fn image<R: Abort>(rt: &R, alloc: Global, code: &[Cell]) -> Result<Image, Fail> {
+    let code = code.to_vec(alloc)?;
+    assert!(rt; code.len() <= MOST_CELLS);
+    assert!(rt; code.iter().all(|cell| cell.is_in_range()));
+    Ok(Image::seal(code, Vec::new(alloc))?)
+}
 
 /// A subroutine that adds 5 to $1, run forward, backward and forward.
 fn subroutine<R: Abort>(rt: &R, alloc: Global) -> Result<Image, Fail> {

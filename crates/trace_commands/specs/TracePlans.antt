@@ -1,15 +1,12 @@
 -- The plan of `trace`.
-use Rattle.std.specs.Prelude.{◌≡◌, ℕ, List, None, Some, Result, Ok, Err}
+use Rattle.std.specs.Prelude.{◌≡◌, ◌⊎◌, ℕ, List, Some, Result, Ok, Err}
 use Rattle.std.specs.declared.option.Option.{Option}
 use Rattle.rpp_words.specs.declared.input.FieldWord.{FieldWord}
 use Rattle.rpp_words.specs.declared.input.Limits.{Limits}
 use Rattle.rpp_tree.specs.declared.limits.TheConstants.{MOST_BYTES}
 use Rattle.rpp_tree.specs.Tree.{Source}
 use Rattle.rpp_ports.specs.Ports.{Texts}
-use Rattle.pisa_loader.specs.Limiting.{limits_refusal}
-use Rattle.pisa_loader.specs.declared.error.LoadError.{LoadError}
 use Rattle.meaning_points.specs.Trail.{trail}
-use Rattle.rpp_words.specs.declared.input.TheConstants.{MOST_DEEP}
 use Rattle.two_way_debugger.specs.declared.command.Command.{Command}
 use Rattle.two_way_debugger.specs.declared.script.TheConstants.{MOST_SCRIPT}
 use Rattle.two_way_debugger.specs.declared.error.ScriptError.{ScriptError}
@@ -19,9 +16,8 @@ use Rattle.two_way_debugger.specs.Scripts.{script_of}
 use Rattle.source_debugger.specs.Shown.{told}
 use Rattle.command_plan.specs.declared.plan.Verdict.TheVariants.{Done, InputRefused}
 use Rattle.command_plan.specs.Plans.{Planned, prints, WithText, WithInput}
-use Rattle.command_plan.specs.Texts.{load_line, bad_command_line}
-use Rattle.program_commands.specs.Inputs.{given_input}
-use Rattle.program_commands.specs.ProgramPlans.{IsJudgedPlan}
+use Rattle.command_plan.specs.Texts.{bad_command_line}
+use Rattle.program_commands.specs.RunPlans.{RefusesRun, RunsTo}
 
 -- the commands print this text along the run from its start on: there is fuel with which the run is
 -- known as far as they go
@@ -41,24 +37,12 @@ IsScriptPlan (Err script.NoMemory) program limits input p = ⊥
 IsScriptPlan (Ok commands) program limits input p =
     (text : List ℕ) × Follows commands program limits input text × (p ≡ prints Done text)
 
--- the input is tried before the script
-abbrev pub IsInputPlan : Result (List FieldWord) LoadError → (script : List ℕ) → Source → Limits
-    → Planned → Type 0
-IsInputPlan (Err e) script program limits p = p ≡ prints InputRefused (load_line e)
-IsInputPlan (Ok input) script program limits p =
-    IsScriptPlan (script_of script) program limits input p
-
--- the sizes are tried before the input
-abbrev pub IsSizedPlan : Option LoadError → (script given : List ℕ) → Source → Limits → Planned
-    → Type 0
-IsSizedPlan (Some e) script given program limits p = p ≡ prints InputRefused (load_line e)
-IsSizedPlan None script given program limits p =
-    IsInputPlan (given_input program given) script program limits p
-
+-- the first refusal of a text that is to be run is told, or the script is tried
 abbrev pub IsTracePlan : (text script given : List ℕ) → (heap deep : ℕ) → Planned → Type 0
 IsTracePlan text script given heap deep p =
-    IsJudgedPlan text (λ program. IsSizedPlan (limits_refusal heap deep MOST_DEEP) script given
-    program (record { heap = heap; deep = deep })) p
+    RefusesRun text given heap deep p
+    ⊎ RunsTo text given heap deep (λ program limits input. IsScriptPlan (script_of script) program
+    limits input p)
 
 -- the plan of `trace` by this script over this file, on an input where there is one
 abbrev pub Traces : (file script : List ℕ) → (input : Option (List ℕ)) → (heap deep : ℕ)

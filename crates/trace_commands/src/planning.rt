@@ -1,33 +1,25 @@
 // `trace F H D SCRIPT [INPUT]`: follows a script along the run of a program, both ways.
 ghost use Rattle.std.specs.Prelude.{◌≡◌, ◌≤◌, ◌∷◌, length, option_map, List, ℕ, IfOk, string_bytes};
-ghost use Rattle.rpp_words.specs.Limits.{IsLimits};
 ghost use Rattle.rpp_tree.specs.Views.{source_of};
 ghost use Rattle.rpp_tree.specs.declared.limits.TheConstants.{MOST_BYTES};
-ghost use Rattle.roopl_semantics.specs.Source.{IsValid};
-ghost use Rattle.rpp_words.specs.declared.input.TheConstants.{MOST_DEEP};
 ghost use Rattle.two_way_debugger.specs.declared.script.TheConstants.{MOST_SCRIPT};
 ghost use Rattle.two_way_debugger.specs.Scripts.{script_of};
 ghost use Rattle.source_debugger.specs.Standing.{IsValidRun};
-ghost use Rattle.pisa_loader.specs.Limiting.{limits_refusal};
 ghost use Rattle.pisa_loader.specs.declared.input.TheConstants.{MOST_INPUT};
 ghost use Rattle.command_plan.specs.Plans.{planned, prints, GivesPlan, IsInputText};
 ghost use Rattle.rpp_ports.specs.Ports.{IsTextOf};
 ghost use Rattle.command_plan.specs.Files.{OnlyReads, source, input_files};
 ghost use Rattle.image_commands.specs.DebugPlans.{script_file};
-ghost use Rattle.program_commands.specs.Inputs.{given_input};
-ghost use Rattle.trace_commands.specs.TracePlans.{Follows, IsScriptPlan, IsInputPlan, IsSizedPlan, IsTracePlan, Traces};
+ghost use Rattle.trace_commands.specs.TracePlans.{Follows, IsScriptPlan, IsTracePlan, Traces};
 
 use class_table::Checked;
 use command_plan::{
-    NoPlan, Plan, Verdict, bad_command_line, load_line, read_file, read_input_file, refuse_source,
+    NoPlan, Plan, Room, Sizes, Verdict, bad_command_line, read_file, read_input_file,
 };
-use image_commands::Room;
-use pisa_loader::{LoadError, check_limits, read_input};
-use program_commands::input_fields;
-use roopl_judge::{SourceError, judge};
+use program_commands::{Ready, ready};
 use rpp_ports::Shelf;
 use rpp_tree::MOST_BYTES;
-use rpp_words::{Input, Limits, MOST_DEEP, NoMemory};
+use rpp_words::{Input, Limits, NoMemory};
 use source_debugger::SourceDebugger;
 use std::alloc::Global;
 use two_way_debugger::{Command, MOST_SCRIPT, ScriptError, read_script};
@@ -51,7 +43,8 @@ pub fn trace<S: Shelf>(
     room: Room,
 ) -> Result<Plan, NoPlan>
     ensures plan { GivesPlan (S.texts shelf.old)
-        (Traces file.now script.now (option_map string_bytes input.now) room.heap room.deep) result }
+        (Traces file.now script.now (option_map string_bytes input.now) room.heap room.deep)
+        result }
     ensures reads { OnlyReads (S.texts shelf.old) (S.texts shelf.new) (S.faults shelf.old)
         (S.faults shelf.new)
         (source file.now ∷ script_file script.now ∷ input_files (option_map string_bytes input.now))
@@ -70,7 +63,8 @@ fn read_all<S: Shelf>(
     input: &Option<String>,
 ) -> Result<Read, NoPlan>
     ensures text { IfOk result (λ read. IsTextOf (S.texts shelf.old) file.now read.text.items) }
-    ensures script { IfOk result (λ read. IsTextOf (S.texts shelf.old) script.now read.script.items) }
+    ensures script { IfOk result (λ read.
+        IsTextOf (S.texts shelf.old) script.now read.script.items) }
     ensures input { IfOk result (λ read. IsInputText (S.texts shelf.old)
         (option_map string_bytes input.now) read.given.items) }
     ensures within { IfOk result (λ read. length read.text.items ≤ MOST_BYTES) }
@@ -91,6 +85,7 @@ fn read_all<S: Shelf>(
     })
 }
 
+// The script is tried last. No step is made of the image, so their number is 0.
 fn trace_text(alloc: Global, read: &Read, room: Room) -> Result<Plan, NoMemory>
     requires text { length read.now.text.items ≤ MOST_BYTES }
     requires script { length read.now.script.items ≤ MOST_SCRIPT }
@@ -98,52 +93,16 @@ fn trace_text(alloc: Global, read: &Read, room: Room) -> Result<Plan, NoMemory>
     ensures { IfOk result (λ plan. IsTracePlan read.now.text.items read.now.script.items
         read.now.given.items room.heap room.deep (planned plan)) }
 {
-    match judge(alloc, &read.text) {
-        Ok(checked) => trace_sized(alloc, checked, &read.script, &read.given, room),
-        Err(SourceError::Refused { number, at }) => Ok(refuse_source(alloc, number, at)?),
-        Err(SourceError::NoMemory) => Err(NoMemory),
-    }
-}
-
-// The sizes of heap and stack are tried before the input.
-fn trace_sized(
-    alloc: Global,
-    checked: Checked,
-    script: &[u8],
-    given: &[u8],
-    room: Room,
-) -> Result<Plan, NoMemory>
-    requires script { length script.now ≤ MOST_SCRIPT }
-    requires given { length given.now ≤ MOST_INPUT }
-    ensures { IfOk result (λ plan.
-        IsSizedPlan (limits_refusal room.heap room.deep MOST_DEEP) script.now given.now
-        (source_of checked) (record { heap = room.heap; deep = room.deep }) (planned plan)) }
-{
-    match check_limits(room.heap, room.deep, MOST_DEEP) {
-        Ok(limits) => trace_given(alloc, checked, script, given, limits),
-        Err(e) => Ok(Plan::prints(Verdict::InputRefused, load_line(alloc, e)?)),
-    }
-}
-
-// The input is tried before the script.
-fn trace_given(
-    alloc: Global,
-    checked: Checked,
-    script: &[u8],
-    given: &[u8],
-    limits: Limits,
-) -> Result<Plan, NoMemory>
-    requires script { length script.now ≤ MOST_SCRIPT }
-    requires given { length given.now ≤ MOST_INPUT }
-    requires limits { IsLimits limits }
-    ensures { IfOk result (λ plan. IsInputPlan (given_input (source_of checked) given.now)
-        script.now (source_of checked) limits (planned plan)) }
-{
-    let fields = input_fields(alloc, &checked)?;
-    match read_input(alloc, given, &fields) {
-        Ok(input) => trace_script(alloc, checked, &input, script, limits),
-        Err(LoadError::NoMemory) => Err(NoMemory),
-        Err(e) => Ok(Plan::prints(Verdict::InputRefused, load_line(alloc, e)?)),
+    let sizes = Sizes { room, bound: 0 };
+    match ready(alloc, &read.text, &read.given, sizes)? {
+        Ready::Refused(plan) => Ok(plan),
+        Ready::Runs(setting) => trace_script(
+            alloc,
+            setting.checked,
+            &setting.input,
+            &read.script,
+            setting.limits,
+        ),
     }
 }
 

@@ -7,6 +7,7 @@ use Rattle.rpp_words.specs.declared.input.Limits.{Limits}
 use Rattle.rpp_words.specs.declared.input.TheConstants.{MOST_DEEP}
 use Rattle.rpp_tree.specs.Tree.{Source}
 use Rattle.rpp_ports.specs.Ports.{Texts}
+use Rattle.class_table.specs.Refusal.{Refusal}
 use Rattle.pisa_isa.specs.declared.machine.Stop.{Stop}
 use Rattle.pisa_isa.specs.declared.machine.Stop.TheVariants.{Finished, Trap, Bound, Returned, BadAddress, OffCode}
 use Rattle.pisa_isa.specs.Image.{Segments}
@@ -17,11 +18,11 @@ use Rattle.pisa_loader.specs.declared.input.InputField.{InputField}
 use Rattle.command_plan.specs.Plans.{Planned, WritesOnly}
 use Rattle.command_plan.proofs.Writes.{along}
 use Rattle.program_commands.specs.Inputs.{input_fields, given_input}
-use Rattle.program_commands.proofs.ProgramTargets.{judged_writes}
 use Rattle.wrap_commands.specs.declared.error.NamesError.{NamesError}
 use Rattle.wrap_commands.specs.declared.error.NamesError.TheVariants.{UnknownResult, NoMemory}
 use Rattle.wrap_commands.specs.WrapNames.{results_of}
-use Rattle.wrap_commands.specs.WrapPlans.{TellsStop, IsGivenPlan, IsNamedPlan, IsSizedPlan, IsWrapPlan, WrapsFile}
+use Rattle.wrap_commands.specs.WrapPlans.{TellsStop, OfRunProgram, IsGivenPlan, IsNamedPlan, IsSizedPlan, IsWrapPlan}
+use Rattle.wrap_commands.specs.WrapPlans.{WrapsFile}
 
 stop_writes : (why : Stop) (program : Source) (image : Segments) (fields : List InputField) (limits : Limits)
     (input : List FieldWord) (last : State) (spent steps : ℕ) (p : Planned)
@@ -33,33 +34,41 @@ stop_writes Returned program image fields limits input last spent steps p h = ab
 stop_writes (BadAddress a) program image fields limits input last spent steps p h = absurd h
 stop_writes (OffCode a) program image fields limits input last spent steps p h = absurd h
 
-given_writes : (input : Result (List FieldWord) LoadError) (program : Source) (fields : List InputField)
-    (limits : Limits) (steps : ℕ) (p : Planned) → IsGivenPlan input program fields limits steps p → WritesOnly p None
-given_writes (Err e) program fields limits steps p h = along p _ None h (inl refl)
-given_writes (Ok input) program fields limits steps p h =
-    stop_writes _ program h.image fields limits input _ _ steps p h.tells
+module _ (count counted : ℕ) where
+  given_writes : (input : Result (List FieldWord) LoadError) (program : Source) (fields : List InputField)
+      (limits : Limits) (steps : ℕ) (p : Planned) → IsGivenPlan count counted input program fields limits steps p
+      → WritesOnly p None
+  given_writes (Err e) program fields limits steps p h = along p _ None h.0 (inl refl)
+  given_writes (Ok input) program fields limits steps p h =
+      stop_writes _ program h.image fields limits input _ _ steps p h.tells
 
-named_writes : (named : Result (List InputField) NamesError) (given : List ℕ) (program : Source) (limits : Limits)
-    (steps : ℕ) (p : Planned) → IsNamedPlan named given program limits steps p → WritesOnly p None
-named_writes (Err (UnknownResult at)) given program limits steps p h = along p _ None h (inl refl)
-named_writes (Err NoMemory) given program limits steps p h = absurd h
-named_writes (Ok fields) given program limits steps p h =
-    given_writes (given_input program given) program fields limits steps p h
+  named_writes : (named : Result (List InputField) NamesError) (given : List ℕ) (program : Source) (limits : Limits)
+      (steps : ℕ) (p : Planned) → IsNamedPlan count counted named given program limits steps p → WritesOnly p None
+  named_writes (Err (UnknownResult at)) given program limits steps p h = along p _ None h.0 (inl refl)
+  named_writes (Err NoMemory) given program limits steps p h = absurd h
+  named_writes (Ok fields) given program limits steps p h =
+      given_writes (given_input program given) program fields limits steps p h
 
-sized_writes : (refusal : Option LoadError) (names given : List ℕ) (program : Source) (limits : Limits) (steps : ℕ)
-    (p : Planned) → IsSizedPlan refusal names given program limits steps p → WritesOnly p None
-sized_writes (Some e) names given program limits steps p h = along p _ None h (inl refl)
-sized_writes None names given program limits steps p h =
-    named_writes (results_of (input_fields program) names) given program limits steps p h
+  sized_writes : (refusal : Option LoadError) (names given : List ℕ) (program : Source) (limits : Limits) (steps : ℕ)
+      (p : Planned) → IsSizedPlan count counted refusal names given program limits steps p → WritesOnly p None
+  sized_writes (Some e) names given program limits steps p h = along p _ None h.0 (inl refl)
+  sized_writes None names given program limits steps p h =
+      named_writes (results_of (input_fields program) names) given program limits steps p h
 
-wrap_writes : (text names given : List ℕ) (heap deep steps : ℕ) (p : Planned)
-    → IsWrapPlan text names given heap deep steps p → WritesOnly p None
-wrap_writes text names given heap deep steps p g =
-    judged_writes g.judgement _ None p
-    (λ program q h. sized_writes (limits_refusal heap deep MOST_DEEP) names given program
-    (record { heap = heap; deep = deep }) steps q h) g.plan
+  judged_writes : (judgement : Result Source Refusal) (names given : List ℕ) (heap deep steps : ℕ) (p : Planned)
+      → OfRunProgram count counted (λ program. IsSizedPlan count counted (limits_refusal heap deep MOST_DEEP) names
+      given program (record { heap = heap; deep = deep }) steps) judgement p → WritesOnly p None
+  judged_writes (Err refusal) names given heap deep steps p h = along p _ None h.0 (inl refl)
+  judged_writes (Ok program) names given heap deep steps p h =
+      sized_writes (limits_refusal heap deep MOST_DEEP) names given program (record { heap = heap; deep = deep })
+      steps p h
 
-pub wraps_file_writes : (file names : List ℕ) (input : Option (List ℕ)) (heap deep steps : ℕ)
-    (told : Option Texts) (p : Planned) → WrapsFile file names input heap deep steps told p → WritesOnly p None
-wraps_file_writes file names input heap deep steps told p h =
-    wrap_writes h.text names h.holds.text heap deep steps p h.holds.holds
+  wrap_writes : (text names given : List ℕ) (heap deep steps : ℕ) (p : Planned)
+      → IsWrapPlan count counted text names given heap deep steps p → WritesOnly p None
+  wrap_writes text names given heap deep steps p g = judged_writes g.judgement names given heap deep steps p g.plan
+
+pub wraps_file_writes : (count counted : ℕ) (file names : List ℕ) (input : Option (List ℕ)) (heap deep steps : ℕ)
+    (told : Option Texts) (p : Planned) → WrapsFile count counted file names input heap deep steps told p
+    → WritesOnly p None
+wraps_file_writes count counted file names input heap deep steps told p h =
+    wrap_writes count counted h.text names h.holds.text heap deep steps p h.holds.holds

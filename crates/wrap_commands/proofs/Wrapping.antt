@@ -181,8 +181,9 @@ module _ (program : Source) (fields : List InputField) (limits : Limits) (input 
   pub wraps_image : (why : Stop) → HasWrapped program fields limits input bound image end why spent
       → StandsFor program image → IsImage end.image → Wrapped image.code (result_cells fields) end.image.code
       → (p : Planned) → TellsStop why program image fields limits input end.state spent bound p
-      → WrapsImage program fields limits input bound p
-  wraps_image why has stands is_image wraps p tells = record {
+      → (count counted : ℕ) → counted ≡ count + spent
+      → WrapsImage count counted program fields limits input bound p
+  wraps_image why has stands is_image wraps p tells count counted once = record {
     image = image;
     is_image = has.is_image;
     stands = stands;
@@ -190,4 +191,5 @@ module _ (program : Source) (fields : List InputField) (limits : Limits) (input 
     wrapped_is_image = is_image;
     wraps = wraps;
     tells = subst (λ (e : End). TellsEnd e program image fields limits input bound p) (sym has.runs) tells;
+    once = subst (λ (e : End). counted ≡ count + e.spent) (sym has.runs) once;
   }

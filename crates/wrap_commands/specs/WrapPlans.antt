@@ -1,5 +1,6 @@
--- The plan of `wrap`.
-use Rattle.std.specs.Prelude.{◌≡◌, ℕ, ◌<◌, ◌≤◌, List, ◌++◌, All, length, slice_get, None, Some}
+-- The plan of `wrap`. Of the machine steps that it makes, `count` is their counter as it is handed
+-- in, and `counted` as it is left.
+use Rattle.std.specs.Prelude.{◌≡◌, ℕ, ◌+◌, ◌<◌, ◌≤◌, List, ◌++◌, All, length, slice_get, None, Some}
 use Rattle.std.specs.Prelude.{Result, Ok, Err, IsTrue}
 use Rattle.std.specs.declared.option.Option.{Option}
 use Rattle.rpp_words.specs.declared.input.FieldWord.{FieldWord}
@@ -8,6 +9,7 @@ use Rattle.rpp_words.specs.declared.input.TheConstants.{MOST_DEEP}
 use Rattle.rpp_tree.specs.declared.limits.TheConstants.{MOST_BYTES}
 use Rattle.rpp_tree.specs.Tree.{Source}
 use Rattle.rpp_ports.specs.Ports.{Texts}
+use Rattle.class_table.specs.Refusal.{Refusal}
 use Rattle.pisa_isa.specs.declared.machine.Stop.{Stop}
 use Rattle.pisa_isa.specs.declared.machine.Stop.TheVariants.{Finished, Trap, Bound as AtBound}
 use Rattle.pisa_isa.specs.Image.{Segments, IsImage}
@@ -22,11 +24,12 @@ use Rattle.roopl_semantics.specs.Source.{main_fields, is_int_field}
 use Rattle.roopl_semantics.specs.StandsFor.{StandsFor, EndsAt}
 use Rattle.bennett_wrap.specs.Wrapped.{Wrapped}
 use Rattle.refine_wrap.specs.Programs.{EndsDone, wrapped_run, enough_wrapped}
+use Rattle.roopl_judge.specs.Judged.{IsJudged}
 use Rattle.command_plan.specs.declared.plan.Verdict.TheVariants.{Done, Bound, InputRefused}
 use Rattle.command_plan.specs.Plans.{Planned, prints, WithText, WithInput}
 use Rattle.command_plan.specs.Texts.{load_line, steps_line, bound_lines}
 use Rattle.program_commands.specs.Inputs.{input_fields, given_input}
-use Rattle.program_commands.specs.ProgramPlans.{IsJudgedPlan, ReportsFault}
+use Rattle.program_commands.specs.ProgramPlans.{OfProgram, ReportsFault}
 use Rattle.wrap_commands.specs.declared.error.NamesError.{NamesError}
 use Rattle.wrap_commands.specs.declared.error.NamesError.TheVariants.{UnknownResult, NoMemory}
 use Rattle.wrap_commands.specs.WrapNames.{result_cells, results_of}
@@ -74,9 +77,9 @@ TellsEnd end program image fields limits input steps p =
 
 -- There is an image that stands for the program, and one that is it wrapped for the cells of these
 -- fields, and the plan tells how the run of that ended, of at most so many steps from the loaded
--- memory with zeros behind it.
-pub record WrapsImage (program : Source) (fields : List InputField) (limits : Limits)
-    (input : List FieldWord) (steps : ℕ) (p : Planned) : Type 0 where
+-- memory with zeros behind it. No other steps are made.
+pub record WrapsImage (count counted : ℕ) (program : Source) (fields : List InputField)
+    (limits : Limits) (input : List FieldWord) (steps : ℕ) (p : Planned) : Type 0 where
   pub image : Segments
   pub is_image : IsImage image
   pub stands : StandsFor program image
@@ -85,38 +88,53 @@ pub record WrapsImage (program : Source) (fields : List InputField) (limits : Li
   pub wraps : Wrapped image.code (result_cells fields) wrapped.code
   pub tells : TellsEnd (wrapped_run image (result_cells fields) wrapped.code limits input steps)
       program image fields limits input steps p
+  pub once : counted
+      ≡ count + (wrapped_run image (result_cells fields) wrapped.code limits input steps).spent
 
 -- the input is judged, and then the run is made on it
-abbrev pub IsGivenPlan : Result (List FieldWord) LoadError → Source → List InputField → Limits → ℕ
-    → Planned → Type 0
-IsGivenPlan (Err e) program fields limits steps p = p ≡ prints InputRefused (load_line e)
-IsGivenPlan (Ok input) program fields limits steps p =
-    WrapsImage program fields limits input steps p
+abbrev pub IsGivenPlan : (count counted : ℕ) → Result (List FieldWord) LoadError → Source
+    → List InputField → Limits → ℕ → Planned → Type 0
+IsGivenPlan count counted (Err e) program fields limits steps p =
+    (p ≡ prints InputRefused (load_line e)) × (counted ≡ count)
+IsGivenPlan count counted (Ok input) program fields limits steps p =
+    WrapsImage count counted program fields limits input steps p
 
 -- the names are judged before the input
-abbrev pub IsNamedPlan : Result (List InputField) NamesError → (given : List ℕ) → Source → Limits
-    → ℕ → Planned → Type 0
-IsNamedPlan (Err (UnknownResult at)) given program limits steps p =
-    p ≡ prints InputRefused (unknown_result_line at)
-IsNamedPlan (Err NoMemory) given program limits steps p = ⊥
-IsNamedPlan (Ok fields) given program limits steps p =
-    IsGivenPlan (given_input program given) program fields limits steps p
+abbrev pub IsNamedPlan : (count counted : ℕ) → Result (List InputField) NamesError
+    → (given : List ℕ) → Source → Limits → ℕ → Planned → Type 0
+IsNamedPlan count counted (Err (UnknownResult at)) given program limits steps p =
+    (p ≡ prints InputRefused (unknown_result_line at)) × (counted ≡ count)
+IsNamedPlan count counted (Err NoMemory) given program limits steps p = ⊥
+IsNamedPlan count counted (Ok fields) given program limits steps p =
+    IsGivenPlan count counted (given_input program given) program fields limits steps p
 
 -- the sizes of heap and stack are tried before the names
-abbrev pub IsSizedPlan : Option LoadError → (names given : List ℕ) → Source → Limits → ℕ → Planned
-    → Type 0
-IsSizedPlan (Some e) names given program limits steps p = p ≡ prints InputRefused (load_line e)
-IsSizedPlan None names given program limits steps p =
-    IsNamedPlan (results_of (input_fields program) names) given program limits steps p
+abbrev pub IsSizedPlan : (count counted : ℕ) → Option LoadError → (names given : List ℕ) → Source
+    → Limits → ℕ → Planned → Type 0
+IsSizedPlan count counted (Some e) names given program limits steps p =
+    (p ≡ prints InputRefused (load_line e)) × (counted ≡ count)
+IsSizedPlan count counted None names given program limits steps p =
+    IsNamedPlan count counted (results_of (input_fields program) names) given program limits steps p
 
-abbrev pub IsWrapPlan : (text names given : List ℕ) → (heap deep steps : ℕ) → Planned → Type 0
-IsWrapPlan text names given heap deep steps p =
-    IsJudgedPlan text (λ program. IsSizedPlan (limits_refusal heap deep MOST_DEEP) names given
-    program (record { heap = heap; deep = deep }) steps) p
+-- the first refusal of a text is told and no step is made, or P holds of the program that it is
+abbrev pub OfRunProgram : (count counted : ℕ) → (P : Source → Planned → Type 0)
+    → Result Source Refusal → Planned → Type 0
+OfRunProgram count counted P (Err refusal) p = OfProgram P (Err refusal) p × (counted ≡ count)
+OfRunProgram count counted P (Ok program) p = P program p
+
+-- the text is judged, and the plan is that of the judgement
+pub record IsWrapPlan (count counted : ℕ) (text names given : List ℕ) (heap deep steps : ℕ)
+    (p : Planned) : Type 0 where
+  pub judgement : Result Source Refusal
+  pub judged : IsJudged text judgement
+  pub plan : OfRunProgram count counted
+      (λ program. IsSizedPlan count counted (limits_refusal heap deep MOST_DEEP) names given
+      program (record { heap = heap; deep = deep }) steps) judgement p
 
 -- the plan of `wrap` of this file for these names, on an input where there is one
-abbrev pub WrapsFile : (file names : List ℕ) → (input : Option (List ℕ)) → (heap deep steps : ℕ)
-    → Option Texts → Planned → Type 0
-WrapsFile file names input heap deep steps told p =
+abbrev pub WrapsFile : (count counted : ℕ) → (file names : List ℕ) → (input : Option (List ℕ))
+    → (heap deep steps : ℕ) → Option Texts → Planned → Type 0
+WrapsFile count counted file names input heap deep steps told p =
     WithText told file MOST_BYTES
-    (λ text. WithInput told input (λ given. IsWrapPlan text names given heap deep steps p))
+    (λ text. WithInput told input
+    (λ given. IsWrapPlan count counted text names given heap deep steps p))

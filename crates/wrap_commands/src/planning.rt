@@ -1,11 +1,11 @@
 // `wrap F H D STEPS NAMES [INPUT]`: judges the words and the texts that they name.
-ghost use Rattle.std.specs.Prelude.{◌≤◌, ◌<◌, ◌^◌, ◌∷◌, length, option_map, IfOk, string_bytes};
+ghost use Rattle.std.specs.Prelude.{◌≡◌, ◌≤◌, ◌<◌, ◌+◌, ◌^◌, ◌∷◌, length, option_map, IfOk, IfErr, string_bytes};
 ghost use Rattle.rpp_tree.specs.Views.{source_of};
 ghost use Rattle.rpp_tree.specs.declared.limits.TheConstants.{MOST_BYTES};
 ghost use Rattle.rpp_words.specs.Limits.{IsLimits};
 ghost use Rattle.pisa_loader.specs.Limiting.{limits_refusal};
 ghost use Rattle.pisa_loader.specs.declared.input.TheConstants.{MOST_INPUT};
-ghost use Rattle.command_plan.specs.Files.{OnlyReads, source, input_files};
+ghost use Rattle.command_plan.specs.Files.{OnlyReads, UnreadCause, source, input_files};
 ghost use Rattle.command_plan.specs.Plans.{planned, GivesPlan};
 ghost use Rattle.program_commands.specs.Inputs.{input_fields as fields_of, given_input};
 ghost use Rattle.wrap_commands.specs.WrapNames.{results_of};
@@ -36,7 +36,8 @@ struct Request {
 }
 
 /// Compiles a file, wraps the image for the fields with these names, which commas join, runs it on
-/// an input where there is one, and tells the results.
+/// an input where there is one, and tells the results. It makes the steps of that run and no
+/// others, and none where a file cannot be read.
 pub fn wrap<S: Shelf, L: Ledger>(
     alloc: Global,
     shelf: &mut S,
@@ -48,8 +49,10 @@ pub fn wrap<S: Shelf, L: Ledger>(
 ) -> Result<Plan, NoPlan>
     requires { sizes.bound < 2 ^ 63 }
     ensures plan { GivesPlan (S.texts shelf.old)
-        (WrapsFile file.now names.now (option_map string_bytes input.now) sizes.heap sizes.deep
-        sizes.bound) result }
+        (WrapsFile steps.old steps.new file.now names.now (option_map string_bytes input.now)
+        sizes.room.heap sizes.room.deep sizes.bound) result }
+    ensures within { steps.new ≤ steps.old + sizes.bound }
+    ensures unread { IfErr result (UnreadCause (steps.new ≡ steps.old)) }
     ensures reads { OnlyReads (S.texts shelf.old) (S.texts shelf.new) (S.faults shelf.old)
         (S.faults shelf.new)
         (source file.now ∷ input_files (option_map string_bytes input.now)) result }
@@ -73,8 +76,10 @@ fn wrap_text<L: Ledger>(
     requires text { length text.now ≤ MOST_BYTES }
     requires input { length request.now.input.items ≤ MOST_INPUT }
     requires bound { request.now.sizes.bound < 2 ^ 63 }
-    ensures { IfOk result (λ plan. IsWrapPlan text.now request.now.names.items request.now.input.items
-        request.now.sizes.heap request.now.sizes.deep request.now.sizes.bound (planned plan)) }
+    ensures plan { IfOk result (λ plan. IsWrapPlan steps.old steps.new text.now
+        request.now.names.items request.now.input.items request.now.sizes.room.heap
+        request.now.sizes.room.deep request.now.sizes.bound (planned plan)) }
+    ensures within { steps.new ≤ steps.old + request.now.sizes.bound }
 {
     match judge(alloc, text) {
         Ok(checked) => wrap_sized(alloc, &checked, request, steps),
@@ -92,14 +97,15 @@ fn wrap_sized<L: Ledger>(
 ) -> Result<Plan, NoMemory>
     requires input { length request.now.input.items ≤ MOST_INPUT }
     requires bound { request.now.sizes.bound < 2 ^ 63 }
-    ensures { IfOk result (λ plan.
-        IsSizedPlan (limits_refusal request.now.sizes.heap request.now.sizes.deep MOST_DEEP)
+    ensures plan { IfOk result (λ plan. IsSizedPlan steps.old steps.new
+        (limits_refusal request.now.sizes.room.heap request.now.sizes.room.deep MOST_DEEP)
         request.now.names.items request.now.input.items (source_of checked.now)
-        (record { heap = request.now.sizes.heap; deep = request.now.sizes.deep })
+        (record { heap = request.now.sizes.room.heap; deep = request.now.sizes.room.deep })
         request.now.sizes.bound (planned plan)) }
+    ensures within { steps.new ≤ steps.old + request.now.sizes.bound }
 {
     let sizes = request.sizes;
-    match check_limits(sizes.heap, sizes.deep, MOST_DEEP) {
+    match check_limits(sizes.room.heap, sizes.room.deep, MOST_DEEP) {
         Ok(limits) => wrap_named(alloc, checked, limits, request, steps),
         Err(e) => Ok(Plan::prints(Verdict::InputRefused, load_line(alloc, e)?)),
     }
@@ -116,9 +122,11 @@ fn wrap_named<L: Ledger>(
     requires limits { IsLimits limits }
     requires input { length request.now.input.items ≤ MOST_INPUT }
     requires bound { request.now.sizes.bound < 2 ^ 63 }
-    ensures { IfOk result (λ plan.
-        IsNamedPlan (results_of (fields_of (source_of checked.now)) request.now.names.items)
-        request.now.input.items (source_of checked.now) limits request.now.sizes.bound (planned plan)) }
+    ensures plan { IfOk result (λ plan. IsNamedPlan steps.old steps.new
+        (results_of (fields_of (source_of checked.now)) request.now.names.items)
+        request.now.input.items (source_of checked.now) limits request.now.sizes.bound
+        (planned plan)) }
+    ensures within { steps.new ≤ steps.old + request.now.sizes.bound }
 {
     is_accepted(checked);
     let fields = input_fields(alloc, checked)?;
@@ -142,9 +150,10 @@ fn wrap_given<L: Ledger>(
     requires results { AreResults (source_of checked.now) results.items }
     requires input { length request.now.input.items ≤ MOST_INPUT }
     requires bound { request.now.sizes.bound < 2 ^ 63 }
-    ensures { IfOk result (λ plan.
-        IsGivenPlan (given_input (source_of checked.now) request.now.input.items)
+    ensures plan { IfOk result (λ plan. IsGivenPlan steps.old steps.new
+        (given_input (source_of checked.now) request.now.input.items)
         (source_of checked.now) results.items limits request.now.sizes.bound (planned plan)) }
+    ensures within { steps.new ≤ steps.old + request.now.sizes.bound }
 {
     let fields = input_fields(alloc, checked)?;
     match read_input(alloc, &request.input, &fields) {

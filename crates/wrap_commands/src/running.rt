@@ -1,5 +1,5 @@
 // The run of a wrapped image, and its plan.
-ghost use Rattle.std.specs.Prelude.{◌≡◌, ◌<◌, ◌^◌, All, IfOk};
+ghost use Rattle.std.specs.Prelude.{◌≡◌, ◌<◌, ◌≤◌, ◌+◌, ◌^◌, All, IfOk};
 ghost use Rattle.rpp_tree.specs.Views.{source_of};
 ghost use Rattle.rpp_words.specs.Limits.{IsLimits};
 ghost use Rattle.class_table.specs.Program.{IsAccepted};
@@ -45,8 +45,10 @@ pub(crate) fn run_wrapped<L: Ledger>(
     requires valid { IsValid (source_of checked.now) setting.now.input.words.items }
     requires results { AreResults (source_of checked.now) setting.now.results.items }
     requires bound { setting.now.bound < 2 ^ 63 }
-    ensures { IfOk result (λ plan. WrapsImage (source_of checked.now) setting.now.results.items
-        setting.now.limits setting.now.input.words.items setting.now.bound (planned plan)) }
+    ensures plan { IfOk result (λ plan. WrapsImage steps.old steps.new (source_of checked.now)
+        setting.now.results.items setting.now.limits setting.now.input.words.items setting.now.bound
+        (planned plan)) }
+    ensures within { steps.new ≤ steps.old + setting.now.bound }
 {
     is_accepted(checked);
     let image = compiled_image(alloc, checked)?;

@@ -68,7 +68,8 @@ fn add_name(out: &mut String, bytes: &[u8]) -> Result<(), AllocError>
 
 /// A text with the line on the number of the program's cells behind it.
 pub(crate) fn with_initial(text: String, count: u32) -> Result<String, AllocError>
-    ensures { IfOk result (λ longer. string_bytes longer ≡ string_bytes text ++ initial_line count) }
+    ensures { IfOk result (λ longer.
+        string_bytes longer ≡ string_bytes text ++ initial_line count) }
 {
     let mut text = text;
     write!(text, "initial {count} cells\n")?;
@@ -77,7 +78,8 @@ pub(crate) fn with_initial(text: String, count: u32) -> Result<String, AllocErro
 
 /// The plan that refuses the name with this number.
 pub(crate) fn refuse_name(alloc: Global, at: usize) -> Result<Plan, AllocError>
-    ensures { IfOk result (λ plan. planned plan ≡ prints Verdict.InputRefused (unknown_result_line at)) }
+    ensures { IfOk result (λ plan.
+        planned plan ≡ prints Verdict.InputRefused (unknown_result_line at)) }
 {
     let text = format!(in alloc; "refused 44 UnknownResult at {at}\n")?;
     Ok(Plan::prints(Verdict::InputRefused, text))

@@ -13,9 +13,11 @@ returns-clause-plan g c =
     let told = g.S.Shelf.texts c.args.shelf.now in
     let named = state_of_names c.args.states.now in
     let state = option_map (λ v. v.items) c.in_ok-read.read.state in
-    let P : List ℕ → Option (List ℕ) → Type 0 = λ bytes given. IsRunPlan (image_at bytes) c.args.sizes.heap
-    c.args.sizes.deep c.args.sizes.bound given (save_of_names c.args.states.now) (planned c.in_ok-run_over.field-0) in
+    let P : List ℕ → Option (List ℕ) → Type 0 = λ bytes given. IsRunPlan (image_at bytes) c.args.sizes.room.heap
+    c.args.sizes.room.deep c.args.sizes.bound given (save_of_names c.args.states.now) c.args.steps.now
+    c.run_over.new.steps
+    (planned c.in_ok-run_over.field-0) in
     with_text told c.args.image.now MOST_IMAGE c.in_ok-read.read.image.items c.deref.result.now
     (λ bytes. WithState told named (P bytes)) c.in_ok-read.ensures.text c.in_ok-read.ensures.within
     c.deref.ensures.value
-    (record { text = state; is_text = c.in_ok-read.ensures.state; holds = c.in_ok-run_over.ensures })
+    (record { text = state; is_text = c.in_ok-read.ensures.state; holds = c.in_ok-run_over.ensures.plan })

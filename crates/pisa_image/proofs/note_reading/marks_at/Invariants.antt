@@ -1,4 +1,4 @@
-use Rattle.std.proofs.Common.{◌≡◌, ◌-◌, ◌+◌, ◌*◌, length}
+use Rattle.std.proofs.Common.{◌≡◌, ◌-◌, ◌+◌, ◌*◌}
 use Rattle.pisa_image.specs.Numbers.{many_at}
 use Rattle.pisa_image.specs.Reading.{mark_at}
 use Rattle.pisa_image.proofs.Many.{with_front}

@@ -1,4 +1,4 @@
-use Rattle.std.proofs.Common.{◌≡◌, ◌≤◌, ◌-◌, ◌+◌, ◌*◌, length}
+use Rattle.std.proofs.Common.{◌≡◌, ◌≤◌, ◌-◌, ◌+◌, ◌*◌}
 use Rattle.pisa_isa.specs.declared.notes.TheConstants.{MOST_NAME_BYTES}
 use Rattle.pisa_image.specs.Reading.{names_at}
 use Rattle.pisa_image.proofs.NoteBytes.{names_front}

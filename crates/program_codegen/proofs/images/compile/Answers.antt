@@ -2,6 +2,7 @@ use Rattle.std.proofs.Common.{◌≡◌, ◌∙◌, ap, subst, ◌≤◌, List, 
 use Rattle.rpp_tree.specs.declared.tree.Var.{Var}
 use Rattle.rpp_tree.specs.Views.{source_of}
 use Rattle.pisa_isa.specs.Notes.{NoteLists}
+use Rattle.code_conventions.specs.declared.memory.TheConstants.{FIRST_FIELD}
 use Rattle.roopl_semantics.specs.Source.{main_fields}
 use Rattle.roopl_semantics.proofs.MainPlace.{fields_read}
 use Rattle.program_codegen.specs.Notes.{field_names}
@@ -21,7 +22,7 @@ seal-requires c =
     c.table-table.ensures.accepted c.into_parts-image.ensures.fits c.in_ok-linked.ensures.stands few
     c.into_parts-image.ensures.image
     (ap (λ (n : NoteLists). n.marks) (c.notes.view_is ∙ c.into_parts-image.ensures.notes))
-    (c.in_ok-names.ensures ∙ ap (field_names 42) fields)
+    (c.in_ok-names.ensures ∙ ap (field_names FIRST_FIELD) fields)
 
 pub returns-clause-notes : goal.returns-clause-notes
 returns-clause-notes c =
@@ -32,5 +33,5 @@ returns-clause-notes c =
     sealed_notes program c.seal.result c.into_parts-image.result.0 c.in_ok-linked.field-0.image
     c.in_ok-linked.field-0.notes c.notes.inside.marks.items c.in_ok-names.names.items
     c.seal.ensures c.into_parts-image.ensures.image (ap (λ (n : NoteLists). n.marks)
-    (c.notes.view_is ∙ c.into_parts-image.ensures.notes)) (c.in_ok-names.ensures ∙ ap (field_names 42) fields)
+    (c.notes.view_is ∙ c.into_parts-image.ensures.notes)) (c.in_ok-names.ensures ∙ ap (field_names FIRST_FIELD) fields)
     c.in_ok-linked.ensures.marks

@@ -10,10 +10,10 @@ returns-clause-plan g c =
     let told = g.S.Shelf.texts c.args.shelf.now in
     let input = option_map string_bytes c.args.input.now in
     let given = c.in_ok-given.given in
-    let P : List ℕ → List ℕ → Type 0 = λ text entered. IsGoPlan text entered c.args.sizes.heap
-    c.args.sizes.deep c.args.sizes.bound (planned c.in_ok-go_over.field-0) in
+    let P : List ℕ → List ℕ → Type 0 = λ text entered. IsGoPlan c.args.steps.now c.go_over.new.steps text
+    entered c.args.sizes.room.heap c.args.sizes.room.deep c.args.sizes.bound (planned c.in_ok-go_over.field-0) in
     with_text told c.args.file.now MOST_BYTES given.text.items c.deref.result.now
     (λ text. WithInput told input (P text)) c.in_ok-given.ensures.text c.in_ok-given.ensures.within
     c.deref.ensures.value
     (with_input told input given.input.items c.deref-2.result.now (P c.deref.result.now) c.in_ok-given.ensures.input
-    c.in_ok-given.ensures.within_input c.deref-2.ensures.value c.in_ok-go_over.ensures)
+    c.in_ok-given.ensures.within_input c.deref-2.ensures.value c.in_ok-go_over.ensures.plan)

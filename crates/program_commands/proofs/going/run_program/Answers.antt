@@ -1,7 +1,7 @@
 use Rattle.std.proofs.Common.{false}
 use Rattle.rpp_tree.specs.Views.{source_of}
 use Rattle.command_plan.specs.Plans.{planned}
-use Rattle.program_commands.proofs.Turned.{has_run, runs_image, weaken}
+use Rattle.program_commands.proofs.Turned.{has_run, runs_image, run_once, weaken}
 use Rattle.program_commands.proofs.going.run_program.Goals as goal
 
 pub report_run-requires : goal.report_run-requires
@@ -11,8 +11,8 @@ report_run-requires g c =
     c.in_ok-machine.machine c.run-end.result.stop c.in_ok-machine.ensures c.run-end.ensures.machine
     c.run-end.ensures.image c.run-end.ensures.within c.run-end.ensures.runs
 
-pub returns : goal.returns
-returns g c =
+pub returns-clause-plan : goal.returns-clause-plan
+returns-clause-plan g c =
     let program = source_of c.args.setting.now.checked in
     let limits = c.args.setting.now.limits in
     let input = c.args.setting.now.input.words.items in
@@ -24,5 +24,6 @@ returns g c =
     c.run-end.ensures.image c.run-end.ensures.within c.run-end.ensures.runs in
     weaken c.report_run.result _ _
     (λ plan stop. runs_image program limits input bound end c.run-end.result.spent false c.run-end.result.stop has
-    (planned plan) stop)
+    (planned plan) stop c.args.steps.now c.run-end.new.steps
+    (run_once c.args.steps.now c.run-end.new.steps c.run-end.result.spent c.run-end.ensures.counter))
     c.report_run.ensures

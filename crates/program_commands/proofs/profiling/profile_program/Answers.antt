@@ -5,7 +5,7 @@ use Rattle.rpp_tree.specs.Views.{source_of}
 use Rattle.rpp_probes.specs.Tally.{lines_after}
 use Rattle.pisa_machine.specs.Told.{counted_steps}
 use Rattle.command_plan.specs.Plans.{planned}
-use Rattle.program_commands.proofs.Turned.{has_run, weaken}
+use Rattle.program_commands.proofs.Turned.{has_run, run_once, broken_within, weaken}
 use Rattle.program_commands.proofs.Watched.{profiles_image, err_always, told_short, loaded_short}
 use Rattle.program_commands.proofs.profiling.profile_program.Goals as goal
 
@@ -37,8 +37,14 @@ returns-clause-plan g c =
     (ap (map string_bytes) c.deref.ensures.value ∙ c.in_ok-end.ensures.lines
     ∙ ap (λ l. map string_bytes l ++ lines_after (counted_steps start.image.code bound start.state) before)
     c.new-lines.ensures.items)
-    (planned c.in_ok-said.said) (planned plan) c.in_ok-said.ensures is)
+    (planned c.in_ok-said.said) (planned plan) c.in_ok-said.ensures is c.args.steps.now c.run_told.new.steps
+    (run_once c.args.steps.now c.run_told.new.steps c.in_ok-end.end.spent c.in_ok-end.ensures.counter))
     c.with_probes.ensures
+
+pub returns-in_err-end-clause-within : goal.returns-in_err-end-clause-within
+returns-in_err-end-clause-within g c =
+    let b = c.in_err-end.ensures.broken_off in
+    broken_within c.args.steps.now c.run_told.new.steps b.whole c.args.setting.now.bound b.counter b.within
 
 pub returns-in_err-end-clause-short : goal.returns-in_err-end-clause-short
 returns-in_err-end-clause-short g c =

@@ -1,6 +1,8 @@
-use Rattle.std.proofs.Common.{ap, inl, inr, ⊎_elim}
+use Rattle.std.proofs.Common.{ap, true, inl, inr, ⊎_elim}
 use Rattle.pisa_isa.specs.declared.machine.Stop.{Stop}
+use Rattle.program_commands.specs.ProgramPlans.{steps_back}
 use Rattle.program_commands.specs.RunPlans.{back_steps}
+use Rattle.program_commands.proofs.Turned.{none_back}
 use Rattle.program_commands.proofs.Watched.{none_told, err_weaken}
 use Rattle.program_commands.proofs.turning.report_turn.Goals as goal
 
@@ -22,3 +24,13 @@ pub returns-in-Finished-clause-short : goal.returns-in-Finished-clause-short
 returns-in-Finished-clause-short g c =
     err_weaken c.report_both.result _ _ (⊎_elim (λ e. inl e) (λ told. inr (c.in-Finished.is, told)))
     c.report_both.ensures.short
+
+pub returns-in-Trap-clause-counter : goal.returns-in-Trap-clause-counter
+returns-in-Trap-clause-counter g c =
+    none_back c.report_run.result c.args.steps.now c.args.end.spent c.args.end.stop
+    (ap (λ (why : Stop). steps_back true why c.args.end.spent) c.in-Trap.is)
+
+pub returns-in-Bound-clause-counter : goal.returns-in-Bound-clause-counter
+returns-in-Bound-clause-counter g c =
+    none_back c.report_run-in-Bound.result c.args.steps.now c.args.end.spent c.args.end.stop
+    (ap (λ (why : Stop). steps_back true why c.args.end.spent) c.in-Bound.is)

@@ -1,4 +1,4 @@
-use Rattle.std.proofs.Common.{◌≡◌, ◌∙◌, sym, ap, inr}
+use Rattle.std.proofs.Common.{◌≡◌, ◌∙◌, sym, ap, inr, ◌+◌}
 use Rattle.std.specs.Prelude.{◌⊎◌}
 use Rattle.pisa_isa.specs.Flipped.{flipped}
 use Rattle.pisa_isa.specs.Runs.{started}
@@ -9,7 +9,7 @@ use Rattle.pisa_isa.specs.Flipped.{flipped_image}
 use Rattle.pisa_isa.specs.Image.{Segments}
 use Rattle.pisa_isa.specs.Runs.{run}
 use Rattle.pisa_machine.specs.Position.{Position, first_position}
-use Rattle.program_commands.proofs.Turned.{back_cells, back_spent}
+use Rattle.program_commands.proofs.Turned.{back_cells, back_spent, broken_within}
 use Rattle.program_commands.proofs.turning.run_back.Goals as goal
 
 pub returns-clause-cells : goal.returns-clause-cells
@@ -35,6 +35,15 @@ returns-clause-spent g c =
     c.args.setting.now.bound m c.args._spent c.requires
     (record { why = c.in_ok-back.back.stop; spent = c.in_ok-back.back.spent; last = c.run_told.new.self.state })
     (sym (ap (λ (p : Position). run p.image.code c.args.setting.now.bound p.state) first) ∙ c.in_ok-back.ensures.runs)
+
+pub returns-clause-counter : goal.returns-clause-counter
+returns-clause-counter g c =
+    c.in_ok-back.ensures.counter ∙ ap (λ n. c.args.steps.now + n) (returns-clause-spent g c)
+
+pub returns-in_err-back-clause-within : goal.returns-in_err-back-clause-within
+returns-in_err-back-clause-within g c =
+    let b = c.in_err-back.ensures.broken_off in
+    broken_within c.args.steps.now c.run_told.new.steps b.whole c.args.setting.now.bound b.counter b.within
 
 pub returns-in_err-back-clause-short : goal.returns-in_err-back-clause-short
 returns-in_err-back-clause-short g c =

@@ -1,5 +1,5 @@
 use Rattle.std.proofs.Common.{◌∙◌, sym, ap, rules, None}
-use Rattle.source_blocks.specs.declared.watch.Watching.TheVariants as watch
+use Rattle.source_debugger.specs.declared.watching.Watching.TheVariants as watch
 use Rattle.rpp_tree.specs.Views.{source_of}
 use Rattle.meaning_points.specs.Trail.{trail}
 use Rattle.source_debugger.specs.declared.running.TheConstants.{MOST_COST}

@@ -1,7 +1,7 @@
 use Rattle.std.proofs.Common.{◌∙◌, sym, subst, None}
 use Rattle.rpp_tree.specs.Views.{source_of}
 use Rattle.meaning_points.specs.Trail.{trail}
-use Rattle.source_blocks.specs.declared.watch.Watching.TheVariants as watch
+use Rattle.source_debugger.specs.declared.watching.Watching.TheVariants as watch
 use Rattle.source_debugger.specs.declared.running.TheConstants.{MOST_COST}
 use Rattle.source_debugger.specs.Ended.{IsEnded}
 use Rattle.source_debugger.proofs.Endings.{placed_at, placed_end}

@@ -1,4 +1,4 @@
-use Rattle.std.proofs.Common.{◌-◌, refl}
+use Rattle.std.proofs.Common.{◌-◌}
 use Rattle.rpp_tree.specs.Views.{source_of}
 use Rattle.roopl_semantics.specs.Source.{source}
 use Rattle.source_meaning.specs.declared.outcome.Outcome.TheVariants as outcome
@@ -8,23 +8,26 @@ use Rattle.source_meaning.proofs.whole.run_whole.Goals as goal
 
 pub done-requires : goal.done-requires
 done-requires c =
-    let s = c.in_ok-heap.ensures in
-    main_counts (source_of c.args.checked.now) c.args.limits c.args.input.now.words.items c.args.fuel _
-    c.run_main-result.new.heap.store _ _ c.in-Ok.ensures.ends refl refl refl s.store s.log refl
-    c.program.ensures.accepted c.requires.limits c.requires.valid
+    main_counts (source_of c.args.checked.now) c.args.limits c.args.input.now.words.items c.args.fuel c.run.new.fuel
+    c.in_ok-execution.execution c.run.new.self c.in_ok-execution.ensures.setting
+    c.in_ok-execution.ensures.start tt c.in-Ok.ensures.walks
+    c.in-Ok.ensures.over c.into_heap.result.store c.into_heap.ensures.store c.program.ensures.accepted
+    c.requires.limits c.requires.valid
 
 pub returns-in-Ok : goal.returns-in-Ok
 returns-in-Ok c =
-    let s = c.in_ok-heap.ensures in
-    done_as c.done.result (outcome.Done c.run_main-result.new.heap.store (c.args.fuel - c.run_main-result.new.fuel))
+    done_as c.done.result (outcome.Done c.into_heap.result.store (c.args.fuel - c.run.new.fuel))
     (λ o. IsOutcome o (source (source_of c.args.checked.now) c.args.limits c.args.input.now.words.items
     c.args.fuel))
-    (main_done (source_of c.args.checked.now) c.args.limits c.args.input.now.words.items c.args.fuel _
-    c.run_main-result.new.heap.store _ _ c.in-Ok.ensures.ends refl refl refl s.store s.log refl)
+    (main_done (source_of c.args.checked.now) c.args.limits c.args.input.now.words.items c.args.fuel c.run.new.fuel
+    c.in_ok-execution.execution c.run.new.self c.in_ok-execution.ensures.setting
+    c.in_ok-execution.ensures.start tt c.in-Ok.ensures.walks
+    c.in-Ok.ensures.over c.into_heap.result.store c.into_heap.ensures.store)
     c.done.ensures
 
 pub returns-in-Err : goal.returns-in-Err
 returns-in-Err c =
-    let s = c.in_ok-heap.ensures in
-    main_stops c.stopped.result c.in-Err.stop (source_of c.args.checked.now) c.args.limits c.args.input.now.words.items
-    c.args.fuel _ _ c.in-Err.ensures.ends refl refl refl s.store s.log c.stopped.ensures
+    main_stops (source_of c.args.checked.now) c.args.limits c.args.input.now.words.items c.args.fuel c.run.new.fuel
+    c.in_ok-execution.execution c.run.new.self c.in_ok-execution.ensures.setting
+    c.in_ok-execution.ensures.start c.stopped.result c.in-Err.stop
+    c.in-Err.ensures.walks c.stopped.ensures

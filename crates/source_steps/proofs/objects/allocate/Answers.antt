@@ -22,4 +22,4 @@ returns-in-Some-clause-ends c =
     ∙ sym c.is_too_large.ensures ∙ c.if-is_too_large.false)
     c.requires.framed.order
     (subst (λ r. Took r c.args.heap.now c.take.new.self (head_of c.args.head) (values_of c.args.cells.items))
-    c.in-Some.is c.in_ok-take.ensures) c.write_cell.ensures.written
+    c.in-Some.is c.in_ok-take.ensures.took) c.write_cell.ensures.written

@@ -3,7 +3,8 @@ use Rattle.store_report.proofs.Walked.{begins, walked_out, walked_all, walks_on}
 use Rattle.store_report.proofs.meeting.numbered.Goals as goal
 
 pub loop-next-init : goal.loop-next-init
-loop-next-init c = begins c.args.heap.now.store _ _ _ c.live-size.ensures (search rules) c.in_ok-meet_object.ensures
+loop-next-init c = begins c.args.heap.now.store _ _ _ c.live-size.ensures.length (search rules)
+    c.in_ok-meet_object.ensures
 
 pub loop-next-preserved : goal.loop-next-preserved
 loop-next-preserved c =

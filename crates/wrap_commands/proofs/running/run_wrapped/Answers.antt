@@ -44,8 +44,8 @@ report_run-requires g c =
     cells_are many wraps c.in_ok-wrapped.ensures.statics c.in_ok-machine.ensures.machine c.run-end.ensures.machine
     c.run-end.ensures.image c.run-end.ensures.runs
 
-pub returns : goal.returns
-returns g c =
+pub returns-clause-plan : goal.returns-clause-plan
+returns-clause-plan g c =
     let program = source_of c.args.checked.now in
     let s = c.args.setting.now in
     let image = c.in_ok-image.image in
@@ -73,5 +73,5 @@ returns g c =
     weaken c.report_run.result _ _
     (λ plan tells. wraps_image program s.results.items s.limits s.input.words.items s.bound image end
     c.run-end.result.spent c.run-end.result.stop has c.in_ok-image.ensures.stands is_image wraps_end
-    (planned plan) tells)
+    (planned plan) tells c.args.steps.now c.run-end.new.steps c.run-end.ensures.counter)
     c.report_run.ensures

@@ -35,8 +35,8 @@ invariant_of-self-in-Some c =
     (c.push_reserved.ensures.items ∙ ap (λ xs. xs ++ asked.Given c.args.name c.order_of-order.result ∷ [])
     c.in_ok-reserve.ensures.items)
 
-pub returns-in-Some : goal.returns-in-Some
-returns-in-Some c =
+pub returns-in-Some-clause-given : goal.returns-in-Some-clause-given
+returns-in-Some-clause-given c =
     let there = sym (c.in-Some.ensures ∙ ap (λ t. block_at t c.args.name) c.deref.ensures.value) in
     gave_shown c.self.inside.order c.self.inside.book c.self.inside.objects.items c.self.inside.log.items
     c.push_reserved.new.self.items c.args.name c.in-Some.block c.in-Some.size c.clear.new.slot

@@ -4,6 +4,12 @@ use Rattle.roopl_semantics.specs.Store.{object_named}
 use Rattle.source_store.proofs.Tables.{named_past}
 use Rattle.source_store.proofs.heap.Heap.names.Goals as goal
 
+pub returns-clause-few : goal.returns-clause-few
+returns-clause-few c =
+    let many = c.places_of.ensures ∙ ap length c.deref.ensures.value in
+    let few = c.self.invariant.few in
+    omega arith
+
 pub returns-clause-above : goal.returns-clause-above
 returns-clause-above c = c.places_of.ensures ∙ ap length c.deref.ensures.value ∙ c.self.invariant.next
     ∙ ap (λ k. 2 + count_taken k.log) c.self.view_is

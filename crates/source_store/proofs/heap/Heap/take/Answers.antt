@@ -20,14 +20,14 @@ invariant_of-self-in-Some c =
     took_so c.self.inside.order c.self.inside.book c.take.new.self c.self.inside.objects.items
     c.push_reserved.new.self.items c.self.inside.log.items c.push_reserved-in-Some.new.self.items live request
     c.order_of-order.result c.in-Some.block
-    c.self.invariant (c.order_of-order.ensures ∙ ap (λ n. order_of_cells n) many) refl
+    c.self.invariant (omega arith) (c.order_of-order.ensures ∙ ap (λ n. order_of_cells n) many) refl
     (ap (λ n. Taken n c.order_of-order.result) named)
     e.from_base e.takes e.taken e.heap
     (c.push_reserved.ensures.items ∙ ap (λ xs. xs ++ Some live ∷ []) c.in_ok-reserve.ensures.items)
     (c.push_reserved-in-Some.ensures.items ∙ ap (λ xs. xs ++ request ∷ []) c.in_ok-reserve-2.ensures.items)
 
-pub returns-in-Some : goal.returns-in-Some
-returns-in-Some c =
+pub returns-in-Some-clause-took : goal.returns-in-Some-clause-took
+returns-in-Some-clause-took c =
     let e = c.in-Some.ensures in
     let l = c.len.ensures in
     let k = c.args.cells.ok.0 in

@@ -1,0 +1,312 @@
+-- The value of an expression whose parts stand in registers, or its truth, xored into a register.
+use Rattle.std.proofs.Common.{◌≡◌, ◌≢◌, ℕ, ◌+◌, ◌^◌, ◌<◌, ◌≤◌, inl, inr, Bool, true, false, List, [], ◌∷◌, length}
+use Rattle.std.proofs.Common.{refl, sym, ap, ◌∙◌, subst, ⊎_elim, arith}
+use Rattle.std.specs.Prelude.{bit_xor, if◌then◌else◌}
+use Rattle.std.proofs.lemmas.Bool.{cases_eq}
+use Rattle.rpp_words.proofs.Laws.{xor-twice}
+use Rattle.rpp_tree.specs.declared.tree.BinOp.{BinOp}
+use Rattle.rpp_tree.specs.Tree.{Expression, Number, Null, Variable, Element, Binary}
+use Rattle.pisa_isa.specs.Machine.{Memory}
+use Rattle.paired_code.specs.declared.part.Symbol.{Symbol}
+use Rattle.paired_code.specs.Machine.{Image, reg, with_reg}
+use Rattle.paired_code.specs.Pieces.{Done, Runs}
+use Rattle.roopl_semantics.specs.Operators.{operated, is_true, truth_word}
+use Rattle.refine_form.specs.declared.spot.Spot.{Spot}
+use Rattle.expr_uncompute.specs.Code.{Target, object, frame, content, nought, words, xor, around, truth_cells, part}
+use Rattle.expr_uncompute.specs.Code.{held_cells, given_cells, held_value_cells, held_test_cells}
+use Rattle.expr_uncompute.specs.declared.held.Kind.{Kind}
+use Rattle.expr_uncompute.specs.declared.held.Kind.TheVariants as which
+use Rattle.expr_uncompute.specs.Held.{kind, own, beside, past, need, told_need, is_variable, is_zero, spot_in}
+use Rattle.expr_uncompute.specs.Held.{is_truth}
+use Rattle.expr_uncompute.specs.Number.{Bases, given, number, Sees, Same}
+use Rattle.expr_uncompute.specs.Steps.{held_steps, given_steps, held_value_steps, held_test_steps}
+use Rattle.expr_uncompute.specs.Laws.{bases_of, Ready, Xored, truth_of}
+use Rattle.expr_uncompute.proofs.Goes.{Goes, goes_to, goes_around, runs_along}
+use Rattle.expr_uncompute.proofs.HeldBounds.{need_least}
+use Rattle.expr_uncompute.proofs.Known.{tabulated_is, known, known_same, known_set, xor_goes, written_at}
+use Rattle.expr_uncompute.proofs.Known.{written_off, written_same, written_again}
+use Rattle.expr_uncompute.proofs.Numbers.{AllWords}
+use Rattle.expr_uncompute.proofs.Opened.{Free, Apart, Changes, Opens, both_of, both_joined, is_number}
+use Rattle.expr_uncompute.proofs.Opened.{given_is, zero_is, shows, past_is, own_truth, told_goes, told_opens}
+use Rattle.expr_uncompute.proofs.Opened.{value_word, more_change, more_open, held_opens}
+use Rattle.expr_uncompute.proofs.Results.{written}
+
+pub same_self : (spot : List ℕ → Spot) (b : Bases) (zs : List ℕ) (e : Expression) → Same spot b zs zs e
+same_self spot b zs (Number at word) = tt
+same_self spot b zs (Null at) = tt
+same_self spot b zs (Variable name) = refl
+same_self spot b zs (Element name index) = (refl, same_self spot b zs index)
+same_self spot b zs (Binary at o left right) = (refl, same_self spot b zs left, same_self spot b zs right)
+
+module _ (n : ℕ) (b : Bases) (zs : List ℕ) (spot : List ℕ → Spot) (small : length zs ≤ 2 ^ 31) (room : 25 ≤ n)
+    (low : ℕ) (inside : low ≤ length zs) (all : AllWords zs) (into : ℕ) (hi : into < n) (top : ℕ)
+    (away : Apart 0 top into) where
+  -- these cells and no others
+  abbrev only : List ℕ → Type 0
+  only ws = ws ≡ zs
+
+  still_small : (ws : List ℕ) → ws ≡ zs → length ws ≤ 2 ^ 31
+  still_small ws e = subst (λ u. length u ≤ 2 ^ 31) (sym e) small
+
+  still_inside : (ws : List ℕ) → ws ≡ zs → low ≤ length ws
+  still_inside ws e = subst (λ u. low ≤ length u) (sym e) inside
+
+  alike : (e : Expression) (ws : List ℕ) → ws ≡ zs → Same spot b zs ws e
+  alike e ws q = subst (λ u. Same spot b zs u e) (sym q) (same_self spot b zs e)
+
+  -- another value in the register into which a result is xored stays there
+  free_written : (f : ℕ → ℕ) (v : ℕ) → Free b 0 top f → Free b 0 top (written f into v)
+  free_written f v r = record {
+    object_is = written_off f into v object away.object_not ∙ r.object_is;
+    frame_is = written_off f into v frame away.frame_not ∙ r.frame_is;
+    content_is = written_off f into v content away.content_not ∙ r.content_is;
+    nought_is = written_off f into v nought away.nought_not ∙ r.nought_is;
+    clear = λ q lo up. written_off f into v q (λ e. ⊎_elim (λ l. omega arith) (λ l. omega arith) away.side)
+        ∙ r.clear q lo up;
+  }
+
+  module _ {w : List Symbol} {t : ℕ} (c : Changes n b only w t 0 top) where
+    into_stays : (f : ℕ → ℕ) → c.puts f into ≡ f into
+    into_stays f = ⊎_elim (λ l. c.low f into l) (λ l. c.high f into l) away.side
+
+    puts_written : (f : ℕ → ℕ) (v r : ℕ) → c.puts (written f into v) r ≡ written (c.puts f) into v r
+    puts_written f v r = ⊎_elim (λ e. subst (λ r. c.puts (written f into v) r ≡ written (c.puts f) into v r) (sym e)
+        (into_stays (written f into v) ∙ written_at f into v ∙ sym (written_at (c.puts f) into v)))
+        (λ k. c.local (written f into v) f r (written_off f into v r k) ∙ sym (written_off (c.puts f) into v r k))
+        (cases_eq r into)
+
+    -- between these cells and back
+    around_into : {mid : List Symbol} {u : ℕ} (v : ℕ) → ((f : ℕ → ℕ) → Free b 0 top f
+        → Goes mid u (known n (written (c.puts f) into (f into)) zs)
+        (known n (written (c.puts f) into (bit_xor (f into) v)) zs))
+        → (f : ℕ → ℕ) → Free b 0 top f
+        → Goes (around w mid) (t + (u + t)) (known n f zs) (known n (written f into (bit_xor (f into) v)) zs)
+    around_into v mid f r =
+        let v' : ℕ = bit_xor (f into) v in
+        goes_around (c.goes f r zs refl) (goes_to refl (known_same n _ _ zs
+        (λ q l. written_same (c.puts f) into (f into) q (into_stays f))) refl (mid f r))
+        (goes_to refl refl (known_same n _ _ zs (λ q l. puts_written f v' q))
+        (c.goes (written f into v') (free_written f v' r) zs refl))
+
+  module _ (e : Expression) (fits : need e ≤ top) (few : top ≤ 9) (sees : Sees spot b low zs e) where
+    abbrev v : ℕ
+    v = given (number spot b zs e)
+
+    hc : content < n
+    hc = omega arith
+
+    -- the expression opened in the first registers
+    open_first : Opens n b only (held_cells spot e 0) (held_steps e) 0 (need e) (given (number spot b zs e))
+    open_first = more_open n b only (omega arith) refl
+        (held_opens n b only spot still_small hc low still_inside zs all e 0 (omega arith) (omega arith) sees (alike e))
+
+    abbrev wide : Changes n b only (held_cells spot e 0) (held_steps e) 0 top
+    wide = more_change n b only (omega arith) fits open_first.change
+
+    part_not : part 0 ≢ into
+    part_not q = ⊎_elim (λ l. omega arith) (λ l. (let a = need_least e in
+        omega arith)) away.side
+
+    plain_into : (f : ℕ → ℕ) → Free b 0 top f → Goes (around (held_cells spot e 0) (xor into (part 0) ∷ []))
+        (held_steps e + (1 + held_steps e)) (known n f zs)
+        (known n (written f into (bit_xor (f into) (given (number spot b zs e)))) zs)
+    plain_into f r = around_into wide v (λ f r.
+        goes_to refl refl (ap (λ u. known n (written (wide.puts f) into (bit_xor (f into) u)) zs) (open_first.has f))
+        (xor_goes n (wide.puts f) zs into hi (part 0) (omega arith) part_not (f into))) f r
+
+    -- its truth
+    told : ℕ
+    told = truth_word (is_true (given (number spot b zs e)))
+
+    truth_mid : (f : ℕ → ℕ) → Free b 0 top f → Goes (truth_cells into (part 0)) 2
+        (known n (written (wide.puts f) into (f into)) zs)
+        (known n (written (wide.puts f) into (bit_xor (f into) (truth_word (is_true (given (number spot b zs e)))))) zs)
+    truth_mid f r =
+        let vw : v < 2 ^ 32 = value_word spot b zs low all e sees (omega arith) in
+        told_goes n b only spot still_small hc zs (wide.puts f) into (part 0) (f into) v hi (omega arith) (omega arith)
+        away.nought_not part_not (wide.low f nought (omega arith) ∙ r.nought_is) (open_first.has f) vw
+
+    truth_into : (f : ℕ → ℕ) → Free b 0 top f
+        → Goes (around (held_cells spot e 0) (truth_cells into (part 0))) (held_steps e + (2 + held_steps e))
+        (known n f zs)
+        (known n (written f into (bit_xor (f into) (truth_word (is_true (given (number spot b zs e)))))) zs)
+    truth_into f r = around_into wide (truth_word (is_true (given (number spot b zs e)))) truth_mid f r
+
+  -- what an operator gives goes there straight
+  given_into : (at : ℕ) (o : BinOp) (left right : Expression) → need (Binary at o left right) ≤ top → top ≤ 9
+      → Sees spot b low zs (Binary at o left right) → (c : Kind) → kind o ≡ c → (f : ℕ → ℕ) → Free b 0 top f
+      → Goes (given_cells spot c o left right (Binary at o left right) into)
+      (given_steps c o left right (held_steps (Binary at o left right))) (known n f zs)
+      (known n (written f into (bit_xor (f into) (given (number spot b zs (Binary at o left right))))) zs)
+  given_into at o left right fits few s which.Changes q f r = plain_into (Binary at o left right) fits few s f r
+  given_into at o left right fits few s which.Neither q f r = plain_into (Binary at o left right) fits few s f r
+  given_into at o left right fits few s which.Gives q f r = go (subst (λ c. own c (is_truth left) (is_truth right)
+      + (need left + need right) ≤ top) q fits)
+    where
+      go : 1 + (need left + need right) ≤ top → Goes (given_cells spot which.Gives o left right (Binary at o left right)
+          into)
+          (given_steps which.Gives o left right (held_steps (Binary at o left right))) (known n f zs)
+          (known n (written f into (bit_xor (f into) (given (number spot b zs (Binary at o left right))))) zs)
+      go fits =
+          let hc : content < n = omega arith in
+          let a = need_least left in
+          let c = need_least right in
+          let both = both_of n b only spot still_small hc {top = top} (omega arith) (omega arith) (omega arith)
+          (more_open n b only (omega arith) refl
+          (held_opens n b only spot still_small hc low still_inside zs all left 0 (omega arith) (omega arith) s.0
+          (alike left)))
+          (more_open n b only (omega arith) refl
+          (held_opens n b only spot still_small hc low still_inside zs all right (need left) (omega arith) (omega arith)
+          s.1
+          (alike right)))
+          (value_word spot b zs low all left s.0 (omega arith))
+          (value_word spot b zs low all right s.1 (omega arith)) (is_zero right)
+          (is_variable left) (is_variable right) (spot_in spot left) (spot_in spot right) (zero_is spot b zs right)
+          (shows n b only spot still_small hc low still_inside zs all left s.0 (alike left))
+          (shows n b only spot still_small hc low still_inside zs all right s.1 (alike right)) in
+          goes_to refl refl (ap (λ v. known n (written f into (bit_xor (f into) v)) zs)
+          (given_is spot b zs at o left right (omega arith) (omega arith)))
+          (around_into both.change (operated o (given (number spot b zs left)) (given (number spot b zs right)))
+          (λ f r. both.give o q f r into (f into) hi away zs refl) f r)
+  given_into at o left right fits few s which.Joins q f r = go (subst (λ c. own c (is_truth left) (is_truth right)
+      + (need left + need right) ≤ top) q fits)
+    where
+      go : 1 + (beside (is_truth left) + beside (is_truth right)) + (need left + need right) ≤ top
+          → Goes (given_cells spot which.Joins o left right (Binary at o left right) into)
+          (given_steps which.Joins o left right (held_steps (Binary at o left right))) (known n f zs)
+          (known n (written f into (bit_xor (f into) (given (number spot b zs (Binary at o left right))))) zs)
+      go fits =
+          let hc : content < n = omega arith in
+          let a = need_least left in
+          let c = need_least right in
+          let p = past_is (is_truth left) 0 in
+          let u = past_is (is_truth right) (told_need left) in
+          let one = more_open n b only {most = told_need left} (omega arith) refl
+          (told_opens n b only spot still_small hc low still_inside zs all left 0 (omega arith) (omega arith) s.0
+          (held_opens n b only spot still_small hc low still_inside zs all left (past (is_truth left) 0)
+          (omega arith) (omega arith) s.0 (alike left))) in
+          let two = more_open n b only {most = top} (omega arith) refl
+          (told_opens n b only spot still_small hc low still_inside zs all right (told_need left) (omega arith)
+          (omega arith) s.1
+          (held_opens n b only spot still_small hc low still_inside zs all right
+          (past (is_truth right) (told_need left))
+          (omega arith) (omega arith) s.1 (alike right))) in
+          let both = both_joined n b only spot still_small hc {top = top} (omega arith) (omega arith) (omega arith) one
+          two in
+          goes_to refl refl (ap (λ v. known n (written f into (bit_xor (f into) v)) zs)
+          (given_is spot b zs at o left right (omega arith) (omega arith)))
+          (around_into both.change (operated o (given (number spot b zs left)) (given (number spot b zs right)))
+          (λ f r. both.give o q f r into (f into) hi away zs refl) f r)
+
+  pub value_into : (e : Expression) → need e ≤ top → top ≤ 9 → Sees spot b low zs e → (f : ℕ → ℕ) → Free b 0 top f
+      → Goes (held_value_cells spot e into) (held_value_steps e) (known n f zs)
+      (known n (written f into (bit_xor (f into) (given (number spot b zs e)))) zs)
+  value_into (Number at word) fits few s f r = plain_into (Number at word) fits few s f r
+  value_into (Null at) fits few s f r = plain_into (Null at) fits few s f r
+  value_into (Variable name) fits few s f r = plain_into (Variable name) fits few s f r
+  value_into (Element name index) fits few s f r = plain_into (Element name index) fits few s f r
+  value_into (Binary at o left right) fits few s f r = given_into at o left right fits few s (kind o) refl f r
+
+  pub test_into : (e : Expression) → need e ≤ top → top ≤ 9 → Sees spot b low zs e → (f : ℕ → ℕ) → Free b 0 top f
+      → Goes (held_test_cells spot e into) (held_test_steps e) (known n f zs)
+      (known n (written f into (bit_xor (f into) (truth_word (is_true (given (number spot b zs e)))))) zs)
+  test_into e fits few s f r = by (is_truth e) refl
+    where
+      by : (t : Bool) → is_truth e ≡ t → Goes (if t then held_value_cells spot e into
+          else around (held_cells spot e 0) (truth_cells into (part 0)))
+          (if t then held_value_steps e else (held_steps e + (2 + held_steps e))) (known n f zs)
+          (known n (written f into (bit_xor (f into) (truth_word (is_true (given (number spot b zs e)))))) zs)
+      by true q = goes_to refl refl (ap (λ v. known n (written f into (bit_xor (f into) v)) zs)
+          (own_truth spot b zs e (omega arith) q)) (value_into e fits few s f r)
+      by false q = truth_into e fits few s f r
+
+-- ---- over memories
+
+target_apart : (into : ℕ) → Target into → Apart 0 9 into
+target_apart into (inl l) = record {
+  object_not = λ e. omega arith;
+  frame_not = λ e. omega arith;
+  content_not = λ e. omega arith;
+  nought_not = λ e. omega arith;
+  side = inl (omega arith);
+}
+target_apart into (inr (inl (lo, up))) = record {
+  object_not = λ e. omega arith;
+  frame_not = λ e. omega arith;
+  content_not = λ e. omega arith;
+  nought_not = λ e. omega arith;
+  side = inl (omega arith);
+}
+target_apart into (inr (inr (lo, up))) = record {
+  object_not = λ e. omega arith;
+  frame_not = λ e. omega arith;
+  content_not = λ e. omega arith;
+  nought_not = λ e. omega arith;
+  side = inr (omega arith);
+}
+
+target_small : (into : ℕ) → Target into → into < 32
+target_small into (inl l) = omega arith
+target_small into (inr (inl (lo, up))) = omega arith
+target_small into (inr (inr (lo, up))) = omega arith
+
+free_of : (free n : ℕ) (m : Memory) → Ready free n m → Free (bases_of m) 0 9 (reg m)
+free_of free n m h = record {
+  object_is = refl;
+  frame_is = refl;
+  content_is = h.clear 6 (inl (omega arith, omega arith));
+  nought_is = h.clear 7 (inl (omega arith, omega arith));
+  clear = λ r lo up. h.clear r (inr (omega arith, omega arith));
+}
+
+module _ (spot : List ℕ → Spot) (free into : ℕ) (e : Expression) (m : Memory) (target : Target into)
+    (ready : Ready free (words e) m) (sees : Sees spot (bases_of m) (reg m 4 + free) m.cells e) (few : need e < 10)
+    (im : Image) (d : Bool) where
+  abbrev low : ℕ
+  low = reg m 4 + free
+
+  inside : reg m 4 + free ≤ length m.cells
+  inside = let h = ready.inside in omega arith
+
+  same : known 32 (reg m) m.cells ≡ m
+  same = ap (λ r. record m { regs = r }) (sym (tabulated_is 32 m.regs ready.count))
+
+  -- a piece that xors a number into the register goes there in either direction
+  both_ways : (w : List Symbol) (k v : ℕ) → ((f : ℕ → ℕ) → Free (bases_of m) 0 9 f
+      → Goes w k (known 32 f m.cells) (known 32 (written f into (bit_xor (f into) v)) m.cells))
+      → Runs im w d m (Done (with_reg m into (bit_xor (reg m into) v)) k)
+  both_ways w k v go =
+      let x : ℕ = bit_xor (reg m into) v in
+      let f : ℕ → ℕ = reg m in
+      let g : ℕ → ℕ = written f into x in
+      let r = free_of free (words e) m ready in
+      let away = target_apart into target in
+      let at_end : known 32 g m.cells ≡ with_reg m into x =
+      sym (known_set 32 f m.cells into x (target_small into target)) ∙ ap (λ z. with_reg z into x) same in
+      let again : (q : ℕ) → written g into (bit_xor (g into) v) q ≡ f q =
+      λ q. written_again f into x (bit_xor (g into) v) q
+      ∙ written_same f into (bit_xor (g into) v) q (sym (ap (λ z. bit_xor z v) (written_at f into x)
+      ∙ xor-twice (f into) v)) in
+      let back = go g (free_written 32 (bases_of m) m.cells spot ready.small (omega arith) (reg m 4 + free) inside
+      ready.words into (target_small into target) 9 away f x r) in
+      runs_along (goes_to refl same at_end (go f r))
+      (goes_to refl at_end (known_same 32 _ _ m.cells (λ q l. again q) ∙ same) back) im d
+
+  pub held_value : Xored into (held_value_steps e) m (number spot (bases_of m) m.cells e) im
+      (held_value_cells spot e into) d
+  held_value =
+      let is = is_number spot (bases_of m) m.cells e few in
+      subst (λ z. Xored into (held_value_steps e) m z im (held_value_cells spot e into) d) (sym is)
+      (both_ways (held_value_cells spot e into) (held_value_steps e) (given (number spot (bases_of m) m.cells e))
+      (value_into 32 (bases_of m) m.cells spot ready.small (omega arith) (reg m 4 + free) inside ready.words into
+      (target_small into target) 9 (target_apart into target) e (omega arith) (omega arith) sees))
+
+  pub held_test : Xored into (held_test_steps e) m (truth_of (number spot (bases_of m) m.cells e)) im
+      (held_test_cells spot e into) d
+  held_test =
+      let is = is_number spot (bases_of m) m.cells e few in
+      subst (λ z. Xored into (held_test_steps e) m (truth_of z) im (held_test_cells spot e into) d) (sym is)
+      (both_ways (held_test_cells spot e into) (held_test_steps e)
+      (truth_word (is_true (given (number spot (bases_of m) m.cells e))))
+      (test_into 32 (bases_of m) m.cells spot ready.small (omega arith) (reg m 4 + free) inside ready.words into
+      (target_small into target) 9 (target_apart into target) e (omega arith) (omega arith) sees))

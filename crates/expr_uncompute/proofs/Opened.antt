@@ -1,0 +1,673 @@
+-- An expression opened in registers, over any memory in which what it reads is the same.
+use Rattle.std.proofs.Common.{◌≡◌, ◌≢◌, ℕ, ◌+◌, ◌^◌, ◌<◌, ◌≤◌, ◌⊎◌, inl, Bool, true, false, List, [], ◌∷◌, ◌++◌}
+use Rattle.std.proofs.Common.{length, refl, sym, ap}
+use Rattle.std.proofs.lemmas.Bool.Decides.{nat_tests}
+use Rattle.std.proofs.Common.{◌∙◌, subst, ⊎_elim, arith}
+use Rattle.std.specs.Prelude.{slice_index, slice_set, bit_xor, if◌then◌else◌, Result, Ok, Err}
+use Rattle.std.specs.Int.Bits.{xor_zero_l, xor_assoc}
+use Rattle.rpp_words.specs.Words.{is_less}
+use Rattle.rpp_tree.specs.declared.tree.BinOp.{BinOp}
+use Rattle.rpp_tree.specs.declared.tree.BinOp.TheVariants as op
+use Rattle.rpp_tree.specs.Tree.{Expression, Number, Null, Variable, Element, Binary}
+use Rattle.paired_code.specs.declared.part.Symbol.{Symbol}
+use Rattle.pisa_isa.specs.Table as table
+use Rattle.roopl_semantics.specs.Operators.{operated, is_true, truth_word}
+use Rattle.refine_form.specs.declared.spot.Spot.{Spot}
+use Rattle.refine_form.specs.declared.spot.Spot.TheVariants.{Field, Frame}
+use Rattle.expr_uncompute.specs.Code.{object, frame, content, nought, xor, around, base_of, reach_cells, part, before}
+use Rattle.expr_uncompute.specs.Code.{core}
+use Rattle.expr_uncompute.specs.Code.{truth_cells, told_cells, change_cells, literal_cells, give_cells, operated_cells}
+use Rattle.expr_uncompute.specs.Code.{held_cells}
+use Rattle.expr_uncompute.specs.declared.held.Kind.{Kind}
+use Rattle.expr_uncompute.specs.declared.held.Kind.TheVariants.{Gives, Joins, Neither}
+use Rattle.expr_uncompute.specs.declared.held.Kind.TheVariants as which
+use Rattle.expr_uncompute.specs.Held.{kind, own, beside, past, need, told_need, left_at, right_at, is_variable, spot_in}
+use Rattle.expr_uncompute.specs.Held.{is_literal, literal_in, is_zero, tells, is_truth}
+use Rattle.expr_uncompute.specs.Number.{Bases, address_of, given, word_of, number, combined, Sees}
+use Rattle.expr_uncompute.specs.Number.{Same}
+use Rattle.expr_uncompute.specs.Steps.{operator_steps, before_steps, core_steps, told_steps, operated_steps}
+use Rattle.expr_uncompute.specs.Steps.{held_steps}
+use Rattle.expr_uncompute.proofs.Comparing
+use Rattle.expr_uncompute.proofs.Goes.{Goes, nothing, goes_seq, goes_cons, goes_to, goes_around}
+use Rattle.expr_uncompute.proofs.Giving.{change_goes, literal_goes, give_goes, join_goes}
+use Rattle.expr_uncompute.proofs.HeldBounds.{need_least}
+use Rattle.expr_uncompute.proofs.Known.{known, known_same, taken, reach_goes, xori_goes, xor_goes, sltx_goes}
+use Rattle.expr_uncompute.proofs.Known.{written_at}
+use Rattle.expr_uncompute.proofs.Known.{written_off, written_local, written_same, written_both}
+use Rattle.expr_uncompute.proofs.Numbers.{AllWords, number_word}
+use Rattle.expr_uncompute.proofs.Results.{written}
+
+-- a truth is its own
+truth_again : (t : Bool) → truth_word (is_true (truth_word t)) ≡ truth_word t
+truth_again true = refl
+truth_again false = refl
+
+-- so is what these operators give
+own_truth_of : (o : BinOp) → tells o ≡ true → (x y : ℕ) → operated o x y ≡ truth_word (is_true (operated o x y))
+own_truth_of op.AndAlso t x y = sym (truth_again _)
+own_truth_of op.OrElse t x y = sym (truth_again _)
+own_truth_of op.Less t x y = sym (truth_again _)
+own_truth_of op.Greater t x y = sym (truth_again _)
+own_truth_of op.AtMost t x y = sym (truth_again _)
+own_truth_of op.AtLeast t x y = sym (truth_again _)
+own_truth_of op.Equal t x y = sym (truth_again _)
+own_truth_of op.NotEqual t x y = sym (truth_again _)
+own_truth_of op.Add t x y = absurd (cc)
+own_truth_of op.Sub t x y = absurd (cc)
+own_truth_of op.Xor t x y = absurd (cc)
+own_truth_of op.And t x y = absurd (cc)
+own_truth_of op.Or t x y = absurd (cc)
+own_truth_of op.Mul t x y = absurd (cc)
+own_truth_of op.Div t x y = absurd (cc)
+own_truth_of op.Rem t x y = absurd (cc)
+
+pub past_is : (p : Bool) (k : ℕ) → past p k ≡ k + beside p
+past_is true k = omega arith
+past_is false k = refl
+
+module _ (spot : List ℕ → Spot) (b : Bases) (zs : List ℕ) where
+  given_ok : (r : Result ℕ ℕ) (x : ℕ) → r ≡ Ok x → r ≡ Ok (given r)
+  given_ok (Ok y) x e = refl
+  given_ok (Err c) x e = absurd (cc)
+
+  -- an operator's number from those of its operands
+  number_of : (at : ℕ) (o : BinOp) (left right : Expression)
+      → number spot b zs left ≡ Ok (given (number spot b zs left))
+      → number spot b zs right ≡ Ok (given (number spot b zs right))
+      → number spot b zs (Binary at o left right)
+      ≡ Ok (operated o (given (number spot b zs left)) (given (number spot b zs right)))
+  number_of at o left right e q = ap (λ z. combined o z (number spot b zs right)) e
+      ∙ ap (combined o (Ok (given (number spot b zs left)))) q
+
+  -- such an expression has a number
+  pub is_number : (e : Expression) → need e < 10 → number spot b zs e ≡ Ok (given (number spot b zs e))
+  is_number (Number at word) h = refl
+  is_number (Null at) h = refl
+  is_number (Variable name) h = refl
+  is_number (Element name index) h = absurd (omega arith)
+  is_number (Binary at o left right) h = given_ok _ _ (number_of at o left right (is_number left (omega arith))
+      (is_number right (omega arith)))
+
+  pub given_is : (at : ℕ) (o : BinOp) (left right : Expression) → need left < 10 → need right < 10
+      → operated o (given (number spot b zs left)) (given (number spot b zs right))
+      ≡ given (number spot b zs (Binary at o left right))
+  given_is at o left right h k = sym (ap given (number_of at o left right (is_number left h) (is_number right k)))
+
+  pub literal_is : (e : Expression) → is_literal e ≡ true → given (number spot b zs e) ≡ literal_in e
+  literal_is (Number at word) q = refl
+  literal_is (Null at) q = absurd (cc)
+  literal_is (Variable name) q = absurd (cc)
+  literal_is (Element name index) q = absurd (cc)
+  literal_is (Binary at o left right) q = absurd (cc)
+
+  pub zero_is : (e : Expression) → is_zero e ≡ true → given (number spot b zs e) ≡ 0
+  zero_is (Number at word) q = grind (arith, nat_tests)
+  zero_is (Null at) q = refl
+  zero_is (Variable name) q = absurd (cc)
+  zero_is (Element name index) q = absurd (cc)
+  zero_is (Binary at o left right) q = absurd (cc)
+
+  -- what tells a truth is that truth
+  pub own_truth : (e : Expression) → need e < 10 → is_truth e ≡ true
+      → given (number spot b zs e) ≡ truth_word (is_true (given (number spot b zs e)))
+  own_truth (Number at word) h t = absurd (cc)
+  own_truth (Null at) h t = absurd (cc)
+  own_truth (Variable name) h t = absurd (cc)
+  own_truth (Element name index) h t = absurd (cc)
+  own_truth (Binary at o left right) h t = subst (λ v. v ≡ truth_word (is_true v))
+      (given_is at o left right (omega arith) (omega arith))
+      (own_truth_of o t (given (number spot b zs left)) (given (number spot b zs right)))
+
+  pub value_word : (low : ℕ) → AllWords zs → (e : Expression) → Sees spot b low zs e → need e < 10
+      → given (number spot b zs e) < 2 ^ 32
+  value_word low all e s h = number_word spot b low zs all e s (given (number spot b zs e)) (is_number e h)
+
+-- the bases stand there, and the registers of parts from k on, up to one, are 0
+pub record Free (b : Bases) (k top : ℕ) (f : ℕ → ℕ) : Type 0 where
+  pub object_is : f object ≡ b.object
+  pub frame_is : f frame ≡ b.frame
+  pub content_is : f content ≡ 0
+  pub nought_is : f nought ≡ 0
+  pub clear : (r : ℕ) → part k ≤ r → r < part top → f r ≡ 0
+
+-- a register that is none of these
+pub record Apart (k top d : ℕ) : Type 0 where
+  pub object_not : object ≢ d
+  pub frame_not : frame ≢ d
+  pub content_not : content ≢ d
+  pub nought_not : nought ≢ d
+  pub side : (d < part k) ⊎ (part top ≤ d)
+
+module _ (n : ℕ) (b : Bases) (like : List ℕ → Type 0) where
+  -- cells that change registers of parts alone, by what stands in them
+  pub record Changes (w : List Symbol) (t k top : ℕ) : Type 0 where
+    pub puts : (ℕ → ℕ) → ℕ → ℕ
+    pub goes : (f : ℕ → ℕ) → Free b k top f → (zs : List ℕ) → like zs → Goes w t (known n f zs) (known n (puts f) zs)
+    pub low : (f : ℕ → ℕ) (r : ℕ) → r < part k → puts f r ≡ f r
+    pub high : (f : ℕ → ℕ) (r : ℕ) → part top ≤ r → puts f r ≡ f r
+    pub local : (f g : ℕ → ℕ) (r : ℕ) → f r ≡ g r → puts f r ≡ puts g r
+
+  -- and have a value in the first one
+  pub record Opens (w : List Symbol) (t k top v : ℕ) : Type 0 where
+    pub change : Changes w t k top
+    pub has : (f : ℕ → ℕ) → change.puts f (part k) ≡ v
+
+  -- the registers of parts that are not used yet
+  pub still_free : {w : List Symbol} {t k j : ℕ} → (c : Changes w t k j) → k ≤ j → (f : ℕ → ℕ) → (most : ℕ) → j ≤ most
+      → Free b k most f → Free b j most (c.puts f)
+  still_free {k = k} {j = j} c h f most l r = record {
+    object_is = c.low f object (omega arith) ∙ r.object_is;
+    frame_is = c.low f frame (omega arith) ∙ r.frame_is;
+    content_is = c.low f content (omega arith) ∙ r.content_is;
+    nought_is = c.low f nought (omega arith) ∙ r.nought_is;
+    clear = λ q lo hi. c.high f q lo ∙ r.clear q (omega arith) hi;
+  }
+
+  pub less_free : {k j top most : ℕ} → k ≤ j → top ≤ most → (f : ℕ → ℕ) → Free b k most f → Free b j top f
+  less_free h l f r = record {
+    object_is = r.object_is;
+    frame_is = r.frame_is;
+    content_is = r.content_is;
+    nought_is = r.nought_is;
+    clear = λ q lo hi. r.clear q (omega arith) (omega arith);
+  }
+
+  -- one after another
+  abbrev both_change : {w v : List Symbol} {t u k j top : ℕ} → k ≤ j → j ≤ top → Changes w t k j → Changes v u j top
+      → Changes (w ++ v) (t + u) k top
+  both_change {w = w} {v = v} {t = t} {u = u} {k = k} {j = j} {top = top} h l c e = record {
+    puts = λ f. e.puts (c.puts f);
+    goes = λ f r zs y. goes_seq (c.goes f (less_free (omega arith) l f r) zs y)
+        (e.goes (c.puts f) (still_free c h f top l r) zs y);
+    low = λ f r q. e.low (c.puts f) r (omega arith) ∙ c.low f r q;
+    high = λ f r q. e.high (c.puts f) r q ∙ c.high f r (omega arith);
+    local = λ f g r q. e.local (c.puts f) (c.puts g) r (c.local f g r q);
+  }
+
+  -- over more registers
+  abbrev pub more_change : {w : List Symbol} {t j top k most : ℕ} → k ≤ j → top ≤ most → Changes w t j top
+      → Changes w t k most
+  more_change h l c = record {
+    puts = c.puts;
+    goes = λ f r zs y. c.goes f (less_free h l f r) zs y;
+    low = λ f r q. c.low f r (omega arith);
+    high = λ f r q. c.high f r (omega arith);
+    local = c.local;
+  }
+
+  -- or none at all
+  abbrev no_change : {k top : ℕ} → Changes [] 0 k top
+  no_change = record {
+    puts = λ f. f;
+    goes = λ f r zs y. nothing (known n f zs);
+    low = λ f r q. refl;
+    high = λ f r q. refl;
+    local = λ f g r q. q;
+  }
+
+  -- with a register of parts written at the end
+  abbrev then_written : {w p : List Symbol} {t u k j top : ℕ} (v : ℕ) → k ≤ j → j < top → (c : Changes w t k top)
+      → ((f : ℕ → ℕ) → Free b k top f → (zs : List ℕ) → like zs
+      → Goes p u (known n (c.puts f) zs) (known n (written (c.puts f) (part j) v) zs))
+      → Changes (w ++ p) (t + u) k top
+  then_written {w = w} {p = p} {t = t} {u = u} {k = k} {j = j} {top = top} v h l c e = record {
+    puts = λ f. written (c.puts f) (part j) v;
+    goes = λ f r zs y. goes_seq (c.goes f r zs y) (e f r zs y);
+    low = λ f r q. written_off (c.puts f) (part j) v r (λ e. omega arith) ∙ c.low f r q;
+    high = λ f r q. written_off (c.puts f) (part j) v r (λ e. omega arith) ∙ c.high f r q;
+    local = λ f g r q. written_local (c.puts f) (c.puts g) (part j) v r (c.local f g r q);
+  }
+
+  pub more_open : {w : List Symbol} {t k top most v v' : ℕ} → top ≤ most → v ≡ v' → Opens w t k top v
+      → Opens w t k most v'
+  more_open h e p = record { change = more_change (omega arith) h p.change; has = λ f. p.has f ∙ e }
+
+  -- a register that has a value already, or is 0
+  from_known : {p : List Symbol} {u : ℕ} (zs : List ℕ) (g : ℕ → ℕ) (d x y z : ℕ) → g d ≡ x → y ≡ z
+      → Goes p u (known n (written g d x) zs) (known n (written g d y) zs)
+      → Goes p u (known n g zs) (known n (written g d z) zs)
+  from_known zs g d x y z e q s = goes_to refl (known_same n _ _ zs (λ r l. written_same g d x r e))
+      (ap (λ y. known n (written g d y) zs) q) s
+
+  module _ (spot : List ℕ → Spot) (small : (zs : List ℕ) → like zs → length zs ≤ 2 ^ 31) (hc : content < n) where
+    base_not : (sp : Spot) (d : ℕ) → object ≢ d → frame ≢ d → d ≢ base_of sp
+    base_not (Field i) d h k e = h (sym e)
+    base_not (Frame i) d h k e = k (sym e)
+
+    -- a register changes while a word is out
+    out_goes : (zs : List ℕ) → like zs → (sp : Spot) (mid : List Symbol) (t d z z' : ℕ) (g : ℕ → ℕ)
+        → g object ≡ b.object → g frame ≡ b.frame
+        → g content ≡ 0 → object ≢ d → frame ≢ d → content ≢ d → address_of b sp < length zs
+        → Goes mid t
+        (known n (written (taken n g (base_of sp) (address_of b sp) zs) d z) (slice_set zs (address_of b sp) 0))
+        (known n (written (taken n g (base_of sp) (address_of b sp) zs) d z') (slice_set zs (address_of b sp) 0))
+        → Goes (around (reach_cells sp) mid) (2 + (t + 2)) (known n (written g d z) zs) (known n (written g d z') zs)
+    out_goes zs y sp mid t d z z' g eo ef ec po pf pc h m = goes_around (there z) m (there z')
+      where
+        same : (z r : ℕ) → written (written (written g d z) (base_of sp) (address_of b sp)) content
+            (slice_index zs (address_of b sp)) r
+            ≡ written (written (written g (base_of sp) (address_of b sp)) content
+            (slice_index zs (address_of b sp))) d z r
+        same z r = written_local (written (written g d z) (base_of sp) (address_of b sp))
+            (written (written g (base_of sp) (address_of b sp)) d z) content (slice_index zs (address_of b sp)) r
+            (written_both g d z (base_of sp) (address_of b sp) r (base_not sp d po pf))
+            ∙ written_both (written g (base_of sp) (address_of b sp)) d z content
+            (slice_index zs (address_of b sp)) r (λ e. pc (sym e))
+
+        there : (z : ℕ) → Goes (reach_cells sp) 2 (known n (written g d z) zs)
+            (known n (written (taken n g (base_of sp) (address_of b sp) zs) d z)
+            (slice_set zs (address_of b sp) 0))
+        there z = goes_to refl refl (known_same n _ _ (slice_set zs (address_of b sp) 0) (λ r l. same z r))
+            (reach_goes n b (written g d z) zs sp hc (written_off g d z object po ∙ eo)
+            (written_off g d z frame pf ∙ ef) (written_off g d z content pc ∙ ec) h (small zs y))
+
+    -- what is in the registers then
+    taken_word : (zs : List ℕ) (g : ℕ → ℕ) (sp : Spot) → taken n g (base_of sp) (address_of b sp) zs content
+        ≡ slice_index zs (address_of b sp)
+    taken_word zs g sp = written_at (written g (base_of sp) (address_of b sp)) content
+        (slice_index zs (address_of b sp))
+
+    taken_other : (zs : List ℕ) (g : ℕ → ℕ) (sp : Spot) (r : ℕ) → object ≢ r → frame ≢ r → content ≢ r
+        → taken n g (base_of sp) (address_of b sp) zs r ≡ g r
+    taken_other zs g sp r po pf pc =
+        written_off (written g (base_of sp) (address_of b sp)) content (slice_index zs (address_of b sp)) r
+        (λ e. pc (sym e)) ∙ written_off g (base_of sp) (address_of b sp) r (base_not sp r po pf)
+
+    -- ---- the operands of an operator
+
+    abbrev pub Shows : Bool → Spot → ℕ → Type 0
+    Shows true sp x = (zs : List ℕ) → like zs
+        → (address_of b sp < length zs) × (slice_index zs (address_of b sp) ≡ x)
+    Shows false sp x = Unit {0}
+
+    -- an operator xors its result into a register
+    given_goes : (o : BinOp) → kind o ≡ Gives → (h : ℕ → ℕ) (ws : List ℕ) (d z a s x y : ℕ) → d < n → a < n → s < n
+        → a ≢ d → s ≢ d → h a ≡ x → h s ≡ y → x < 2 ^ 32 → y < 2 ^ 32
+        → Goes (give_cells o d a s) (operator_steps o) (known n (written h d z) ws)
+        (known n (written h d (bit_xor z (operated o x y))) ws)
+    given_goes o q h ws d z a s x y hd ha hs na ns ea es wx wy =
+        goes_to refl refl (ap (λ v. known n (written h d (bit_xor z v)) ws)
+        (ap (λ v. operated o v (h s)) ea ∙ ap (operated o x) es))
+        (give_goes n h ws d hd a s ha hs na ns (subst (λ v. v < 2 ^ 32) (sym ea) wx)
+        (subst (λ v. v < 2 ^ 32) (sym es) wy) o q z)
+
+    -- the register of its left operand changes
+    changed_goes : (o : BinOp) → kind o ≡ which.Changes → (h : ℕ → ℕ) (ws : List ℕ) (d s x y : ℕ) → d < n → s < n
+        → s ≢ d
+        → h s ≡ y → x < 2 ^ 32 → y < 2 ^ 32
+        → Goes (change_cells o d s) (operator_steps o) (known n (written h d x) ws)
+        (known n (written h d (operated o x y)) ws)
+    changed_goes o q h ws d s x y hd hs ns es wx wy =
+        goes_to refl refl (ap (λ v. known n (written h d (operated o x v)) ws) es)
+        (change_goes n h ws d hd o q s hs ns x wx (subst (λ v. v < 2 ^ 32) (sym es) wy))
+
+    -- the operands open, and an operator of this kind that xors its result into any other register
+    pub record Both (c : Kind) (w : List Symbol) (t : ℕ) (in_core : (ℕ → ℕ → List Symbol) → List Symbol) (m : BinOp → ℕ)
+        (k top x y : ℕ) : Type 0 where
+      pub change : Changes w t k top
+      pub give : (o : BinOp) → kind o ≡ c → (f : ℕ → ℕ) → Free b k top f → (d z : ℕ) → d < n → Apart k top d
+          → (zs : List ℕ) → like zs → Goes (in_core (λ a s. give_cells o d a s)) (m o)
+          (known n (written (change.puts f) d z) zs)
+          (known n (written (change.puts f) d (bit_xor z (operated o x y))) zs)
+
+    none_of : {k top d : ℕ} → Apart k top d → (r : ℕ) → part k ≤ r → r < part top → r ≢ d
+    none_of away r lo hi e = ⊎_elim (λ l. omega arith) (λ l. omega arith) away.side
+
+    module _ {w v : List Symbol} {t u k j top x y : ℕ} (h : k < j) (l : j < top) (room : part top ≤ n)
+        (one : Opens w t k j x) (two : Opens v u j top y) (wx : x < 2 ^ 32) (wy : y < 2 ^ 32) where
+      abbrev left_alone : Changes w t k top
+      left_alone = more_change (omega arith) (omega arith) one.change
+
+      abbrev right_alone : Changes v u k top
+      right_alone = more_change (omega arith) (omega arith) two.change
+
+      right_out : (sp : Spot) → Shows true sp y
+          → Both Gives w t (λ mid. around (reach_cells sp) (mid (part k) content)) (λ o. 2 + (operator_steps o + 2)) k
+          top
+          x y
+      right_out sp q = record {
+        change = left_alone;
+        give = λ o e f r d z hd away zs s.
+            let g : ℕ → ℕ = one.change.puts f in
+            let g' : ℕ → ℕ = taken n g (base_of sp) (address_of b sp) zs in
+            let i = q zs s in
+            let ea : g' (part k) ≡ x = taken_other zs g sp (part k) (λ e. omega arith) (λ e. omega arith)
+            (λ e. omega arith) ∙ one.has f in
+            let es : g' content ≡ y = taken_word zs g sp ∙ i.1 in
+            out_goes zs s sp (give_cells o d (part k) content) (operator_steps o) d z (bit_xor z (operated o x y)) g
+            (left_alone.low f object (omega arith) ∙ r.object_is) (left_alone.low f frame (omega arith) ∙ r.frame_is)
+            (left_alone.low f content (omega arith) ∙ r.content_is) away.object_not away.frame_not away.content_not i.0
+            (given_goes o e g' (slice_set zs (address_of b sp) 0) d z (part k) content x y hd (omega arith) hc
+            (none_of away (part k) (omega arith) (omega arith)) away.content_not ea es wx wy);
+      }
+
+      left_out : (sp : Spot) → Shows true sp x
+          → Both Gives v u (λ mid. around (reach_cells sp) (mid content (part j))) (λ o. 2 + (operator_steps o + 2)) k
+          top
+          x y
+      left_out sp q = record {
+        change = right_alone;
+        give = λ o e f r d z hd away zs s.
+            let g : ℕ → ℕ = two.change.puts f in
+            let g' : ℕ → ℕ = taken n g (base_of sp) (address_of b sp) zs in
+            let i = q zs s in
+            let es : g' (part j) ≡ y = taken_other zs g sp (part j) (λ e. omega arith) (λ e. omega arith)
+            (λ e. omega arith) ∙ two.has f in
+            let ea : g' content ≡ x = taken_word zs g sp ∙ i.1 in
+            out_goes zs s sp (give_cells o d content (part j)) (operator_steps o) d z (bit_xor z (operated o x y)) g
+            (right_alone.low f object (omega arith) ∙ r.object_is) (right_alone.low f frame (omega arith) ∙ r.frame_is)
+            (right_alone.low f content (omega arith) ∙ r.content_is) away.object_not away.frame_not away.content_not i.0
+            (given_goes o e g' (slice_set zs (address_of b sp) 0) d z content (part j) x y hd hc (omega arith)
+            away.content_not (none_of away (part j) (omega arith) (omega arith)) ea es wx wy);
+      }
+
+      abbrev both_there : Changes (w ++ v) (t + u) k top
+      both_there = both_change (omega arith) (omega arith) one.change two.change
+
+      left_stays : (f : ℕ → ℕ) → two.change.puts (one.change.puts f) (part k) ≡ x
+      left_stays f = two.change.low (one.change.puts f) (part k) (omega arith) ∙ one.has f
+
+      both_kept : Both Gives (w ++ v) (t + u) (λ mid. mid (part k) (part j)) (λ o. operator_steps o) k top x y
+      both_kept = record {
+        change = both_there;
+        give = λ o e f r d z hd away zs s.
+            given_goes o e (two.change.puts (one.change.puts f)) zs d z (part k) (part j) x y hd (omega arith)
+            (omega arith) (none_of away (part k) (omega arith) (omega arith))
+            (none_of away (part j) (omega arith) (omega arith)) (left_stays f) (two.has (one.change.puts f)) wx wy;
+      }
+
+      -- the right operand is 0
+      zero_out : (sp : Spot) → Shows true sp x → y ≡ 0
+          → Both Gives [] 0 (λ mid. around (reach_cells sp) (mid content nought)) (λ o. 2 + (operator_steps o + 2)) k
+          top
+          x y
+      zero_out sp q z0 = record {
+        change = no_change;
+        give = λ o e f r d z hd away zs s.
+            let g' : ℕ → ℕ = taken n f (base_of sp) (address_of b sp) zs in
+            let i = q zs s in
+            let es : g' nought ≡ y = taken_other zs f sp nought (λ e. omega arith) (λ e. omega arith)
+            (λ e. omega arith) ∙ r.nought_is ∙ sym z0 in
+            let ea : g' content ≡ x = taken_word zs f sp ∙ i.1 in
+            out_goes zs s sp (give_cells o d content nought) (operator_steps o) d z (bit_xor z (operated o x y)) f
+            r.object_is r.frame_is r.content_is away.object_not away.frame_not away.content_not i.0
+            (given_goes o e g' (slice_set zs (address_of b sp) 0) d z content nought x y hd hc (omega arith)
+            away.content_not away.nought_not ea es wx wy);
+      }
+
+      zero_kept : y ≡ 0 → Both Gives w t (λ mid. mid (part k) nought) (λ o. operator_steps o) k top x y
+      zero_kept z0 = record {
+        change = left_alone;
+        give = λ o e f r d z hd away zs s.
+            given_goes o e (one.change.puts f) zs d z (part k) nought x y hd (omega arith) (omega arith)
+            (none_of away (part k) (omega arith) (omega arith)) away.nought_not (one.has f)
+            (left_alone.low f nought (omega arith) ∙ r.nought_is ∙ sym z0) wx wy;
+      }
+
+      pub both_of : (z p q : Bool) (xs ys : Spot) → (z ≡ true → y ≡ 0) → Shows p xs x → Shows q ys y
+          → Both Gives (before z p q w v) (before_steps z p q t u) (λ mid. core z p q xs ys (part k) (part j) mid)
+          (λ o. core_steps z p q (operator_steps o)) k top x y
+      both_of true true q xs ys z a c = zero_out xs a (z refl)
+      both_of true false q xs ys z a c = zero_kept (z refl)
+      both_of false true true xs ys z a c = right_out ys c
+      both_of false false true xs ys z a c = right_out ys c
+      both_of false true false xs ys z a c = left_out xs a
+      both_of false false false xs ys z a c = both_kept
+
+      -- the register of its left operand changes by a number
+      by_literal : (o : BinOp) → kind o ≡ which.Changes
+          → Opens (w ++ literal_cells o (part k) y) (t + 1) k top (operated o x y)
+      by_literal o e = record {
+        change = then_written (operated o x y) (omega arith) (omega arith) left_alone there;
+        has = λ f. written_at (one.change.puts f) (part k) (operated o x y);
+      }
+        where
+          there : (f : ℕ → ℕ) → Free b k top f → (zs : List ℕ) → like zs → Goes (literal_cells o (part k) y) 1
+              (known n (one.change.puts f) zs) (known n (written (one.change.puts f) (part k) (operated o x y)) zs)
+          there f r zs s = from_known zs (one.change.puts f) (part k) x (operated o x y) (operated o x y) (one.has f)
+              refl
+              (literal_goes n (one.change.puts f) zs (part k) (omega arith) o e y x wx wy)
+
+      -- an operator that changes the register of its left operand
+      pub changed : (o : BinOp) → kind o ≡ which.Changes → (q : Bool) (xs ys : Spot) → Shows q ys y
+          → Opens (before false false q w v ++ core false false q xs ys (part k) (part j) (λ a s. change_cells o a s))
+          (before_steps false false q t u + core_steps false false q (operator_steps o)) k top (operated o x y)
+      changed o e true xs ys q = record {
+        change = then_written (operated o x y) (omega arith) (omega arith) left_alone there;
+        has = λ f. written_at (one.change.puts f) (part k) (operated o x y);
+      }
+        where
+          there : (f : ℕ → ℕ) → Free b k top f → (zs : List ℕ) → like zs
+              → Goes (around (reach_cells ys) (change_cells o (part k) content)) (2 + (operator_steps o + 2))
+              (known n (one.change.puts f) zs) (known n (written (one.change.puts f) (part k) (operated o x y)) zs)
+          there f r zs s =
+              let g : ℕ → ℕ = one.change.puts f in
+              let g' : ℕ → ℕ = taken n g (base_of ys) (address_of b ys) zs in
+              let i = q zs s in
+              from_known zs g (part k) x (operated o x y) (operated o x y) (one.has f) refl
+              (out_goes zs s ys (change_cells o (part k) content) (operator_steps o) (part k) x (operated o x y) g
+              (left_alone.low f object (omega arith) ∙ r.object_is) (left_alone.low f frame (omega arith) ∙ r.frame_is)
+              (left_alone.low f content (omega arith) ∙ r.content_is) (λ e. omega arith) (λ e. omega arith)
+              (λ e. omega arith) i.0 (changed_goes o e g' (slice_set zs (address_of b ys) 0) (part k) content x y
+              (omega arith) hc (λ e. omega arith) (taken_word zs g ys ∙ i.1) wx wy))
+      changed o e false xs ys q = record {
+        change = then_written (operated o x y) (omega arith) (omega arith) both_there there;
+        has = λ f. written_at (two.change.puts (one.change.puts f)) (part k) (operated o x y);
+      }
+        where
+          there : (f : ℕ → ℕ) → Free b k top f → (zs : List ℕ) → like zs
+              → Goes (change_cells o (part k) (part j)) (operator_steps o)
+              (known n (two.change.puts (one.change.puts f)) zs)
+              (known n (written (two.change.puts (one.change.puts f)) (part k) (operated o x y)) zs)
+          there f r zs s =
+              let g : ℕ → ℕ = two.change.puts (one.change.puts f) in
+              from_known zs g (part k) x (operated o x y) (operated o x y) (left_stays f) refl
+              (changed_goes o e g zs (part k) (part j) x y (omega arith) (omega arith) (λ e. omega arith)
+              (two.has (one.change.puts f)) wx wy)
+
+    -- the truths of the operands
+    pub both_joined : {w v : List Symbol} {t u k j top x y : ℕ} → k < j → j < top → part top ≤ n
+        → Opens w t k j (truth_word (is_true x)) → Opens v u j top (truth_word (is_true y))
+        → Both Joins (w ++ v) (t + u) (λ mid. mid (part k) (part j)) (λ o. 1) k top x y
+    both_joined {k = k} {j = j} {top = top} {x = x} {y = y} h l room one two = record {
+      change = both_change (omega arith) (omega arith) one.change two.change;
+      give = λ o e f r d z hd away zs s.
+          join_goes n (two.change.puts (one.change.puts f)) zs d hd (part k) (part j) (omega arith) (omega arith)
+          (none_of away (part k) (omega arith) (omega arith)) (none_of away (part j) (omega arith) (omega arith)) x y
+          (two.change.low (one.change.puts f) (part k) (omega arith) ∙ one.has f) (two.has (one.change.puts f)) o e z;
+    }
+
+    -- a result in a register below those of the operands
+    pub given_to : {w : List Symbol} {t j k top x y : ℕ} {c : Kind} {in_core : (ℕ → ℕ → List Symbol) → List Symbol}
+        {m : BinOp → ℕ} → k < j → j < top → part top ≤ n → (o : BinOp) → kind o ≡ c
+        → Both c w t in_core m j top x y
+        → Opens (w ++ in_core (λ a s. give_cells o (part k) a s)) (t + m o) k top (operated o x y)
+    given_to {w = w} {t = t} {j = j} {k = k} {top = top} {x = x} {y = y} {in_core = in_core} {m = m} h l room o e both =
+        record {
+          change = then_written (operated o x y) (omega arith) (omega arith)
+              (more_change (omega arith) (omega arith) both.change) there;
+          has = λ f. written_at (both.change.puts f) (part k) (operated o x y);
+        }
+      where
+        there : (f : ℕ → ℕ) → Free b k top f → (zs : List ℕ) → like zs
+            → Goes (in_core (λ a s. give_cells o (part k) a s)) (m o)
+            (known n (both.change.puts f) zs) (known n (written (both.change.puts f) (part k) (operated o x y)) zs)
+        there f r zs s =
+            let zero : both.change.puts f (part k) ≡ 0 = both.change.low f (part k) (omega arith)
+            ∙ r.clear (part k) (omega arith) (omega arith) in
+            let away : Apart j top (part k) = record {
+              object_not = λ e. omega arith;
+              frame_not = λ e. omega arith;
+              content_not = λ e. omega arith;
+              nought_not = λ e. omega arith;
+              side = inl (omega arith);
+            } in
+            from_known zs (both.change.puts f) (part k) 0 (bit_xor 0 (operated o x y)) (operated o x y) zero
+            (xor_zero_l (operated o x y))
+            (both.give o e f (less_free (omega arith) (omega arith) f r) (part k) 0 (omega arith) away zs s)
+
+    -- the truth of a register xored into another
+    pub told_goes : (zs : List ℕ) (g : ℕ → ℕ) (d a z v : ℕ) → d < n → a < n → nought < n → nought ≢ d → a ≢ d
+        → g nought ≡ 0
+        → g a ≡ v → v < 2 ^ 32
+        → Goes (truth_cells d a) 2 (known n (written g d z) zs)
+        (known n (written g d (bit_xor z (truth_word (is_true v)))) zs)
+    told_goes zs g d a z v hd ha hn nd na zero has vw =
+        let p : ℕ = table.word_of (is_less (g nought) (g a)) in
+        let q : ℕ = table.word_of (is_less (g a) (g nought)) in
+        let is : bit_xor p q ≡ truth_word (is_true v) =
+        ap (λ u. bit_xor (table.word_of (is_less u (g a))) (table.word_of (is_less (g a) u))) zero
+        ∙ ap (λ u. bit_xor (table.word_of (is_less 0 u)) (table.word_of (is_less u 0))) has ∙ Comparing.truth_of v vw in
+        goes_to refl refl (ap (λ u. known n (written g d u) zs) (xor_assoc z p q ∙ ap (bit_xor z) is))
+        (goes_cons (sltx_goes n g zs d hd nought a hn ha nd na z)
+        (sltx_goes n g zs d hd a nought ha hn na nd (bit_xor z p)))
+
+    -- ---- expressions
+
+    -- a register of parts that was 0
+    pub opens_by : {w : List Symbol} {t k : ℕ} (v : ℕ) → part k < n
+        → ((f : ℕ → ℕ) → Free b k (k + 1) f → (zs : List ℕ) → like zs → Goes w t (known n (written f (part k) 0) zs)
+        (known n (written f (part k) (bit_xor 0 v)) zs)) → Opens w t k (k + 1) v
+    opens_by {w = w} {t = t} {k = k} v h go = record {
+      change = record {
+        puts = λ f. written f (part k) v;
+        goes = λ f r zs s. from_known zs f (part k) 0 (bit_xor 0 v) v (r.clear (part k) (omega arith) (omega arith))
+            (xor_zero_l v) (go f r zs s);
+        low = λ f r q. written_off f (part k) v r (λ e. omega arith);
+        high = λ f r q. written_off f (part k) v r (λ e. omega arith);
+        local = λ f g r q. written_local f g (part k) v r q;
+      };
+      has = λ f. written_at f (part k) v;
+    }
+
+    copy_goes : (sp : Spot) (k x : ℕ) → part k < n → Shows true sp x → (f : ℕ → ℕ) → Free b k (k + 1) f
+        → (zs : List ℕ) → like zs
+        → Goes (around (reach_cells sp) (xor (part k) content ∷ [])) 5 (known n (written f (part k) 0) zs)
+        (known n (written f (part k) (bit_xor 0 x)) zs)
+    copy_goes sp k x h q f r zs s =
+        let f' : ℕ → ℕ = taken n f (base_of sp) (address_of b sp) zs in
+        let ws : List ℕ = slice_set zs (address_of b sp) 0 in
+        let i = q zs s in
+        out_goes zs s sp (xor (part k) content ∷ []) 1 (part k) 0 (bit_xor 0 x) f r.object_is r.frame_is r.content_is
+        (λ e. omega arith) (λ e. omega arith) (λ e. omega arith) i.0
+        (goes_to refl refl (ap (λ v. known n (written f' (part k) (bit_xor 0 v)) ws) (taken_word zs f sp ∙ i.1))
+        (xor_goes n f' ws (part k) h content hc (λ e. omega arith) 0))
+
+    -- a truth by the value opened past it
+    told_by : {w : List Symbol} {t k m v : ℕ} (p : Bool) → (p ≡ true → v ≡ truth_word (is_true v)) → 1 ≤ m
+        → v < 2 ^ 32 → part (k + (beside p + m)) ≤ n → Opens w t (past p k) (past p k + m) v
+        → Opens (told_cells p w k) (told_steps p t) k (k + (beside p + m)) (truth_word (is_true v))
+    told_by true e h vw room one = more_open (omega arith) (e refl) one
+    told_by {w = w} {t = t} {k = k} {m = m} {v = v} false e h vw room one = record {
+      change = then_written (truth_word (is_true v)) (omega arith) (omega arith)
+          (more_change (omega arith) (omega arith) one.change) there;
+      has = λ f. written_at (one.change.puts f) (part k) (truth_word (is_true v));
+    }
+      where
+        there : (f : ℕ → ℕ) → Free b k (k + (1 + m)) f → (zs : List ℕ) → like zs
+            → Goes (truth_cells (part k) (part (k + 1))) 2
+            (known n (one.change.puts f) zs)
+            (known n (written (one.change.puts f) (part k) (truth_word (is_true v))) zs)
+        there f r zs s =
+            let g : ℕ → ℕ = one.change.puts f in
+            from_known zs g (part k) 0 (bit_xor 0 (truth_word (is_true v))) (truth_word (is_true v))
+            (one.change.low f (part k) (omega arith) ∙ r.clear (part k) (omega arith) (omega arith))
+            (xor_zero_l (truth_word (is_true v)))
+            (told_goes zs g (part k) (part (k + 1)) 0 v (omega arith) (omega arith) (omega arith) (λ e. omega arith)
+            (λ e. omega arith) (one.change.low f nought (omega arith) ∙ r.nought_is) (one.has f) vw)
+
+    -- a right operand that is a number, or any other
+    changed_by : {w v : List Symbol} {t u k j top x y : ℕ} → k < j → j < top → part top ≤ n → Opens w t k j x
+        → Opens v u j top y → x < 2 ^ 32 → y < 2 ^ 32 → (o : BinOp) → kind o ≡ which.Changes → (z q : Bool) (word : ℕ)
+        → (z ≡ true → y ≡ word) → (xs ys : Spot) → Shows q ys y
+        → Opens (before z false q w v ++ (if z then literal_cells o (part k) word
+        else core false false q xs ys (part k) (part j) (λ a s. change_cells o a s)))
+        (before_steps z false q t u + (if z then 1 else core_steps false false q (operator_steps o))) k top
+        (operated o x y)
+    changed_by h l room one two wx wy o e false q word i xs ys c = changed h l room one two wx wy o e q xs ys c
+    changed_by {w = w} {t = t} {k = k} {top = top} {x = x} {y = y} h l room one two wx wy o e true q word i xs ys c =
+        subst (λ z. Opens (w ++ literal_cells o (part k) z) (t + 1) k top (operated o x y)) (i refl)
+        (by_literal h l room one two wx wy o e)
+
+    module _ (low : ℕ) (inside : (zs : List ℕ) → like zs → low ≤ length zs) (zs : List ℕ) (all : AllWords zs) where
+      -- what an expression reads is the same
+      abbrev pub Alike : Expression → Type 0
+      Alike e = (ws : List ℕ) → like ws → Same spot b zs ws e
+
+      pub shows : (e : Expression) → Sees spot b low zs e → Alike e → Shows (is_variable e) (spot_in spot e)
+          (given (number spot b zs e))
+      shows (Number at word) s a = tt
+      shows (Null at) s a = tt
+      shows (Variable name) s a = λ ws y. (let l = inside ws y in omega arith, a ws y)
+      shows (Element name index) s a = tt
+      shows (Binary at o left right) s a = tt
+
+      pub told_opens : (e : Expression) (k : ℕ) → part (k + told_need e) ≤ n → need e < 10 → Sees spot b low zs e
+          → Opens (held_cells spot e (past (is_truth e) k)) (held_steps e) (past (is_truth e) k)
+          (past (is_truth e) k + need e) (given (number spot b zs e))
+          → Opens (told_cells (is_truth e) (held_cells spot e (past (is_truth e) k)) k)
+          (told_steps (is_truth e) (held_steps e)) k (k + told_need e)
+          (truth_word (is_true (given (number spot b zs e))))
+      told_opens e k room h s one = told_by (is_truth e) (own_truth spot b zs e h) (need_least e)
+          (value_word spot b zs low all e s h) room one
+
+      pub held_opens : (e : Expression) (k : ℕ) → part (k + need e) ≤ n → need e < 10 → Sees spot b low zs e → Alike e
+          → Opens (held_cells spot e k) (held_steps e) k (k + need e) (given (number spot b zs e))
+      held_opens (Number at word) k r h s a = opens_by word (omega arith)
+          (λ f q ws y. xori_goes n f ws (part k) (omega arith) word 0 s)
+      held_opens (Null at) k r h s a = opens_by 0 (omega arith)
+          (λ f q ws y. xori_goes n f ws (part k) (omega arith) 0 0 (omega arith))
+      held_opens (Variable name) k r h s a = opens_by (word_of spot b zs name.text) (omega arith)
+          (λ f q ws y. copy_goes (spot name.text) k (word_of spot b zs name.text) (omega arith)
+          (shows (Variable name) s a) f q ws y)
+      held_opens (Element name index) k r h s a = absurd (omega arith)
+      held_opens (Binary at o left right) k r h s a = by
+          (λ j r h. held_opens left j r h s.0 (λ ws y. let i = a ws y in i.1))
+          (λ j r h. held_opens right j r h s.1 (λ ws y. let i = a ws y in i.2)) (kind o) refl r h
+        where
+          by : ((j : ℕ) → part (j + need left) ≤ n → need left < 10
+              → Opens (held_cells spot left j) (held_steps left) j (j + need left) (given (number spot b zs left)))
+              → ((j : ℕ) → part (j + need right) ≤ n → need right < 10
+              → Opens (held_cells spot right j) (held_steps right) j (j + need right) (given (number spot b zs right)))
+              → (c : Kind) → kind o ≡ c
+              → part (k + (own c (is_truth left) (is_truth right) + (need left + need right))) ≤ n
+              → own c (is_truth left) (is_truth right) + (need left + need right) < 10
+              → Opens (operated_cells spot c o left right (held_cells spot left (left_at c (is_truth left) k))
+              (held_cells spot right (right_at c (is_truth left) (is_truth right) (need left) k)) k)
+              (operated_steps c o left right (held_steps left) (held_steps right)) k
+              (k + (own c (is_truth left) (is_truth right) + (need left + need right)))
+              (given (number spot b zs (Binary at o left right)))
+          by one two which.Changes e r h =
+              let i = need_least left in
+              let j = need_least right in
+              more_open (omega arith) (given_is spot b zs at o left right (omega arith) (omega arith))
+              (changed_by (omega arith) (omega arith) (omega arith) (one k (omega arith) (omega arith))
+              (two (k + need left) (omega arith) (omega arith)) (value_word spot b zs low all left s.0 (omega arith))
+              (value_word spot b zs low all right s.1 (omega arith)) o e (is_literal right) (is_variable right)
+              (literal_in right) (literal_is spot b zs right) (spot_in spot left) (spot_in spot right)
+              (shows right s.1 (λ ws y. let i = a ws y in i.2)))
+          by one two Gives e r h =
+              let i = need_least left in
+              let j = need_least right in
+              more_open (omega arith) (given_is spot b zs at o left right (omega arith) (omega arith))
+              (given_to (omega arith) (omega arith) (omega arith) o e
+              (both_of (omega arith) (omega arith) (omega arith) (one (k + 1) (omega arith) (omega arith))
+              (two (k + 1 + need left) (omega arith) (omega arith))
+              (value_word spot b zs low all left s.0 (omega arith))
+              (value_word spot b zs low all right s.1 (omega arith)) (is_zero right) (is_variable left)
+              (is_variable right) (spot_in spot left) (spot_in spot right) (zero_is spot b zs right)
+              (shows left s.0 (λ ws y. let i = a ws y in i.1))
+              (shows right s.1 (λ ws y. let i = a ws y in i.2))))
+          by one two Joins e r h =
+              let i = need_least left in
+              let j = need_least right in
+              let p = past_is (is_truth left) (k + 1) in
+              let q = past_is (is_truth right) (k + 1 + told_need left) in
+              more_open (omega arith) (given_is spot b zs at o left right (omega arith) (omega arith))
+              (given_to (omega arith) (omega arith) (omega arith) o e
+              (both_joined (omega arith) (omega arith) (omega arith)
+              (told_opens left (k + 1) (omega arith) (omega arith) s.0
+              (one (past (is_truth left) (k + 1)) (omega arith) (omega arith)))
+              (told_opens right (k + 1 + told_need left) (omega arith) (omega arith) s.1
+              (two (past (is_truth right) (k + 1 + told_need left)) (omega arith) (omega arith)))))
+          by one two Neither e r h = absurd (omega arith)

@@ -1,0 +1,35 @@
+-- The counter of machine steps where a script is followed, and what want of memory leaves of it.
+use Rattle.std.proofs.Common.{◌≡◌, ℕ, ◌+◌, List, Ok, Err, sym, subst}
+use Rattle.std.specs.Prelude.{Result, IfOk, IfErr, OnOk, ◌⊎◌}
+use Rattle.rpp_words.specs.declared.input.Limits.{Limits}
+use Rattle.pisa_isa.specs.Image.{Segments}
+use Rattle.two_way_debugger.specs.declared.command.Command.{Command}
+use Rattle.two_way_debugger.specs.declared.error.ScriptError.{ScriptError}
+use Rattle.two_way_debugger.specs.Shown.{spent_in}
+use Rattle.command_plan.specs.declared.plan.Plan.{Plan}
+use Rattle.command_plan.specs.Plans.{planned}
+use Rattle.image_commands.specs.DebugPlans.{start_of, followed, MovesSome, IsScriptPlan, IsScriptShort}
+
+-- what holds whatever the answer
+pub err_always : {A E : Type 0} (r : Result A E) (P : Type 0) → P → IfErr r (λ _. P)
+err_always (Ok x) P h = tt
+err_always (Err e) P h = h
+
+module _ (read : Result (List Command) ScriptError) (image : Segments) (limits : Limits) (commands : List Command)
+    (count counted : ℕ) where
+  pub script_plan : {E : Type 0} (r : Result Plan E) → read ≡ Ok commands
+      → IfOk r (λ plan. planned plan ≡ followed image limits commands)
+      → OnOk r (counted ≡ count + spent_in commands (start_of image limits))
+      → IfOk r (λ plan. IsScriptPlan read image limits count counted (planned plan))
+  script_plan (Ok plan) is said made =
+      subst (λ (s : Result (List Command) ScriptError). IsScriptPlan s image limits count counted (planned plan))
+      (sym is)
+      (said, made)
+  script_plan (Err e) is said made = tt
+
+  pub script_short : {A E : Type 0} (r : Result A E) → read ≡ Ok commands
+      → IfErr r (λ _. (counted ≡ count) ⊎ MovesSome commands (start_of image limits) count counted)
+      → IfErr r (λ _. (counted ≡ count) ⊎ IsScriptShort read image limits count counted)
+  script_short r is short =
+      subst (λ (s : Result (List Command) ScriptError). IfErr r (λ _. (counted ≡ count)
+      ⊎ IsScriptShort s image limits count counted)) (sym is) short

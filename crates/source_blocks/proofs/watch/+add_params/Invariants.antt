@@ -1,5 +1,0 @@
-use Rattle.std.proofs.Common.{length}
-use Rattle.source_blocks.proofs.watch.+add_params.Given as goal
-
-abbrev pub decreases-add_params : goal.decreases-add_params
-decreases-add_params l = length l.params.now

@@ -1,0 +1,25 @@
+use Rattle.std.proofs.Common.{◌∙◌, refl, sym, arith}
+use Rattle.source_execution.specs.Standing.{config_at}
+use Rattle.source_debugger.specs.declared.running.Arrival.{Arrival}
+use Rattle.source_debugger.proofs.Endings.{stands}
+use Rattle.source_debugger.proofs.running.arrive.Goals as goal
+
+pub returns-in_ok-variables-in-Some : goal.returns-in_ok-variables-in-Some
+returns-in_ok-variables-in-Some c =
+    let arrival : Arrival = record {
+      place = c.in-Some.place;
+      params = c.params.result;
+      object = c.object.result;
+      depth = c.depth.result;
+      variables = c.in_ok-variables-in-Some.field-0;
+    } in
+    record {
+      arrival = arrival;
+      heap = c.into_heap.result;
+      is = refl;
+      begins = sym c.place.ensures ∙ c.in-Some.is;
+      point = stands (config_at c.args.execution) arrival c.into_heap.result c.params.ensures
+          c.in_ok-variables-in-Some.ensures c.object.ensures c.depth.ensures c.into_heap.ensures.store
+          c.into_heap.ensures.log;
+      some = omega arith;
+    }

@@ -1,0 +1,61 @@
+-- What a watch sees of the points of a run.
+use Rattle.std.specs.Prelude.{ℕ, ◌-◌, ℤ, pos, Bool, false, ◌&&◌, ◌||◌, nat_eq, if◌then◌else◌}
+use Rattle.std.specs.Prelude.{List, [], ◌∷◌, map, Option, Some, None}
+use Rattle.std.specs.Ordering.{int_eq}
+use Rattle.source_store.specs.HeapView.{Kept}
+use Rattle.meaning_points.specs.Points.{Point}
+use Rattle.source_execution.specs.Variables.{binding_of}
+use Rattle.source_debugger.specs.declared.watching.Watching.{Watching}
+use Rattle.source_debugger.specs.declared.watching.Watching.TheVariants as watch
+use Rattle.source_debugger.specs.declared.running.Arrival.{Arrival}
+
+-- whether a place is the given one
+abbrev pub is_given : Option ℤ → ℕ → Bool
+is_given None place = false
+is_given (Some given) place = int_eq (pos place) given
+
+-- whether a point at this place is the wanted one
+abbrev pub wants : Watching → ℕ → Bool
+wants (watch.First wanted skip left) place = nat_eq left 0 ||
+    (nat_eq skip 0 && is_given wanted place)
+wants (watch.Latest wanted skip left latest) place = nat_eq left 0
+
+-- a watch behind a point at this place
+abbrev pub passed : Watching → ℕ → Watching
+passed (watch.First wanted skip left) place = watch.First wanted (skip - 1) (left - 1)
+passed (watch.Latest wanted skip left latest) place =
+    watch.Latest wanted (skip - 1) (left - 1) (if nat_eq skip 0 && int_eq (pos place) wanted
+    then Some left else latest)
+
+-- the same of the statement that begins, if one does
+abbrev pub wanted : Watching → Option ℕ → Bool
+wanted w None = false
+wanted w (Some place) = wants w place
+
+abbrev pub behind : Watching → Option ℕ → Watching
+behind w None = w
+behind w (Some place) = passed w place
+
+-- a watch has passed points, or it has met the one that it wants
+pub data Watched : Type 0 where
+  Passed : (after : Watching) → Watched
+  Met : (before : Watching) (point : Point) → Watched
+
+-- what a watch comes to along points
+abbrev pub watched : Watching → List Point → Watched
+watched w [] = Passed w
+watched w (p ∷ ps) = if wants w p.place then Met w p else watched (passed w p.place) ps
+
+-- the point that was met, with the heap as it is there
+abbrev pub point_of : Arrival → Kept → Point
+point_of a heap = record {
+  place = a.place;
+  params = a.params;
+  state = record {
+    frame = map binding_of a.variables.items;
+    self = a.object;
+    depth = a.depth;
+    store = heap.store;
+    log = heap.log;
+  };
+}

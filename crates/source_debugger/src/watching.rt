@@ -1,0 +1,99 @@
+// The point of a run that is wanted.
+ghost use Rattle.std.specs.Prelude.{◌≡◌, ◌&&◌, nat_eq, pos, if◌then◌else◌};
+ghost use Rattle.std.specs.Ordering.{int_eq};
+ghost use Rattle.source_debugger.specs.Watched.{wants as wants_point, passed as passed_point, is_given, wanted as wanted_at, behind as behind_place};
+
+/// The point of a run that is wanted. Numbers count the points that are passed before.
+#[derive(Clone, Copy, Debug, PartialEq, Eq)]
+pub(crate) enum Watching {
+    /// The first at the place, if one is given, that is behind `skip` points, or else the one
+    /// behind `left`.
+    First {
+        place: Option<i64>,
+        skip: u64,
+        left: u64,
+    },
+    /// The one behind `left` points; meanwhile `latest` is how many were left at the last one at a
+    /// place behind `skip` points.
+    Latest {
+        place: i64,
+        skip: u64,
+        left: u64,
+        latest: Option<u64>,
+    },
+}
+
+// Whether a place is the given one.
+fn is_place(place: Option<i64>, at: u32) -> bool
+    ensures { result ≡ is_given place at }
+{
+    match place {
+        None => false,
+        Some(place) => i64::from(at) == place,
+    }
+}
+
+// Whether a point at this place is the wanted one.
+fn wants(watching: Watching, at: u32) -> bool
+    ensures { result ≡ wants_point watching at }
+{
+    match watching {
+        Watching::First { place, skip, left } => left == 0 || (skip == 0 && is_place(place, at)),
+        Watching::Latest { left, .. } => left == 0,
+    }
+}
+
+// How many were left at the last point at the place.
+fn latest_at(place: i64, skip: u64, left: u64, latest: Option<u64>, at: u32) -> Option<u64>
+    ensures { result ≡ (if nat_eq skip 0 && int_eq (pos at) place then Some left else latest) }
+{
+    if skip == 0 && i64::from(at) == place {
+        Some(left)
+    } else {
+        latest
+    }
+}
+
+// The watch behind a point at this place.
+fn passed(watching: Watching, at: u32) -> Watching
+    ensures { result ≡ passed_point watching at }
+{
+    match watching {
+        Watching::First { place, skip, left } => Watching::First {
+            place,
+            skip: skip.saturating_sub(1),
+            left: left.saturating_sub(1),
+        },
+        Watching::Latest {
+            place,
+            skip,
+            left,
+            latest,
+        } => Watching::Latest {
+            place,
+            skip: skip.saturating_sub(1),
+            left: left.saturating_sub(1),
+            latest: latest_at(place, skip, left, latest, at),
+        },
+    }
+}
+
+/// Whether the statement that begins, if one does, is wanted.
+pub(crate) fn wanted(watching: Watching, place: Option<u32>) -> bool
+    ensures { result ≡ wanted_at watching place }
+{
+    match place {
+        None => false,
+        Some(at) => wants(watching, at),
+    }
+}
+
+/// The watch behind it.
+pub(crate) fn behind(watching: Watching, place: Option<u32>) -> Watching
+    ensures { result ≡ behind_place watching place }
+{
+    match place {
+        None => watching,
+        Some(at) => passed(watching, at),
+    }
+}

@@ -1,0 +1,15 @@
+pub mod Blocks
+pub mod Opened
+pub mod Over
+pub mod Begun
+pub mod Entered
+pub mod Ended
+pub mod Undone
+pub mod Dispatched
+pub mod Scoped
+pub mod Callee
+pub mod Stepped
+pub mod Started
+pub mod Returned
+pub mod Stated
+pub mod Last

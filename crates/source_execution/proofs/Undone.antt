@@ -1,0 +1,25 @@
+-- A statement undone stands where it did.
+use Rattle.std.proofs.Common.{◌≡◌, refl, Bool, true, false}
+use Rattle.rpp_tree.specs.Tree.{Statement, Update, Swap, If, From, Construct, Local, New, Delete, Copy, Uncopy, Call}
+use Rattle.rpp_tree.specs.Tree.{Skip}
+use Rattle.rpp_tree.specs.Places.{statement_place}
+use Rattle.stmt_inverter.specs.Inverse.{inverse_statement}
+use Rattle.source_steps.specs.Ends.{turned}
+
+place_undone : (s : Statement) → statement_place s ≡ statement_place (inverse_statement s)
+place_undone (Update at op target value) = refl
+place_undone (Swap at left right) = refl
+place_undone (If at test taken other after) = refl
+place_undone (From at entry first again exit) = refl
+place_undone (Construct at class name body end) = refl
+place_undone (Local at var value body end_var end_value) = refl
+place_undone (New at made target) = refl
+place_undone (Delete at made target) = refl
+place_undone (Copy at kind source target) = refl
+place_undone (Uncopy at kind source target) = refl
+place_undone (Call at back receiver method args) = refl
+place_undone (Skip at) = refl
+
+pub place_turned : (back : Bool) (s : Statement) → statement_place s ≡ statement_place (turned back s)
+place_turned true s = place_undone s
+place_turned false s = refl

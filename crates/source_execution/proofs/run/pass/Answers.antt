@@ -1,0 +1,9 @@
+use Rattle.std.proofs.Common.{◌+◌, refl}
+use Rattle.source_execution.proofs.Opened.{passed, passed_sound}
+use Rattle.source_execution.proofs.run.pass.Goals as goal
+
+pub returns-clause-passed : goal.returns-clause-passed
+returns-clause-passed c = passed c.args.run.now (c.args.run.now.at + 1) refl
+
+pub returns-clause-sound : goal.returns-clause-sound
+returns-clause-sound c = passed_sound c.args.run.now (c.args.run.now.at + 1) c.requires.sound

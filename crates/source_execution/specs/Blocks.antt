@@ -1,0 +1,25 @@
+-- How far a block has run.
+use Rattle.std.specs.Prelude.{ℕ, zero, suc}
+use Rattle.rpp_tree.specs.Tree.{Statement, Statements, Skip, End, Then}
+
+-- the statement behind so many of a block
+abbrev pub statement_at : ℕ → Statements → Statement
+statement_at at End = Skip 0
+statement_at zero (Then s rest) = s
+statement_at (suc at) (Then s rest) = statement_at at rest
+
+-- the statements behind so many
+abbrev pub rest_at : ℕ → Statements → Statements
+rest_at zero body = body
+rest_at (suc at) End = End
+rest_at (suc at) (Then s rest) = rest_at at rest
+
+-- the first so many, the last one first
+abbrev pub past_at : ℕ → Statements → Statements
+past_at zero body = End
+past_at (suc at) body = Then (statement_at at body) (past_at at body)
+
+-- how many statements a block has
+abbrev pub count_of : Statements → ℕ
+count_of End = 0
+count_of (Then s rest) = suc (count_of rest)

@@ -1,0 +1,7 @@
+-- Variables that are copied with their names.
+use Rattle.roopl_semantics.specs.Store.{Binding}
+use Rattle.source_store.specs.ValueView.{value_of}
+use Rattle.source_execution.specs.declared.variables.Variable.{Variable}
+
+abbrev pub binding_of : Variable → Binding
+binding_of variable = record { name = variable.name; value = value_of variable.value }

@@ -1,0 +1,267 @@
+// A run of the source, as a layer above sees it.
+ghost use Rattle.std.specs.Prelude.{◌≡◌, ◌+◌, ◌*◌, ◌≤◌, ◌↔◌, IsTrue, false, IfOk, OnOk, length, map, slice_set};
+ghost use Rattle.rpp_words.specs.Limits.{IsLimits};
+ghost use Rattle.rpp_tree.specs.Views.{source_of};
+ghost use Rattle.roopl_semantics.specs.Store.{Word};
+ghost use Rattle.roopl_semantics.specs.Source.{with_input, main_body};
+ghost use Rattle.meaning_machine.specs.Machine.{next};
+ghost use Rattle.meaning_machine.specs.SourceLaws.{set_for, start_of};
+ghost use Rattle.source_store.specs.ValueView.{values_of};
+ghost use Rattle.source_steps.specs.Metered.{Gives, metered};
+ghost use Rattle.source_steps.specs.StateView.{setting_of};
+ghost use Rattle.source_execution.specs.Tasks.{task_of};
+ghost use Rattle.source_execution.specs.Runs.{IsSound, config_of};
+ghost use Rattle.source_execution.specs.Variables.{binding_of};
+ghost use Rattle.source_execution.specs.Standing.{IsOver, Walks, StepFalls, config_at, setting_at, next_place, starting_heap};
+
+use crate::begins::begin;
+use crate::ends::end;
+use crate::methods::method_at;
+use crate::places::line_place;
+use crate::run::Run;
+use crate::task::{Task, line_at};
+use crate::variables::{Variable, variables_in};
+use class_table::Checked;
+use rpp_words::{FieldWord, Input, Limits, NoMemory};
+use source_steps::{Setting, Stop, put_value, spend, zeros};
+use source_store::{Head, Heap, Value};
+use std::alloc::Global;
+use std::marker::Model;
+
+fn put_word(cells: &mut Vec<Value>, field: u32, word: u32)
+    ensures { values_of cells.new.items ≡ slice_set (values_of cells.old.items) field (Word word) }
+{
+    put_value(cells, field as usize, Value::Word(word));
+}
+
+/// The input's words go into their fields.
+fn set_input(cells: &mut Vec<Value>, words: &[FieldWord])
+    ensures { values_of cells.new.items ≡ with_input words.now (values_of cells.old.items) }
+{
+    for word in words {
+        put_word(cells, word.field, word.word);
+    }
+}
+
+/// The heap before a run: the main object alone, with the input's words.
+fn first_heap(
+    alloc: Global,
+    checked: &Checked,
+    limits: Limits,
+    input: &Input,
+) -> Result<Heap, NoMemory>
+    requires { IsLimits limits }
+    ensures { IfOk result (λ heap. heap
+        ≡ starting_heap (source_of checked.now) input.now.words.items limits.heap) }
+{
+    let table = checked.table();
+    let class = table.main().class;
+    let mut cells = zeros(alloc, table.fields(class))?;
+    set_input(&mut cells, &input.words);
+    Heap::new(alloc, limits.heap, Head::Class(class), cells)
+}
+
+/// The body of the main method.
+fn main_task<'a>(checked: &'a Checked) -> Task<'a>
+    ensures { task_of result ≡ main_body (source_of checked.now) }
+{
+    match method_at(checked.program(), checked.table().main()) {
+        None => Task::Nothing,
+        Some(method) => Task::Text {
+            block: &method.body,
+            back: false,
+        },
+    }
+}
+
+/// A step of a run.
+fn step<'a>(run: &mut Run<'a>, fuel: &mut u64) -> Result<(), Stop>
+    requires sound { IsSound run.old }
+    ensures gives { Gives (λ u. config_of run.new) result fuel.new
+        (metered fuel.old (next (setting_of run.old.setting) (config_of run.old))) }
+    ensures sound { OnOk result (IsSound run.new) }
+    ensures falls { OnOk result (StepFalls (config_of run.old)
+        (2 * fuel.new + length run.new.frames.items)
+        (2 * fuel.old + length run.old.frames.items)) }
+    ensures setting { setting_of run.new.setting ≡ setting_of run.old.setting }
+    ensures less { fuel.new ≤ fuel.old }
+{
+    match line_at(&run.task, run.at) {
+        None => end(run, fuel),
+        Some(line) => {
+            match spend(fuel, 1) {
+                Err(why) => Err(why),
+                Ok(()) => begin(run, fuel, &line),
+            }
+        }
+    }
+}
+
+/// A run of the source: where it stands, and what is open around it.
+#[derive(Drop)]
+pub struct Execution<'a> {
+    run: Run<'a>,
+    /// Whether a step failed.
+    broken: bool,
+}
+
+impl<'a> Model for Execution<'a> {
+    ghost use Rattle.rpp_tree.specs.contracts.tree.Stmt as stmt;
+    ghost use Rattle.rpp_tree.specs.contracts.tree.Expr as expr;
+    ghost use Rattle.std.specs.Coded.{codes};
+    ghost use Rattle.std.specs.Prelude.{◌≡◌, false};
+    ghost use Rattle.source_execution.specs.Standing.{Standing};
+    ghost use Rattle.source_execution.specs.Runs.{IsSound};
+
+    ghost Value = { Standing };
+
+    ghost coded = { Prim.hlevel (codes, stmt.the_row.coded, expr.the_row.coded) };
+
+    ghost view = { λ e. record { run = e.run; broken = e.broken } };
+
+    ghost invariant = { λ e. e.broken ≡ false → IsSound e.run };
+}
+
+impl<'a> Execution<'a> {
+    /// The run of a program before its first step. The only error is that memory ran out.
+    pub fn start(
+        alloc: Global,
+        checked: &'a Checked,
+        limits: Limits,
+        input: &Input,
+    ) -> Result<Execution<'a>, NoMemory>
+        requires { IsLimits limits }
+        ensures setting { IfOk result (λ execution. setting_at execution
+            ≡ set_for (source_of checked.now) limits) }
+        ensures start { IfOk result (λ execution. config_at execution
+            ≡ start_of (source_of checked.now) input.now.words.items) }
+        ensures whole { IfOk result (λ execution. execution.broken ≡ false) }
+    {
+        let heap = first_heap(alloc, checked, limits, input)?;
+        Ok(Execution {
+            run: Run {
+                setting: Setting {
+                    alloc,
+                    checked,
+                    limits,
+                    object: 1,
+                    depth: 1,
+                },
+                params: &[],
+                locals: Vec::new(alloc),
+                values: Vec::new(alloc),
+                heap,
+                task: main_task(checked),
+                at: 0,
+                frames: Vec::new(alloc),
+            },
+            broken: false,
+        })
+    }
+
+    /// Whether the run is over.
+    pub fn is_over(&self) -> bool
+        ensures { IsTrue result ↔ IsOver (config_at self.now) }
+    {
+        if !self.run.frames.is_empty() {
+            return false;
+        }
+        match line_at(&self.run.task, self.run.at) {
+            None => true,
+            Some(_line) => false,
+        }
+    }
+
+    /// A step of the run: one of the machine of the meaning, where it is not broken off. A fault, or
+    /// want of fuel or memory, breaks it off.
+    pub fn step(&mut self, fuel: &mut u64) -> Result<(), Stop>
+        requires whole { self.old.broken ≡ false }
+        ensures gives { Gives (λ u. config_at self.new) result fuel.new
+            (metered fuel.old (next (setting_at self.old) (config_at self.old))) }
+        ensures whole { OnOk result (self.new.broken ≡ false) }
+        ensures setting { setting_at self.new ≡ setting_at self.old }
+        ensures falls { OnOk result (StepFalls (config_at self.old)
+            (2 * fuel.new + length (config_at self.new).around)
+            (2 * fuel.old + length (config_at self.old).around)) }
+        ensures less { fuel.new ≤ fuel.old }
+    {
+        match step(&mut self.run, fuel) {
+            Ok(()) => Ok(()),
+            Err(why) => {
+                self.broken = true;
+                Err(why)
+            }
+        }
+    }
+
+    /// Steps until the run is over, where it is not broken off.
+    pub fn run(&mut self, fuel: &mut u64) -> Result<(), Stop>
+        requires whole { self.old.broken ≡ false }
+        ensures over { OnOk result (IsOver (config_at self.new)) }
+        ensures walks { Walks self.old self.new fuel.old result fuel.new }
+        ensures whole { OnOk result (self.new.broken ≡ false) }
+        ensures setting { setting_at self.new ≡ setting_at self.old }
+        ensures less { fuel.new ≤ fuel.old }
+    {
+        while !self.is_over() {
+            self.step(fuel)?;
+        }
+        Ok(())
+    }
+
+    /// The place of the statement that begins, if one does.
+    pub fn place(&self) -> Option<u32>
+        ensures { result ≡ next_place (config_at self.now).rest }
+    {
+        match line_at(&self.run.task, self.run.at) {
+            None => None,
+            Some(line) => Some(line_place(&line)),
+        }
+    }
+
+    /// How many calls are open, the main method among them.
+    pub fn depth(&self) -> u32
+        ensures { result ≡ (config_at self.now).state.depth }
+    {
+        self.run.setting.depth
+    }
+
+    /// The present object.
+    pub fn object(&self) -> u32
+        ensures { result ≡ (config_at self.now).state.self }
+    {
+        self.run.setting.object
+    }
+
+    /// How many parameters the open method has.
+    pub fn params(&self) -> usize
+        ensures { result ≡ (config_at self.now).params }
+    {
+        self.run.params.len()
+    }
+
+    /// A copy of the variables of the open method, the innermost first. The only error is that memory
+    /// ran out.
+    pub fn variables(&self, alloc: Global) -> Result<Vec<Variable>, NoMemory>
+        ensures { IfOk result (λ variables. map binding_of variables.items
+            ≡ (config_at self.now).state.frame) }
+    {
+        variables_in(alloc, &self.run.locals, self.run.params, &self.run.values)
+    }
+
+    /// The heap of the run.
+    pub fn heap(&self) -> &Heap
+        ensures store { result.now.store ≡ (config_at self.now).state.store }
+        ensures log { result.now.log ≡ (config_at self.now).state.log }
+    {
+        &self.run.heap
+    }
+
+    /// The heap of the run, which ends with it.
+    pub fn into_heap(self) -> Heap
+        ensures store { result.store ≡ (config_at self.entry).state.store }
+        ensures log { result.log ≡ (config_at self.entry).state.log }
+    {
+        self.run.heap
+    }
+}

@@ -1,0 +1,20 @@
+// The places of statements in the text.
+ghost use Rattle.std.specs.Prelude.{◌≡◌};
+ghost use Rattle.rpp_tree.specs.Places.{statement_place};
+ghost use Rattle.source_execution.specs.Tasks.{line_of};
+
+use crate::task::Line;
+use rpp_tree::place_of;
+
+/// The place of a statement that runs: undone, it stands where it did.
+#[tactic(auto, using(crate::proofs::Undone::place_turned))]
+pub fn line_place(line: &Line) -> u32
+    ensures { result ≡ statement_place (line_of line.now) }
+{
+    match line {
+        Line::Text { stmt, .. } => place_of(stmt),
+        Line::Make(made) | Line::Delete(made) => made.at,
+        Line::Exchange { at, .. } => *at,
+        Line::Call(calls) => calls.at,
+    }
+}

@@ -1,8 +1,0 @@
-use Rattle.std.proofs.Common.{◌≡◌, drop, map}
-use Rattle.roopl_semantics.specs.Source.{with_input}
-use Rattle.source_store.specs.ValueView.{value_of}
-use Rattle.source_meaning.proofs.whole.set_input.Given as goal
-
-abbrev pub invariant-loop-word : goal.invariant-loop-word
-invariant-loop-word l = with_input l.words (map value_of l.fn.cells.items)
-    ≡ with_input (drop l.word-index l.words) (map value_of l.cells.items)

@@ -1,0 +1,70 @@
+-- The places of names in two lists, one behind the other.
+use Rattle.std.proofs.Common.{◌≡◌, ◌<◌, ◌≤◌, ℕ, suc, ◌+◌, refl, sym, ap, ◌∙◌, arith, List, [], ◌∷◌, ◌++◌, length}
+use Rattle.std.proofs.Common.{Bool, true, false, Some, None}
+use Rattle.std.proofs.lemmas.Bool.{ltb-true, ltb-false, lt-ltb, le-ltb}
+use Rattle.std.specs.Prelude.{Option, position, nat_lt, not, cond}
+use Rattle.std.specs.List.{position_or_len}
+use Rattle.std.specs.Option.{option_map}
+
+abbrev or_later : ℕ → Option ℕ → Option ℕ → Option ℕ
+or_later n (Some i) later = Some i
+or_later n None later = option_map (λ k. n + k) later
+
+abbrev after_first : Bool → Option ℕ → Option ℕ
+after_first true rest = Some 0
+after_first false rest = option_map suc rest
+
+abbrev below : ℕ → ℕ → Option ℕ
+below at count = cond (nat_lt at count) (Some at) None
+
+later_by : (t : Bool) (at count : ℕ) → nat_lt at count ≡ t
+    → below (1 + at) (suc count) ≡ option_map suc (below at count)
+later_by true at count e =
+    let l : at < count = ltb-true at count e in
+    let next : 1 + at ≡ suc at = omega arith in
+    ap (λ b. cond b (Some (1 + at)) None) (lt-ltb (1 + at) (suc count) (omega arith))
+    ∙ ap (λ k. Some k) next ∙ sym (ap (λ b. option_map suc (cond b (Some at) None)) e)
+later_by false at count e =
+    let l : count ≤ at = ltb-false at count e in
+    ap (λ b. cond b (Some (1 + at)) None) (le-ltb (1 + at) (suc count) (omega arith))
+    ∙ sym (ap (λ b. option_map suc (cond b (Some at) None)) e)
+
+by_first : (here : Bool) (at count : ℕ)
+    → below (cond (not here) (1 + at) 0) (suc count) ≡ after_first here (below at count)
+by_first true at count = ap (λ b. cond b (Some 0) None) (lt-ltb 0 (suc count) (omega arith))
+by_first false at count = later_by (nat_lt at count) at count refl
+
+position_cons : {A : Type 0} (p : A → Bool) (x : A) (xs : List A)
+    → position p (x ∷ xs) ≡ after_first (p x) (position p xs)
+position_cons p x xs = by_first (p x) (position_or_len p xs) (length xs)
+
+none_more : (r : Option ℕ) → r ≡ option_map (λ k. 0 + k) r
+none_more None = refl
+none_more (Some k) = let e : k ≡ 0 + k = omega arith in ap (λ k. Some k) e
+
+one_more : (here : Bool) (n : ℕ) (first later : Option ℕ)
+    → after_first here (or_later n first later) ≡ or_later (suc n) (after_first here first) later
+one_more true n first later = refl
+one_more false n (Some i) later = refl
+one_more false n None None = refl
+one_more false n None (Some k) = let e : suc (n + k) ≡ suc n + k = omega arith in ap (λ k. Some k) e
+
+position_both : {A : Type 0} (p : A → Bool) (xs ys : List A)
+    → position p (xs ++ ys) ≡ or_later (length xs) (position p xs) (position p ys)
+position_both p [] ys = none_more (position p ys)
+position_both p (x ∷ xs) ys = position_cons p x (xs ++ ys) ∙ ap (after_first (p x)) (position_both p xs ys)
+    ∙ one_more (p x) (length xs) (position p xs) (position p ys)
+    ∙ ap (λ r. or_later (suc (length xs)) r (position p ys)) (sym (position_cons p x xs))
+
+module _ {A : Type 0} (p : A → Bool) (xs ys : List A) where
+  pub position_front : (i : ℕ) → Some i ≡ position p xs → Some i ≡ position p (xs ++ ys)
+  position_front i e = ap (λ r. or_later (length xs) r (position p ys)) e ∙ sym (position_both p xs ys)
+
+  pub position_behind : (i : ℕ) → None ≡ position p xs → Some i ≡ position p ys
+      → Some (length xs + i) ≡ position p (xs ++ ys)
+  position_behind i e f = ap (option_map (λ k. length xs + k)) f
+      ∙ ap (λ r. or_later (length xs) r (position p ys)) e ∙ sym (position_both p xs ys)
+
+  pub position_nowhere : None ≡ position p xs → None ≡ position p ys → None ≡ position p (xs ++ ys)
+  position_nowhere e f = ap (option_map (λ k. length xs + k)) f
+      ∙ ap (λ r. or_later (length xs) r (position p ys)) e ∙ sym (position_both p xs ys)
