@@ -20,10 +20,11 @@ use Rattle.expr_uncompute.specs.Steps.{prepared_value_steps, prepared_test_steps
 use Rattle.expr_uncompute.specs.Steps.{value_steps, test_steps, fetch_steps, place_steps, compare_steps, apart_steps}
 use Rattle.expr_uncompute.specs.Steps.{both_apart_steps, found_update_steps, update_steps, found_swap_steps}
 use Rattle.expr_uncompute.specs.Steps.{swap_steps, tokens, place_tokens}
-use Rattle.expr_uncompute.specs.Held.{is_held}
-use Rattle.expr_uncompute.specs.Steps.{around_steps, held_steps}
-use Rattle.expr_uncompute.proofs.HeldBounds.{held_few, some_nodes, operator_most, length_around, held_value_most}
-use Rattle.expr_uncompute.proofs.HeldBounds.{held_test_most, held_most, held_least, held_length}
+use Rattle.expr_uncompute.specs.Held.{has_element, is_held, is_opened_once, is_near, is_near_index}
+use Rattle.expr_uncompute.specs.Steps.{around_steps, held_steps, near_update_steps, near_swap_steps}
+use Rattle.expr_uncompute.proofs.HeldBounds.{held_few, once_few, near_few, near_index_few, neither_left, neither_right}
+use Rattle.expr_uncompute.proofs.HeldBounds.{some_nodes, operator_most, length_around}
+use Rattle.expr_uncompute.proofs.HeldBounds.{held_value_most, held_test_most, held_most, held_least, held_length}
 use Rattle.expr_uncompute.proofs.HeldBounds.{held_value_least, held_test_least, held_value_length, held_test_length}
 use Rattle.expr_uncompute.specs.Found.{found_place_steps, found_value_steps, found_places_steps}
 
@@ -101,6 +102,17 @@ compare_is (Binary at op left right) =
     let b = compare_is right in
     omega (arith, length-append (elements left) (elements right))
 
+-- where no element is read there is nothing to compare
+compare_none : (e : Expression) → has_element e ≡ false → compare_steps e ≡ 0
+compare_none (Number at word) h = refl
+compare_none (Null at) h = refl
+compare_none (Variable name) h = refl
+compare_none (Element name index) h = absurd (cc)
+compare_none (Binary at o left right) h =
+    let a = compare_none left (neither_left (has_element left) (has_element right) h) in
+    let b = compare_none right (neither_right (has_element left) (has_element right) h) in
+    omega arith
+
 index_compare_is : (target : Lvalue) → compare_steps (index_of target) ≡ 21 * length (index_elements target)
 index_compare_is (Whole name) = refl
 index_compare_is (Item name index) = compare_is index
@@ -152,14 +164,20 @@ update_most (Whole name) (Number at word) = omega arith
 update_most (Whole name) (Variable other) = omega arith
 update_most (Whole name) (Null at) = found_update_most (Whole name) (Null at)
 update_most (Whole name) (Element array index) = found_update_most (Whole name) (Element array index)
-update_most (Whole name) (Binary at o left right) = by (Binary at o left right) (is_held (Binary at o left right))
+update_most (Whole name) (Binary at o left right) = by (Binary at o left right)
+    (is_opened_once (Binary at o left right))
   where
     by : (e : Expression) (t : Bool) → (if t then around_steps (held_steps e) 5 else found_update_steps (Whole name) e)
         ≤ 162 * (1 + index_nodes (Whole name) + nodes e
         + read_cost (own_element (Whole name)) (index_elements (Whole name) ++ elements e))
     by e true = let a = held_most e in let c = some_nodes e in omega arith
     by e false = found_update_most (Whole name) e
-update_most (Item name index) e = found_update_most (Item name index) e
+update_most (Item name index) e = by (is_near index e)
+  where
+    by : (t : Bool) → (if t then near_update_steps index e else found_update_steps (Item name index) e) ≤ 162 *
+        (1 + nodes index + nodes e + read_cost (own_element (Item name index)) (elements index ++ elements e))
+    by true = let a = operand_most index in let b = prepare_most index in let c = held_most e in omega arith
+    by false = found_update_most (Item name index) e
 
 found_swap_most : (left right : Lvalue) → found_swap_steps left right ≤ 304 *
     (1 + index_nodes left + index_nodes right + read_cost (own_element left ++ own_element right)
@@ -171,8 +189,19 @@ pub swap_most : (left right : Lvalue) → swap_steps left right ≤ 304 *
     (1 + index_nodes left + index_nodes right + read_cost (own_element left ++ own_element right)
     (index_elements left ++ index_elements right))
 swap_most (Whole name) (Whole other) = omega arith
-swap_most (Whole name) (Item other index) = found_swap_most (Whole name) (Item other index)
-swap_most (Item name index) right = found_swap_most (Item name index) right
+swap_most (Whole name) (Item other index) = by (is_near_index index)
+  where
+    by : (t : Bool) → (if t then near_swap_steps index else found_swap_steps (Whole name) (Item other index)) ≤ 304 *
+        (1 + 0 + nodes index + read_cost (own_element (Item other index)) (elements index))
+    by true = let a = operand_most index in let c = prepare_most index in omega arith
+    by false = found_swap_most (Whole name) (Item other index)
+swap_most (Item name index) (Whole other) = by (is_near_index index)
+  where
+    by : (t : Bool) → (if t then near_swap_steps index else found_swap_steps (Item name index) (Whole other)) ≤ 304 *
+        (1 + nodes index + 0 + read_cost (own_element (Item name index)) (elements index ++ []))
+    by true = let a = operand_most index in let c = prepare_most index in omega arith
+    by false = found_swap_most (Item name index) (Whole other)
+swap_most (Item name index) (Item other k) = found_swap_most (Item name index) (Item other k)
 
 -- what is found around a middle, there and back
 pub found_place_most : (target : Lvalue) → 2 * found_place_steps target ≤ 162 *
@@ -558,7 +587,7 @@ module _ (spot : List ℕ → Spot) (free : ℕ) where
   update_cells o (Whole name) (Null at) = found_update_cells o (Whole name) (Null at)
   update_cells o (Whole name) (Element array index) = found_update_cells o (Whole name) (Element array index)
   update_cells o (Whole name) (Binary at p left right) =
-      by (Binary at p left right) (is_held (Binary at p left right))
+      by (Binary at p left right) (is_opened_once (Binary at p left right))
     where
       by : (e : Expression) (t : Bool) → length (if t then Code.held_update_cells spot o (spot name.text) e
           else Code.found_update_cells spot free o (Whole name) e) ≤ 80 * (place_tokens (Whole name) + 1 + tokens e)
@@ -571,7 +600,27 @@ module _ (spot : List ℕ → Spot) (free : ℕ) where
             length_around (Code.reach_cells (spot name.text)) alter,
           )
       by e false = found_update_cells o (Whole name) e
-  update_cells o (Item name index) e = found_update_cells o (Item name index) e
+  update_cells o (Item name index) e = by (is_near index e)
+    where
+      by : (t : Bool) → length (if t then Code.near_update_cells spot free o name.text index e
+          else Code.found_update_cells spot free o (Item name index) e) ≤ 80 * (3 + tokens index + 1 + tokens e)
+      by true =
+          let a = prepare_cells index 0 in
+          let c = checked_cells name.text index 0 in
+          let d = held_length spot e 4 in
+          let p = Code.prepare_cells spot free index 0 in
+          let r = Code.checked_cells spot free name.text index 0 in
+          let k = Code.held_cells spot e 4 in
+          omega (
+            arith,
+            length_around (Code.near_place_cells spot free name.text index ++ k) (Code.near_middle o),
+            length-append (Code.near_place_cells spot free name.text index) k,
+            length-append p (r ++ Code.point_cells),
+            length-append r Code.point_cells,
+            length_around (Code.exch Code.content Code.right_operand ∷ [])
+                (Code.update_cell o Code.content (Code.part 4) ∷ []),
+          )
+      by false = found_update_cells o (Item name index) e
 
   found_swap_cells : (left right : Lvalue) → length (Code.found_swap_cells spot free left right) ≤ swap_size left right
   found_swap_cells (Whole name) right =
@@ -629,13 +678,48 @@ module _ (spot : List ℕ → Spot) (free : ℕ) where
   spots_length true x y = by_one_length x y
   spots_length false x y = at_length x y
 
+  near_swap : (p q : ℕ) (x : Spot) (name : List ℕ) (index : Expression)
+      → length (Code.near_swap_cells spot free p q x name index) ≤ 80 * (4 + tokens index)
+  near_swap p q x name index =
+      let a = prepare_cells index 0 in
+      let c = checked_cells name index 0 in
+      let w = Code.prepare_cells spot free index 0 in
+      let r = Code.checked_cells spot free name index 0 in
+      let last = Code.addi (Code.base_of x) (offset_of x) ∷ [] in
+      omega (
+        arith,
+        length_around (Code.near_place_cells spot free name index ++ last) (Code.four_exchanges p q),
+        length-append (Code.near_place_cells spot free name index) last,
+        length-append w (r ++ Code.point_cells),
+        length-append r Code.point_cells,
+      )
+
   pub swap_cells : (left right : Lvalue) → length (Code.swap_cells spot free left right) ≤ swap_size left right
   swap_cells (Whole name) (Whole other) =
       let x = spot name.text in
       let y = spot other.text in
       omega (arith, spots_length (Code.have_one_base x y) x y)
-  swap_cells (Whole name) (Item other index) = found_swap_cells (Whole name) (Item other index)
-  swap_cells (Item name index) right = found_swap_cells (Item name index) right
+  swap_cells (Whole name) (Item other index) = by (is_near_index index)
+    where
+      by : (t : Bool) → length (if t then Code.near_swap_cells spot free (Code.base_of (spot name.text))
+          Code.right_operand (spot name.text) other.text index
+          else Code.found_swap_cells spot free (Whole name) (Item other index))
+          ≤ swap_size (Whole name) (Item other index)
+      by true =
+          let a = near_swap (Code.base_of (spot name.text)) Code.right_operand (spot name.text) other.text index in
+          omega arith
+      by false = found_swap_cells (Whole name) (Item other index)
+  swap_cells (Item name index) (Whole other) = by (is_near_index index)
+    where
+      by : (t : Bool) → length (if t then Code.near_swap_cells spot free Code.right_operand
+          (Code.base_of (spot other.text)) (spot other.text) name.text index
+          else Code.found_swap_cells spot free (Item name index) (Whole other))
+          ≤ swap_size (Item name index) (Whole other)
+      by true =
+          let a = near_swap Code.right_operand (Code.base_of (spot other.text)) (spot other.text) name.text index in
+          omega arith
+      by false = found_swap_cells (Item name index) (Whole other)
+  swap_cells (Item name index) (Item other k) = found_swap_cells (Item name index) (Item other k)
 
 -- ---- and how many at least: a step stands for three counts at most
 
@@ -689,14 +773,34 @@ update_least (Whole name) (Variable other) = omega arith
 update_least (Whole name) (Null at) = found_update_least (Whole name) (Null at)
 update_least (Whole name) (Element array index) = found_update_least (Whole name) (Element array index)
 update_least (Whole name) (Binary at o left right) =
-    by (Binary at o left right) (is_held (Binary at o left right)) refl
+    by (Binary at o left right) (is_opened_once (Binary at o left right)) refl
   where
-    by : (e : Expression) (t : Bool) → is_held e ≡ t → 1 + index_nodes (Whole name) + nodes e
+    by : (e : Expression) (t : Bool) → is_opened_once e ≡ t → 1 + index_nodes (Whole name) + nodes e
         + read_cost (own_element (Whole name)) (index_elements (Whole name) ++ elements e)
         ≤ (if t then around_steps (held_steps e) 5 else found_update_steps (Whole name) e)
-    by e true q = let few = held_few e q in let a = held_least e few in let c = apart_is (Whole name) e in omega arith
+    by e true q =
+        let few = once_few e q in
+        let less = few.0 in
+        let a = held_least e few.0 in
+        let c = apart_is (Whole name) e in
+        let d = compare_none e few.1 in
+        omega arith
     by e false q = found_update_least (Whole name) e
-update_least (Item name index) e = found_update_least (Item name index) e
+update_least (Item name index) e = by (is_near index e) refl
+  where
+    by : (t : Bool) → is_near index e ≡ t → 1 + nodes index + nodes e + read_cost (own_element (Item name index))
+        (elements index ++ elements e) ≤ (if t then near_update_steps index e
+        else found_update_steps (Item name index) e)
+    by true q =
+        let few = near_few index e q in
+        let less = few.0 in
+        let a = prepare_least index in
+        let c = held_least e (omega arith) in
+        let d = compare_none index few.2 in
+        let g = compare_none e few.1 in
+        let k = apart_is (Item name index) e in
+        omega arith
+    by false q = found_update_least (Item name index) e
 
 -- what is found around a middle
 pub found_place_least : (target : Lvalue) → index_nodes target + read_cost (own_element target) (index_elements target)
@@ -729,5 +833,28 @@ found_swap_least left right = let a = place_least left in let b = place_least ri
 pub swap_least : (left right : Lvalue) → 1 + index_nodes left + index_nodes right + read_cost
     (own_element left ++ own_element right) (index_elements left ++ index_elements right) ≤ swap_steps left right
 swap_least (Whole name) (Whole other) = omega arith
-swap_least (Whole name) (Item other index) = found_swap_least (Whole name) (Item other index)
-swap_least (Item name index) right = found_swap_least (Item name index) right
+swap_least (Whole name) (Item other index) = by (is_near_index index) refl
+  where
+    by : (t : Bool) → is_near_index index ≡ t
+        → 1 + 0 + nodes index + read_cost (own_element (Item other index)) (elements index)
+        ≤ (if t then near_swap_steps index else found_swap_steps (Whole name) (Item other index))
+    by true q =
+        let few = near_index_few index q in
+        let a = prepare_least index in
+        let c = compare_none index few in
+        let d = compare_is index in
+        omega arith
+    by false q = found_swap_least (Whole name) (Item other index)
+swap_least (Item name index) (Whole other) = by (is_near_index index) refl
+  where
+    by : (t : Bool) → is_near_index index ≡ t
+        → 1 + nodes index + 0 + read_cost (own_element (Item name index)) (elements index ++ [])
+        ≤ (if t then near_swap_steps index else found_swap_steps (Item name index) (Whole other))
+    by true q =
+        let few = near_index_few index q in
+        let a = prepare_least index in
+        let c = compare_none index few in
+        let d = compare_is index in
+        omega (arith, length-append (elements index) [])
+    by false q = found_swap_least (Item name index) (Whole other)
+swap_least (Item name index) (Item other k) = found_swap_least (Item name index) (Item other k)

@@ -12,11 +12,14 @@ use Rattle.paired_code.specs.declared.part.Symbol.{Symbol}
 use Rattle.refine_form.specs.declared.spot.Spot.{Spot}
 use Rattle.refine_form.specs.declared.spot.Spot.TheVariants.{Field, Frame}
 use Rattle.code_scope.specs.Visible.{offset_of}
-use Rattle.expr_uncompute.specs.Code.{first_word, second_word, addi, exch, base_of, onward, swap_at, swap_by_one}
+use Rattle.expr_uncompute.specs.Code.{right_operand, first_word, second_word, addi, exch, base_of, onward}
+use Rattle.expr_uncompute.specs.Code.{four_exchanges}
+use Rattle.expr_uncompute.specs.Code.{swap_at, swap_by_one}
 use Rattle.expr_uncompute.specs.Code.{have_one_base, swap_spots}
 use Rattle.expr_uncompute.specs.Number.{Bases, address_of}
 use Rattle.expr_uncompute.specs.Laws.{swapped_at}
 use Rattle.expr_uncompute.proofs.Goes.{Goes, goes_seq, goes_cons, goes_to, goes_around, goes_exch}
+use Rattle.expr_uncompute.proofs.Operators.{operands}
 use Rattle.expr_uncompute.proofs.Reading.{moved}
 use Rattle.expr_uncompute.proofs.Scratch.{Scratch, keeping, mem}
 use Rattle.expr_uncompute.proofs.Standing.{stand, onto, stands_there, stands_on, there_goes, on_goes, Exchanges}
@@ -207,3 +210,62 @@ module _ (b : Bases) (f : ℕ → ℕ) where
           (mem b f (keeping 0 0 0) (swapped_at (address_of b x) (address_of b y) zs))
       go true e = by_one_goes x y zs (differ x y e) h k small
       go false e = at_goes x y zs (meet x y e) h k small
+
+-- ---- a variable, at whose word its base stands, and an element whose address is in the register of its array
+
+module _ (b : Bases) (f : ℕ → ℕ) (i a : ℕ) where
+  abbrev beside : (x y : ℕ) → Scratch
+  beside x y = record (operands 0 0 0 i a) { first = x; second = y }
+
+  first_at : (y : ℕ) → Exchanges f first_word (λ z. beside z y)
+  first_at y = record {
+    by_object = λ c z ws h. goes_exch _ (λ z ws. mem c f (beside z y) ws) c.object z ws h refl (omega arith)
+        (λ z ws. refl) (λ z ws. refl);
+    by_frame = λ c z ws h. goes_exch _ (λ z ws. mem c f (beside z y) ws) c.frame z ws h refl (omega arith)
+        (λ z ws. refl) (λ z ws. refl);
+  }
+
+  second_at : (x : ℕ) → Exchanges f second_word (λ z. beside x z)
+  second_at x = record {
+    by_object = λ c z ws h. goes_exch _ (λ z ws. mem c f (beside x z) ws) c.object z ws h refl (omega arith)
+        (λ z ws. refl) (λ z ws. refl);
+    by_frame = λ c z ws h. goes_exch _ (λ z ws. mem c f (beside x z) ws) c.frame z ws h refl (omega arith)
+        (λ z ws. refl) (λ z ws. refl);
+  }
+
+  abbrev there : Bases → (u v : ℕ) → List ℕ → Memory
+  there c u v ws = mem c f (beside u v) ws
+
+  first_element : (c : Bases) (u v : ℕ) (ws : List ℕ) → a < length ws → Goes (exch first_word right_operand ∷ []) 1
+      (there c u v ws) (there c (slice_index ws a) v (slice_set ws a u))
+  first_element c u v ws l = goes_exch _ (λ z zs. there c z v zs) a u ws l refl (omega arith) (λ z zs. refl)
+      (λ z zs. refl)
+
+  second_element : (c : Bases) (u v : ℕ) (ws : List ℕ) → a < length ws → Goes (exch second_word right_operand ∷ []) 1
+      (there c u v ws) (there c u (slice_index ws a) (slice_set ws a v))
+  second_element c u v ws l = goes_exch _ (λ z zs. there c u z zs) a v ws l refl (omega arith) (λ z zs. refl)
+      (λ z zs. refl)
+
+  pub variable_first : (x : Spot) (ys : List ℕ) → address_of b x < length ys → a < length ys
+      → Goes (four_exchanges (base_of x) right_operand) 4 (mem (moved b x) f (operands 0 0 0 i a) ys)
+      (mem (moved b x) f (operands 0 0 0 i a) (swapped_at (address_of b x) a ys))
+  variable_first x ys h k =
+      let c : Bases = moved b x in
+      let p : ℕ = address_of b x in
+      let e : stand c x ≡ p = stands_there b x in
+      four_swap (there c) p a (exch first_word (base_of x)) (exch second_word right_operand)
+      (exch second_word (base_of x)) (exch first_word right_operand)
+      (λ u v ws l. exchanged f (first_at v) c x p e u ws l) (second_element c)
+      (λ u v ws l. exchanged f (second_at u) c x p e v ws l) (first_element c) ys h k
+
+  pub variable_second : (x : Spot) (ys : List ℕ) → a < length ys → address_of b x < length ys
+      → Goes (four_exchanges right_operand (base_of x)) 4 (mem (moved b x) f (operands 0 0 0 i a) ys)
+      (mem (moved b x) f (operands 0 0 0 i a) (swapped_at a (address_of b x) ys))
+  variable_second x ys k h =
+      let c : Bases = moved b x in
+      let p : ℕ = address_of b x in
+      let e : stand c x ≡ p = stands_there b x in
+      four_swap (there c) a p (exch first_word right_operand) (exch second_word (base_of x))
+      (exch second_word right_operand) (exch first_word (base_of x)) (first_element c)
+      (λ u v ws l. exchanged f (second_at u) c x p e v ws l) (second_element c)
+      (λ u v ws l. exchanged f (first_at v) c x p e u ws l) ys k h

@@ -1,7 +1,7 @@
 -- How many steps and cells expressions have whose parts stand in registers.
 use Rattle.std.proofs.Common.{◌≡◌, ℕ, ◌+◌, ◌*◌, ◌<◌, ◌≤◌, Bool, true, false, List, [], ◌∷◌, ◌++◌, length, length-append}
 use Rattle.std.proofs.Common.{refl, arith}
-use Rattle.std.specs.Prelude.{nat_eq, if◌then◌else◌}
+use Rattle.std.specs.Prelude.{nat_eq, nat_lt, ◌&&◌, ◌||◌, not, if◌then◌else◌}
 use Rattle.std.proofs.lemmas.Bool.Decides.{nat_tests}
 use Rattle.rpp_tree.specs.declared.tree.BinOp.{BinOp}
 use Rattle.rpp_tree.specs.declared.tree.BinOp.TheVariants as op
@@ -13,8 +13,9 @@ use Rattle.refine_form.specs.declared.spot.Spot.{Spot}
 use Rattle.expr_uncompute.specs.Code
 use Rattle.expr_uncompute.specs.declared.held.Kind.{Kind}
 use Rattle.expr_uncompute.specs.declared.held.Kind.TheVariants.{Changes, Gives, Joins, Neither}
-use Rattle.expr_uncompute.specs.Held.{kind, own, need, told_need, left_at, right_at, is_held, is_variable, is_literal}
-use Rattle.expr_uncompute.specs.Held.{literal_in, is_zero, spot_in, past, is_truth}
+use Rattle.expr_uncompute.specs.Held.{kind, own, need, told_need, left_at, right_at, is_held, is_near, is_variable}
+use Rattle.expr_uncompute.specs.Held.{has_parts, has_element, is_opened_once, is_near_index}
+use Rattle.expr_uncompute.specs.Held.{is_literal, literal_in, is_zero, spot_in, past, is_truth}
 use Rattle.expr_uncompute.specs.Steps.{operator_steps, before_steps, core_steps, told_steps, operated_steps, held_steps}
 use Rattle.expr_uncompute.specs.Steps.{given_steps}
 use Rattle.expr_uncompute.specs.Steps.{held_value_steps, held_test_steps, tokens}
@@ -63,8 +64,46 @@ pub held_few : (e : Expression) → is_held e ≡ true → need e < 10
 held_few (Number at word) q = absurd (cc)
 held_few (Null at) q = absurd (cc)
 held_few (Variable name) q = absurd (cc)
-held_few (Element name index) q = absurd (cc)
+held_few (Element name index) q = by (nat_lt (need (Element name index)) 10) (has_parts index) refl q
+  where
+    by : (p r : Bool) → nat_lt (need (Element name index)) 10 ≡ p → p && r ≡ true → need (Element name index) < 10
+    by true r u z = grind (arith, nat_tests)
+    by false r u z = absurd (cc)
 held_few (Binary at o left right) q = grind (arith, nat_tests)
+
+pub neither_left : (p q : Bool) → p || q ≡ false → p ≡ false
+neither_left true q e = absurd (cc)
+neither_left false q e = refl
+
+pub neither_right : (p q : Bool) → p || q ≡ false → q ≡ false
+neither_right true q e = absurd (cc)
+neither_right false q e = e
+
+pub once_few : (e : Expression) → is_opened_once e ≡ true → (need e < 10) × (has_element e ≡ false)
+once_few e q = by (is_held e) (has_element e) refl refl q
+  where
+    by : (p r : Bool) → is_held e ≡ p → has_element e ≡ r → p && not r ≡ true → (need e < 10) × (has_element e ≡ false)
+    by true false u w z = (held_few e u, w)
+    by true true u w z = absurd (cc)
+    by false r u w z = absurd (cc)
+
+pub near_few : (index e : Expression) → is_near index e ≡ true
+    → (need e < 6) × (has_element e ≡ false) × (has_element index ≡ false)
+near_few index e q = by (nat_lt (need e) 6) (has_element e) (has_element index) refl refl refl q
+  where
+    by : (p r t : Bool) → nat_lt (need e) 6 ≡ p → has_element e ≡ r → has_element index ≡ t
+        → (p && not r) && not t ≡ true → (need e < 6) × (has_element e ≡ false) × (has_element index ≡ false)
+    by true false false u w v z = (grind (arith, nat_tests), w, v)
+    by true false true u w v z = absurd (cc)
+    by true true t u w v z = absurd (cc)
+    by false r t u w v z = absurd (cc)
+
+pub near_index_few : (index : Expression) → is_near_index index ≡ true → has_element index ≡ false
+near_index_few index q = by (has_element index) refl q
+  where
+    by : (t : Bool) → has_element index ≡ t → not t ≡ true → has_element index ≡ false
+    by true e z = absurd (cc)
+    by false e z = e
 
 -- ---- steps at most
 
@@ -113,11 +152,11 @@ operated_most Gives o left right w v =
     omega arith
 operated_most Neither o left right w v = omega arith
 
-pub held_most : (e : Expression) → held_steps e ≤ 12 * nodes e
+pub held_most : (e : Expression) → held_steps e ≤ 26 * nodes e
 held_most (Number at word) = omega arith
 held_most (Null at) = omega arith
 held_most (Variable name) = omega arith
-held_most (Element name index) = omega arith
+held_most (Element name index) = let a = held_most index in omega arith
 held_most (Binary at o left right) =
     let a = held_most left in
     let c = held_most right in
@@ -125,7 +164,7 @@ held_most (Binary at o left right) =
     omega arith
 
 given_most : (at : ℕ) (c : Kind) (o : BinOp) (left right : Expression)
-    → given_steps c o left right (held_steps (Binary at o left right)) ≤ 24 * nodes (Binary at o left right) + 9
+    → given_steps c o left right (held_steps (Binary at o left right)) ≤ 52 * nodes (Binary at o left right) + 9
 given_most at Changes o left right = let a = held_most (Binary at o left right) in omega arith
 given_most at Neither o left right = let a = held_most (Binary at o left right) in omega arith
 given_most at Joins o left right =
@@ -142,11 +181,11 @@ given_most at Gives o left right =
     let q = core_most (is_zero right) (is_variable left) (is_variable right) (operator_steps o) in
     omega arith
 
-value_most : (e : Expression) → held_value_steps e ≤ 24 * nodes e + 9
+value_most : (e : Expression) → held_value_steps e ≤ 52 * nodes e + 9
 value_most (Number at word) = omega arith
 value_most (Null at) = omega arith
 value_most (Variable name) = omega arith
-value_most (Element name index) = omega arith
+value_most (Element name index) = let a = held_most (Element name index) in omega arith
 value_most (Binary at o left right) = given_most at (kind o) o left right
 
 pub held_value_most : (e : Expression) → held_value_steps e ≤ 162 * nodes e
@@ -258,7 +297,7 @@ pub held_least : (e : Expression) → need e < 10 → nodes e + 1 ≤ 2 * held_s
 held_least (Number at word) h = omega arith
 held_least (Null at) h = omega arith
 held_least (Variable name) h = omega arith
-held_least (Element name index) h = absurd (omega arith)
+held_least (Element name index) h = let a = held_least index (omega arith) in omega arith
 held_least (Binary at o left right) h =
     let s = own_some (kind o) (is_truth left) (is_truth right) (omega arith) in
     let a = operated_least (kind o) o left right (held_steps left) (held_steps right) s
@@ -286,7 +325,8 @@ pub held_value_least : (e : Expression) → need e < 10 → nodes e ≤ held_val
 held_value_least (Number at word) h = omega arith
 held_value_least (Null at) h = omega arith
 held_value_least (Variable name) h = omega arith
-held_value_least (Element name index) h = absurd (omega arith)
+held_value_least (Element name index) h =
+    let a = held_least (Element name index) h in omega arith
 held_value_least (Binary at o left right) h = given_least at o left right h (kind o)
 
 pub held_test_least : (e : Expression) → need e < 10 → nodes e ≤ held_test_steps e
@@ -398,7 +438,26 @@ module _ (spot : List ℕ → Spot) where
     length_around (Code.reach_cells (spot name.text))
         (Code.xor (Code.part k) Code.content ∷ []),
   )
-  held_length (Element name index) k = omega arith
+  held_length (Element name index) k =
+      let w = Code.held_cells spot index (k + 2) in
+      let i = Code.part (k + 2) in
+      let a = Code.part (k + 1) in
+      let c = Code.copy_cells (spot name.text) a in
+      let x = Code.nil_check_of a in
+      let y = Code.index_check_of a i in
+      let p = Code.point_of a i in
+      let last = Code.around (Code.exch Code.content a ∷ []) (Code.xor (Code.part k) Code.content ∷ []) in
+      let h = held_length index (k + 2) in
+      omega (
+        arith,
+        length-append (((w ++ c) ++ (x ++ y)) ++ p) last,
+        length-append ((w ++ c) ++ (x ++ y)) p,
+        length-append (w ++ c) (x ++ y),
+        length-append w c,
+        length-append x y,
+        length_around (Code.reach_cells (spot name.text)) (Code.xor a Code.content ∷ []),
+        length_around (Code.exch Code.content a ∷ []) (Code.xor (Code.part k) Code.content ∷ []),
+      )
   held_length (Binary at o left right) k =
       let i : ℕ = left_at (kind o) (is_truth left) k in
       let j : ℕ = right_at (kind o) (is_truth left) (is_truth right) (need left) k in

@@ -1,7 +1,7 @@
 -- The value of an expression whose parts stand in registers, or its truth, xored into a register.
 use Rattle.std.proofs.Common.{◌≡◌, ◌≢◌, ℕ, ◌+◌, ◌^◌, ◌<◌, ◌≤◌, inl, inr, Bool, true, false, List, [], ◌∷◌, length}
 use Rattle.std.proofs.Common.{refl, sym, ap, ◌∙◌, subst, ⊎_elim, arith}
-use Rattle.std.specs.Prelude.{bit_xor, if◌then◌else◌}
+use Rattle.std.specs.Prelude.{bit_xor, if◌then◌else◌, Result, Ok, Err}
 use Rattle.std.proofs.lemmas.Bool.{cases_eq}
 use Rattle.rpp_words.proofs.Laws.{xor-twice}
 use Rattle.rpp_tree.specs.declared.tree.BinOp.{BinOp}
@@ -9,34 +9,33 @@ use Rattle.rpp_tree.specs.Tree.{Expression, Number, Null, Variable, Element, Bin
 use Rattle.pisa_isa.specs.Machine.{Memory}
 use Rattle.paired_code.specs.declared.part.Symbol.{Symbol}
 use Rattle.paired_code.specs.Machine.{Image, reg, with_reg}
-use Rattle.paired_code.specs.Pieces.{Done, Runs}
+use Rattle.paired_code.specs.Pieces.{Done, Trapped, Runs}
 use Rattle.roopl_semantics.specs.Operators.{operated, is_true, truth_word}
 use Rattle.refine_form.specs.declared.spot.Spot.{Spot}
-use Rattle.expr_uncompute.specs.Code.{Target, object, frame, content, nought, words, xor, around, truth_cells, part}
-use Rattle.expr_uncompute.specs.Code.{held_cells, given_cells, held_value_cells, held_test_cells}
+use Rattle.expr_uncompute.specs.Code.{Target, object, frame, content, nought, outcome, words, xor, around, truth_cells}
+use Rattle.expr_uncompute.specs.Code.{part}
+use Rattle.expr_uncompute.specs.Code.{core, give_cells, held_cells, given_cells, held_value_cells}
+use Rattle.expr_uncompute.specs.Code.{held_test_cells}
 use Rattle.expr_uncompute.specs.declared.held.Kind.{Kind}
 use Rattle.expr_uncompute.specs.declared.held.Kind.TheVariants as which
 use Rattle.expr_uncompute.specs.Held.{kind, own, beside, past, need, told_need, is_variable, is_zero, spot_in}
 use Rattle.expr_uncompute.specs.Held.{is_truth}
-use Rattle.expr_uncompute.specs.Number.{Bases, given, number, Sees, Same}
+use Rattle.expr_uncompute.specs.Number.{Bases, given, number, Sees}
 use Rattle.expr_uncompute.specs.Steps.{held_steps, given_steps, held_value_steps, held_test_steps}
 use Rattle.expr_uncompute.specs.Laws.{bases_of, Ready, Xored, truth_of}
-use Rattle.expr_uncompute.proofs.Goes.{Goes, goes_to, goes_around, runs_along}
+use Rattle.expr_uncompute.proofs.Goes.{Goes, Traps, TrapsBoth, traps_around, both_more, goes_to, goes_around}
+use Rattle.expr_uncompute.proofs.Goes.{runs_along}
 use Rattle.expr_uncompute.proofs.HeldBounds.{need_least}
 use Rattle.expr_uncompute.proofs.Known.{tabulated_is, known, known_same, known_set, xor_goes, written_at}
 use Rattle.expr_uncompute.proofs.Known.{written_off, written_same, written_again}
 use Rattle.expr_uncompute.proofs.Numbers.{AllWords}
-use Rattle.expr_uncompute.proofs.Opened.{Free, Apart, Changes, Opens, both_of, both_joined, is_number}
+use Rattle.expr_uncompute.proofs.Opened.{Free, Apart, Changes, Opens, both_of, both_joined, Fine, fine_left, fine_right}
+use Rattle.expr_uncompute.proofs.Opened.{Alike, Reads, reads_self, held_traps, before_traps, told_traps, less_free}
+use Rattle.expr_uncompute.proofs.Opened.{ok_fine, leaf_none, zero_none}
 use Rattle.expr_uncompute.proofs.Opened.{given_is, zero_is, shows, past_is, own_truth, told_goes, told_opens}
 use Rattle.expr_uncompute.proofs.Opened.{value_word, more_change, more_open, held_opens}
 use Rattle.expr_uncompute.proofs.Results.{written}
-
-pub same_self : (spot : List ℕ → Spot) (b : Bases) (zs : List ℕ) (e : Expression) → Same spot b zs zs e
-same_self spot b zs (Number at word) = tt
-same_self spot b zs (Null at) = tt
-same_self spot b zs (Variable name) = refl
-same_self spot b zs (Element name index) = (refl, same_self spot b zs index)
-same_self spot b zs (Binary at o left right) = (refl, same_self spot b zs left, same_self spot b zs right)
+use Rattle.expr_uncompute.proofs.Ways.{one_err}
 
 module _ (n : ℕ) (b : Bases) (zs : List ℕ) (spot : List ℕ → Spot) (small : length zs ≤ 2 ^ 31) (room : 25 ≤ n)
     (low : ℕ) (inside : low ≤ length zs) (all : AllWords zs) (into : ℕ) (hi : into < n) (top : ℕ)
@@ -51,8 +50,9 @@ module _ (n : ℕ) (b : Bases) (zs : List ℕ) (spot : List ℕ → Spot) (small
   still_inside : (ws : List ℕ) → ws ≡ zs → low ≤ length ws
   still_inside ws e = subst (λ u. low ≤ length u) (sym e) inside
 
-  alike : (e : Expression) (ws : List ℕ) → ws ≡ zs → Same spot b zs ws e
-  alike e ws q = subst (λ u. Same spot b zs u e) (sym q) (same_self spot b zs e)
+  alike : (e : Expression) → Alike n b (λ ws. ws ≡ zs) spot still_small (omega arith) low still_inside zs all e
+  alike e ws q = subst (λ u. Reads n b (λ ws. ws ≡ zs) spot still_small (omega arith) low still_inside zs all u e)
+      (sym q) (reads_self n b (λ ws. ws ≡ zs) spot still_small (omega arith) low still_inside zs all e)
 
   -- another value in the register into which a result is xored stays there
   free_written : (f : ℕ → ℕ) (v : ℕ) → Free b 0 top f → Free b 0 top (written f into v)
@@ -61,6 +61,7 @@ module _ (n : ℕ) (b : Bases) (zs : List ℕ) (spot : List ℕ → Spot) (small
     frame_is = written_off f into v frame away.frame_not ∙ r.frame_is;
     content_is = written_off f into v content away.content_not ∙ r.content_is;
     nought_is = written_off f into v nought away.nought_not ∙ r.nought_is;
+    outcome_is = written_off f into v outcome away.outcome_not ∙ r.outcome_is;
     clear = λ q lo up. written_off f into v q (λ e. ⊎_elim (λ l. omega arith) (λ l. omega arith) away.side)
         ∙ r.clear q lo up;
   }
@@ -88,59 +89,67 @@ module _ (n : ℕ) (b : Bases) (zs : List ℕ) (spot : List ℕ → Spot) (small
         (goes_to refl refl (known_same n _ _ zs (λ q l. puts_written f v' q))
         (c.goes (written f into v') (free_written f v' r) zs refl))
 
-  module _ (e : Expression) (fits : need e ≤ top) (few : top ≤ 9) (sees : Sees spot b low zs e) where
-    abbrev v : ℕ
-    v = given (number spot b zs e)
+  module _ (e : Expression) (fits : need e ≤ top) (few : top ≤ 9) (sees : Sees spot b low zs e)
+      (fine : Fine spot b zs e)
+    where
+      abbrev v : ℕ
+      v = given (number spot b zs e)
 
-    hc : content < n
-    hc = omega arith
+      hc : content < n
+      hc = omega arith
 
-    -- the expression opened in the first registers
-    open_first : Opens n b only (held_cells spot e 0) (held_steps e) 0 (need e) (given (number spot b zs e))
-    open_first = more_open n b only (omega arith) refl
-        (held_opens n b only spot still_small hc low still_inside zs all e 0 (omega arith) (omega arith) sees (alike e))
+      -- the expression opened in the first registers
+      open_first : Opens n b only (held_cells spot e 0) (held_steps e) 0 (need e) (given (number spot b zs e))
+      open_first = more_open n b only (omega arith) refl
+          (held_opens n b only spot still_small hc low still_inside zs all e 0 (omega arith) (omega arith) fine sees
+          (alike e))
 
-    abbrev wide : Changes n b only (held_cells spot e 0) (held_steps e) 0 top
-    wide = more_change n b only (omega arith) fits open_first.change
+      abbrev wide : Changes n b only (held_cells spot e 0) (held_steps e) 0 top
+      wide = more_change n b only (omega arith) fits open_first.change
 
-    part_not : part 0 ≢ into
-    part_not q = ⊎_elim (λ l. omega arith) (λ l. (let a = need_least e in
-        omega arith)) away.side
+      part_not : part 0 ≢ into
+      part_not q = ⊎_elim (λ l. omega arith) (λ l. (let a = need_least e in
+          omega arith)) away.side
 
-    plain_into : (f : ℕ → ℕ) → Free b 0 top f → Goes (around (held_cells spot e 0) (xor into (part 0) ∷ []))
-        (held_steps e + (1 + held_steps e)) (known n f zs)
-        (known n (written f into (bit_xor (f into) (given (number spot b zs e)))) zs)
-    plain_into f r = around_into wide v (λ f r.
-        goes_to refl refl (ap (λ u. known n (written (wide.puts f) into (bit_xor (f into) u)) zs) (open_first.has f))
-        (xor_goes n (wide.puts f) zs into hi (part 0) (omega arith) part_not (f into))) f r
+      plain_into : (f : ℕ → ℕ) → Free b 0 top f → Goes (around (held_cells spot e 0) (xor into (part 0) ∷ []))
+          (held_steps e + (1 + held_steps e)) (known n f zs)
+          (known n (written f into (bit_xor (f into) (given (number spot b zs e)))) zs)
+      plain_into f r = around_into wide v (λ f r.
+          goes_to refl refl (ap (λ u. known n (written (wide.puts f) into (bit_xor (f into) u)) zs) (open_first.has f))
+          (xor_goes n (wide.puts f) zs into hi (part 0) (omega arith) part_not (f into))) f r
 
-    -- its truth
-    told : ℕ
-    told = truth_word (is_true (given (number spot b zs e)))
+      -- its truth
+      told : ℕ
+      told = truth_word (is_true (given (number spot b zs e)))
 
-    truth_mid : (f : ℕ → ℕ) → Free b 0 top f → Goes (truth_cells into (part 0)) 2
-        (known n (written (wide.puts f) into (f into)) zs)
-        (known n (written (wide.puts f) into (bit_xor (f into) (truth_word (is_true (given (number spot b zs e)))))) zs)
-    truth_mid f r =
-        let vw : v < 2 ^ 32 = value_word spot b zs low all e sees (omega arith) in
-        told_goes n b only spot still_small hc zs (wide.puts f) into (part 0) (f into) v hi (omega arith) (omega arith)
-        away.nought_not part_not (wide.low f nought (omega arith) ∙ r.nought_is) (open_first.has f) vw
+      truth_mid : (f : ℕ → ℕ) → Free b 0 top f → Goes (truth_cells into (part 0)) 2
+          (known n (written (wide.puts f) into (f into)) zs)
+          (known n (written (wide.puts f) into (bit_xor (f into) (truth_word (is_true (given (number spot b zs e))))))
+          zs)
+      truth_mid f r =
+          let vw : v < 2 ^ 32 = value_word spot b zs low all e sees fine in
+          told_goes n b only spot still_small hc zs (wide.puts f) into (part 0) (f into) v hi (omega arith)
+          (omega arith)
+          away.nought_not part_not (wide.low f nought (omega arith) ∙ r.nought_is) (open_first.has f) vw
 
-    truth_into : (f : ℕ → ℕ) → Free b 0 top f
-        → Goes (around (held_cells spot e 0) (truth_cells into (part 0))) (held_steps e + (2 + held_steps e))
-        (known n f zs)
-        (known n (written f into (bit_xor (f into) (truth_word (is_true (given (number spot b zs e)))))) zs)
-    truth_into f r = around_into wide (truth_word (is_true (given (number spot b zs e)))) truth_mid f r
+      truth_into : (f : ℕ → ℕ) → Free b 0 top f
+          → Goes (around (held_cells spot e 0) (truth_cells into (part 0))) (held_steps e + (2 + held_steps e))
+          (known n f zs)
+          (known n (written f into (bit_xor (f into) (truth_word (is_true (given (number spot b zs e)))))) zs)
+      truth_into f r = around_into wide (truth_word (is_true (given (number spot b zs e)))) truth_mid f r
 
   -- what an operator gives goes there straight
   given_into : (at : ℕ) (o : BinOp) (left right : Expression) → need (Binary at o left right) ≤ top → top ≤ 9
-      → Sees spot b low zs (Binary at o left right) → (c : Kind) → kind o ≡ c → (f : ℕ → ℕ) → Free b 0 top f
+      → Sees spot b low zs (Binary at o left right) → Fine spot b zs (Binary at o left right) → (c : Kind) → kind o ≡ c
+      → (f : ℕ → ℕ) → Free b 0 top f
       → Goes (given_cells spot c o left right (Binary at o left right) into)
       (given_steps c o left right (held_steps (Binary at o left right))) (known n f zs)
       (known n (written f into (bit_xor (f into) (given (number spot b zs (Binary at o left right))))) zs)
-  given_into at o left right fits few s which.Changes q f r = plain_into (Binary at o left right) fits few s f r
-  given_into at o left right fits few s which.Neither q f r = plain_into (Binary at o left right) fits few s f r
-  given_into at o left right fits few s which.Gives q f r = go (subst (λ c. own c (is_truth left) (is_truth right)
+  given_into at o left right fits few s fine which.Changes q f r =
+      plain_into (Binary at o left right) fits few s fine f r
+  given_into at o left right fits few s fine which.Neither q f r =
+      plain_into (Binary at o left right) fits few s fine f r
+  given_into at o left right fits few s fine which.Gives q f r = go (subst (λ c. own c (is_truth left) (is_truth right)
       + (need left + need right) ≤ top) q fits)
     where
       go : 1 + (need left + need right) ≤ top → Goes (given_cells spot which.Gives o left right (Binary at o left right)
@@ -153,22 +162,24 @@ module _ (n : ℕ) (b : Bases) (zs : List ℕ) (spot : List ℕ → Spot) (small
           let c = need_least right in
           let both = both_of n b only spot still_small hc {top = top} (omega arith) (omega arith) (omega arith)
           (more_open n b only (omega arith) refl
-          (held_opens n b only spot still_small hc low still_inside zs all left 0 (omega arith) (omega arith) s.0
-          (alike left)))
+          (held_opens n b only spot still_small hc low still_inside zs all left 0 (omega arith) (omega arith)
+          (fine_left spot b zs o (number spot b zs left) (number spot b zs right) fine) s.0 (alike left)))
           (more_open n b only (omega arith) refl
-          (held_opens n b only spot still_small hc low still_inside zs all right (need left) (omega arith) (omega arith)
-          s.1
+          (held_opens n b only spot still_small hc low still_inside zs all right (need left)
+          (omega arith) (omega arith) (fine_right spot b zs o (number spot b zs left) (number spot b zs right) fine) s.1
           (alike right)))
-          (value_word spot b zs low all left s.0 (omega arith))
-          (value_word spot b zs low all right s.1 (omega arith)) (is_zero right)
+          (value_word spot b zs low all left s.0 (fine_left spot b zs o (number spot b zs left) (number spot b zs right)
+          fine))
+          (value_word spot b zs low all right s.1 (fine_right spot b zs o (number spot b zs left)
+          (number spot b zs right) fine)) (is_zero right)
           (is_variable left) (is_variable right) (spot_in spot left) (spot_in spot right) (zero_is spot b zs right)
           (shows n b only spot still_small hc low still_inside zs all left s.0 (alike left))
           (shows n b only spot still_small hc low still_inside zs all right s.1 (alike right)) in
           goes_to refl refl (ap (λ v. known n (written f into (bit_xor (f into) v)) zs)
-          (given_is spot b zs at o left right (omega arith) (omega arith)))
+          (given_is spot b zs at o left right fine))
           (around_into both.change (operated o (given (number spot b zs left)) (given (number spot b zs right)))
           (λ f r. both.give o q f r into (f into) hi away zs refl) f r)
-  given_into at o left right fits few s which.Joins q f r = go (subst (λ c. own c (is_truth left) (is_truth right)
+  given_into at o left right fits few s fine which.Joins q f r = go (subst (λ c. own c (is_truth left) (is_truth right)
       + (need left + need right) ≤ top) q fits)
     where
       go : 1 + (beside (is_truth left) + beside (is_truth right)) + (need left + need right) ≤ top
@@ -182,43 +193,124 @@ module _ (n : ℕ) (b : Bases) (zs : List ℕ) (spot : List ℕ → Spot) (small
           let p = past_is (is_truth left) 0 in
           let u = past_is (is_truth right) (told_need left) in
           let one = more_open n b only {most = told_need left} (omega arith) refl
-          (told_opens n b only spot still_small hc low still_inside zs all left 0 (omega arith) (omega arith) s.0
+          (told_opens n b only spot still_small hc low still_inside zs all left 0 (omega arith)
+          (fine_left spot b zs o (number spot b zs left) (number spot b zs right) fine) s.0
           (held_opens n b only spot still_small hc low still_inside zs all left (past (is_truth left) 0)
-          (omega arith) (omega arith) s.0 (alike left))) in
+          (omega arith) (omega arith) (fine_left spot b zs o (number spot b zs left) (number spot b zs right) fine) s.0
+          (alike left))) in
           let two = more_open n b only {most = top} (omega arith) refl
           (told_opens n b only spot still_small hc low still_inside zs all right (told_need left) (omega arith)
-          (omega arith) s.1
+          (fine_right spot b zs o (number spot b zs left) (number spot b zs right) fine) s.1
           (held_opens n b only spot still_small hc low still_inside zs all right
           (past (is_truth right) (told_need left))
-          (omega arith) (omega arith) s.1 (alike right))) in
+          (omega arith) (omega arith) (fine_right spot b zs o (number spot b zs left) (number spot b zs right) fine) s.1
+          (alike right))) in
           let both = both_joined n b only spot still_small hc {top = top} (omega arith) (omega arith) (omega arith) one
           two in
           goes_to refl refl (ap (λ v. known n (written f into (bit_xor (f into) v)) zs)
-          (given_is spot b zs at o left right (omega arith) (omega arith)))
+          (given_is spot b zs at o left right fine))
           (around_into both.change (operated o (given (number spot b zs left)) (given (number spot b zs right)))
           (λ f r. both.give o q f r into (f into) hi away zs refl) f r)
 
-  pub value_into : (e : Expression) → need e ≤ top → top ≤ 9 → Sees spot b low zs e → (f : ℕ → ℕ) → Free b 0 top f
+  pub value_into : (e : Expression) → need e ≤ top → top ≤ 9 → Sees spot b low zs e → Fine spot b zs e → (f : ℕ → ℕ)
+      → Free b 0 top f
       → Goes (held_value_cells spot e into) (held_value_steps e) (known n f zs)
       (known n (written f into (bit_xor (f into) (given (number spot b zs e)))) zs)
-  value_into (Number at word) fits few s f r = plain_into (Number at word) fits few s f r
-  value_into (Null at) fits few s f r = plain_into (Null at) fits few s f r
-  value_into (Variable name) fits few s f r = plain_into (Variable name) fits few s f r
-  value_into (Element name index) fits few s f r = plain_into (Element name index) fits few s f r
-  value_into (Binary at o left right) fits few s f r = given_into at o left right fits few s (kind o) refl f r
+  value_into (Number at word) fits few s g f r = plain_into (Number at word) fits few s g f r
+  value_into (Null at) fits few s g f r = plain_into (Null at) fits few s g f r
+  value_into (Variable name) fits few s g f r = plain_into (Variable name) fits few s g f r
+  value_into (Element name index) fits few s g f r = plain_into (Element name index) fits few s g f r
+  value_into (Binary at o left right) fits few s g f r = given_into at o left right fits few s g (kind o) refl f r
 
-  pub test_into : (e : Expression) → need e ≤ top → top ≤ 9 → Sees spot b low zs e → (f : ℕ → ℕ) → Free b 0 top f
+  pub test_into : (e : Expression) → need e ≤ top → top ≤ 9 → Sees spot b low zs e → Fine spot b zs e → (f : ℕ → ℕ)
+      → Free b 0 top f
       → Goes (held_test_cells spot e into) (held_test_steps e) (known n f zs)
       (known n (written f into (bit_xor (f into) (truth_word (is_true (given (number spot b zs e)))))) zs)
-  test_into e fits few s f r = by (is_truth e) refl
+  test_into e fits few s g f r = by (is_truth e) refl
     where
       by : (t : Bool) → is_truth e ≡ t → Goes (if t then held_value_cells spot e into
           else around (held_cells spot e 0) (truth_cells into (part 0)))
           (if t then held_value_steps e else (held_steps e + (2 + held_steps e))) (known n f zs)
           (known n (written f into (bit_xor (f into) (truth_word (is_true (given (number spot b zs e)))))) zs)
       by true q = goes_to refl refl (ap (λ v. known n (written f into (bit_xor (f into) v)) zs)
-          (own_truth spot b zs e (omega arith) q)) (value_into e fits few s f r)
-      by false q = truth_into e fits few s f r
+          (own_truth spot b zs e g q)) (value_into e fits few s g f r)
+      by false q = truth_into e fits few s g f r
+
+  -- ---- a fault is a trap, either way
+
+  faults : (e : Expression) → Sees spot b low zs e → (k c : ℕ) → part (k + need e) ≤ n → need e < 10
+      → number spot b zs e ≡ Err c → (f : ℕ → ℕ) → Free b k (k + need e) f
+      → Traps (held_cells spot e k) (held_steps e) c (known n f zs)
+  faults e s k c r h q f p = held_traps n b (λ ws. ws ≡ zs) spot still_small (omega arith) low still_inside zs all e k c
+      r h
+      s (alike e) q refl f p
+
+  plain_traps : (e : Expression) → need e ≤ top → top ≤ 9 → Sees spot b low zs e → (c : ℕ) → number spot b zs e ≡ Err c
+      → (f : ℕ → ℕ) → Free b 0 top f → (mid : List Symbol) → (m : ℕ)
+      → TrapsBoth (around (held_cells spot e 0) mid) (held_steps e + (m + held_steps e)) c (known n f zs)
+  plain_traps e fits few s c q f p mid m = both_more (omega arith) (traps_around mid
+      (faults e s 0 c (omega arith) (omega arith) q f (less_free n b (λ ws. ws ≡ zs) (omega arith) (omega arith) f p)))
+
+  -- with the result of an operator that goes there straight
+  given_traps : (at : ℕ) (o : BinOp) (left right : Expression) → need (Binary at o left right) ≤ top → top ≤ 9
+      → Sees spot b low zs (Binary at o left right) → (c : ℕ) → number spot b zs (Binary at o left right) ≡ Err c
+      → (q : Kind) → kind o ≡ q → (f : ℕ → ℕ) → Free b 0 top f
+      → TrapsBoth (given_cells spot q o left right (Binary at o left right) into)
+      (given_steps q o left right (held_steps (Binary at o left right))) c (known n f zs)
+  given_traps at o left right fits few s c e which.Changes q f r =
+      plain_traps (Binary at o left right) fits few s c e f r (xor into (part 0) ∷ []) 1
+  given_traps at o left right fits few s c e which.Neither q f r =
+      plain_traps (Binary at o left right) fits few s c e f r (xor into (part 0) ∷ []) 1
+  given_traps at o left right fits few s c e which.Gives q f r = go (subst (λ c. own c (is_truth left) (is_truth right)
+      + (need left + need right) ≤ top) q fits)
+    where
+      go : 1 + (need left + need right) ≤ top
+          → TrapsBoth (given_cells spot which.Gives o left right (Binary at o left right) into)
+          (given_steps which.Gives o left right (held_steps (Binary at o left right))) c (known n f zs)
+      go fits = both_more (omega arith) (traps_around
+          (core (is_zero right) (is_variable left) (is_variable right) (spot_in spot left) (spot_in spot right)
+          (part 0) (part (need left)) (λ a s. give_cells o into a s))
+          (before_traps n b only spot still_small (omega arith) low still_inside zs all left right 0 (need left) c
+          (omega arith)
+          s.0 (alike left) refl (λ j q el g w. faults left s.0 j c q (omega arith) el g w)
+          (λ j q er g w. faults right s.1 j c q (omega arith) er g w) f (is_zero right) (is_variable left)
+          (is_variable right) (leaf_none spot b zs left c) (zero_none spot b zs right c) (leaf_none spot b zs right c)
+          (omega arith) (omega arith) (less_free n b only (omega arith) (omega arith) f r)
+          (one_err o (number spot b zs left) (number spot b zs right) c e)))
+  given_traps at o left right fits few s c e which.Joins q f r = go (subst (λ c. own c (is_truth left) (is_truth right)
+      + (need left + need right) ≤ top) q fits)
+    where
+      go : 1 + (beside (is_truth left) + beside (is_truth right)) + (need left + need right) ≤ top
+          → TrapsBoth (given_cells spot which.Joins o left right (Binary at o left right) into)
+          (given_steps which.Joins o left right (held_steps (Binary at o left right))) c (known n f zs)
+      go fits = both_more (omega arith) (traps_around (give_cells o into (part 0) (part (told_need left)))
+          (told_traps n b only spot still_small (omega arith) low still_inside zs all left right 0 (told_need left) c
+          (omega arith)
+          s.0 (alike left) refl (λ j q el g w. faults left s.0 j c q (omega arith) el g w)
+          (λ j q er g w. faults right s.1 j c q (omega arith) er g w) f
+          (omega arith) (omega arith) (less_free n b only (omega arith) (omega arith) f r)
+          (one_err o (number spot b zs left) (number spot b zs right) c e)))
+
+  pub value_traps : (e : Expression) → need e ≤ top → top ≤ 9 → Sees spot b low zs e → (c : ℕ)
+      → number spot b zs e ≡ Err c → (f : ℕ → ℕ) → Free b 0 top f
+      → TrapsBoth (held_value_cells spot e into) (held_value_steps e) c (known n f zs)
+  value_traps (Number at word) fits few s c e f r = absurd (cc)
+  value_traps (Null at) fits few s c e f r = absurd (cc)
+  value_traps (Variable name) fits few s c e f r = absurd (cc)
+  value_traps (Element name index) fits few s c e f r =
+      plain_traps (Element name index) fits few s c e f r (xor into (part 0) ∷ []) 1
+  value_traps (Binary at o left right) fits few s c e f r = given_traps at o left right fits few s c e (kind o) refl f r
+
+  pub test_traps : (e : Expression) → need e ≤ top → top ≤ 9 → Sees spot b low zs e → (c : ℕ)
+      → number spot b zs e ≡ Err c → (f : ℕ → ℕ) → Free b 0 top f
+      → TrapsBoth (held_test_cells spot e into) (held_test_steps e) c (known n f zs)
+  test_traps e fits few s c q f r = by (is_truth e)
+    where
+      by : (t : Bool) → TrapsBoth (if t then held_value_cells spot e into
+          else around (held_cells spot e 0) (truth_cells into (part 0)))
+          (if t then held_value_steps e else (held_steps e + (2 + held_steps e))) c (known n f zs)
+      by true = value_traps e fits few s c q f r
+      by false = plain_traps e fits few s c q f r (truth_cells into (part 0)) 2
 
 -- ---- over memories
 
@@ -228,6 +320,7 @@ target_apart into (inl l) = record {
   frame_not = λ e. omega arith;
   content_not = λ e. omega arith;
   nought_not = λ e. omega arith;
+  outcome_not = λ e. omega arith;
   side = inl (omega arith);
 }
 target_apart into (inr (inl (lo, up))) = record {
@@ -235,6 +328,7 @@ target_apart into (inr (inl (lo, up))) = record {
   frame_not = λ e. omega arith;
   content_not = λ e. omega arith;
   nought_not = λ e. omega arith;
+  outcome_not = λ e. omega arith;
   side = inl (omega arith);
 }
 target_apart into (inr (inr (lo, up))) = record {
@@ -242,6 +336,7 @@ target_apart into (inr (inr (lo, up))) = record {
   frame_not = λ e. omega arith;
   content_not = λ e. omega arith;
   nought_not = λ e. omega arith;
+  outcome_not = λ e. omega arith;
   side = inr (omega arith);
 }
 
@@ -256,6 +351,7 @@ free_of free n m h = record {
   frame_is = refl;
   content_is = h.clear 6 (inl (omega arith, omega arith));
   nought_is = h.clear 7 (inl (omega arith, omega arith));
+  outcome_is = h.clear 10 (inl (omega arith, omega arith));
   clear = λ r lo up. h.clear r (inr (omega arith, omega arith));
 }
 
@@ -292,21 +388,42 @@ module _ (spot : List ℕ → Spot) (free into : ℕ) (e : Expression) (m : Memo
       runs_along (goes_to refl same at_end (go f r))
       (goes_to refl at_end (known_same 32 _ _ m.cells (λ q l. again q) ∙ same) back) im d
 
+  -- or traps in either
+  trapped : (w : List Symbol) (k c : ℕ) → ((f : ℕ → ℕ) → Free (bases_of m) 0 9 f
+      → TrapsBoth w k c (known 32 f m.cells)) → (j : ℕ) × (j ≤ k) × Runs im w d m (Trapped c j)
+  trapped w k c go =
+      let a = (go (reg m) (free_of free (words e) m ready)).runs im d in
+      (a.0, a.1, subst (λ z. Runs im w d z (Trapped c a.0)) same a.2)
+
   pub held_value : Xored into (held_value_steps e) m (number spot (bases_of m) m.cells e) im
       (held_value_cells spot e into) d
-  held_value =
-      let is = is_number spot (bases_of m) m.cells e few in
-      subst (λ z. Xored into (held_value_steps e) m z im (held_value_cells spot e into) d) (sym is)
-      (both_ways (held_value_cells spot e into) (held_value_steps e) (given (number spot (bases_of m) m.cells e))
-      (value_into 32 (bases_of m) m.cells spot ready.small (omega arith) (reg m 4 + free) inside ready.words into
-      (target_small into target) 9 (target_apart into target) e (omega arith) (omega arith) sees))
+  held_value = by (number spot (bases_of m) m.cells e) refl
+    where
+      by : (r : Result ℕ ℕ) → number spot (bases_of m) m.cells e ≡ r
+          → Xored into (held_value_steps e) m r im (held_value_cells spot e into) d
+      by (Ok v) q =
+          let fine = ok_fine spot (bases_of m) m.cells (number spot (bases_of m) m.cells e) v q in
+          subst (λ z. Xored into (held_value_steps e) m z im (held_value_cells spot e into) d) (sym fine ∙ q)
+          (both_ways (held_value_cells spot e into) (held_value_steps e) (given (number spot (bases_of m) m.cells e))
+          (value_into 32 (bases_of m) m.cells spot ready.small (omega arith) (reg m 4 + free) inside ready.words into
+          (target_small into target) 9 (target_apart into target) e (omega arith) (omega arith) sees fine))
+      by (Err c) q = trapped (held_value_cells spot e into) (held_value_steps e) c
+          (value_traps 32 (bases_of m) m.cells spot ready.small (omega arith) (reg m 4 + free) inside ready.words into
+          (target_small into target) 9 (target_apart into target) e (omega arith) (omega arith) sees c q)
 
   pub held_test : Xored into (held_test_steps e) m (truth_of (number spot (bases_of m) m.cells e)) im
       (held_test_cells spot e into) d
-  held_test =
-      let is = is_number spot (bases_of m) m.cells e few in
-      subst (λ z. Xored into (held_test_steps e) m (truth_of z) im (held_test_cells spot e into) d) (sym is)
-      (both_ways (held_test_cells spot e into) (held_test_steps e)
-      (truth_word (is_true (given (number spot (bases_of m) m.cells e))))
-      (test_into 32 (bases_of m) m.cells spot ready.small (omega arith) (reg m 4 + free) inside ready.words into
-      (target_small into target) 9 (target_apart into target) e (omega arith) (omega arith) sees))
+  held_test = by (number spot (bases_of m) m.cells e) refl
+    where
+      by : (r : Result ℕ ℕ) → number spot (bases_of m) m.cells e ≡ r
+          → Xored into (held_test_steps e) m (truth_of r) im (held_test_cells spot e into) d
+      by (Ok v) q =
+          let fine = ok_fine spot (bases_of m) m.cells (number spot (bases_of m) m.cells e) v q in
+          subst (λ z. Xored into (held_test_steps e) m (truth_of z) im (held_test_cells spot e into) d) (sym fine ∙ q)
+          (both_ways (held_test_cells spot e into) (held_test_steps e)
+          (truth_word (is_true (given (number spot (bases_of m) m.cells e))))
+          (test_into 32 (bases_of m) m.cells spot ready.small (omega arith) (reg m 4 + free) inside ready.words into
+          (target_small into target) 9 (target_apart into target) e (omega arith) (omega arith) sees fine))
+      by (Err c) q = trapped (held_test_cells spot e into) (held_test_steps e) c
+          (test_traps 32 (bases_of m) m.cells spot ready.small (omega arith) (reg m 4 + free) inside ready.words into
+          (target_small into target) 9 (target_apart into target) e (omega arith) (omega arith) sees c q)

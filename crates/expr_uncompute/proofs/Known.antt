@@ -225,7 +225,7 @@ module _ (n : ℕ) where
     cells = slice_set ws at word;
   }
 
-  word_out : (g : ℕ → ℕ) (zs : List ℕ) (r a : ℕ) → r < n → content < n → r ≢ content → g r ≡ a → g content ≡ 0
+  pub word_out : (g : ℕ → ℕ) (zs : List ℕ) (r a : ℕ) → r < n → content < n → r ≢ content → g r ≡ a → g content ≡ 0
       → a < length zs → Goes (exch content r ∷ []) 1 (known g zs)
       (known (written g content (slice_index zs a)) (slice_set zs a 0))
   word_out g zs r a hr hc ne e z h =

@@ -17,6 +17,7 @@ pub mod Known
 pub mod Giving
 pub mod Opened
 pub mod HeldLaws
+pub mod HeldChecks
 pub mod HeldUpdates
 pub mod Whole
 pub mod PlaceLaws

@@ -1,37 +1,46 @@
 -- An expression opened in registers, over any memory in which what it reads is the same.
-use Rattle.std.proofs.Common.{◌≡◌, ◌≢◌, ℕ, ◌+◌, ◌^◌, ◌<◌, ◌≤◌, ◌⊎◌, inl, Bool, true, false, List, [], ◌∷◌, ◌++◌}
+use Rattle.std.proofs.Common.{◌≡◌, ◌≢◌, ℕ, ◌+◌, ◌^◌, ◌<◌, ◌≤◌, ◌⊎◌, inl, inr, Bool, true, false, List, [], ◌∷◌, ◌++◌}
 use Rattle.std.proofs.Common.{length, refl, sym, ap}
 use Rattle.std.proofs.lemmas.Bool.Decides.{nat_tests}
 use Rattle.std.proofs.Common.{◌∙◌, subst, ⊎_elim, arith}
 use Rattle.std.specs.Prelude.{slice_index, slice_set, bit_xor, if◌then◌else◌, Result, Ok, Err}
 use Rattle.std.specs.Int.Bits.{xor_zero_l, xor_assoc}
 use Rattle.rpp_words.specs.Words.{is_less}
+use Rattle.code_conventions.specs.declared.memory.TheConstants.{HEADER_WORDS}
 use Rattle.rpp_tree.specs.declared.tree.BinOp.{BinOp}
 use Rattle.rpp_tree.specs.declared.tree.BinOp.TheVariants as op
 use Rattle.rpp_tree.specs.Tree.{Expression, Number, Null, Variable, Element, Binary}
+use Rattle.pisa_isa.specs.Machine.{Memory}
 use Rattle.paired_code.specs.declared.part.Symbol.{Symbol}
 use Rattle.pisa_isa.specs.Table as table
 use Rattle.roopl_semantics.specs.Operators.{operated, is_true, truth_word}
 use Rattle.refine_form.specs.declared.spot.Spot.{Spot}
 use Rattle.refine_form.specs.declared.spot.Spot.TheVariants.{Field, Frame}
 use Rattle.expr_uncompute.specs.Code.{object, frame, content, nought, xor, around, base_of, reach_cells, part, before}
-use Rattle.expr_uncompute.specs.Code.{core}
+use Rattle.expr_uncompute.specs.Code.{core, outcome, exch, copy_cells, nil_check_of, index_check_of, point_of}
+use Rattle.expr_uncompute.specs.Code.{element_cells}
+use Rattle.expr_uncompute.specs.Code.{core_cells}
 use Rattle.expr_uncompute.specs.Code.{truth_cells, told_cells, change_cells, literal_cells, give_cells, operated_cells}
 use Rattle.expr_uncompute.specs.Code.{held_cells}
 use Rattle.expr_uncompute.specs.declared.held.Kind.{Kind}
 use Rattle.expr_uncompute.specs.declared.held.Kind.TheVariants.{Gives, Joins, Neither}
 use Rattle.expr_uncompute.specs.declared.held.Kind.TheVariants as which
 use Rattle.expr_uncompute.specs.Held.{kind, own, beside, past, need, told_need, left_at, right_at, is_variable, spot_in}
-use Rattle.expr_uncompute.specs.Held.{is_literal, literal_in, is_zero, tells, is_truth}
+use Rattle.expr_uncompute.specs.Held.{is_literal, literal_in, is_zero, has_element, tells, is_truth}
 use Rattle.expr_uncompute.specs.Number.{Bases, address_of, given, word_of, number, combined, Sees}
-use Rattle.expr_uncompute.specs.Number.{Same}
 use Rattle.expr_uncompute.specs.Steps.{operator_steps, before_steps, core_steps, told_steps, operated_steps}
-use Rattle.expr_uncompute.specs.Steps.{held_steps}
+use Rattle.expr_uncompute.specs.Steps.{held_steps, element_steps}
+use Rattle.expr_uncompute.proofs.HeldChecks.{nil_goes, nil_traps, index_goes, index_traps, point_goes}
+use Rattle.expr_uncompute.proofs.Ways.{ok_is, inside_of, address_of_word, one_err, IsFault, by_index, by_nil, by_end}
+use Rattle.expr_uncompute.proofs.Ways.{fault_of, fault_of_word}
+use Rattle.rpp_tree.specs.declared.tree.Ident.{Ident}
+use Rattle.expr_uncompute.specs.Number.{element_at, word_in}
 use Rattle.expr_uncompute.proofs.Comparing
-use Rattle.expr_uncompute.proofs.Goes.{Goes, nothing, goes_seq, goes_cons, goes_to, goes_around}
+use Rattle.expr_uncompute.proofs.Goes.{Goes, Traps, traps_first, traps_then, traps_more, nothing, goes_seq, goes_cons}
+use Rattle.expr_uncompute.proofs.Goes.{goes_to, goes_around}
 use Rattle.expr_uncompute.proofs.Giving.{change_goes, literal_goes, give_goes, join_goes}
-use Rattle.expr_uncompute.proofs.HeldBounds.{need_least}
-use Rattle.expr_uncompute.proofs.Known.{known, known_same, taken, reach_goes, xori_goes, xor_goes, sltx_goes}
+use Rattle.expr_uncompute.proofs.HeldBounds.{need_least, neither_left, neither_right}
+use Rattle.expr_uncompute.proofs.Known.{known, known_same, word_out, taken, reach_goes, xori_goes, xor_goes, sltx_goes}
 use Rattle.expr_uncompute.proofs.Known.{written_at}
 use Rattle.expr_uncompute.proofs.Known.{written_off, written_local, written_same, written_both}
 use Rattle.expr_uncompute.proofs.Numbers.{AllWords, number_word}
@@ -66,32 +75,72 @@ past_is true k = omega arith
 past_is false k = refl
 
 module _ (spot : List ℕ → Spot) (b : Bases) (zs : List ℕ) where
-  given_ok : (r : Result ℕ ℕ) (x : ℕ) → r ≡ Ok x → r ≡ Ok (given r)
-  given_ok (Ok y) x e = refl
-  given_ok (Err c) x e = absurd (cc)
+  -- it has a number
+  abbrev pub Fine : Expression → Type 0
+  Fine e = number spot b zs e ≡ Ok (given (number spot b zs e))
 
-  -- an operator's number from those of its operands
-  number_of : (at : ℕ) (o : BinOp) (left right : Expression)
-      → number spot b zs left ≡ Ok (given (number spot b zs left))
-      → number spot b zs right ≡ Ok (given (number spot b zs right))
+  pub fine_left : (o : BinOp) (p q : Result ℕ ℕ) → combined o p q ≡ Ok (given (combined o p q)) → p ≡ Ok (given p)
+  fine_left o (Ok x) q e = refl
+  fine_left o (Err c) q e = absurd (cc)
+
+  pub fine_right : (o : BinOp) (p q : Result ℕ ℕ) → combined o p q ≡ Ok (given (combined o p q)) → q ≡ Ok (given q)
+  fine_right o (Ok x) (Ok y) e = refl
+  fine_right o (Ok x) (Err c) e = absurd (cc)
+  fine_right o (Err c) q e = absurd (cc)
+
+  both_given : (o : BinOp) (p q : Result ℕ ℕ) → combined o p q ≡ Ok (given (combined o p q))
+      → operated o (given p) (given q) ≡ given (combined o p q)
+  both_given o (Ok x) (Ok y) e = refl
+  both_given o (Ok x) (Err c) e = absurd (cc)
+  both_given o (Err c) q e = absurd (cc)
+
+  pub given_is : (at : ℕ) (o : BinOp) (left right : Expression) → Fine (Binary at o left right)
+      → operated o (given (number spot b zs left)) (given (number spot b zs right))
+      ≡ given (number spot b zs (Binary at o left right))
+  given_is at o left right h = both_given o (number spot b zs left) (number spot b zs right) h
+
+  -- a leaf has none
+  pub leaf_none : (e : Expression) (c : ℕ) → number spot b zs e ≡ Err c → is_variable e ≡ true → ⊥
+  leaf_none (Variable name) c e q = absurd (cc)
+  leaf_none (Number at word) c e q = absurd (cc)
+  leaf_none (Null at) c e q = absurd (cc)
+  leaf_none (Element name index) c e q = absurd (cc)
+  leaf_none (Binary at o left right) c e q = absurd (cc)
+
+  literal_none : (e : Expression) (c : ℕ) → number spot b zs e ≡ Err c → is_literal e ≡ true → ⊥
+  literal_none (Variable name) c e q = absurd (cc)
+  literal_none (Number at word) c e q = absurd (cc)
+  literal_none (Null at) c e q = absurd (cc)
+  literal_none (Element name index) c e q = absurd (cc)
+  literal_none (Binary at o left right) c e q = absurd (cc)
+
+  pub zero_none : (e : Expression) (c : ℕ) → number spot b zs e ≡ Err c → is_zero e ≡ true → ⊥
+  zero_none (Variable name) c e q = absurd (cc)
+  zero_none (Number at word) c e q = absurd (cc)
+  zero_none (Null at) c e q = absurd (cc)
+  zero_none (Element name index) c e q = absurd (cc)
+  zero_none (Binary at o left right) c e q = absurd (cc)
+
+  pub ok_fine : (r : Result ℕ ℕ) (x : ℕ) → r ≡ Ok x → r ≡ Ok (given r)
+  ok_fine (Ok y) x e = refl
+  ok_fine (Err c) x e = absurd (cc)
+
+  number_of : (at : ℕ) (o : BinOp) (left right : Expression) → Fine left → Fine right
       → number spot b zs (Binary at o left right)
       ≡ Ok (operated o (given (number spot b zs left)) (given (number spot b zs right)))
   number_of at o left right e q = ap (λ z. combined o z (number spot b zs right)) e
       ∙ ap (combined o (Ok (given (number spot b zs left)))) q
 
-  -- such an expression has a number
-  pub is_number : (e : Expression) → need e < 10 → number spot b zs e ≡ Ok (given (number spot b zs e))
+  -- where no element is read there is no fault
+  pub is_number : (e : Expression) → has_element e ≡ false → Fine e
   is_number (Number at word) h = refl
   is_number (Null at) h = refl
   is_number (Variable name) h = refl
-  is_number (Element name index) h = absurd (omega arith)
-  is_number (Binary at o left right) h = given_ok _ _ (number_of at o left right (is_number left (omega arith))
-      (is_number right (omega arith)))
-
-  pub given_is : (at : ℕ) (o : BinOp) (left right : Expression) → need left < 10 → need right < 10
-      → operated o (given (number spot b zs left)) (given (number spot b zs right))
-      ≡ given (number spot b zs (Binary at o left right))
-  given_is at o left right h k = sym (ap given (number_of at o left right (is_number left h) (is_number right k)))
+  is_number (Element name index) h = absurd (cc)
+  is_number (Binary at o left right) h = ok_fine (number spot b zs (Binary at o left right))
+      (operated o (given (number spot b zs left)) (given (number spot b zs right)))
+      (number_of at o left right (is_number left (neither_left (has_element left) (has_element right) h))
+      (is_number right (neither_right (has_element left) (has_element right) h)))
 
   pub literal_is : (e : Expression) → is_literal e ≡ true → given (number spot b zs e) ≡ literal_in e
   literal_is (Number at word) q = refl
@@ -108,19 +157,19 @@ module _ (spot : List ℕ → Spot) (b : Bases) (zs : List ℕ) where
   zero_is (Binary at o left right) q = absurd (cc)
 
   -- what tells a truth is that truth
-  pub own_truth : (e : Expression) → need e < 10 → is_truth e ≡ true
+  pub own_truth : (e : Expression) → Fine e → is_truth e ≡ true
       → given (number spot b zs e) ≡ truth_word (is_true (given (number spot b zs e)))
   own_truth (Number at word) h t = absurd (cc)
   own_truth (Null at) h t = absurd (cc)
   own_truth (Variable name) h t = absurd (cc)
   own_truth (Element name index) h t = absurd (cc)
   own_truth (Binary at o left right) h t = subst (λ v. v ≡ truth_word (is_true v))
-      (given_is at o left right (omega arith) (omega arith))
+      (given_is at o left right h)
       (own_truth_of o t (given (number spot b zs left)) (given (number spot b zs right)))
 
-  pub value_word : (low : ℕ) → AllWords zs → (e : Expression) → Sees spot b low zs e → need e < 10
+  pub value_word : (low : ℕ) → AllWords zs → (e : Expression) → Sees spot b low zs e → Fine e
       → given (number spot b zs e) < 2 ^ 32
-  value_word low all e s h = number_word spot b low zs all e s (given (number spot b zs e)) (is_number e h)
+  value_word low all e s h = number_word spot b low zs all e s (given (number spot b zs e)) h
 
 -- the bases stand there, and the registers of parts from k on, up to one, are 0
 pub record Free (b : Bases) (k top : ℕ) (f : ℕ → ℕ) : Type 0 where
@@ -128,6 +177,7 @@ pub record Free (b : Bases) (k top : ℕ) (f : ℕ → ℕ) : Type 0 where
   pub frame_is : f frame ≡ b.frame
   pub content_is : f content ≡ 0
   pub nought_is : f nought ≡ 0
+  pub outcome_is : f outcome ≡ 0
   pub clear : (r : ℕ) → part k ≤ r → r < part top → f r ≡ 0
 
 -- a register that is none of these
@@ -136,6 +186,7 @@ pub record Apart (k top d : ℕ) : Type 0 where
   pub frame_not : frame ≢ d
   pub content_not : content ≢ d
   pub nought_not : nought ≢ d
+  pub outcome_not : outcome ≢ d
   pub side : (d < part k) ⊎ (part top ≤ d)
 
 module _ (n : ℕ) (b : Bases) (like : List ℕ → Type 0) where
@@ -160,6 +211,7 @@ module _ (n : ℕ) (b : Bases) (like : List ℕ → Type 0) where
     frame_is = c.low f frame (omega arith) ∙ r.frame_is;
     content_is = c.low f content (omega arith) ∙ r.content_is;
     nought_is = c.low f nought (omega arith) ∙ r.nought_is;
+    outcome_is = c.low f outcome (omega arith) ∙ r.outcome_is;
     clear = λ q lo hi. c.high f q lo ∙ r.clear q (omega arith) hi;
   }
 
@@ -169,6 +221,7 @@ module _ (n : ℕ) (b : Bases) (like : List ℕ → Type 0) where
     frame_is = r.frame_is;
     content_is = r.content_is;
     nought_is = r.nought_is;
+    outcome_is = r.outcome_is;
     clear = λ q lo hi. r.clear q (omega arith) (omega arith);
   }
 
@@ -203,6 +256,18 @@ module _ (n : ℕ) (b : Bases) (like : List ℕ → Type 0) where
     low = λ f r q. refl;
     high = λ f r q. refl;
     local = λ f g r q. q;
+  }
+
+  -- with cells behind it that leave all as it is
+  abbrev then_same : {w p : List Symbol} {t u k top : ℕ} → (c : Changes w t k top)
+      → ((f : ℕ → ℕ) → Free b k top f → (zs : List ℕ) → like zs
+      → Goes p u (known n (c.puts f) zs) (known n (c.puts f) zs)) → Changes (w ++ p) (t + u) k top
+  then_same c e = record {
+    puts = c.puts;
+    goes = λ f r zs y. goes_seq (c.goes f r zs y) (e f r zs y);
+    low = c.low;
+    high = c.high;
+    local = c.local;
   }
 
   -- with a register of parts written at the end
@@ -500,6 +565,7 @@ module _ (n : ℕ) (b : Bases) (like : List ℕ → Type 0) where
               frame_not = λ e. omega arith;
               content_not = λ e. omega arith;
               nought_not = λ e. omega arith;
+              outcome_not = λ e. omega arith;
               side = inl (omega arith);
             } in
             from_known zs (both.change.puts f) (part k) 0 (bit_xor 0 (operated o x y)) (operated o x y) zero
@@ -521,6 +587,31 @@ module _ (n : ℕ) (b : Bases) (like : List ℕ → Type 0) where
         goes_to refl refl (ap (λ u. known n (written g d u) zs) (xor_assoc z p q ∙ ap (bit_xor z) is))
         (goes_cons (sltx_goes n g zs d hd nought a hn ha nd na z)
         (sltx_goes n g zs d hd a nought ha hn na nd (bit_xor z p)))
+
+    -- ---- traps: an operand meets its fault
+
+    no_more : {w : List Symbol} {t c : ℕ} {m : Memory} (p : Bool) (k : ℕ) → Traps w t c m
+        → Traps (told_cells p w k) (told_steps p t) c m
+    no_more true k tr = tr
+    no_more false k tr = traps_more (omega arith) (traps_first (truth_cells (part k) (part (k + 1))) tr)
+
+    before_left : {w : List Symbol} {t c : ℕ} {m : Memory} (v : List Symbol) (u : ℕ) (z l r : Bool) → (l ≡ true → ⊥)
+        → Traps w t c m
+        → Traps (before z l r w v) (before_steps z l r t u) c m
+    before_left v u true true r never tr = absurd (never refl)
+    before_left v u true false r never tr = tr
+    before_left v u false true true never tr = tr
+    before_left v u false false true never tr = tr
+    before_left v u false true false never tr = absurd (never refl)
+    before_left v u false false false never tr = traps_more (omega arith) (traps_first v tr)
+
+    before_right : {w v : List Symbol} {t u c : ℕ} {m m1 : Memory} (z l r : Bool) → (z ≡ true → ⊥) → (r ≡ true → ⊥)
+        → Goes w t m m1 → Traps v u c m1 → Traps v u c m → Traps (before z l r w v) (before_steps z l r t u) c m
+    before_right true l r never leafless g tr own = absurd (never refl)
+    before_right false true true never leafless g tr own = absurd (leafless refl)
+    before_right false false true never leafless g tr own = absurd (leafless refl)
+    before_right false true false never leafless g tr own = own
+    before_right false false false never leafless g tr own = traps_then g tr
 
     -- ---- expressions
 
@@ -590,9 +681,16 @@ module _ (n : ℕ) (b : Bases) (like : List ℕ → Type 0) where
         (by_literal h l room one two wx wy o e)
 
     module _ (low : ℕ) (inside : (zs : List ℕ) → like zs → low ≤ length zs) (zs : List ℕ) (all : AllWords zs) where
-      -- what an expression reads is the same
+      -- what an expression reads is the same: where it reads elements, all is
+      abbrev pub Reads : List ℕ → Expression → Type 0
+      Reads ws (Number at word) = Unit {0}
+      Reads ws (Null at) = Unit {0}
+      Reads ws (Variable name) = word_of spot b ws name.text ≡ word_of spot b zs name.text
+      Reads ws (Element name index) = ws ≡ zs
+      Reads ws (Binary at o left right) = Reads ws left × Reads ws right
+
       abbrev pub Alike : Expression → Type 0
-      Alike e = (ws : List ℕ) → like ws → Same spot b zs ws e
+      Alike e = (ws : List ℕ) → like ws → Reads ws e
 
       pub shows : (e : Expression) → Sees spot b low zs e → Alike e → Shows (is_variable e) (spot_in spot e)
           (given (number spot b zs e))
@@ -602,7 +700,7 @@ module _ (n : ℕ) (b : Bases) (like : List ℕ → Type 0) where
       shows (Element name index) s a = tt
       shows (Binary at o left right) s a = tt
 
-      pub told_opens : (e : Expression) (k : ℕ) → part (k + told_need e) ≤ n → need e < 10 → Sees spot b low zs e
+      pub told_opens : (e : Expression) (k : ℕ) → part (k + told_need e) ≤ n → Fine spot b zs e → Sees spot b low zs e
           → Opens (held_cells spot e (past (is_truth e) k)) (held_steps e) (past (is_truth e) k)
           (past (is_truth e) k + need e) (given (number spot b zs e))
           → Opens (told_cells (is_truth e) (held_cells spot e (past (is_truth e) k)) k)
@@ -611,19 +709,194 @@ module _ (n : ℕ) (b : Bases) (like : List ℕ → Type 0) where
       told_opens e k room h s one = told_by (is_truth e) (own_truth spot b zs e h) (need_least e)
           (value_word spot b zs low all e s h) room one
 
-      pub held_opens : (e : Expression) (k : ℕ) → part (k + need e) ≤ n → need e < 10 → Sees spot b low zs e → Alike e
+      pub reads_self : (e : Expression) → Reads zs e
+      reads_self (Number at word) = tt
+      reads_self (Null at) = tt
+      reads_self (Variable name) = refl
+      reads_self (Element name index) = refl
+      reads_self (Binary at o left right) = (reads_self left, reads_self right)
+
+      index_of : (arr : ℕ) (r : Result ℕ ℕ) (v : ℕ) → word_in zs (element_at zs arr r) ≡ Ok v → r ≡ Ok (given r)
+      index_of arr (Ok x) v e = refl
+      index_of arr (Err c) v e = absurd (cc)
+
+      pub index_fine : (name : List ℕ) (index : Expression)
+          → word_in zs (element_at zs (word_of spot b zs name) (number spot b zs index))
+          ≡ Ok (given (word_in zs (element_at zs (word_of spot b zs name) (number spot b zs index))))
+          → Fine spot b zs index
+      index_fine name index e = index_of (word_of spot b zs name) (number spot b zs index) _ e
+
+      -- an element, by what opens its index
+      module _ (name : Ident) (index : Expression) (k : ℕ) (room : part (k + (2 + need index)) ≤ n)
+          (s : Sees spot b low zs (Element name index)) (alike : Alike (Element name index))
+          (one : Opens (held_cells spot index (k + 2)) (held_steps index) (k + 2)
+          (k + 2 + need index) (given (number spot b zs index))) where
+        abbrev sp : Spot
+        sp = spot name.text
+
+        abbrev arr : ℕ
+        arr = word_of spot b zs name.text
+
+        abbrev x : ℕ
+        x = given (number spot b zs index)
+
+        abbrev v : ℕ
+        v = given (number spot b zs (Element name index))
+
+        abbrev top : ℕ
+        top = k + (2 + need index)
+
+        record There : Type 0 where
+          array_is : word_of spot b zs name.text ≢ 0
+          array_small : word_of spot b zs name.text < 2 ^ 31
+          inside_it : given (number spot b zs index) < slice_index zs (word_of spot b zs name.text)
+          length_small : slice_index zs (word_of spot b zs name.text) < 2 ^ 31
+          below : word_of spot b zs name.text + given (number spot b zs index) + HEADER_WORDS < length zs
+          word : slice_index zs (word_of spot b zs name.text + given (number spot b zs index) + HEADER_WORDS)
+              ≡ given (number spot b zs (Element name index))
+
+        abbrev opened_index : Changes (held_cells spot index (k + 2)) (held_steps index) k top
+        opened_index = more_change (omega arith) (omega arith) one.change
+
+        abbrev with_array : Changes (held_cells spot index (k + 2) ++ copy_cells (spot name.text) (part (k + 1)))
+            (held_steps index + 5) k top
+        with_array = then_written {j = k + 1} arr (omega arith) (omega arith) opened_index (λ f r ws y.
+            (let q = alike ws y in
+            let g : ℕ → ℕ = one.change.puts f in
+            let g' : ℕ → ℕ = taken n g (base_of sp) (address_of b sp) ws in
+            let l = inside ws y in
+            let e : slice_index ws (address_of b sp) ≡ arr = ap (λ u. slice_index u (address_of b sp)) q in
+            from_known ws g (part (k + 1)) 0 (bit_xor 0 arr) arr
+            (one.change.low f (part (k + 1)) (omega arith) ∙ r.clear (part (k + 1)) (omega arith) (omega arith))
+            (xor_zero_l arr)
+            (out_goes ws y sp (xor (part (k + 1)) content ∷ []) 1 (part (k + 1)) 0 (bit_xor 0 arr) g
+            (one.change.low f object (omega arith) ∙ r.object_is) (one.change.low f frame (omega arith) ∙ r.frame_is)
+            (one.change.low f content (omega arith) ∙ r.content_is) (λ e. omega arith) (λ e. omega arith)
+            (λ e. omega arith) (let h = s.0 in omega arith)
+            (goes_to refl refl (ap (λ z. known n (written g' (part (k + 1)) (bit_xor 0 z))
+            (slice_set ws (address_of b sp) 0)) (taken_word ws g sp ∙ e))
+            (xor_goes n g' (slice_set ws (address_of b sp) 0) (part (k + 1)) (omega arith) content hc
+            (λ e. omega arith) 0)))))
+
+        has_array : (f : ℕ → ℕ) → with_array.puts f (part (k + 1)) ≡ arr
+        has_array f = written_at (one.change.puts f) (part (k + 1)) arr
+
+        has_index : (f : ℕ → ℕ) → with_array.puts f (part (k + 2)) ≡ x
+        has_index f = written_off (one.change.puts f) (part (k + 1)) arr (part (k + 2)) (λ e. omega arith) ∙ one.has f
+
+        module _ (fine : Fine spot b zs (Element name index)) where
+          is_there : like zs → There
+          is_there y =
+              let w = address_of_word zs (element_at zs arr (number spot b zs index)) v fine in
+              let i = inside_of zs arr (number spot b zs index) w.0 w.1 in
+              let e : x ≡ i.x = ok_is (sym (index_fine name.text index fine) ∙ i.index) in
+              let block = s.1.room i.array_is in
+              let short = s.1.short i.array_is in
+              let l = inside zs y in
+              let m = small zs y in
+              let lower = i.below in
+              record {
+                array_is = i.array_is;
+                array_small = omega arith;
+                inside_it = omega arith;
+                length_small = short;
+                below = omega arith;
+                word = ap (λ z. slice_index zs (arr + z + HEADER_WORDS)) e ∙ ap (slice_index zs) i.at ∙ w.2;
+              }
+
+          abbrev checked : Changes ((held_cells spot index (k + 2) ++ copy_cells (spot name.text) (part (k + 1)))
+              ++ (nil_check_of (part (k + 1)) ++ index_check_of (part (k + 1)) (part (k + 2))))
+              ((held_steps index + 5) + (6 + 9)) k top
+          checked = then_same with_array (λ f r ws y.
+              (let q = alike ws y in
+              let t = is_there (subst like q y) in
+              let g : ℕ → ℕ = with_array.puts f in
+              let ea : g (part (k + 1)) ≡ arr = has_array f in
+              let ei : g (part (k + 2)) ≡ x = has_index f in
+              let co : g outcome ≡ 0 = with_array.low f outcome (omega arith) ∙ r.outcome_is in
+              let cn : g nought ≡ 0 = with_array.low f nought (omega arith) ∙ r.nought_is in
+              let cc' : g content ≡ 0 = with_array.low f content (omega arith) ∙ r.content_is in
+              let a0 = need_least index in
+              let a1 = t.array_is in
+              let a2 = t.array_small in
+              let a3 = t.inside_it in
+              let a4 = t.length_small in
+              let a5 = t.below in
+              let len : slice_index zs (g (part (k + 1))) ≡ slice_index zs arr = ap (slice_index zs) ea in
+              subst (λ u. Goes (nil_check_of (part (k + 1)) ++ index_check_of (part (k + 1)) (part (k + 2))) (6 + 9)
+              (known n g u) (known n g u)) (sym q)
+              (goes_seq (nil_goes n g zs (omega arith) co cn (part (k + 1)) (omega arith) (λ e. omega arith)
+              (omega arith)
+              (λ e. a1 (sym ea ∙ e)))
+              (index_goes n g zs (omega arith) co cn cc' (part (k + 1)) (part (k + 2)) (omega arith) (omega arith)
+              (λ e. omega arith) (λ e. omega arith) (λ e. omega arith) (λ e. omega arith) (omega arith) (omega arith)
+              (omega arith)))))
+
+          abbrev pointed : Changes (element_cells spot name.text (held_cells spot index (k + 2)) k)
+              (element_steps (held_steps index)) k top
+          pointed = then_written {j = k + 1} (arr + x + HEADER_WORDS) (omega arith) (omega arith) checked (λ f r ws y.
+              (let t = is_there (subst like (alike ws y) y) in
+              let a0 = need_least index in
+              let m = small ws y in
+              let l : length ws ≡ length zs = ap (λ u. length u) (alike ws y) in
+              let a5 = t.below in
+              point_goes n (with_array.puts f) ws (part (k + 1)) (part (k + 2)) x arr (omega arith) (omega arith)
+              (λ e. omega arith) (has_array f) (has_index f) (omega arith) (omega arith)))
+
+          element_opens : Opens (held_cells spot (Element name index) k) (held_steps (Element name index)) k
+              (k + (2 + need index)) (given (number spot b zs (Element name index)))
+          element_opens = record {
+            change = then_written v (omega arith) (omega arith) pointed (λ f r ws y.
+                (let q = alike ws y in
+                let t = is_there (subst like q y) in
+                let g : ℕ → ℕ = pointed.puts f in
+                let a : ℕ = arr + x + HEADER_WORDS in
+                let a5 = t.below in
+                let l : length ws ≡ length zs = ap (λ u. length u) q in
+                let w : slice_index ws a ≡ v = ap (λ u. slice_index u a) q ∙ t.word in
+                let g' : ℕ → ℕ = written g content (slice_index ws a) in
+                let out : (z : ℕ) → Goes (exch content (part (k + 1)) ∷ []) 1 (known n (written g (part k) z) ws)
+                (known n (written g' (part k) z) (slice_set ws a 0)) =
+                λ z. goes_to refl refl (known_same n _ _ (slice_set ws a 0)
+                (λ r l. written_both g (part k) z content (slice_index ws a) r (λ e. omega arith)))
+                (word_out n (written g (part k) z) ws (part (k + 1)) a (omega arith) hc (λ e. omega arith)
+                (written_off g (part k) z (part (k + 1)) (λ e. omega arith)
+                ∙ written_at (checked.puts f) (part (k + 1)) a)
+                (written_off g (part k) z content (λ e. omega arith) ∙ pointed.low f content (omega arith)
+                ∙ r.content_is) (omega arith)) in
+                from_known ws g (part k) 0 (bit_xor 0 v) v
+                (pointed_below f r) (xor_zero_l v)
+                (goes_around (out 0) (goes_to refl refl (ap (λ u. known n (written g' (part k) (bit_xor 0 u))
+                (slice_set ws a 0)) (written_at g content (slice_index ws a) ∙ w))
+                (xor_goes n g' (slice_set ws a 0) (part k) (omega arith) content hc (λ e. omega arith) 0))
+                (out (bit_xor 0 v)))));
+            has = λ f. written_at (pointed.puts f) (part k) v;
+          }
+            where
+              pointed_below : (f : ℕ → ℕ) → Free b k top f → pointed.puts f (part k) ≡ 0
+              pointed_below f r = written_off (checked.puts f) (part (k + 1)) (arr + x + HEADER_WORDS) (part k)
+                  (λ e. omega arith)
+                  ∙ written_off (one.change.puts f) (part (k + 1)) arr (part k) (λ e. omega arith)
+                  ∙ one.change.low f (part k) (omega arith) ∙ r.clear (part k) (omega arith) (omega arith)
+
+      pub held_opens : (e : Expression) (k : ℕ) → part (k + need e) ≤ n → need e < 10 → Fine spot b zs e
+          → Sees spot b low zs e → Alike e
           → Opens (held_cells spot e k) (held_steps e) k (k + need e) (given (number spot b zs e))
-      held_opens (Number at word) k r h s a = opens_by word (omega arith)
+      held_opens (Number at word) k r h g s a = opens_by word (omega arith)
           (λ f q ws y. xori_goes n f ws (part k) (omega arith) word 0 s)
-      held_opens (Null at) k r h s a = opens_by 0 (omega arith)
+      held_opens (Null at) k r h g s a = opens_by 0 (omega arith)
           (λ f q ws y. xori_goes n f ws (part k) (omega arith) 0 0 (omega arith))
-      held_opens (Variable name) k r h s a = opens_by (word_of spot b zs name.text) (omega arith)
+      held_opens (Variable name) k r h g s a = opens_by (word_of spot b zs name.text) (omega arith)
           (λ f q ws y. copy_goes (spot name.text) k (word_of spot b zs name.text) (omega arith)
           (shows (Variable name) s a) f q ws y)
-      held_opens (Element name index) k r h s a = absurd (omega arith)
-      held_opens (Binary at o left right) k r h s a = by
-          (λ j r h. held_opens left j r h s.0 (λ ws y. let i = a ws y in i.1))
-          (λ j r h. held_opens right j r h s.1 (λ ws y. let i = a ws y in i.2)) (kind o) refl r h
+      held_opens (Element name index) k r h g s a = element_opens name index k (omega arith) s a
+          (held_opens index (k + 2) (omega arith) (omega arith) (index_fine name.text index g) s.2
+          (λ ws y. subst (λ u. Reads u index) (sym (a ws y)) (reads_self index))) g
+      held_opens (Binary at o left right) k r h g s a = by
+          (λ j r h. held_opens left j r h (fine_left spot b zs o (number spot b zs left) (number spot b zs right) g) s.0
+          (λ ws y. let i = a ws y in i.0))
+          (λ j r h. held_opens right j r h (fine_right spot b zs o (number spot b zs left) (number spot b zs right) g)
+          s.1 (λ ws y. let i = a ws y in i.1)) (kind o) refl r h
         where
           by : ((j : ℕ) → part (j + need left) ≤ n → need left < 10
               → Opens (held_cells spot left j) (held_steps left) j (j + need left) (given (number spot b zs left)))
@@ -640,34 +913,197 @@ module _ (n : ℕ) (b : Bases) (like : List ℕ → Type 0) where
           by one two which.Changes e r h =
               let i = need_least left in
               let j = need_least right in
-              more_open (omega arith) (given_is spot b zs at o left right (omega arith) (omega arith))
+              more_open (omega arith) (given_is spot b zs at o left right g)
               (changed_by (omega arith) (omega arith) (omega arith) (one k (omega arith) (omega arith))
-              (two (k + need left) (omega arith) (omega arith)) (value_word spot b zs low all left s.0 (omega arith))
-              (value_word spot b zs low all right s.1 (omega arith)) o e (is_literal right) (is_variable right)
+              (two (k + need left) (omega arith) (omega arith))
+              (value_word spot b zs low all left s.0 (fine_left spot b zs o (number spot b zs left)
+              (number spot b zs right) g))
+              (value_word spot b zs low all right s.1 (fine_right spot b zs o (number spot b zs left)
+              (number spot b zs right) g)) o e (is_literal right) (is_variable right)
               (literal_in right) (literal_is spot b zs right) (spot_in spot left) (spot_in spot right)
-              (shows right s.1 (λ ws y. let i = a ws y in i.2)))
+              (shows right s.1 (λ ws y. let i = a ws y in i.1)))
           by one two Gives e r h =
               let i = need_least left in
               let j = need_least right in
-              more_open (omega arith) (given_is spot b zs at o left right (omega arith) (omega arith))
+              more_open (omega arith) (given_is spot b zs at o left right g)
               (given_to (omega arith) (omega arith) (omega arith) o e
               (both_of (omega arith) (omega arith) (omega arith) (one (k + 1) (omega arith) (omega arith))
               (two (k + 1 + need left) (omega arith) (omega arith))
-              (value_word spot b zs low all left s.0 (omega arith))
-              (value_word spot b zs low all right s.1 (omega arith)) (is_zero right) (is_variable left)
+              (value_word spot b zs low all left s.0 (fine_left spot b zs o (number spot b zs left)
+              (number spot b zs right) g))
+              (value_word spot b zs low all right s.1 (fine_right spot b zs o (number spot b zs left)
+              (number spot b zs right) g)) (is_zero right) (is_variable left)
               (is_variable right) (spot_in spot left) (spot_in spot right) (zero_is spot b zs right)
-              (shows left s.0 (λ ws y. let i = a ws y in i.1))
-              (shows right s.1 (λ ws y. let i = a ws y in i.2))))
+              (shows left s.0 (λ ws y. let i = a ws y in i.0))
+              (shows right s.1 (λ ws y. let i = a ws y in i.1))))
           by one two Joins e r h =
               let i = need_least left in
               let j = need_least right in
               let p = past_is (is_truth left) (k + 1) in
               let q = past_is (is_truth right) (k + 1 + told_need left) in
-              more_open (omega arith) (given_is spot b zs at o left right (omega arith) (omega arith))
+              more_open (omega arith) (given_is spot b zs at o left right g)
               (given_to (omega arith) (omega arith) (omega arith) o e
               (both_joined (omega arith) (omega arith) (omega arith)
-              (told_opens left (k + 1) (omega arith) (omega arith) s.0
+              (told_opens left (k + 1) (omega arith) (fine_left spot b zs o (number spot b zs left)
+              (number spot b zs right) g) s.0
               (one (past (is_truth left) (k + 1)) (omega arith) (omega arith)))
-              (told_opens right (k + 1 + told_need left) (omega arith) (omega arith) s.1
+              (told_opens right (k + 1 + told_need left) (omega arith)
+              (fine_right spot b zs o (number spot b zs left) (number spot b zs right) g) s.1
               (two (past (is_truth right) (k + 1 + told_need left)) (omega arith) (omega arith)))))
           by one two Neither e r h = absurd (omega arith)
+
+      -- an expression with a fault, wherever its registers are
+      abbrev pub Trapping : Expression → ℕ → Type 0
+      Trapping e c = (j : ℕ) → part (j + need e) ≤ n → number spot b zs e ≡ Err c → (g : ℕ → ℕ)
+          → Free b j (j + need e) g → Traps (held_cells spot e j) (held_steps e) c (known n g zs)
+
+      abbrev pub OneErr : (left right : Expression) → ℕ → Type 0
+      OneErr left right c = (number spot b zs left ≡ Err c)
+          ⊎ ((x : ℕ) × (number spot b zs left ≡ Ok x) × (number spot b zs right ≡ Err c))
+
+      -- what opens the operands of an operator, of which one has a fault
+      module _ (left right : Expression) (k j c : ℕ) (some : need left + need right < 10) (s : Sees spot b low zs left)
+          (a : Alike left) (y : like zs) (tl : Trapping left c) (tr : Trapping right c) (f : ℕ → ℕ) where
+        pub before_traps : (z l r : Bool) → (number spot b zs left ≡ Err c → l ≡ true → ⊥)
+            → (number spot b zs right ≡ Err c → z ≡ true → ⊥) → (number spot b zs right ≡ Err c → r ≡ true → ⊥)
+            → j ≡ k + need left → part (j + need right) ≤ n → Free b k (j + need right) f → OneErr left right c
+            → Traps (before z l r (held_cells spot left k) (held_cells spot right j))
+            (before_steps z l r (held_steps left) (held_steps right)) c (known n f zs)
+        before_traps z l r no_left no_zero no_leaf at room p (inl el) =
+            before_left (held_cells spot right j) (held_steps right) z l r (no_left el)
+            (tl k (omega arith) el f (less_free (omega arith) (omega arith) f p))
+        before_traps z l r no_left no_zero no_leaf at room p (inr (x, el, er)) =
+            let first = more_open {most = j} (omega arith) refl
+            (held_opens left k (omega arith) (omega arith) (ok_fine spot b zs (number spot b zs left) x el) s a) in
+            before_right z l r (no_zero er) (no_leaf er)
+            (first.change.goes f (less_free (omega arith) (omega arith) f p) zs y)
+            (tr j (omega arith) er (first.change.puts f)
+            (still_free {j = j} first.change (omega arith) f (j + need right) (omega arith) p))
+            (tr j (omega arith) er f (less_free (omega arith) (omega arith) f p))
+
+        -- or their truths
+        pub told_traps : j ≡ k + told_need left → part (j + told_need right) ≤ n → Free b k (j + told_need right) f
+            → OneErr left right c
+            → Traps (told_cells (is_truth left) (held_cells spot left (past (is_truth left) k)) k
+            ++ told_cells (is_truth right) (held_cells spot right (past (is_truth right) j)) j)
+            (told_steps (is_truth left) (held_steps left) + told_steps (is_truth right) (held_steps right)) c
+            (known n f zs)
+        told_traps at room p (inl el) =
+            let i = past_is (is_truth left) k in
+            traps_more (omega arith) (traps_first
+            (told_cells (is_truth right) (held_cells spot right (past (is_truth right) j)) j)
+            (no_more (is_truth left) k
+            (tl (past (is_truth left) k) (omega arith) el f (less_free (omega arith) (omega arith) f p))))
+        told_traps at room p (inr (x, el, er)) =
+            let i = past_is (is_truth left) k in
+            let i' = past_is (is_truth right) j in
+            let fl = ok_fine spot b zs (number spot b zs left) x el in
+            let first = more_open {most = j} (omega arith) refl (told_opens left k (omega arith) fl s
+            (held_opens left (past (is_truth left) k) (omega arith) (omega arith) fl s a)) in
+            traps_then (first.change.goes f (less_free (omega arith) (omega arith) f p) zs y)
+            (no_more (is_truth right) j
+            (tr (past (is_truth right) j) (omega arith) er (first.change.puts f)
+            (less_free (omega arith) (omega arith) (first.change.puts f)
+            (still_free first.change (omega arith) f (j + told_need right) (omega arith) p))))
+
+      -- the fault that an expression meets first is a trap
+      pub held_traps : (e : Expression) (k c : ℕ) → part (k + need e) ≤ n → need e < 10 → Sees spot b low zs e → Alike e
+          → number spot b zs e ≡ Err c → like zs → (f : ℕ → ℕ) → Free b k (k + need e) f
+          → Traps (held_cells spot e k) (held_steps e) c (known n f zs)
+      held_traps (Number at word) k c r h s a e y f p = absurd (cc)
+      held_traps (Null at) k c r h s a e y f p = absurd (cc)
+      held_traps (Variable name) k c r h s a e y f p = absurd (cc)
+      held_traps (Element name index) k c r h s a e y f p =
+          by (λ q. held_traps index (k + 2) c (omega arith) (omega arith) s.2 inner q y f
+          (less_free (omega arith) (omega arith) f p)) (fault_of zs (word_of spot b zs name.text)
+          (number spot b zs index)
+          c (fault_of_word zs (element_at zs (word_of spot b zs name.text) (number spot b zs index)) c e))
+        where
+          inner : Alike index
+          inner ws q = subst (λ u. Reads u index) (sym (a ws q)) (reads_self index)
+
+          one : Fine spot b zs index → Opens (held_cells spot index (k + 2)) (held_steps index) (k + 2)
+              (k + 2 + need index) (given (number spot b zs index))
+          one g = held_opens index (k + 2) (omega arith) (omega arith) g s.2 inner
+
+          last : List Symbol
+          last = around (exch content (part (k + 1)) ∷ []) (xor (part k) content ∷ [])
+
+          by : (number spot b zs index ≡ Err c
+              → Traps (held_cells spot index (k + 2)) (held_steps index) c (known n f zs))
+              → IsFault zs (word_of spot b zs name.text) (number spot b zs index) c
+              → Traps (held_cells spot (Element name index) k) (held_steps (Element name index)) c (known n f zs)
+          by inner_traps (by_index q) = traps_more (omega arith) (traps_first last (traps_first
+              (point_of (part (k + 1)) (part (k + 2))) (traps_first (nil_check_of (part (k + 1))
+              ++ index_check_of (part (k + 1)) (part (k + 2))) (traps_first (copy_cells (spot name.text) (part (k + 1)))
+              (inner_traps q)))))
+          by inner_traps (by_nil x q z five) =
+              let g = ok_fine spot b zs (number spot b zs index) x q in
+              let ch = with_array name index k (omega arith) s a (one g) in
+              let a0 = need_least index in
+              subst (λ c. Traps (held_cells spot (Element name index) k) (held_steps (Element name index)) c
+              (known n f zs))
+              (sym five)
+              (traps_more (omega arith) (traps_first last (traps_first (point_of (part (k + 1)) (part (k + 2)))
+              (traps_then (ch.goes f p zs y) (traps_first (index_check_of (part (k + 1)) (part (k + 2)))
+              (nil_traps n (ch.puts f) zs (omega arith) (ch.low f outcome (omega arith) ∙ p.outcome_is)
+              (ch.low f nought (omega arith) ∙ p.nought_is) (part (k + 1)) (omega arith) (λ e. omega arith)
+              (has_array name index k (omega arith) s a (one g) f ∙ z)))))))
+          by inner_traps (by_end x q z l nine) =
+              let g = ok_fine spot b zs (number spot b zs index) x q in
+              let ch = with_array name index k (omega arith) s a (one g) in
+              let a0 = need_least index in
+              let ea = has_array name index k (omega arith) s a (one g) f in
+              let ei = has_index name index k (omega arith) s a (one g) f in
+              let ix : given (number spot b zs index) ≡ x = ap given q in
+              let xw = value_word spot b zs low all index s.2 g in
+              let block = s.1.room z in
+              let short = s.1.short z in
+              let low_in = inside zs y in
+              let m = small zs y in
+              let co = ch.low f outcome (omega arith) ∙ p.outcome_is in
+              let cn = ch.low f nought (omega arith) ∙ p.nought_is in
+              let len : slice_index zs (ch.puts f (part (k + 1))) ≡ slice_index zs (word_of spot b zs name.text) =
+              ap (slice_index zs) ea in
+              subst (λ c. Traps (held_cells spot (Element name index) k) (held_steps (Element name index)) c
+              (known n f zs))
+              (sym nine)
+              (traps_more (omega arith) (traps_first last (traps_first (point_of (part (k + 1)) (part (k + 2)))
+              (traps_then (ch.goes f p zs y) (traps_then
+              (nil_goes n (ch.puts f) zs (omega arith) co cn (part (k + 1)) (omega arith) (λ e. omega arith)
+              (omega arith)
+              (λ e. z (sym ea ∙ e)))
+              (index_traps n (ch.puts f) zs (omega arith) co cn (ch.low f content (omega arith) ∙ p.content_is)
+              (part (k + 1)) (part (k + 2)) (omega arith) (omega arith) (λ e. omega arith) (λ e. omega arith)
+              (λ e. omega arith) (λ e. omega arith) (omega arith) (omega arith) (omega arith) (omega arith)))))))
+      held_traps (Binary at o left right) k c r h s a e y f p =
+          by (λ l j q el g w. held_traps left j c q l s.0 (λ ws z. let i = a ws z in i.0) el y g w)
+          (λ l j q er g w. held_traps right j c q l s.1 (λ ws z. let i = a ws z in i.1) er y g w) (kind o) r h p
+          (one_err o (number spot b zs left) (number spot b zs right) c e)
+        where
+          to_left : Alike left
+          to_left ws q = let i = a ws q in i.0
+
+          by : (need left < 10 → Trapping left c) → (need right < 10 → Trapping right c) → (q : Kind)
+              → part (k + (own q (is_truth left) (is_truth right) + (need left + need right))) ≤ n
+              → own q (is_truth left) (is_truth right) + (need left + need right) < 10
+              → Free b k (k + (own q (is_truth left) (is_truth right) + (need left + need right))) f
+              → OneErr left right c
+              → Traps (operated_cells spot q o left right (held_cells spot left (left_at q (is_truth left) k))
+              (held_cells spot right (right_at q (is_truth left) (is_truth right) (need left) k)) k)
+              (operated_steps q o left right (held_steps left) (held_steps right)) c (known n f zs)
+          by tl tr Neither r h p w = absurd (omega arith)
+          by tl tr which.Changes r h p w = traps_more (omega arith)
+              (traps_first (core_cells spot which.Changes o left right k)
+              (before_traps left right k (k + need left) c (omega arith) s.0 to_left y (tl (omega arith))
+              (tr (omega arith)) f (is_literal right) false (is_variable right) (λ e q. absurd (cc))
+              (literal_none spot b zs right c) (leaf_none spot b zs right c) refl (omega arith)
+              (less_free (omega arith) (omega arith) f p) w))
+          by tl tr Gives r h p w = traps_more (omega arith) (traps_first (core_cells spot Gives o left right k)
+              (before_traps left right (k + 1) (k + 1 + need left) c (omega arith) s.0 to_left y (tl (omega arith))
+              (tr (omega arith)) f (is_zero right) (is_variable left) (is_variable right) (leaf_none spot b zs left c)
+              (zero_none spot b zs right c) (leaf_none spot b zs right c) refl (omega arith)
+              (less_free (omega arith) (omega arith) f p) w))
+          by tl tr Joins r h p w = traps_more (omega arith) (traps_first (core_cells spot Joins o left right k)
+              (told_traps left right (k + 1) (k + 1 + told_need left) c (omega arith) s.0 to_left y (tl (omega arith))
+              (tr (omega arith)) f refl (omega arith) (less_free (omega arith) (omega arith) f p) w))

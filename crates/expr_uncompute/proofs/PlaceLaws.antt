@@ -5,16 +5,18 @@ use Rattle.std.specs.Prelude.{slice_index, Ok, Err}
 use Rattle.code_conventions.specs.declared.memory.TheConstants.{HEADER_WORDS}
 use Rattle.rpp_tree.specs.declared.tree.Ident.{Ident}
 use Rattle.rpp_tree.specs.Tree.{Expression, Number, Null, Variable, Element, Binary, Lvalue, Whole, Item}
+use Rattle.pisa_isa.specs.Machine.{Memory}
 use Rattle.paired_code.specs.Layout.{mirror_cells}
 use Rattle.paired_code.specs.declared.part.Symbol.{Symbol}
 use Rattle.refine_form.specs.declared.spot.Spot.{Spot}
 use Rattle.refine_form.specs.declared.spot.Spot.TheVariants.{Field, Frame}
 use Rattle.expr_uncompute.specs.Code.{xor, addi, amount, place, other_place, right_operand, around, base_of}
-use Rattle.expr_uncompute.specs.Code.{checked_cells, point_cells, open_cells, fetch_cells, place_words, place_cells}
+use Rattle.expr_uncompute.specs.Code.{checked_cells, point_cells, open_cells, prepare_cells, fetch_cells, place_words}
+use Rattle.expr_uncompute.specs.Code.{place_cells}
 use Rattle.expr_uncompute.specs.Code.{result_of}
 use Rattle.code_scope.specs.Visible.{offset_of}
 use Rattle.expr_uncompute.specs.Number.{Bases, address_of, given, word_of, number, place_address, read_of, Sees}
-use Rattle.expr_uncompute.specs.Steps.{checked_steps, open_steps, fetch_steps, place_steps}
+use Rattle.expr_uncompute.specs.Steps.{checked_steps, open_steps, prepare_steps, fetch_steps, place_steps}
 use Rattle.expr_uncompute.proofs.Goes.{Goes, Traps, goes_seq, goes_cons, goes_to, goes_around, goes_set, goes_addi}
 use Rattle.expr_uncompute.proofs.Goes.{traps_first, traps_then, traps_more}
 use Rattle.expr_uncompute.proofs.Scratch.{keeping, mem}
@@ -123,32 +125,48 @@ module _ (spot : List ℕ → Spot) (free : ℕ) (b : Bases) where
         array = below _ h.sees.0;
       }
 
+  module _ (f : ℕ → ℕ) (m p q i : ℕ) (zs : List ℕ) (name : Ident) (index : Expression)
+      (h : FitPlace (Item name index) i zs) (a : ℕ)
+      (n : IsInside zs (word_of spot b zs name.text) (number spot b zs index) a) where
+    -- where its index is prepared, an element's index and its address stand in registers
+    pub item_opens : Goes (checked_cells spot free name.text index i ++ point_cells) (checked_steps index + 2)
+        (mem b f (keeping m p q) (stored spot free b index i zs))
+        (mem b f (operands m p q n.x a) (stored spot free b index i zs))
+    item_opens =
+        let zs1 : List ℕ = stored spot free b index i zs in
+        let k = item_facts name index i n.x zs h n.index in
+        let arr : word_of spot b zs1 name.text ≡ word_of spot b zs name.text = k.array in
+        let there : word_of spot b zs1 name.text ≢ 0 = λ e. n.array_is (sym arr ∙ e) in
+        let block = h.sees.1.room n.array_is in
+        let head : slice_index zs1 (word_of spot b zs name.text) ≡ slice_index zs (word_of spot b zs name.text) =
+        stored_below spot free b index i zs _ (omega arith) in
+        let inside : n.x < slice_index zs1 (word_of spot b zs1 name.text) = rw arr (rw head n.below) in
+        let at : word_of spot b zs1 name.text + n.x + HEADER_WORDS ≡ a = ap (λ y. y + n.x + HEADER_WORDS) arr ∙ n.at
+        in
+        goes_to refl refl (ap (λ y. mem b f (operands m p q n.x y) zs1) at)
+        (goes_seq (checked_goes spot free b m p q f name.text index i n.x zs1 k.all k.sees.0 k.sees.1 k.sees.2
+        k.room k.gives k.reads there inside) (pointed_goes spot free b m p q f name.text index i n.x zs1 k.all
+        k.sees.0 k.sees.1 k.sees.2 k.room k.gives k.reads there inside))
+
+    index_goes : Goes (prepare_cells spot free index i) (prepare_steps index) (mem b f (keeping m p q) zs)
+        (mem b f (keeping m p q) (stored spot free b index i zs))
+    index_goes = prepare_goes spot free b m p q f index i n.x zs (index_fit name index i zs h) n.index
+
+    pub near_goes : Goes (prepare_cells spot free index i
+        ++ (checked_cells spot free name.text index i ++ point_cells))
+        (prepare_steps index + (checked_steps index + 2)) (mem b f (keeping m p q) zs)
+        (mem b f (operands m p q n.x a) (stored spot free b index i zs))
+    near_goes = goes_seq index_goes item_opens
+
   module _ (into : ℕ) (f : ℕ → ℕ) (m p q m' p' q' a : ℕ) (points : Points into f m p q m' p' q' a) (i : ℕ) (zs : List ℕ)
     where
       item_goes : (name : Ident) (index : Expression) → FitPlace (Item name index) i zs
           → IsInside zs (word_of spot b zs name.text) (number spot b zs index) a
           → Goes (place_cells spot free (Item name index) i into) (place_steps (Item name index))
           (mem b f (keeping m p q) zs) (mem b f (keeping m' p' q') (stored spot free b index i zs))
-      item_goes name index h n =
-          let zs1 : List ℕ = stored spot free b index i zs in
-          let fit = index_fit name index i zs h in
-          let k = item_facts name index i n.x zs h n.index in
-          let arr : word_of spot b zs1 name.text ≡ word_of spot b zs name.text = k.array in
-          let there : word_of spot b zs1 name.text ≢ 0 = λ e. n.array_is (sym arr ∙ e) in
-          let block = h.sees.1.room n.array_is in
-          let head : slice_index zs1 (word_of spot b zs name.text) ≡ slice_index zs (word_of spot b zs name.text) =
-          stored_below spot free b index i zs _ (omega arith) in
-          let inside : n.x < slice_index zs1 (word_of spot b zs1 name.text) = rw arr (rw head n.below) in
-          let at : word_of spot b zs1 name.text + n.x + HEADER_WORDS ≡ a = ap (λ y. y + n.x + HEADER_WORDS) arr
-          ∙ n.at in
-          let open_by : (m p q : ℕ) → Goes (checked_cells spot free name.text index i ++ point_cells)
-          (checked_steps index + 2) (mem b f (keeping m p q) zs1) (mem b f (operands m p q n.x a) zs1) =
-          λ m p q. goes_to refl refl (ap (λ y. mem b f (operands m p q n.x y) zs1) at)
-          (goes_seq (checked_goes spot free b m p q f name.text index i n.x zs1 k.all k.sees.0 k.sees.1 k.sees.2
-          k.room k.gives k.reads there inside) (pointed_goes spot free b m p q f name.text index i n.x zs1 k.all
-          k.sees.0 k.sees.1 k.sees.2 k.room k.gives k.reads there inside)) in
-          goes_seq (prepare_goes spot free b m p q f index i n.x zs fit n.index)
-          (goes_around (open_by m p q) (points.by_operand n.x zs1) (open_by m' p' q'))
+      item_goes name index h n = goes_seq (index_goes f m p q i zs name index h a n)
+          (goes_around (item_opens f m p q i zs name index h a n)
+          (points.by_operand n.x (stored spot free b index i zs)) (item_opens f m' p' q' i zs name index h a n))
 
       pub place_goes : (target : Lvalue) → FitPlace target i zs → place_address spot b zs target ≡ Ok a
           → Goes (place_cells spot free target i into) (place_steps target) (mem b f (keeping m p q) zs)
@@ -160,37 +178,35 @@ module _ (spot : List ℕ → Spot) (free : ℕ) (b : Bases) where
 
   -- ---- faults of a place
 
-  pub place_traps : (into : ℕ) (f : ℕ → ℕ) (m p q : ℕ) (target : Lvalue) (i c : ℕ) (zs : List ℕ) → FitPlace target i zs
-      → place_address spot b zs target ≡ Err c → Traps (place_cells spot free target i into) (place_steps target) c
-      (mem b f (keeping m p q) zs)
-  place_traps into f m p q (Whole name) i c zs h n = absurd (cc)
-  place_traps into f m p q (Item name index) i c zs h n =
+  -- before whatever else is done with its registers
+  front_traps : (f : ℕ → ℕ) (m p q : ℕ) (name : Ident) (index : Expression) (i c : ℕ) (zs : List ℕ)
+      → FitPlace (Item name index) i zs → place_address spot b zs (Item name index) ≡ Err c
+      → (tail : List Symbol → List Symbol)
+      → ((w : List Symbol) (k d : ℕ) (z : Memory) → Traps w k d z → Traps (tail w) k d z)
+      → Traps (prepare_cells spot free index i ++ tail (checked_cells spot free name.text index i))
+      (prepare_steps index + checked_steps index) c (mem b f (keeping m p q) zs)
+  front_traps f m p q name index i c zs h n tail carry =
       by (fault_of zs (word_of spot b zs name.text) (number spot b zs index) c n)
     where
       fit : Fit spot free b index i zs
       fit = index_fit name index i zs h
 
-      rest : List Symbol
-      rest = around (checked_cells spot free name.text index i ++ point_cells) (xor into right_operand ∷ [])
-
       -- the index is prepared, and the checks trap
       checks : (x d : ℕ) → number spot b zs index ≡ Ok x → Traps (checked_cells spot free name.text index i)
           (checked_steps index) d (mem b f (keeping m p q) (stored spot free b index i zs))
-          → Traps (place_cells spot free (Item name index) i into) (place_steps (Item name index)) d
-          (mem b f (keeping m p q) zs)
-      checks x d g t = traps_more (omega arith) (traps_then (prepare_goes spot free b m p q f index i x zs fit g)
-          (traps_first ((xor into right_operand ∷ []) ++ mirror_cells
-          (checked_cells spot free name.text index i ++ point_cells)) (traps_first point_cells t)))
+          → Traps (prepare_cells spot free index i ++ tail (checked_cells spot free name.text index i))
+          (prepare_steps index + checked_steps index) d (mem b f (keeping m p q) zs)
+      checks x d g t = traps_then (prepare_goes spot free b m p q f index i x zs fit g) (carry _ _ _ _ t)
 
       by : IsFault zs (word_of spot b zs name.text) (number spot b zs index) c
-          → Traps (place_cells spot free (Item name index) i into) (place_steps (Item name index)) c
-          (mem b f (keeping m p q) zs)
-      by (by_index e) = traps_more (omega arith) (traps_first rest
+          → Traps (prepare_cells spot free index i ++ tail (checked_cells spot free name.text index i))
+          (prepare_steps index + checked_steps index) c (mem b f (keeping m p q) zs)
+      by (by_index e) = traps_more (omega arith) (traps_first (tail (checked_cells spot free name.text index i))
           (prepare_traps spot free b m p q f index i c zs fit e))
       by (by_nil x g z q5) =
           let k = item_facts name index i x zs h g in
-          subst (λ c. Traps (place_cells spot free (Item name index) i into) (place_steps (Item name index)) c
-          (mem b f (keeping m p q) zs)) (sym q5) (checks x 5 g
+          subst (λ c. Traps (prepare_cells spot free index i ++ tail (checked_cells spot free name.text index i))
+          (prepare_steps index + checked_steps index) c (mem b f (keeping m p q) zs)) (sym q5) (checks x 5 g
           (checked_nil spot free b m p q f name.text index i x _ k.all k.sees.0 k.sees.1 k.sees.2 k.room k.gives
           k.reads (k.array ∙ z)))
       by (by_end x g n l q9) =
@@ -200,10 +216,26 @@ module _ (spot : List ℕ → Spot) (free : ℕ) (b : Bases) where
           ≡ slice_index zs (word_of spot b zs name.text) = stored_below spot free b index i zs _ (omega arith) in
           let l' : slice_index (stored spot free b index i zs)
           (word_of spot b (stored spot free b index i zs) name.text) ≤ x = rw k.array (rw head l) in
-          subst (λ c. Traps (place_cells spot free (Item name index) i into) (place_steps (Item name index)) c
-          (mem b f (keeping m p q) zs)) (sym q9) (checks x 9 g
+          subst (λ c. Traps (prepare_cells spot free index i ++ tail (checked_cells spot free name.text index i))
+          (prepare_steps index + checked_steps index) c (mem b f (keeping m p q) zs)) (sym q9) (checks x 9 g
           (checked_past spot free b m p q f name.text index i x _ k.all k.sees.0 k.sees.1 k.sees.2 k.room k.gives
           k.reads (λ e. n (sym k.array ∙ e)) l'))
+
+  pub near_traps : (f : ℕ → ℕ) (m p q : ℕ) (name : Ident) (index : Expression) (i c : ℕ) (zs : List ℕ)
+      → FitPlace (Item name index) i zs → place_address spot b zs (Item name index) ≡ Err c
+      → Traps (prepare_cells spot free index i ++ (checked_cells spot free name.text index i ++ point_cells))
+      (prepare_steps index + checked_steps index) c (mem b f (keeping m p q) zs)
+  near_traps f m p q name index i c zs h n = front_traps f m p q name index i c zs h n (λ w. w ++ point_cells)
+      (λ w k d z t. traps_first point_cells t)
+
+  pub place_traps : (into : ℕ) (f : ℕ → ℕ) (m p q : ℕ) (target : Lvalue) (i c : ℕ) (zs : List ℕ) → FitPlace target i zs
+      → place_address spot b zs target ≡ Err c → Traps (place_cells spot free target i into) (place_steps target) c
+      (mem b f (keeping m p q) zs)
+  place_traps into f m p q (Whole name) i c zs h n = absurd (cc)
+  place_traps into f m p q (Item name index) i c zs h n = traps_more (omega arith)
+      (front_traps f m p q name index i c zs h n (λ w. around (w ++ point_cells) (xor into right_operand ∷ []))
+      (λ w k d z t. traps_first ((xor into right_operand ∷ []) ++ mirror_cells (w ++ point_cells))
+      (traps_first point_cells t)))
 
   -- ---- a value kept in `amount`
 

@@ -1,7 +1,7 @@
 -- Updates of a place by a value, and swaps of two places.
 use Rattle.std.proofs.Common.{◌≡◌, ℕ, ◌+◌, ◌^◌, ◌<◌, Bool, true, false, List, [], ◌∷◌, ◌++◌, length, length-set, refl}
 use Rattle.std.proofs.Common.{sym, ap, ◌∙◌, subst, arith}
-use Rattle.std.specs.Prelude.{slice_index, slice_set, if◌then◌else◌, Ok, Err}
+use Rattle.std.specs.Prelude.{slice_index, slice_set, ◌||◌, if◌then◌else◌, Ok, Err}
 use Rattle.std.proofs.lemmas.List.{get_or-set_same, set-set}
 use Rattle.rpp_tree.specs.declared.tree.UpdateOp.{UpdateOp}
 use Rattle.rpp_tree.specs.declared.tree.UpdateOp.TheVariants as update
@@ -14,34 +14,50 @@ use Rattle.refine_form.specs.declared.spot.Spot.{Spot}
 use Rattle.expr_uncompute.specs.Code.{around, words, content, amount, place, other_place, first_word, second_word, exch}
 use Rattle.expr_uncompute.specs.Code.{update_cell, place_words, place_cells, fetch_cells, apart_cells, both_apart_cells}
 use Rattle.expr_uncompute.specs.Code.{update_middle, four_exchanges, swap_middle, found_update_cells, update_cells}
-use Rattle.expr_uncompute.specs.Code.{found_swap_cells, swap_cells}
+use Rattle.expr_uncompute.specs.Code.{found_swap_cells, swap_cells, held_cells}
 use Rattle.expr_uncompute.specs.Code.{held_update_cells, operated_update_cells}
-use Rattle.expr_uncompute.specs.Held.{is_held}
-use Rattle.expr_uncompute.specs.Number.{Bases, address_of, given, number, word_of, element_at, read_of, index_of}
-use Rattle.expr_uncompute.specs.Number.{place_address, update_shares, swap_shares, Sees, Same, SamePlace}
+use Rattle.expr_uncompute.specs.Code.{near_place_cells, near_middle, near_update_cells, item_update_cells}
+use Rattle.expr_uncompute.specs.Code.{near_swap_cells, right_operand, base_of, addi}
+use Rattle.code_scope.specs.Visible.{offset_of}
+use Rattle.expr_uncompute.specs.Held.{need, has_element, is_opened_once, is_near, is_near_index}
+use Rattle.expr_uncompute.specs.Number.{Bases, address_of, number, word_of, element_at, read_of, index_of}
+use Rattle.expr_uncompute.specs.Number.{place_address, reads_array, update_shares, swap_shares, Sees, Same, SamePlace}
 use Rattle.expr_uncompute.specs.Laws.{swapped_at}
 use Rattle.expr_uncompute.specs.Steps.{place_steps, fetch_steps, apart_steps, both_apart_steps, update_steps}
 use Rattle.expr_uncompute.specs.Steps.{found_update_steps, found_swap_steps, swap_steps, around_steps, held_steps}
-use Rattle.expr_uncompute.specs.Steps.{operated_update_steps}
-use Rattle.expr_uncompute.proofs.HeldBounds.{held_few}
-use Rattle.expr_uncompute.proofs.HeldUpdates.{held_update_goes}
+use Rattle.expr_uncompute.specs.Steps.{operated_update_steps, prepare_steps, checked_steps, near_update_steps}
+use Rattle.expr_uncompute.specs.Steps.{item_update_steps, near_swap_steps}
+use Rattle.expr_uncompute.proofs.HeldBounds.{neither_left, neither_right, once_few, near_few, near_index_few}
+use Rattle.expr_uncompute.proofs.HeldUpdates.{held_update_goes, near_update_goes}
 use Rattle.expr_uncompute.proofs.Opened.{is_number}
 use Rattle.expr_uncompute.proofs.Goes.{Goes, Traps, TrapsBoth, goes_seq, goes_cons, goes_to, goes_around, goes_xor}
-use Rattle.expr_uncompute.proofs.Goes.{goes_add, goes_sub, goes_exch, traps_first, traps_then, traps_around}
+use Rattle.expr_uncompute.proofs.Goes.{goes_add, goes_sub, goes_exch, traps_first, traps_then, traps_more, traps_around}
+use Rattle.expr_uncompute.proofs.Goes.{both_more}
+use Rattle.expr_uncompute.proofs.Reading.{moved}
+use Rattle.expr_uncompute.proofs.Standing.{there_goes}
 use Rattle.expr_uncompute.proofs.Scratch.{keeping, mem}
 use Rattle.expr_uncompute.proofs.Numbers.{Agree, AllWords, number_same, number_word, element_address_same, sees_same}
-use Rattle.expr_uncompute.proofs.Stored.{stored_length, stored_below}
+use Rattle.expr_uncompute.proofs.Stored.{stored, stored_length, stored_below, same_number, same_lifted}
 use Rattle.expr_uncompute.proofs.KeptApart.{shares_same, index_seen, swap_shares_same, apart_goes, apart_traps}
 use Rattle.expr_uncompute.proofs.KeptApart.{both_apart_go, both_apart_traps}
 use Rattle.expr_uncompute.proofs.Leaves.{number_goes, variable_goes}
-use Rattle.expr_uncompute.proofs.Exchanged.{four_swap, spots_go}
+use Rattle.expr_uncompute.proofs.Exchanged.{four_swap, spots_go, variable_first, variable_second}
+use Rattle.expr_uncompute.proofs.Operators.{operands}
 use Rattle.expr_uncompute.proofs.Ways.{ok_is, inside_of}
 use Rattle.expr_uncompute.proofs.Prepare.{PartsDone, stored_words, parts_done}
-use Rattle.expr_uncompute.proofs.PlaceLaws.{placed, place_points, other_points, place_goes, place_traps, fetch_goes}
-use Rattle.expr_uncompute.proofs.PlaceLaws.{fetch_traps}
+use Rattle.expr_uncompute.proofs.PlaceLaws.{FitPlace, placed, near_goes, near_traps, place_points, other_points}
+use Rattle.expr_uncompute.proofs.PlaceLaws.{place_goes}
+use Rattle.expr_uncompute.proofs.PlaceLaws.{place_traps, fetch_goes, fetch_traps}
 use Rattle.expr_uncompute.proofs.Written.{FitFrom, place_fits, value_fits, other_fits, placed_below, placed_length}
-use Rattle.expr_uncompute.proofs.Written.{placed_words, filled, filled_written, both_placed, both_written, write_one}
+use Rattle.expr_uncompute.proofs.Written.{placed_words, placed_written, filled, filled_written, both_placed}
+use Rattle.expr_uncompute.proofs.Written.{both_written, write_one}
 use Rattle.expr_uncompute.proofs.Written.{write_two}
+
+no_fault : {v c : ℕ} → Ok v ≡ Err c → ⊥
+no_fault e = cc
+
+no_truth : false ≡ true → ⊥
+no_truth e = cc
 
 -- ---- the middle of an update
 
@@ -212,6 +228,16 @@ module _ (spot : List ℕ → Spot) (free : ℕ) (b : Bases) where
     found_traps_sharing mid zs a v h s na nv shared = traps_around mid
         (traps_then (found_goes zs a v h s na nv) (sharing_traps zs a v h s shared))
 
+  reads_none : (zs : List ℕ) (array : ℕ) (e : Expression) → has_element e ≡ false
+      → reads_array spot b zs array e ≡ false
+  reads_none zs array (Number at word) h = refl
+  reads_none zs array (Null at) h = refl
+  reads_none zs array (Variable name) h = refl
+  reads_none zs array (Element name index) h = absurd (cc)
+  reads_none zs array (Binary at o left right) h = ap (λ t. t || reads_array spot b zs array right)
+      (reads_none zs array left (neither_left (has_element left) (has_element right) h))
+      ∙ reads_none zs array right (neither_right (has_element left) (has_element right) h)
+
   module _ (f : ℕ → ℕ) (op : UpdateOp) where
     -- forward: the word at the place is updated, by these cells in so many steps
     abbrev pub Updates : Lvalue → Expression → List Symbol → (steps : ℕ) → Type 0
@@ -270,9 +296,10 @@ module _ (spot : List ℕ → Spot) (free : ℕ) (b : Bases) where
 
     by_operator : (name : Ident) (e : Expression) → Updates (Whole name) e (operated_update_cells spot free op name e)
         (operated_update_steps (Whole name) e)
-    by_operator name e = by (is_held e) refl
+    by_operator name e = by (is_opened_once e) refl
       where
-        by : (t : Bool) → is_held e ≡ t → Updates (Whole name) e (if t then held_update_cells spot op (spot name.text) e
+        by : (t : Bool) → is_opened_once e ≡ t
+            → Updates (Whole name) e (if t then held_update_cells spot op (spot name.text) e
             else found_update_cells spot free op (Whole name) e)
             (if t then around_steps (held_steps e) 5 else found_update_steps (Whole name) e)
         by false q = found_update_goes (Whole name) e
@@ -280,8 +307,55 @@ module _ (spot : List ℕ → Spot) (free : ℕ) (b : Bases) where
             let l = h.sees in
             let fits = h.fits in
             let made = q ∙ ap (λ i. slice_set zs i (updated op (slice_index zs i) v)) (sym (ok_is na)) in
-            held_update_goes b f spot low op (spot name.text) e zs zs' v (held_few e t) h.all h.small (omega arith)
-            (omega arith) s sv nv made
+            let few = once_few e t in
+            held_update_goes b f spot low op e zs zs' v few.1 h.all h.small (omega arith) s sv nv (spot name.text)
+            few.0 (omega arith) made
+
+    by_near : (name : Ident) (index e : Expression) → need e < 6 → has_element e ≡ false
+        → Updates (Item name index) e (near_update_cells spot free op name.text index e) (near_update_steps index e)
+    by_near name index e few plain zs zs' a v h h' s s' na na' nv nv' sp sv apart apart' q =
+        let target : Lvalue = Item name index in
+        let al : a < low = place_low target a zs h.sees na in
+        let n = inside_of zs (word_of spot b zs name.text) (number spot b zs index) a na in
+        let n' = inside_of zs' (word_of spot b zs' name.text) (number spot b zs' index) a na' in
+        let ys : List ℕ = stored spot free b index 0 zs in
+        let ys' : List ℕ = stored spot free b index 0 zs' in
+        let fit = place_fits spot free b target (words e) zs h in
+        let fit' = place_fits spot free b target (words e) zs' h' in
+        let below = placed_below spot free b target zs in
+        let below' = placed_below spot free b target zs' in
+        let count : length ys ≡ length zs = placed_length spot free b target zs in
+        let fits = h.fits in
+        let small = h.small in
+        let same_x : n'.x ≡ n.x = ok_is (sym n'.index ∙ same_number spot free b index zs zs' sp.1 ∙ n.index) in
+        let y : ℕ = updated op (slice_index zs a) v in
+        let over : ys' ≡ slice_set ys a y = ap (placed spot free b target 0) q
+        ∙ placed_written spot free b (λ z. slice_set z a y) (write_one spot free b a y al) target zs h.sees
+        (subst (λ z. Sees spot b low z (read_of target)) q h'.sees)
+        (subst (λ z. SamePlace spot b zs z target) q sp) in
+        near_update_goes b f spot low op e ys ys' v plain (placed_words spot free b target zs h.all h.sees)
+        (omega arith)
+        (omega arith) (sees_same spot b low zs ys below e s)
+        (same_lifted spot free b e zs zs' ys ys' below below' s s' sv)
+        (number_same spot b low zs ys below e s ∙ nv) (near_place_cells spot free name.text index)
+        (prepare_steps index + (checked_steps index + 2)) n.x a (mem b f (keeping 0 0 0) zs)
+        (mem b f (keeping 0 0 0) zs') few (omega arith)
+        (over ∙ ap (λ w. slice_set ys a (updated op w v)) (sym (below a al)))
+        (near_goes spot free b f 0 0 0 0 zs name index fit a n)
+        (goes_to refl refl (ap (λ x. mem b f (operands 0 0 0 x a) ys') same_x)
+        (near_goes spot free b f 0 0 0 0 zs' name index fit' a n'))
+
+    by_item : (name : Ident) (index e : Expression)
+        → Updates (Item name index) e (item_update_cells spot free op name index e)
+        (item_update_steps (Item name index) index e)
+    by_item name index e = by (is_near index e) refl
+      where
+        by : (t : Bool) → is_near index e ≡ t
+            → Updates (Item name index) e (if t then near_update_cells spot free op name.text index e
+            else found_update_cells spot free op (Item name index) e)
+            (if t then near_update_steps index e else found_update_steps (Item name index) e)
+        by true q = let few = near_few index e q in by_near name index e few.0 few.1
+        by false q = found_update_goes (Item name index) e
 
     pub update_goes : (target : Lvalue) (e : Expression)
         → Updates target e (update_cells spot free op target e) (update_steps target e)
@@ -290,15 +364,23 @@ module _ (spot : List ℕ → Spot) (free : ℕ) (b : Bases) where
     update_goes (Whole name) (Null at) = found_update_goes (Whole name) (Null at)
     update_goes (Whole name) (Element array index) = found_update_goes (Whole name) (Element array index)
     update_goes (Whole name) (Binary at o left right) = by_operator name (Binary at o left right)
-    update_goes (Item name index) e = found_update_goes (Item name index) e
+    update_goes (Item name index) e = by_item name index e
 
     -- the faults of an update: a variable has none as a place, nor has a leaf as a value
     pub update_traps_place : (target : Lvalue) (e : Expression) (zs : List ℕ) (c : ℕ)
         → FitFrom spot free b target (words e) zs → place_address spot b zs target ≡ Err c
         → TrapsBoth (update_cells spot free op target e) (place_steps target) c (mem b f (keeping 0 0 0) zs)
     update_traps_place (Whole name) e zs c h n = absurd (cc)
-    update_traps_place (Item name index) e zs c h n =
-        found_traps_place f (Item name index) e (apart_cells spot (Item name index) index e) (update_middle op) zs c h n
+    update_traps_place (Item name index) e zs c h n = by (is_near index e)
+      where
+        by : (t : Bool) → TrapsBoth (if t then near_update_cells spot free op name.text index e
+            else found_update_cells spot free op (Item name index) e) (place_steps (Item name index)) c
+            (mem b f (keeping 0 0 0) zs)
+        by true = traps_around (near_middle op) (traps_first (held_cells spot e 4) (traps_more (omega arith)
+            (near_traps spot free b f 0 0 0 name index 0 c zs (place_fits spot free b (Item name index) (words e) zs h)
+            n)))
+        by false = found_traps_place f (Item name index) e (apart_cells spot (Item name index) index e)
+            (update_middle op) zs c h n
 
     pub update_traps_value : (target : Lvalue) (e : Expression) (zs : List ℕ) (a c : ℕ)
         → FitFrom spot free b target (words e) zs → Sees spot b low zs e → place_address spot b zs target ≡ Ok a
@@ -310,20 +392,24 @@ module _ (spot : List ℕ → Spot) (free : ℕ) (b : Bases) where
     update_traps_value (Whole name) (Element array index) zs a c h s na n =
         found_traps_value f (Whole name) (Element array index) [] (update_middle op) zs a c h s na n
     update_traps_value (Whole name) (Binary at o left right) zs a c h s na n =
-        by (Binary at o left right) (is_held (Binary at o left right)) refl h s n
+        by (Binary at o left right) (is_opened_once (Binary at o left right)) refl h s n
       where
-        by : (e : Expression) (t : Bool) → is_held e ≡ t → FitFrom spot free b (Whole name) (words e) zs
+        by : (e : Expression) (t : Bool) → is_opened_once e ≡ t → FitFrom spot free b (Whole name) (words e) zs
             → Sees spot b low zs e → number spot b zs e ≡ Err c
             → TrapsBoth (if t then held_update_cells spot op (spot name.text) e
             else found_update_cells spot free op (Whole name) e) (place_steps (Whole name) + fetch_steps e) c
             (mem b f (keeping 0 0 0) zs)
         by e false q h s n = found_traps_value f (Whole name) e [] (update_middle op) zs a c h s na n
-        by e true q h s n = let no : Ok (given (number spot b zs e)) ≡ Err c =
-            sym (is_number spot b zs e (held_few e q))
-            ∙ n in absurd (cc)
-    update_traps_value (Item name index) e zs a c h s na n =
-        found_traps_value f (Item name index) e (apart_cells spot (Item name index) index e) (update_middle op) zs a c h
-        s na n
+        by e true q h s n = let few = once_few e q in absurd (no_fault (sym (is_number spot b zs e few.1) ∙ n))
+    update_traps_value (Item name index) e zs a c h s na n = by (is_near index e) refl
+      where
+        by : (t : Bool) → is_near index e ≡ t → TrapsBoth (if t then near_update_cells spot free op name.text index e
+            else found_update_cells spot free op (Item name index) e) (place_steps (Item name index) + fetch_steps e) c
+            (mem b f (keeping 0 0 0) zs)
+        by true q =
+            let few = near_few index e q in absurd (no_fault (sym (is_number spot b zs e few.1) ∙ n))
+        by false q = found_traps_value f (Item name index) e (apart_cells spot (Item name index) index e)
+            (update_middle op) zs a c h s na n
 
     pub update_traps_sharing : (target : Lvalue) (e : Expression) (zs : List ℕ) (a v : ℕ)
         → FitFrom spot free b target (words e) zs → Sees spot b low zs e → place_address spot b zs target ≡ Ok a
@@ -332,8 +418,18 @@ module _ (spot : List ℕ → Spot) (free : ℕ) (b : Bases) where
         (place_steps target + fetch_steps e + apart_steps target (index_of target) e) 16
         (mem b f (keeping 0 0 0) zs)
     update_traps_sharing (Whole name) e zs a v h s na nv shared = absurd (cc)
-    update_traps_sharing (Item name index) e zs a v h s na nv shared =
-        found_traps_sharing f (Item name index) e (update_middle op) zs a v h s na nv shared
+    update_traps_sharing (Item name index) e zs a v h s na nv shared = by (is_near index e) refl
+      where
+        by : (t : Bool) → is_near index e ≡ t → TrapsBoth (if t then near_update_cells spot free op name.text index e
+            else found_update_cells spot free op (Item name index) e)
+            (place_steps (Item name index) + fetch_steps e + apart_steps (Item name index) index e) 16
+            (mem b f (keeping 0 0 0) zs)
+        by true q =
+            let few = near_few index e q in
+            absurd (no_truth (sym (ap (λ t. t || reads_array spot b zs (word_of spot b zs name.text) e)
+            (reads_none zs (word_of spot b zs name.text) index few.2)
+            ∙ reads_none zs (word_of spot b zs name.text) e few.1) ∙ shared))
+        by false q = found_traps_sharing f (Item name index) e (update_middle op) zs a v h s na nv shared
 
   -- ---- swaps
 
@@ -511,30 +607,153 @@ module _ (spot : List ℕ → Spot) (free : ℕ) (b : Bases) where
         goes_to refl refl (ap (mem b f (keeping 0 0 0)) cells)
         (spots_go b f (spot name.text) (spot other.text) zs (omega arith) (omega arith) h.small)
 
+    -- a variable and an element that is found once, by what exchanges the two words
+    near_swap_goes : (x : Spot) (name : Ident) (index : Expression) (zs zs' : List ℕ) (p q a : ℕ) (four : List Symbol)
+        → p < low → q < low → address_of b x < low → FitPlace spot free b (Item name index) 0 zs
+        → FitPlace spot free b (Item name index) 0 zs' → place_address spot b zs (Item name index) ≡ Ok a
+        → place_address spot b zs' (Item name index) ≡ Ok a → SamePlace spot b zs zs' (Item name index)
+        → zs' ≡ swapped_at p q zs
+        → ((i : ℕ) (ys : List ℕ) → length ys ≡ length zs
+        → Goes four 4 (mem (moved b x) f (operands 0 0 0 i a) ys)
+        (mem (moved b x) f (operands 0 0 0 i a) (swapped_at p q ys)))
+        → Goes (around (near_place_cells spot free name.text index ++ addi (base_of x) (offset_of x) ∷ []) four)
+        (near_swap_steps index) (mem b f (keeping 0 0 0) zs) (mem b f (keeping 0 0 0) zs')
+    near_swap_goes x name index zs zs' p q a four pl ql xl fit fit' na na' sp e mid =
+        let target : Lvalue = Item name index in
+        let n = inside_of zs (word_of spot b zs name.text) (number spot b zs index) a na in
+        let n' = inside_of zs' (word_of spot b zs' name.text) (number spot b zs' index) a na' in
+        let ys : List ℕ = stored spot free b index 0 zs in
+        let ys' : List ℕ = stored spot free b index 0 zs' in
+        let below = placed_below spot free b target zs in
+        let count : length ys ≡ length zs = placed_length spot free b target zs in
+        let fits = fit.fits in
+        let small = fit.small in
+        let same_x : n'.x ≡ n.x = ok_is (sym n'.index ∙ same_number spot free b index zs zs' sp.1 ∙ n.index) in
+        let u : ℕ = slice_index zs q in
+        let v : ℕ = slice_index zs p in
+        let over : ys' ≡ swapped_at p q ys = ap (placed spot free b target 0) e
+        ∙ placed_written spot free b (λ z. slice_set (slice_set z p u) q v) (write_two spot free b p u q v pl ql) target
+        zs fit.sees (subst (λ z. Sees spot b low z (read_of target)) e fit'.sees)
+        (subst (λ z. SamePlace spot b zs z target) e sp)
+        ∙ sym (ap (λ w. slice_set (slice_set ys p w) q (slice_index ys p)) (below q ql)
+        ∙ ap (λ w. slice_set (slice_set ys p u) q w) (below p pl)) in
+        goes_around (goes_seq (near_goes spot free b f 0 0 0 0 zs name index fit a n)
+        (there_goes b f (operands 0 0 0 n.x a) ys x (omega arith)))
+        (goes_to refl refl (ap (mem (moved b x) f (operands 0 0 0 n.x a)) (sym over)) (mid n.x ys count))
+        (goes_seq (goes_to refl refl (ap (λ i. mem b f (operands 0 0 0 i a) ys') same_x)
+        (near_goes spot free b f 0 0 0 0 zs' name index fit' a n'))
+        (there_goes b f (operands 0 0 0 n.x a) ys' x (omega arith)))
+
+    by_first : (name other : Ident) (index : Expression) → Swaps f (Whole name) (Item other index)
+        (near_swap_cells spot free (base_of (spot name.text)) right_operand (spot name.text) other.text index)
+        (near_swap_steps index)
+    by_first name other index zs zs' p q h h' s s' np np' nq nq' st so apart apart' e =
+        let x : ℕ = address_of b (spot name.text) in
+        let l = h.sees in
+        let fits = h.fits in
+        let ql : q < low = place_low (Item other index) q zs s nq in
+        near_swap_goes (spot name.text) other index zs zs' x q q
+        (four_exchanges (base_of (spot name.text)) right_operand) (omega arith) ql (omega arith)
+        (other_fits spot free b (Whole name) (Item other index) zs h s)
+        (other_fits spot free b (Whole name) (Item other index) zs' h' s') nq nq' so
+        (e ∙ sym (ap (λ i. swapped_at i q zs) (ok_is np)))
+        (λ i ys same. variable_first b f i q (spot name.text) ys (omega arith) (omega arith))
+
+    by_second : (name other : Ident) (index : Expression) → Swaps f (Item name index) (Whole other)
+        (near_swap_cells spot free right_operand (base_of (spot other.text)) (spot other.text) name.text index)
+        (near_swap_steps index)
+    by_second name other index zs zs' p q h h' s s' np np' nq nq' st so apart apart' e =
+        let x : ℕ = address_of b (spot other.text) in
+        let l = s in
+        let fits = h.fits in
+        let pl : p < low = place_low (Item name index) p zs h.sees np in
+        near_swap_goes (spot other.text) name index zs zs' p x p
+        (four_exchanges right_operand (base_of (spot other.text))) pl (omega arith) (omega arith)
+        (place_fits spot free b (Item name index) (place_words (Whole other)) zs h)
+        (place_fits spot free b (Item name index) (place_words (Whole other)) zs' h') np np' st
+        (e ∙ sym (ap (λ i. swapped_at p i zs) (ok_is nq)))
+        (λ i ys same. variable_second b f i p (spot other.text) ys (omega arith) (omega arith))
+
+    first_goes : (name other : Ident) (index : Expression) → Swaps f (Whole name) (Item other index)
+        (swap_cells spot free (Whole name) (Item other index)) (swap_steps (Whole name) (Item other index))
+    first_goes name other index = by (is_near_index index)
+      where
+        by : (t : Bool) → Swaps f (Whole name) (Item other index)
+            (if t then near_swap_cells spot free (base_of (spot name.text)) right_operand (spot name.text) other.text
+            index else found_swap_cells spot free (Whole name) (Item other index))
+            (if t then near_swap_steps index else found_swap_steps (Whole name) (Item other index))
+        by true = by_first name other index
+        by false = found_swap_goes f (Whole name) (Item other index)
+
+    second_goes : (name other : Ident) (index : Expression) → Swaps f (Item name index) (Whole other)
+        (swap_cells spot free (Item name index) (Whole other)) (swap_steps (Item name index) (Whole other))
+    second_goes name other index = by (is_near_index index)
+      where
+        by : (t : Bool) → Swaps f (Item name index) (Whole other)
+            (if t then near_swap_cells spot free right_operand (base_of (spot other.text)) (spot other.text) name.text
+            index else found_swap_cells spot free (Item name index) (Whole other))
+            (if t then near_swap_steps index else found_swap_steps (Item name index) (Whole other))
+        by true = by_second name other index
+        by false = found_swap_goes f (Item name index) (Whole other)
+
     pub swap_goes : (target other : Lvalue) → Swaps f target other (swap_cells spot free target other)
         (swap_steps target other)
     swap_goes (Whole name) (Whole other) = whole_swap_goes name other
-    swap_goes (Whole name) (Item other index) = found_swap_goes f (Whole name) (Item other index)
-    swap_goes (Item name index) other = found_swap_goes f (Item name index) other
+    swap_goes (Whole name) (Item other index) = first_goes name other index
+    swap_goes (Item name index) (Whole other) = second_goes name other index
+    swap_goes (Item name index) (Item other k) = found_swap_goes f (Item name index) (Item other k)
 
     -- the faults of a swap: a variable has none as a place
+    near_swap_traps : (x : Spot) (name : Ident) (index : Expression) (four : List Symbol) (zs : List ℕ) (c : ℕ)
+        → FitPlace spot free b (Item name index) 0 zs → place_address spot b zs (Item name index) ≡ Err c
+        → TrapsBoth (around (near_place_cells spot free name.text index ++ addi (base_of x) (offset_of x) ∷ []) four)
+        (place_steps (Item name index)) c (mem b f (keeping 0 0 0) zs)
+    near_swap_traps x name index four zs c fit n = traps_around four
+        (traps_first (addi (base_of x) (offset_of x) ∷ []) (traps_more (omega arith)
+        (near_traps spot free b f 0 0 0 name index 0 c zs fit n)))
+
     pub swap_traps_first : (target other : Lvalue) (zs : List ℕ) (c : ℕ)
         → FitFrom spot free b target (place_words other) zs → place_address spot b zs target ≡ Err c
         → TrapsBoth (swap_cells spot free target other) (place_steps target) c (mem b f (keeping 0 0 0) zs)
     swap_traps_first (Whole name) other zs c h n = absurd (cc)
-    swap_traps_first (Item name index) other zs c h n = both_traps_first f (Item name index) other
-        (both_apart_cells spot (Item name index) other) swap_middle zs c h n
+    swap_traps_first (Item name index) (Item other k) zs c h n = both_traps_first f (Item name index) (Item other k)
+        (both_apart_cells spot (Item name index) (Item other k)) swap_middle zs c h n
+    swap_traps_first (Item name index) (Whole other) zs c h n = by (is_near_index index)
+      where
+        by : (t : Bool) → TrapsBoth (if t
+            then near_swap_cells spot free right_operand (base_of (spot other.text)) (spot other.text) name.text index
+            else found_swap_cells spot free (Item name index) (Whole other)) (place_steps (Item name index)) c
+            (mem b f (keeping 0 0 0) zs)
+        by true = near_swap_traps (spot other.text) name index
+            (four_exchanges right_operand (base_of (spot other.text))) zs c
+            (place_fits spot free b (Item name index) (place_words (Whole other)) zs h) n
+        by false = both_traps_first f (Item name index) (Whole other)
+            (both_apart_cells spot (Item name index) (Whole other)) swap_middle zs c h n
 
     pub swap_traps_second : (target other : Lvalue) (zs : List ℕ) (p c : ℕ)
         → FitFrom spot free b target (place_words other) zs → Sees spot b low zs (read_of other)
         → place_address spot b zs target ≡ Ok p → place_address spot b zs other ≡ Err c
         → TrapsBoth (swap_cells spot free target other) (place_steps target + place_steps other) c
         (mem b f (keeping 0 0 0) zs)
-    swap_traps_second (Whole name) (Whole other) zs p c h s np n = absurd (cc)
-    swap_traps_second (Whole name) (Item other index) zs p c h s np n = both_traps_second f (Whole name)
-        (Item other index) (both_apart_cells spot (Whole name) (Item other index)) swap_middle zs p c h s np n
-    swap_traps_second (Item name index) other zs p c h s np n = both_traps_second f (Item name index) other
-        (both_apart_cells spot (Item name index) other) swap_middle zs p c h s np n
+    swap_traps_second target (Whole other) zs p c h s np n = absurd (cc)
+    swap_traps_second (Item name index) (Item other k) zs p c h s np n = both_traps_second f (Item name index)
+        (Item other k) (both_apart_cells spot (Item name index) (Item other k)) swap_middle zs p c h s np n
+    swap_traps_second (Whole name) (Item other index) zs p c h s np n = by (is_near_index index)
+      where
+        by : (t : Bool) → TrapsBoth (if t
+            then near_swap_cells spot free (base_of (spot name.text)) right_operand (spot name.text) other.text index
+            else found_swap_cells spot free (Whole name) (Item other index))
+            (place_steps (Whole name) + place_steps (Item other index)) c (mem b f (keeping 0 0 0) zs)
+        by true = both_more (omega arith) (near_swap_traps (spot name.text) other index
+            (four_exchanges (base_of (spot name.text)) right_operand) zs c
+            (other_fits spot free b (Whole name) (Item other index) zs h s) n)
+        by false = both_traps_second f (Whole name) (Item other index)
+            (both_apart_cells spot (Whole name) (Item other index)) swap_middle zs p c h s np n
+
+    -- an index that reads no element shares no array
+    not_shared : (zs : List ℕ) (array : ℕ) (index : Expression) → is_near_index index ≡ true
+        → reads_array spot b zs array index ≡ false
+    not_shared zs array index q = reads_none zs array index (near_index_few index q)
 
     pub swap_traps_sharing : (target other : Lvalue) (zs : List ℕ) (p q : ℕ)
         → FitFrom spot free b target (place_words other) zs → Sees spot b low zs (read_of other)
@@ -543,7 +762,24 @@ module _ (spot : List ℕ → Spot) (free : ℕ) (b : Bases) where
         → TrapsBoth (swap_cells spot free target other) (place_steps target + place_steps other + both_apart_steps
         target other) 16 (mem b f (keeping 0 0 0) zs)
     swap_traps_sharing (Whole name) (Whole other) zs p q h s np nq shared = absurd (cc)
-    swap_traps_sharing (Whole name) (Item other index) zs p q h s np nq shared =
-        found_swap_traps_sharing f (Whole name) (Item other index) zs p q h s np nq shared
-    swap_traps_sharing (Item name index) other zs p q h s np nq shared =
-        found_swap_traps_sharing f (Item name index) other zs p q h s np nq shared
+    swap_traps_sharing (Item name index) (Item other k) zs p q h s np nq shared =
+        found_swap_traps_sharing f (Item name index) (Item other k) zs p q h s np nq shared
+    swap_traps_sharing (Whole name) (Item other index) zs p q h s np nq shared = by (is_near_index index) refl
+      where
+        by : (t : Bool) → is_near_index index ≡ t → TrapsBoth (if t
+            then near_swap_cells spot free (base_of (spot name.text)) right_operand (spot name.text) other.text index
+            else found_swap_cells spot free (Whole name) (Item other index))
+            (place_steps (Whole name) + place_steps (Item other index) + both_apart_steps (Whole name)
+            (Item other index)) 16 (mem b f (keeping 0 0 0) zs)
+        by true q1 = absurd (no_truth (sym (not_shared zs (word_of spot b zs other.text) index q1) ∙ shared))
+        by false q1 = found_swap_traps_sharing f (Whole name) (Item other index) zs p q h s np nq shared
+    swap_traps_sharing (Item name index) (Whole other) zs p q h s np nq shared = by (is_near_index index) refl
+      where
+        by : (t : Bool) → is_near_index index ≡ t → TrapsBoth (if t
+            then near_swap_cells spot free right_operand (base_of (spot other.text)) (spot other.text) name.text index
+            else found_swap_cells spot free (Item name index) (Whole other))
+            (place_steps (Item name index) + place_steps (Whole other) + both_apart_steps (Item name index)
+            (Whole other)) 16 (mem b f (keeping 0 0 0) zs)
+        by true q1 = absurd (no_truth (sym (ap (λ t. (t || false) || false)
+            (not_shared zs (word_of spot b zs name.text) index q1)) ∙ shared))
+        by false q1 = found_swap_traps_sharing f (Item name index) (Whole other) zs p q h s np nq shared

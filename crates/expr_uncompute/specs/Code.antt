@@ -25,8 +25,8 @@ use Rattle.code_scope.specs.Visible.{offset_of}
 use Rattle.expr_uncompute.specs.Number.{index_of}
 use Rattle.expr_uncompute.specs.declared.held.Kind.{Kind}
 use Rattle.expr_uncompute.specs.declared.held.Kind.TheVariants.{Changes, Gives, Joins, Neither}
-use Rattle.expr_uncompute.specs.Held.{kind, past, need, told_need, left_at, right_at, is_held}
-use Rattle.expr_uncompute.specs.Held.{is_variable, is_literal, literal_in, is_zero, spot_in}
+use Rattle.expr_uncompute.specs.Held.{kind, past, need, told_need, left_at, right_at, is_held, is_opened_once, is_near}
+use Rattle.expr_uncompute.specs.Held.{is_near_index, is_variable, is_literal, literal_in, is_zero, spot_in}
 use Rattle.expr_uncompute.specs.Held.{is_truth}
 
 -- ---- the registers
@@ -201,14 +201,20 @@ operator_result _ = outcome
 -- a check that passed leaves its flag 0, so that nothing is to be undone after it
 
 -- fault 5 where the array is nil
+abbrev pub nil_check_of : (array : ℕ) → List Symbol
+nil_check_of array = sltx outcome nought array ∷ xori outcome 1 ∷ [] ++ check_cells outcome NIL
+
 abbrev pub nil_check : List Symbol
-nil_check = sltx outcome nought right_operand ∷ xori outcome 1 ∷ [] ++ check_cells outcome NIL
+nil_check = nil_check_of right_operand
 
 -- fault 9 where the index, without sign, is not below the array's length
+abbrev pub index_check_of : (array index : ℕ) → List Symbol
+index_check_of array index =
+    around (exch content array ∷ []) (sltx outcome index content
+    ∷ sltx outcome index nought ∷ xori outcome 1 ∷ [] ++ check_cells outcome INDEX)
+
 abbrev pub index_check : List Symbol
-index_check =
-    around (exch content right_operand ∷ []) (sltx outcome left_operand content
-    ∷ sltx outcome left_operand nought ∷ xori outcome 1 ∷ [] ++ check_cells outcome INDEX)
+index_check = index_check_of right_operand left_operand
 
 -- fault 16 where the words of two spots are the same
 abbrev pub compare_cells : (x y : Spot) → List Symbol
@@ -217,8 +223,11 @@ compare_cells x y =
     ∷ sltx outcome content left_operand ∷ xori outcome 1 ∷ [] ++ check_cells outcome SHARED_ARRAY)
 
 -- the address of the element in the array's register
+abbrev pub point_of : (array index : ℕ) → List Symbol
+point_of array index = add array index ∷ addi array HEADER_WORDS ∷ []
+
 abbrev pub point_cells : List Symbol
-point_cells = add right_operand left_operand ∷ addi right_operand HEADER_WORDS ∷ []
+point_cells = point_of right_operand left_operand
 
 -- the register that has the value of an opened expression
 abbrev pub result_of : Expression → ℕ
@@ -322,6 +331,10 @@ module _ (spot : List ℕ → Spot) where
 abbrev pub part : ℕ → ℕ
 part k = left_operand + k
 
+-- the word of an element updated by the value above its index and its address
+abbrev pub near_middle : UpdateOp → List Symbol
+near_middle op = around (exch content right_operand ∷ []) (update_cell op content (part 4) ∷ [])
+
 abbrev pub change_cells : BinOp → (d s : ℕ) → List Symbol
 change_cells op.Add d s = add d s ∷ []
 change_cells op.Sub d s = sub d s ∷ []
@@ -399,12 +412,19 @@ module _ (spot : List ℕ → Spot) where
   operated_cells c o left right w v k = before_cells c left right w v k
       ++ core_cells c o left right k
 
+  -- the address of an element in register k + 1, by the cells that open its index in register k + 2
+  abbrev pub element_cells : List ℕ → List Symbol → (k : ℕ) → List Symbol
+  element_cells name w k = ((w ++ copy_cells (spot name) (part (k + 1)))
+      ++ (nil_check_of (part (k + 1)) ++ index_check_of (part (k + 1)) (part (k + 2))))
+      ++ point_of (part (k + 1)) (part (k + 2))
+
   -- the value of an expression in register k, which was 0 as those above it
   abbrev pub held_cells : Expression → (k : ℕ) → List Symbol
   held_cells (Number at word) k = xori (part k) word ∷ []
   held_cells (Null at) k = xori (part k) 0 ∷ []
   held_cells (Variable name) k = copy_cells (spot name.text) (part k)
-  held_cells (Element name index) k = []
+  held_cells (Element name index) k = element_cells name.text (held_cells index (k + 2)) k
+      ++ around (exch content (part (k + 1)) ∷ []) (xor (part k) content ∷ [])
   held_cells (Binary at o left right) k = operated_cells (kind o) o left right
       (held_cells left (left_at (kind o) (is_truth left) k))
       (held_cells right (right_at (kind o) (is_truth left) (is_truth right) (need left) k)) k
@@ -546,7 +566,7 @@ module _ (spot : List ℕ → Spot) (free : ℕ) where
 
   -- of a variable by a value with an operator
   abbrev pub operated_update_cells : UpdateOp → Ident → Expression → List Symbol
-  operated_update_cells op name e = if is_held e
+  operated_update_cells op name e = if is_opened_once e
       then held_update_cells spot op (spot name.text) e
       else found_update_cells op (Whole name) e
 
@@ -560,9 +580,22 @@ module _ (spot : List ℕ → Spot) (free : ℕ) where
       operated_update_cells op name (Binary at o left right)
   whole_update_cells op name value = found_update_cells op (Whole name) value
 
+  -- of an element, whose address stays in the register of its array; the value stands above
+  abbrev pub near_place_cells : List ℕ → (index : Expression) → List Symbol
+  near_place_cells name index = prepare_cells index 0 ++ (checked_cells name index 0 ++ point_cells)
+
+  abbrev pub near_update_cells : UpdateOp → List ℕ → (index value : Expression) → List Symbol
+  near_update_cells op name index value =
+      around (near_place_cells name index ++ held_cells spot value 4) (near_middle op)
+
+  abbrev pub item_update_cells : UpdateOp → Ident → (index value : Expression) → List Symbol
+  item_update_cells op name index value =
+      if is_near index value then near_update_cells op name.text index value
+      else found_update_cells op (Item name index) value
+
   abbrev pub update_cells : UpdateOp → Lvalue → Expression → List Symbol
   update_cells op (Whole name) value = whole_update_cells op name value
-  update_cells op (Item name index) value = found_update_cells op (Item name index) value
+  update_cells op (Item name index) value = item_update_cells op name index value
 
   -- the words of two places swapped; where they are one, it stays as it is
   abbrev pub found_swap_cells : Lvalue → Lvalue → List Symbol
@@ -570,11 +603,24 @@ module _ (spot : List ℕ → Spot) (free : ℕ) where
       around ((place_cells left 0 place ++ place_cells right (place_words left) other_place)
       ++ both_apart_cells spot left right) swap_middle
 
+  -- of a variable and an element that is found once, whose base and register of its array are p and q
+  abbrev pub near_swap_cells : (p q : ℕ) → Spot → List ℕ → (index : Expression) → List Symbol
+  near_swap_cells p q x name index =
+      around (near_place_cells name index ++ addi (base_of x) (offset_of x) ∷ []) (four_exchanges p q)
+
   -- those of two variables need no addresses in registers
   abbrev pub whole_swap_cells : Ident → Lvalue → List Symbol
   whole_swap_cells name (Whole other) = swap_spots (spot name.text) (spot other.text)
-  whole_swap_cells name (Item other index) = found_swap_cells (Whole name) (Item other index)
+  whole_swap_cells name (Item other index) = if is_near_index index
+      then near_swap_cells (base_of (spot name.text)) right_operand (spot name.text) other.text index
+      else found_swap_cells (Whole name) (Item other index)
+
+  abbrev pub item_swap_cells : Ident → Expression → Lvalue → List Symbol
+  item_swap_cells name index (Whole other) = if is_near_index index
+      then near_swap_cells right_operand (base_of (spot other.text)) (spot other.text) name.text index
+      else found_swap_cells (Item name index) (Whole other)
+  item_swap_cells name index (Item other k) = found_swap_cells (Item name index) (Item other k)
 
   abbrev pub swap_cells : Lvalue → Lvalue → List Symbol
   swap_cells (Whole name) right = whole_swap_cells name right
-  swap_cells (Item name index) right = found_swap_cells (Item name index) right
+  swap_cells (Item name index) right = item_swap_cells name index right

@@ -1,5 +1,5 @@
--- Expressions of numbers and variables with few operators, whose parts stand in registers.
-use Rattle.std.specs.Prelude.{ℕ, ◌+◌, nat_eq, nat_lt, Bool, true, false, List}
+-- Expressions with few operators, whose parts stand in registers.
+use Rattle.std.specs.Prelude.{ℕ, ◌+◌, nat_eq, nat_lt, Bool, true, false, ◌&&◌, ◌||◌, not, List}
 use Rattle.rpp_tree.specs.declared.tree.BinOp.{BinOp}
 use Rattle.rpp_tree.specs.declared.tree.BinOp.TheVariants as op
 use Rattle.rpp_tree.specs.Tree.{Expression, Number, Null, Variable, Element, Binary}
@@ -63,7 +63,7 @@ abbrev pub need : Expression → ℕ
 need (Number at word) = 1
 need (Null at) = 1
 need (Variable name) = 1
-need (Element name index) = 10
+need (Element name index) = 2 + need index
 need (Binary at o left right) =
     own (kind o) (is_truth left) (is_truth right) + (need left + need right)
 
@@ -84,10 +84,37 @@ right_at Gives p q n k = k + 1 + n
 right_at Joins p q n k = past q (k + 1 + (beside p + n))
 right_at Neither p q n k = k + n
 
--- a leaf needs none
+-- an index with parts would have words of the frame
+abbrev pub has_parts : Expression → Bool
+has_parts (Element name index) = true
+has_parts (Binary at o left right) = true
+has_parts _ = false
+
+-- a leaf needs none, and an element with a leaf as index needs no word of the frame
 abbrev pub is_held : Expression → Bool
+is_held (Element name index) = nat_lt (need (Element name index)) 10 && has_parts index
 is_held (Binary at o left right) = nat_lt (need (Binary at o left right)) 10
 is_held _ = false
+
+-- an update may change the array of an element that its value reads, so that such a value is found
+-- and closed before
+abbrev pub has_element : Expression → Bool
+has_element (Element name index) = true
+has_element (Binary at o left right) = has_element left || has_element right
+has_element _ = false
+
+-- a value that an update opens once
+abbrev pub is_opened_once : Expression → Bool
+is_opened_once e = is_held e && not (has_element e)
+
+-- where an element changes, its index and its address stay in two registers, and the value stands in
+-- the last five; neither index nor value reads an element
+abbrev pub is_near : (index value : Expression) → Bool
+is_near index value = (nat_lt (need value) 6 && not (has_element value)) && not (has_element index)
+
+-- an element that is swapped with a variable is found once, where its index reads no element
+abbrev pub is_near_index : Expression → Bool
+is_near_index index = not (has_element index)
 
 -- an operand that is a variable is read where its word is taken out, and needs no register
 abbrev pub is_variable : Expression → Bool

@@ -1,14 +1,14 @@
-// Expressions of numbers and variables with few operators, whose parts stand in registers.
+// Expressions with few operators, whose parts stand in registers.
 ghost use Rattle.std.specs.Prelude.{◌≡◌, ◌≢◌, ◌<◌, ◌≤◌, ◌+◌, ◌*◌, [], ◌∷◌, ◌++◌, ◌^◌, ◌⊎◌, true, false, if◌then◌else◌, IfOk};
 ghost use Rattle.rpp_tree.specs.Views.{expression_of, lvalue_of};
 ghost use Rattle.paired_code.specs.Code.{unmarked};
-ghost use Rattle.expr_uncompute.specs.Code.{Target, words as words_of, sltx as sltx_cell, xor as xor_cell, xori as xori_cell, around, reach_cells, part as part_of, before, core, told_cells, operands_cells, core_cells, change_cells, literal_cells, give_cells, held_cells, given_cells, held_value_cells, held_test_cells};
-ghost use Rattle.expr_uncompute.specs.Held.{kind as kind_of, own as own_of, beside as beside_of, past as past_of, need as need_of, told_need as told_need_of, left_at as left_place, right_at as right_place, is_held as held_of, is_variable as variable_of, is_literal as literal_is, literal_in, is_zero as zero_is, spot_in, tells as tells_of, is_truth as truth_is};
+ghost use Rattle.expr_uncompute.specs.Code.{Target, words as words_of, sltx as sltx_cell, xor as xor_cell, xori as xori_cell, exch as exch_cell, around, reach_cells, copy_cells, nil_check_of, index_check_of, point_of, part as part_of, before, core, told_cells, operands_cells, core_cells, change_cells, literal_cells, give_cells, held_cells, given_cells, held_value_cells, held_test_cells};
+ghost use Rattle.expr_uncompute.specs.Held.{kind as kind_of, own as own_of, beside as beside_of, past as past_of, need as need_of, told_need as told_need_of, left_at as left_place, right_at as right_place, has_parts as parts_in, is_held as held_of, has_element as element_in, is_opened_once as opened_once, is_near as near_of, is_near_index as near_index, is_variable as variable_of, is_literal as literal_is, literal_in, is_zero as zero_is, spot_in, tells as tells_of, is_truth as truth_is};
 ghost use Rattle.expr_uncompute.specs.Number.{read_of};
 ghost use Rattle.code_scope.specs.Visible.{spot_of as spot_of_name, known_by, offset_of};
 
 use crate::cells::{add, addi, andx, enclosed, orx, sltx, sub, xor, xori};
-use crate::rows::{LEFT, copy, reached, truth};
+use crate::rows::{LEFT, copy, element, element_word, reached, truth};
 use code_conventions::registers::{CONTENT, NOUGHT};
 use code_scope::{Names, spot_of};
 use paired_code::{Piece, empty, seq};
@@ -115,14 +115,16 @@ fn own(kind: Kind, left: bool, right: bool) -> u32
     }
 }
 
+#[cycle(need)]
 fn read_need(place: &Place) -> u32
+    requires { words_of (read_of (lvalue_of place.now)) ≤ 1000 }
     ensures value { result ≡ need_of (read_of (lvalue_of place.now)) }
     ensures bound { result ≤ 11 * words_of (read_of (lvalue_of place.now)) + 1 }
     ensures some { 1 ≤ result }
 {
     match &place.index {
         None => 1,
-        Some(_) => 10,
+        Some(index) => 2 + need(index),
     }
 }
 
@@ -154,6 +156,20 @@ fn told_need(e: &Expr) -> u32
     beside(is_truth(e)) + need(e)
 }
 
+fn has_parts(e: &Expr) -> bool
+    ensures { result ≡ parts_in (expression_of e.now) }
+{
+    match e {
+        Expr::Number { .. } => false,
+        Expr::Nil { .. } => false,
+        Expr::Read(place) => match &place.index {
+            None => false,
+            Some(_) => true,
+        },
+        Expr::Binary { .. } => true,
+    }
+}
+
 /// Whether there are enough registers for the parts of an expression with an operator.
 pub fn is_held(e: &Expr) -> bool
     requires { words_of (expression_of e.now) ≤ 1000 }
@@ -165,10 +181,50 @@ pub fn is_held(e: &Expr) -> bool
         Expr::Nil { .. } => false,
         Expr::Read(place) => match &place.index {
             None => false,
-            Some(_) => false,
+            Some(index) => need(e) < 10 && has_parts(index),
         },
         Expr::Binary { .. } => need(e) < 10,
     }
+}
+
+#[cycle(has_element)]
+fn has_element(e: &Expr) -> bool
+    ensures { result ≡ element_in (expression_of e.now) }
+{
+    match e {
+        Expr::Number { .. } => false,
+        Expr::Nil { .. } => false,
+        Expr::Read(place) => match &place.index {
+            None => false,
+            Some(_) => true,
+        },
+        Expr::Binary { left, right, .. } => has_element(left) || has_element(right),
+    }
+}
+
+/// Whether an update by this value opens it once.
+pub fn is_opened_once(e: &Expr) -> bool
+    requires { words_of (expression_of e.now) ≤ 1000 }
+    ensures value { result ≡ opened_once (expression_of e.now) }
+    ensures few { result ≡ true → need_of (expression_of e.now) < 10 }
+{
+    is_held(e) && !has_element(e)
+}
+
+/// Whether an element that changes can be found once, with its value in registers.
+pub fn is_near(index: &Expr, value: &Expr) -> bool
+    requires { words_of (expression_of value.now) ≤ 1000 }
+    ensures value { result ≡ near_of (expression_of index.now) (expression_of value.now) }
+    ensures few { result ≡ true → need_of (expression_of value.now) < 6 }
+{
+    need(value) < 6 && !has_element(value) && !has_element(index)
+}
+
+/// Whether an element with this index can be found once, where it is swapped with a variable.
+pub fn is_near_index(index: &Expr) -> bool
+    ensures { result ≡ near_index (expression_of index.now) }
+{
+    !has_element(index)
 }
 
 // The register of a part.
@@ -432,15 +488,60 @@ fn given_core(
     give(alloc, op, at.into, first, second)
 }
 
+// An element's address in register k + 1, by what opens its index in register k + 2.
+fn held_address(alloc: Global, spot: Spot, index: Piece, k: u32) -> Result<Piece, NoMemory>
+    requires small { offset_of spot < 2 ^ 32 }
+    requires marks { index.marks ≡ [] }
+    requires few { k + 2 < 9 }
+    ensures { IfOk result (λ p.
+        p ≡ unmarked (((index.cells ++ copy_cells spot (part_of (k + 1)))
+        ++ (nil_check_of (part_of (k + 1)) ++ index_check_of (part_of (k + 1)) (part_of (k + 2))))
+        ++ point_of (part_of (k + 1)) (part_of (k + 2)))) }
+{
+    element(alloc, spot, index, part(k + 1), part(k + 2))
+}
+
+fn held_word(alloc: Global, k: u32) -> Result<Piece, NoMemory>
+    requires { k + 2 < 9 }
+    ensures { IfOk result (λ p.
+        p ≡ unmarked (around (exch_cell CONTENT (part_of (k + 1)) ∷ [])
+        (xor_cell (part_of k) CONTENT ∷ []))) }
+{
+    element_word(alloc, part(k), part(k + 1))
+}
+
+// An element's word in register k.
+fn held_element(alloc: Global, spot: Spot, index: Piece, k: u32) -> Result<Piece, NoMemory>
+    requires small { offset_of spot < 2 ^ 32 }
+    requires marks { index.marks ≡ [] }
+    requires few { k + 2 < 9 }
+    ensures { IfOk result (λ p.
+        p ≡ unmarked ((((index.cells ++ copy_cells spot (part_of (k + 1)))
+        ++ (nil_check_of (part_of (k + 1)) ++ index_check_of (part_of (k + 1)) (part_of (k + 2))))
+        ++ point_of (part_of (k + 1)) (part_of (k + 2)))
+        ++ around (exch_cell CONTENT (part_of (k + 1)) ∷ [])
+        (xor_cell (part_of k) CONTENT ∷ []))) }
+{
+    let outer = held_address(alloc, spot, index, k)?;
+    let word = held_word(alloc, k)?;
+    seq(outer, word)
+}
+
+#[cycle(held)]
+#[tactic(auto, using(crate::proofs::HeldBounds::need_least))]
 fn held_read(alloc: Global, names: &Names, place: &Place, k: u32) -> Result<Piece, NoMemory>
-    requires { k < 9 }
+    requires room { words_of (read_of (lvalue_of place.now)) ≤ 1000 }
+    requires few { k + need_of (read_of (lvalue_of place.now)) ≤ 9 }
     ensures { IfOk result (λ p.
         p ≡ unmarked (held_cells (spot_of_name (known_by names.now))
         (read_of (lvalue_of place.now)) k)) }
 {
     match &place.index {
         None => copy(alloc, spot_of(names, &place.name.text), part(k)),
-        Some(_) => Ok(empty(alloc)),
+        Some(index) => {
+            let first = held(alloc, names, index, k + 2)?;
+            held_element(alloc, spot_of(names, &place.name.text), first, k)
+        }
     }
 }
 

@@ -1,9 +1,9 @@
 // The code of updates and swaps.
-ghost use Rattle.std.specs.Prelude.{◌≡◌, ◌≢◌, ◌<◌, ◌≤◌, ◌+◌, ◌*◌, ◌^◌, [], ◌∷◌, length, IfOk};
-ghost use Rattle.rpp_tree.specs.Tree.{Whole};
+ghost use Rattle.std.specs.Prelude.{◌≡◌, ◌≢◌, ◌<◌, ◌≤◌, ◌+◌, ◌*◌, ◌^◌, [], ◌∷◌, ◌++◌, length, IfOk};
+ghost use Rattle.rpp_tree.specs.Tree.{Whole, Item};
 ghost use Rattle.rpp_tree.specs.Views.{expression_of, lvalue_of};
 ghost use Rattle.paired_code.specs.Code.{unmarked};
-ghost use Rattle.expr_uncompute.specs.Code.{words as words_of, place_words as words_of_place, around, reach_cells, update_cell as cell_of_update, number_cell as cell_of_number, onward as onward_cell, from_object as onward_from_object, from_frame as onward_from_frame_cell, both_reached as both_reached_cells, found_update_cells, held_update_cells, operated_update_cells, whole_update_cells, update_cells, four_exchanges as four_of, swap_at as swap_at_cells, beyond as beyond_cells, swap_by_one as swap_by_one_cells, have_one_base as one_base, swap_spots as swap_spots_cells, found_swap_cells, whole_swap_cells, swap_cells};
+ghost use Rattle.expr_uncompute.specs.Code.{words as words_of, place_words as words_of_place, around, reach_cells, base_of, addi as addi_cell, update_cell as cell_of_update, number_cell as cell_of_number, onward as onward_cell, from_object as onward_from_object, from_frame as onward_from_frame_cell, both_reached as both_reached_cells, found_update_cells, held_update_cells, operated_update_cells, whole_update_cells, near_middle as near_middle_cells, near_place_cells, near_update_cells, item_update_cells, update_cells, four_exchanges as four_of, swap_at as swap_at_cells, beyond as beyond_cells, swap_by_one as swap_by_one_cells, have_one_base as one_base, swap_spots as swap_spots_cells, found_swap_cells, near_swap_cells, whole_swap_cells, item_swap_cells, swap_cells};
 ghost use Rattle.expr_uncompute.specs.Held.{need as need_of};
 ghost use Rattle.expr_uncompute.specs.Number.{read_of};
 ghost use Rattle.expr_uncompute.specs.Promises.{UpdateLaw, SwapLaw};
@@ -14,12 +14,14 @@ ghost use Rattle.code_scope.specs.Visible.{offset_of, spot_of as spot_of_name, f
 use crate::apart::both_apart;
 use crate::cells::{add, addi, enclosed, exch, sub, xor, xori};
 use crate::found::{AMOUNT, OTHER_PLACE, PLACE, both_places, found_value};
-use crate::held::{held, is_held};
-use crate::rows::{LEFT, base, offset, reached};
+use crate::held::{held, is_near, is_near_index, is_opened_once};
+use crate::rows::{LEFT, RIGHT, base, offset, point, reached};
+use crate::values::{checked, prepare};
 use code_conventions::registers::{CONTENT, FRAME, OBJECT};
 use code_scope::{Names, spot_of};
 use paired_code::{Piece, seq};
 use refine_form::Spot;
+use rpp_tree::Text;
 use rpp_tree::tree::{Expr, Place, UpdateOp};
 use rpp_words::{NoMemory, wrap_sub};
 use std::alloc::Global;
@@ -28,6 +30,10 @@ const FIRST_WORD: u8 = 22;
 
 const SECOND_WORD: u8 = 23;
 
+// What is added to an element that is found once.
+const ABOVE: u8 = 20;
+
+// The word that is out updated by a register.
 fn update_cell(alloc: Global, op: UpdateOp, by: u8) -> Result<Piece, NoMemory>
     requires register { by < 32 }
     requires apart { CONTENT ≢ by }
@@ -175,7 +181,7 @@ fn whole_by_operator(
         p ≡ unmarked (operated_update_cells (spot_of_name (known_by names.now))
         (free_of (known_by names.now)) op place.now.name (expression_of value.now))) }
 {
-    if is_held(value) {
+    if is_opened_once(value) {
         by_held(alloc, op, spot_of(names, &place.name.text), value, names)
     } else {
         by_value(alloc, op, place, value, names)
@@ -232,6 +238,76 @@ fn whole_update(
     }
 }
 
+// An element's index and its address, which is in the register of its array.
+fn near_place(alloc: Global, names: &Names, name: &Text, index: &Expr) -> Result<Piece, NoMemory>
+    requires { words_of (expression_of index.now) ≤ 1000 }
+    ensures { IfOk result (λ p.
+        p ≡ unmarked (near_place_cells (spot_of_name (known_by names.now))
+        (free_of (known_by names.now)) name.now (expression_of index.now))) }
+{
+    let front = prepare(alloc, names, index, 0)?;
+    let found = checked(alloc, names, name, index, 0)?;
+    let address = point(alloc)?;
+    let rest = seq(found, address)?;
+    seq(front, rest)
+}
+
+fn near_middle(alloc: Global, op: UpdateOp) -> Result<Piece, NoMemory>
+    ensures { IfOk result (λ p. p ≡ unmarked (near_middle_cells op)) }
+{
+    let there = exch(alloc, CONTENT, RIGHT)?;
+    let alter = update_cell(alloc, op, ABOVE)?;
+    enclosed(alloc, there, alter)
+}
+
+// An element that is found once updated by a value that is opened once.
+fn near_update(
+    alloc: Global,
+    op: UpdateOp,
+    name: &Text,
+    index: &Expr,
+    value: &Expr,
+    names: &Names,
+) -> Result<Piece, NoMemory>
+    requires index { words_of (expression_of index.now) ≤ 1000 }
+    requires value { words_of (expression_of value.now) ≤ 1000 }
+    requires few { need_of (expression_of value.now) < 6 }
+    ensures { IfOk result (λ p.
+        p ≡ unmarked (near_update_cells (spot_of_name (known_by names.now))
+        (free_of (known_by names.now)) op name.now (expression_of index.now)
+        (expression_of value.now))) }
+{
+    let found = near_place(alloc, names, name, index)?;
+    let opened = held(alloc, names, value, 4)?;
+    let outer = seq(found, opened)?;
+    let middle = near_middle(alloc, op)?;
+    enclosed(alloc, outer, middle)
+}
+
+// An element updated by any value.
+fn item_update(
+    alloc: Global,
+    op: UpdateOp,
+    place: &Place,
+    index: &Expr,
+    value: &Expr,
+    names: &Names,
+) -> Result<Piece, NoMemory>
+    requires room { words_of (expression_of index.now) + words_of (expression_of value.now) ≤
+        1000 }
+    requires item { lvalue_of place.now ≡ Item place.now.name (expression_of index.now) }
+    ensures { IfOk result (λ p.
+        p ≡ unmarked (item_update_cells (spot_of_name (known_by names.now))
+        (free_of (known_by names.now)) op place.now.name (expression_of index.now)
+        (expression_of value.now))) }
+{
+    if is_near(index, value) {
+        near_update(alloc, op, &place.name.text, index, value, names)
+    } else {
+        by_value(alloc, op, place, value, names)
+    }
+}
+
 // The form that a place and a value have.
 fn update_by_form(
     alloc: Global,
@@ -247,7 +323,7 @@ fn update_by_form(
 {
     match &place.index {
         None => whole_update(alloc, op, place, value, names),
-        Some(_) => by_value(alloc, op, place, value, names),
+        Some(index) => item_update(alloc, op, place, index, value, names),
     }
 }
 
@@ -361,6 +437,71 @@ fn swap_found(alloc: Global, left: &Place, right: &Place, names: &Names) -> Resu
     enclosed(alloc, found, middle)
 }
 
+// A variable's base at its word and an element's address in a register, around what exchanges them.
+fn around_near(
+    alloc: Global,
+    names: &Names,
+    spot: Spot,
+    name: &Text,
+    index: &Expr,
+    middle: Piece,
+) -> Result<Piece, NoMemory>
+    requires small { offset_of spot < 2 ^ 32 }
+    requires room { words_of (expression_of index.now) ≤ 1000 }
+    requires middle { middle.marks ≡ [] }
+    ensures { IfOk result (λ p.
+        p ≡ unmarked (around (near_place_cells (spot_of_name (known_by names.now))
+        (free_of (known_by names.now)) name.now (expression_of index.now)
+        ++ addi_cell (base_of spot) (offset_of spot) ∷ []) middle.cells)) }
+{
+    let found = near_place(alloc, names, name, index)?;
+    let there = addi(alloc, base(spot), offset(spot))?;
+    let outer = seq(found, there)?;
+    enclosed(alloc, outer, middle)
+}
+
+// A variable and an element that is found once.
+fn variable_first(
+    alloc: Global,
+    left: &Place,
+    right: &Place,
+    index: &Expr,
+    names: &Names,
+) -> Result<Piece, NoMemory>
+    requires room { words_of (expression_of index.now) ≤ 1000 }
+    ensures { IfOk result (λ p.
+        p ≡ unmarked (near_swap_cells (spot_of_name (known_by names.now))
+        (free_of (known_by names.now))
+        (base_of (spot_of_name (known_by names.now) left.now.name.text)) RIGHT
+        (spot_of_name (known_by names.now) left.now.name.text) right.now.name.text
+        (expression_of index.now))) }
+{
+    let spot = spot_of(names, &left.name.text);
+    let middle = four_exchanges(alloc, base(spot), RIGHT)?;
+    around_near(alloc, names, spot, &right.name.text, index, middle)
+}
+
+// The same with the element at the left.
+fn variable_second(
+    alloc: Global,
+    left: &Place,
+    index: &Expr,
+    right: &Place,
+    names: &Names,
+) -> Result<Piece, NoMemory>
+    requires room { words_of (expression_of index.now) ≤ 1000 }
+    ensures { IfOk result (λ p.
+        p ≡ unmarked (near_swap_cells (spot_of_name (known_by names.now))
+        (free_of (known_by names.now)) RIGHT
+        (base_of (spot_of_name (known_by names.now) right.now.name.text))
+        (spot_of_name (known_by names.now) right.now.name.text) left.now.name.text
+        (expression_of index.now))) }
+{
+    let spot = spot_of(names, &right.name.text);
+    let middle = four_exchanges(alloc, RIGHT, base(spot))?;
+    around_near(alloc, names, spot, &left.name.text, index, middle)
+}
+
 fn whole_swap(alloc: Global, left: &Place, right: &Place, names: &Names) -> Result<Piece, NoMemory>
     requires room { words_of_place (lvalue_of right.now) ≤ 1000 }
     requires whole { lvalue_of left.now ≡ Whole left.now.name }
@@ -374,6 +515,39 @@ fn whole_swap(alloc: Global, left: &Place, right: &Place, names: &Names) -> Resu
             spot_of(names, &left.name.text),
             spot_of(names, &right.name.text),
         ),
+        Some(index) => {
+            if is_near_index(index) {
+                variable_first(alloc, left, right, index, names)
+            } else {
+                swap_found(alloc, left, right, names)
+            }
+        }
+    }
+}
+
+fn item_swap(
+    alloc: Global,
+    left: &Place,
+    index: &Expr,
+    right: &Place,
+    names: &Names,
+) -> Result<Piece, NoMemory>
+    requires room { words_of (expression_of index.now) + words_of_place (lvalue_of right.now) ≤
+        1000 }
+    requires item { lvalue_of left.now ≡ Item left.now.name (expression_of index.now) }
+    ensures { IfOk result (λ p.
+        p ≡ unmarked (item_swap_cells (spot_of_name (known_by names.now))
+        (free_of (known_by names.now)) left.now.name (expression_of index.now)
+        (lvalue_of right.now))) }
+{
+    match &right.index {
+        None => {
+            if is_near_index(index) {
+                variable_second(alloc, left, index, right, names)
+            } else {
+                swap_found(alloc, left, right, names)
+            }
+        }
         Some(_) => swap_found(alloc, left, right, names),
     }
 }
@@ -391,7 +565,7 @@ fn swap_by_form(
 {
     match &left.index {
         None => whole_swap(alloc, left, right, names),
-        Some(_) => swap_found(alloc, left, right, names),
+        Some(index) => item_swap(alloc, left, index, right, names),
     }
 }
 

@@ -1,7 +1,7 @@
 // Words of memory, operators and checks.
 ghost use Rattle.std.specs.Prelude.{◌≡◌, ◌≢◌, ◌<◌, ◌+◌, ◌^◌, [], ◌∷◌, ◌++◌, IfOk};
 ghost use Rattle.paired_code.specs.Code.{unmarked};
-ghost use Rattle.expr_uncompute.specs.Code.{sltx as sltx_cell, xori as xori_cell, base_of, reach_cells, copy_cells, store_cells, truth_cells as truth_of, operator_cells, operator_result, nil_check as nil_cells, index_check as index_cells, point_cells};
+ghost use Rattle.expr_uncompute.specs.Code.{sltx as sltx_cell, xori as xori_cell, base_of, reach_cells, copy_cells, store_cells, truth_cells as truth_of, operator_cells, operator_result, nil_check as nil_cells, index_check as index_cells, point_cells, nil_check_of as nil_check_cells, index_check_of as index_check_cells, point_of, around, exch as exch_cell, xor as xor_cell};
 ghost use Rattle.code_scope.specs.Visible.{offset_of};
 
 use crate::cells::{add, addi, andx, enclosed, exch, orx, sltx, sub, xor, xori};
@@ -220,4 +220,132 @@ pub fn point(alloc: Global) -> Result<Piece, NoMemory>
     let first = add(alloc, RIGHT, LEFT)?;
     let second = addi(alloc, RIGHT, HEADER_WORDS)?;
     seq(first, second)
+}
+
+// The check that an array in this register is not nil.
+fn nil_check_of(alloc: Global, array: u8) -> Result<Piece, NoMemory>
+    requires register { array < 32 }
+    requires apart { OUTCOME ≢ array }
+    ensures { IfOk result (λ p. p ≡ unmarked (nil_check_cells array)) }
+{
+    let test = sltx(alloc, OUTCOME, NOUGHT, array)?;
+    let row = negated(alloc, test)?;
+    let check = check_zero(alloc, OUTCOME, NIL)?;
+    seq(row, check)
+}
+
+// The check that an index in a register is below the length of an array in another.
+fn index_check_of(alloc: Global, array: u8, index: u8) -> Result<Piece, NoMemory>
+    requires array { array < 32 }
+    requires index { index < 32 }
+    requires apart_array { CONTENT ≢ array }
+    requires apart_index { OUTCOME ≢ index }
+    ensures { IfOk result (λ p. p ≡ unmarked (index_check_cells array index)) }
+{
+    let length = sltx(alloc, OUTCOME, index, CONTENT)?;
+    let sign = sltx(alloc, OUTCOME, index, NOUGHT)?;
+    let both = seq(length, sign)?;
+    let row = negated(alloc, both)?;
+    let check = check_zero(alloc, OUTCOME, INDEX)?;
+    let middle = seq(row, check)?;
+    let outer = exch(alloc, CONTENT, array)?;
+    enclosed(alloc, outer, middle)
+}
+
+// Both checks of an array and an index in registers.
+fn element_checks(alloc: Global, array: u8, at: u8) -> Result<Piece, NoMemory>
+    requires array_low { 15 < array }
+    requires array { array < 32 }
+    requires at_low { 15 < at }
+    requires at { at < 32 }
+    ensures { IfOk result (λ p. p ≡ unmarked (nil_check_cells array ++ index_check_cells array at)) }
+{
+    let first = nil_check_of(alloc, array)?;
+    let second = index_check_of(alloc, array, at)?;
+    seq(first, second)
+}
+
+// The address of the element in the register of its array.
+fn point_at(alloc: Global, array: u8, at: u8) -> Result<Piece, NoMemory>
+    requires array { array < 32 }
+    requires at { at < 32 }
+    requires apart { array ≢ at }
+    ensures { IfOk result (λ p. p ≡ unmarked (point_of array at)) }
+{
+    let first = add(alloc, array, at)?;
+    let second = addi(alloc, array, HEADER_WORDS)?;
+    seq(first, second)
+}
+
+// An array behind what opens an index.
+fn with_array(alloc: Global, spot: Spot, index: Piece, array: u8) -> Result<Piece, NoMemory>
+    requires small { offset_of spot < 2 ^ 32 }
+    requires marks { index.marks ≡ [] }
+    requires low { 15 < array }
+    requires high { array < 32 }
+    ensures { IfOk result (λ p. p ≡ unmarked (index.cells ++ copy_cells spot array)) }
+{
+    let word = copy(alloc, spot, array)?;
+    seq(index, word)
+}
+
+// An array and an index that passed their checks.
+fn with_checks(
+    alloc: Global,
+    spot: Spot,
+    index: Piece,
+    array: u8,
+    at: u8,
+) -> Result<Piece, NoMemory>
+    requires small { offset_of spot < 2 ^ 32 }
+    requires marks { index.marks ≡ [] }
+    requires array_low { 15 < array }
+    requires array { array < 32 }
+    requires at_low { 15 < at }
+    requires at { at < 32 }
+    ensures { IfOk result (λ p.
+        p ≡ unmarked ((index.cells ++ copy_cells spot array)
+        ++ (nil_check_cells array ++ index_check_cells array at))) }
+{
+    let front = with_array(alloc, spot, index, array)?;
+    let checks = element_checks(alloc, array, at)?;
+    seq(front, checks)
+}
+
+/// The address of an element in a register, by what opens its index in another one.
+pub fn element(
+    alloc: Global,
+    spot: Spot,
+    index: Piece,
+    array: u8,
+    at: u8,
+) -> Result<Piece, NoMemory>
+    requires small { offset_of spot < 2 ^ 32 }
+    requires marks { index.marks ≡ [] }
+    requires array_low { 15 < array }
+    requires array { array < 32 }
+    requires at_low { 15 < at }
+    requires at { at < 32 }
+    requires apart { array ≢ at }
+    ensures { IfOk result (λ p.
+        p ≡ unmarked (((index.cells ++ copy_cells spot array)
+        ++ (nil_check_cells array ++ index_check_cells array at)) ++ point_of array at)) }
+{
+    let checked = with_checks(alloc, spot, index, array, at)?;
+    let address = point_at(alloc, array, at)?;
+    seq(checked, address)
+}
+
+/// The word of an element xored into a register.
+pub fn element_word(alloc: Global, into: u8, address: u8) -> Result<Piece, NoMemory>
+    requires into { into < 32 }
+    requires address { address < 32 }
+    requires apart_into { into ≢ CONTENT }
+    requires apart_address { CONTENT ≢ address }
+    ensures { IfOk result (λ p.
+        p ≡ unmarked (around (exch_cell CONTENT address ∷ []) (xor_cell into CONTENT ∷ []))) }
+{
+    let outer = exch(alloc, CONTENT, address)?;
+    let middle = xor(alloc, into, CONTENT)?;
+    enclosed(alloc, outer, middle)
 }

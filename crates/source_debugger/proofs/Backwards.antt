@@ -6,6 +6,7 @@ use Rattle.std.specs.Ordering.{int_eq}
 use Rattle.std.proofs.lemmas.Bool.{eqb-true, eqb-false, lt-ltb, le-ltb, ltb-true, ltb-false, le-leb, lt-leb}
 use Rattle.meaning_points.specs.Points.{Point}
 use Rattle.meaning_points.specs.Trail.{Trail}
+use Rattle.source_store.specs.HeapView.{Kept}
 use Rattle.source_debugger.specs.declared.watching.Watching.TheVariants as watch
 use Rattle.source_debugger.specs.Watched.{Watched, Passed, Met, watched}
 use Rattle.source_debugger.specs.declared.moves.Walk.{Walk}
@@ -177,22 +178,22 @@ module _ (trail : Trail) (place : ℤ) (low j : ℕ) where
       (subst (λ k. HasLatest (watched (watch.Latest place (low - 0) k None) trail.points)) two
       (keeps_latest trail.points 0 None (all_left trail) (omega arith) refl))
 
-  pub latest_is : (e : Ended) → IsEnded e (watch.Latest place low j None) trail
+  pub latest_is : (e : Ended) (heap : Kept) → IsEnded e heap (watch.Latest place low j None) trail
       → counted_back j (latest_of (watching_of e)) ≡ latest_before trail place low j
-  latest_is (ended.At arrival heap last) is = subst HasLatest is all_latest
-  latest_is (ended.Over heap last) is = subst HasLatest is.seen all_latest
-  latest_is (ended.Fault code last) is = subst HasLatest is.seen all_latest
+  latest_is (ended.At arrival last) heap is = subst HasLatest is all_latest
+  latest_is (ended.Over last) heap is = subst HasLatest is.seen all_latest
+  latest_is (ended.Fault code last) heap is = subst HasLatest is.seen all_latest
 
 back_to_is : (o : Option ℕ) (n j : ℕ) → back_to o n j ≡ by_latest (counted_back j o) n j
 back_to_is None n j = refl
 back_to_is (Some left) n j = refl
 
-pub backward_is : (e : Ended) (trail : Trail) (place : ℤ) (n j low : ℕ) → low ≡ j - n
-    → IsEnded e (watch.Latest place low j None) trail → backward trail (Some place) n j
+pub backward_is : (e : Ended) (heap : Kept) (trail : Trail) (place : ℤ) (n j low : ℕ) → low ≡ j - n
+    → IsEnded e heap (watch.Latest place low j None) trail → backward trail (Some place) n j
     ≡ back_to (latest_of (watching_of e)) n j
-backward_is e trail place n j low same is =
+backward_is e heap trail place n j low same is =
     back_up trail place n j ∙ ap (λ l. by_latest (latest_before trail place l j) n j) (sym same)
-    ∙ ap (λ o. by_latest o n j) (sym (latest_is trail place low j e is))
+    ∙ ap (λ o. by_latest o n j) (sym (latest_is trail place low j e heap is))
     ∙ sym (back_to_is (latest_of (watching_of e)) n j)
 
 -- no move leads behind the start

@@ -1,8 +1,9 @@
 -- How a run under a watch ended, and where it stands.
-use Rattle.std.proofs.Common.{◌≡◌, ℕ, ◌-◌, refl, sym, ap, subst, ◌∙◌, arith, Bool, true, false}
-use Rattle.std.proofs.Common.{List, [], ◌∷◌, ◌++◌, length, map, append-nil, Some, None, if◌then◌else◌}
-use Rattle.std.specs.Prelude.{slice_get, nat_eq, Result, Ok, Err, IfOk}
-use Rattle.std.proofs.lemmas.Bool.{eqb-false}
+use Rattle.std.proofs.Common.{◌≡◌, ℕ, suc, ◌+◌, ◌-◌, ◌<◌, ◌≤◌, refl, sym, ap, subst, ◌∙◌, arith, Bool, true, false}
+use Rattle.std.proofs.Common.{List, [], ◌∷◌, ◌++◌, length, length-append, map, append-nil, Some, None, if◌then◌else◌}
+use Rattle.std.specs.Prelude.{slice_get, nat_eq, pos, ◌&&◌, ◌||◌, Result, Ok, Err, IfOk}
+use Rattle.std.specs.Ordering.{int_eq}
+use Rattle.std.proofs.lemmas.Bool.{eqb-true, eqb-false}
 use Rattle.rpp_words.specs.declared.input.FieldWord.{FieldWord}
 use Rattle.rpp_words.specs.declared.input.Limits.{Limits}
 use Rattle.rpp_words.specs.Limits.{IsLimits}
@@ -10,7 +11,7 @@ use Rattle.rpp_tree.specs.Tree.{Source, Statements, End, Then}
 use Rattle.rpp_tree.specs.Places.{statement_place}
 use Rattle.class_table.specs.Program.{IsAccepted}
 use Rattle.roopl_semantics.specs.Run.{Run, Done, Fault, More, ◌>>=◌}
-use Rattle.roopl_semantics.specs.Store.{State, Binding, main_name}
+use Rattle.roopl_semantics.specs.Store.{State, Store, Binding, main_name}
 use Rattle.roopl_semantics.specs.Source.{source, IsValid}
 use Rattle.roopl_semantics.specs.Execution.{Setting}
 use Rattle.roopl_semantics.proofs.MoreFuel.{within_done, within_fault, IsDoneWithin}
@@ -30,13 +31,19 @@ use Rattle.source_steps.specs.declared.stop.Stop.{Stop}
 use Rattle.source_steps.specs.declared.stop.Stop.TheVariants as stop
 use Rattle.source_steps.proofs.Fuelled.{goes, gives, fails, left_at_most}
 use Rattle.source_execution.specs.Variables.{binding_of}
-use Rattle.source_execution.specs.Standing.{Standing, IsOver as IsPast, config_at, setting_at, next_place}
+use Rattle.source_execution.specs.Standing.{IsOver as IsPast, config_at, setting_at, next_place}
 use Rattle.source_meaning.proofs.Ending.{ends_done, ends_fault}
 use Rattle.source_debugger.specs.declared.watching.Watching.{Watching}
 use Rattle.source_debugger.specs.declared.watching.Watching.TheVariants as watch
 use Rattle.source_debugger.specs.declared.running.Arrival.{Arrival}
 use Rattle.source_debugger.specs.declared.running.Ended.{Ended}
-use Rattle.source_debugger.specs.Watched.{Passed, Met, wants, passed, wanted, behind, watched, point_of}
+use Rattle.source_debugger.specs.declared.shown.Place.{Place}
+use Rattle.source_debugger.specs.declared.shown.Place.TheVariants as place
+use Rattle.source_debugger.specs.Placed.{stand_of}
+use Rattle.source_debugger.specs.declared.running.Course.{Course}
+use Rattle.source_debugger.specs.Watched.{Passed, Met, is_given, wants, passed, wanted, behind, counted, surely}
+use Rattle.source_debugger.specs.Watched.{ahead, watched, point_of}
+use Rattle.source_debugger.specs.Courses.{IsUnderWay, Holds, heap_of}
 use Rattle.source_debugger.specs.Ended.{IsOver, IsEnded, HasStopped, IsStopped, last_state}
 use Rattle.source_debugger.specs.Ended.{left_of as left_in}
 use Rattle.source_debugger.specs.Walks.{AtPoint, AtEnd, Unknown, end_stand, point_stand, stand_at}
@@ -75,24 +82,95 @@ meets setting w params place st (Then s rest) more e f =
     else watched (passed w (statement_place s)) more) e
     ∙ ap (λ (at : ℕ). Met w (record { place = at; params = params; state = st })) same
 
+-- ---- the points that a watch surely passes
+
+no_zero : (n : ℕ) → 0 < n → nat_eq n 0 ≡ false
+no_zero n h = by (nat_eq n 0) refl
+  where
+    by : (b : Bool) → nat_eq n 0 ≡ b → nat_eq n 0 ≡ false
+    by true e = let none = eqb-true n 0 e in absurd (omega arith)
+    by false e = e
+
+never : (t : Bool) → (t && false) ≡ false
+never true = refl
+never false = refl
+
+not_wanted : (w : Watching) (place : ℕ) → 0 < surely w → wants w place ≡ false
+not_wanted (watch.First None skip left) place h =
+    ap (λ (t : Bool). t || (nat_eq skip 0 && false)) (no_zero left h) ∙ never (nat_eq skip 0)
+not_wanted (watch.First (Some given) skip left) place h =
+    ap (λ (t : Bool). t || (nat_eq skip 0 && is_given (Some given) place)) (no_zero left (omega arith))
+    ∙ ap (λ (t : Bool). t && is_given (Some given) place) (no_zero skip (omega arith))
+not_wanted (watch.Latest given skip left latest) place h = no_zero left (omega arith)
+
+surely_less : (w : Watching) (place n : ℕ) → suc n ≤ surely w → n ≤ surely (passed w place)
+surely_less (watch.First None skip left) place n h = omega arith
+surely_less (watch.First (Some given) skip left) place n h = omega arith
+surely_less (watch.Latest given skip left latest) place n h = omega arith
+
+ahead_none : (w : Watching) → w ≡ ahead w 0
+ahead_none (watch.First wanted skip left) =
+    let one : skip - 0 ≡ skip = omega arith in
+    let two : left - 0 ≡ left = omega arith in
+    sym (ap (λ (k : ℕ). watch.First wanted k (left - 0)) one ∙ ap (λ (k : ℕ). watch.First wanted skip k) two)
+ahead_none (watch.Latest given skip left latest) =
+    let one : skip - 0 ≡ skip = omega arith in
+    let two : left - 0 ≡ left = omega arith in
+    sym (ap (λ (k : ℕ). watch.Latest given k (left - 0) latest) one
+    ∙ ap (λ (k : ℕ). watch.Latest given skip k latest) two)
+
+ahead_more : (w : Watching) (place n : ℕ) → 0 < surely w → ahead (passed w place) n ≡ ahead w (suc n)
+ahead_more (watch.First wanted skip left) place n h =
+    let one : skip - 1 - n ≡ skip - suc n = omega arith in
+    let two : left - 1 - n ≡ left - suc n = omega arith in
+    ap (λ (k : ℕ). watch.First wanted k (left - 1 - n)) one
+    ∙ ap (λ (k : ℕ). watch.First wanted (skip - suc n) k) two
+ahead_more (watch.Latest given skip left latest) place n h =
+    let one : skip - 1 - n ≡ skip - suc n = omega arith in
+    let two : left - 1 - n ≡ left - suc n = omega arith in
+    ap (λ (t : Bool). watch.Latest given (skip - 1 - n) (left - 1 - n)
+    (if t && int_eq (pos place) given then Some left else latest)) (no_zero skip (omega arith))
+    ∙ ap (λ (k : ℕ). watch.Latest given k (left - 1 - n) latest) one
+    ∙ ap (λ (k : ℕ). watch.Latest given (skip - suc n) k latest) two
+
+surely_passes : (w : Watching) (xs : List Point) → length xs ≤ surely w
+    → watched w xs ≡ Passed (ahead w (length xs))
+surely_passes w [] h = ap Passed (ahead_none w)
+surely_passes w (x ∷ xs) h =
+    ap (λ (t : Bool). if t then Met w x else watched (passed w x.place) xs) (not_wanted w x.place (omega arith))
+    ∙ surely_passes (passed w x.place) xs (surely_less w x.place (length xs) h)
+    ∙ ap Passed (ahead_more w x.place (length xs) (omega arith))
+
 -- ---- a run under a watch, step by step
 
--- so many steps have come here, along points that the watch has passed
-pub record HasCome (setting : Setting) (first : Config) (now : Standing) (before fuel : ℕ) (from at : Watching)
-    : Type 0 where
-  pub steps : ℕ
-  pub came : metered before (walk setting steps first) ≡ Went (config_at now) fuel
-  pub seen : watched from (seen setting steps first) ≡ Passed at
-  pub same : setting_at now ≡ setting
-  pub whole : now.broken ≡ false
+-- it has come here, along points that the watch has passed
+pub record HasCome (program : Source) (limits : Limits) (input : List FieldWord) (most : ℕ) (c : Course)
+    (from at : Watching) : Type 0 where
+  pub way : IsUnderWay program limits input most c
+  pub seen : watched from (seen (set_for program limits) way.steps (start_of program input)) ≡ Passed at
 
-pub come_nowhere : (first : Standing) (fuel : ℕ) (w : Watching) → first.broken ≡ false
-    → HasCome (setting_at first) (config_at first) first fuel fuel w w
-come_nowhere first fuel w whole = record {
+pub come_here : (program : Source) (limits : Limits) (input : List FieldWord) (most : ℕ) (c : Course)
+    (from at : Watching) → IsUnderWay program limits input most c → c.passed ≤ surely from
+    → at ≡ ahead from c.passed → HasCome program limits input most c from at
+come_here program limits input most c from at way sure same =
+    let count = way.count in
+    record {
+      way = way;
+      seen = surely_passes from (seen (set_for program limits) way.steps (start_of program input)) (omega arith)
+          ∙ ap (λ (k : ℕ). Passed (ahead from k)) count ∙ ap Passed (sym same);
+    }
+
+pub begins_here : (program : Source) (limits : Limits) (input : List FieldWord) (most : ℕ) (c : Course)
+    → c.fuel ≡ most → c.passed ≡ 0 → setting_at c.execution ≡ set_for program limits
+    → config_at c.execution ≡ start_of program input → c.execution.broken ≡ false
+    → IsUnderWay program limits input most c
+begins_here program limits input most c fuel none setting start whole = record {
   steps = 0;
-  came = gives fuel (config_at first);
-  seen = refl;
-  same = refl;
+  came = gives most (start_of program input)
+      ∙ ap (λ (x : Config). Went x most) (sym start)
+      ∙ ap (λ (k : ℕ). Went (config_at c.execution) k) (sym fuel);
+  count = sym none;
+  same = setting;
   whole = whole;
 }
 
@@ -101,55 +179,75 @@ none_behind setting (Done x cost) = refl
 none_behind setting (Fault code cost) = refl
 none_behind setting More = refl
 
-module _ (here : Setting) (first : Config) (now : Standing) (before fuel : ℕ) (from at : Watching)
-    (come : HasCome here first now before fuel from at) where
+counts : (setting : Setting) (params n : ℕ) (st : State) (body : Statements)
+    → n + length (point_in setting params st body) ≡ counted n (next_place body)
+counts setting params n st End = omega arith
+counts setting params n st (Then s rest) = omega arith
+
+module _ (program : Source) (limits : Limits) (input : List FieldWord) (n : ℕ) (c : Course) (from at : Watching)
+    (come : HasCome program limits input n c from at) where
+  abbrev here : Setting
+  here = set_for program limits
+
+  abbrev first : Config
+  first = start_of program input
+
   abbrev x : Config
-  x = config_at now
+  x = config_at c.execution
 
-  came_done : IsDoneWithin before (walk here come.steps first) x (before - fuel)
-  came_done = within_done before (walk here come.steps first) x (before - fuel)
-      (ends_done before (walk here come.steps first) x fuel come.came)
+  abbrev steps : ℕ
+  steps = come.way.steps
 
-  one_step : metered before (walk here (plus come.steps 1) first) ≡ metered fuel (next here x >>= walk here 0)
-  one_step = ap (metered before) (walk_plus here come.steps 1 first)
-      ∙ goes before fuel (walk here come.steps first) x (walk here 1) come.came
+  came_done : IsDoneWithin n (walk here steps first) x (n - c.fuel)
+  came_done = within_done n (walk here steps first) x (n - c.fuel)
+      (ends_done n (walk here steps first) x c.fuel come.way.came)
 
-  one_seen : seen here (plus come.steps 1) first
-      ≡ seen here come.steps first ++ point_in here x.params x.state x.rest
-  one_seen = seen_plus here come.steps 1 first
-      ∙ ap (λ (r : Run Config). seen here come.steps first ++ behind_run r (seen here 1)) came_done.is
-      ∙ ap (λ (l : List Point). seen here come.steps first ++ (point_in here x.params x.state x.rest ++ l))
+  one_step : metered n (walk here (plus steps 1) first) ≡ metered c.fuel (next here x >>= walk here 0)
+  one_step = ap (metered n) (walk_plus here steps 1 first)
+      ∙ goes n c.fuel (walk here steps first) x (walk here 1) come.way.came
+
+  one_seen : seen here (plus steps 1) first ≡ seen here steps first ++ point_in here x.params x.state x.rest
+  one_seen = seen_plus here steps 1 first
+      ∙ ap (λ (r : Run Config). seen here steps first ++ behind_run r (seen here 1)) came_done.is
+      ∙ ap (λ (l : List Point). seen here steps first ++ (point_in here x.params x.state x.rest ++ l))
       (none_behind here (next here x))
-      ∙ ap (λ (l : List Point). seen here come.steps first ++ l)
+      ∙ ap (λ (l : List Point). seen here steps first ++ l)
       (append-nil (point_in here x.params x.state x.rest))
 
   -- the point where it stands is not wanted
   module _ (not : wanted at (next_place x.rest) ≡ false) where
-    passes : watched from (seen here (plus come.steps 1) first) ≡ Passed (behind at (next_place x.rest))
+    passes : watched from (seen here (plus steps 1) first) ≡ Passed (behind at (next_place x.rest))
     passes = ap (watched from) one_seen
-        ∙ watched_on from at (seen here come.steps first) (point_in here x.params x.state x.rest) come.seen
+        ∙ watched_on from at (seen here steps first) (point_in here x.params x.state x.rest) come.seen
         ∙ passes_by here at x.params x.state x.rest not
 
-    next_here : next (setting_at now) x ≡ next here x
-    next_here = ap (λ (k : Setting). next k x) come.same
+    next_here : next (setting_at c.execution) x ≡ next here x
+    next_here = ap (λ (k : Setting). next k x) come.way.same
 
-    pub come_further : (later : Standing) (left : ℕ) → metered fuel (next (setting_at now) x)
-        ≡ Went (config_at later) left
-        → setting_at later ≡ setting_at now → later.broken ≡ false
-        → HasCome here first later before left from (behind at (next_place x.rest))
-    come_further later left e s w = record {
-      steps = plus come.steps 1;
-      came = one_step ∙ goes fuel left (next here x) (config_at later) (walk here 0)
-          (ap (metered fuel) (sym next_here) ∙ e) ∙ gives left (config_at later);
+    pub come_further : (later : Course) → metered c.fuel (next (setting_at c.execution) x)
+        ≡ Went (config_at later.execution) later.fuel
+        → setting_at later.execution ≡ setting_at c.execution → later.execution.broken ≡ false
+        → later.passed ≡ counted c.passed (next_place x.rest)
+        → HasCome program limits input n later from (behind at (next_place x.rest))
+    come_further later e s w count = record {
+      way = record {
+        steps = plus steps 1;
+        came = one_step ∙ goes c.fuel later.fuel (next here x) (config_at later.execution) (walk here 0)
+            (ap (metered c.fuel) (sym next_here) ∙ e) ∙ gives later.fuel (config_at later.execution);
+        count = ap (λ (l : List Point). length l) one_seen
+            ∙ length-append (seen here steps first) (point_in here x.params x.state x.rest)
+            ∙ ap (λ (k : ℕ). k + length (point_in here x.params x.state x.rest)) come.way.count
+            ∙ counts here x.params c.passed x.state x.rest ∙ sym count;
+        same = s ∙ come.way.same;
+        whole = w;
+      };
       seen = passes;
-      same = s ∙ come.same;
-      whole = w;
     }
 
-    stops : (left code : ℕ) → metered fuel (next (setting_at now) x) ≡ Stopped code left
-        → metered before (walk here (plus come.steps 1) first) ≡ Stopped code left
+    stops : (left code : ℕ) → metered c.fuel (next (setting_at c.execution) x) ≡ Stopped code left
+        → metered n (walk here (plus steps 1) first) ≡ Stopped code left
     stops left code e = one_step
-        ∙ fails fuel left (next here x) (walk here 0) (stop.Fault code) (ap (metered fuel) (sym next_here) ∙ e)
+        ∙ fails c.fuel left (next here x) (walk here 0) (stop.Fault code) (ap (metered c.fuel) (sym next_here) ∙ e)
 
 -- ---- how it ended
 
@@ -172,103 +270,107 @@ no_names : (frame : List Binding) → map name_of frame ≡ [] → frame ≡ []
 no_names [] e = refl
 no_names (b ∷ frame) e = cc
 
-module _ (program : Source) (limits : Limits) (input : List FieldWord) (n : ℕ) (first now : Standing) (fuel : ℕ)
-    (from at : Watching) (setting : setting_at first ≡ set_for program limits)
-    (start : config_at first ≡ start_of program input)
-    (come' : HasCome (setting_at first) (config_at first) now n fuel from at) where
-  come : HasCome (set_for program limits) (start_of program input) now n fuel from at
-  come = subst (λ (x : Config). HasCome (set_for program limits) x now n fuel from at) start
-      (subst (λ (s : Setting). HasCome s (config_at first) now n fuel from at) setting come')
+module _ (program : Source) (limits : Limits) (input : List FieldWord) (n : ℕ) (c : Course) (from at : Watching)
+    (come : HasCome program limits input n c from at) where
+  abbrev now : Config
+  now = config_at c.execution
 
-  done : IsDoneWithin n (walk (set_for program limits) come.steps (start_of program input)) (config_at now) (n - fuel)
-  done = came_done (set_for program limits) (start_of program input) now n fuel from at come
+  done : IsDoneWithin n (walk (set_for program limits) come.way.steps (start_of program input)) now (n - c.fuel)
+  done = came_done program limits input n c from at come
 
   -- at the end
-  module _ (over : IsPast (config_at now)) where
-    is_source : source program limits input n ≡ Done (config_at now).state (n - fuel)
-    is_source = (joined program limits input n).over come.steps (config_at now) (n - fuel) done.is over.rest over.around
+  module _ (over : IsPast (config_at c.execution)) where
+    is_source : source program limits input n ≡ Done now.state (n - c.fuel)
+    is_source = (joined program limits input n).over come.way.steps now (n - c.fuel) done.is over.rest over.around
         done.in_fuel
 
-    end_state : IsAccepted program → IsLimits limits → IsValid program input → (heap : Kept)
-        → heap.store ≡ (config_at now).state.store → heap.log ≡ (config_at now).state.log
-        → (config_at now).state ≡ last_state heap
-    end_state accepted inside valid heap store log =
-        let kept = end_is_sound program limits input n (config_at now).state (n - fuel) accepted inside valid is_source
+    end_state : IsAccepted program → IsLimits limits → IsValid program input → now.state ≡ last_state (heap_of c)
+    end_state accepted inside valid =
+        let kept = end_is_sound program limits input n now.state (n - c.fuel) accepted inside valid is_source
         in
-        let frame : (config_at now).state.frame ≡ [] = no_names (config_at now).state.frame kept.sound.names in
-        let self : (config_at now).state.self ≡ main_name = kept.stays.self_same in
-        let depth : (config_at now).state.depth ≡ 1 = kept.stays.depth_same in
+        let frame : now.state.frame ≡ [] = no_names now.state.frame kept.sound.names in
+        let self : now.state.self ≡ main_name = kept.stays.self_same in
+        let depth : now.state.depth ≡ 1 = kept.stays.depth_same in
         let build : List Binding → ℕ → ℕ → State = λ (f : List Binding) (i d : ℕ). record {
           frame = f;
           self = i;
           depth = d;
-          store = (config_at now).state.store;
-          log = (config_at now).state.log;
+          store = now.state.store;
+          log = now.state.log;
         } in
-        ap (λ (f : List Binding). build f (config_at now).state.self (config_at now).state.depth) frame
-        ∙ ap (λ (i : ℕ). build [] i (config_at now).state.depth) self
+        ap (λ (f : List Binding). build f now.state.self now.state.depth) frame
+        ∙ ap (λ (i : ℕ). build [] i now.state.depth) self
         ∙ ap (λ (d : ℕ). build [] main_name d) depth
-        ∙ sym (ap (λ s. record (last_state heap) { store = s }) store
-        ∙ ap (λ l. record (build [] main_name 1) { log = l }) log)
 
-    pub is_over : IsAccepted program → IsLimits limits → IsValid program input → (heap : Kept)
-        → heap.store ≡ (config_at now).state.store → heap.log ≡ (config_at now).state.log
-        → IsOver heap from at (trail program limits input n)
-    is_over accepted inside valid heap store log =
-        let end = (walked program limits input n).over come.steps (config_at now) (n - fuel) done.is over.rest
+    pub is_over : IsAccepted program → IsLimits limits → IsValid program input
+        → IsOver (heap_of c) from at (trail program limits input n)
+    is_over accepted inside valid =
+        let end = (walked program limits input n).over come.way.steps now (n - c.fuel) done.is over.rest
         over.around
         done.in_fuel in
         record {
           seen = ap (watched from) end.1 ∙ come.seen;
-          cost = n - fuel;
-          done = end.0 ∙ ap (λ (st : State). Done st (n - fuel)) (end_state accepted inside valid heap store log);
+          cost = n - c.fuel;
+          done = end.0 ∙ ap (λ (st : State). Done st (n - c.fuel)) (end_state accepted inside valid);
         }
 
   -- at a point
-  pub is_at : {E : Type 0} (r : Result Ended E) → wanted at (next_place (config_at now).rest) ≡ true
-      → IfOk r (λ e. HasStopped (config_at now) at fuel e)
-      → IfOk r (λ e. IsEnded e from (trail program limits input n))
+  pub is_at : {E : Type 0} (r : Result Ended E) → wanted at (next_place (config_at c.execution).rest) ≡ true
+      → IfOk r (λ e. HasStopped (config_at c.execution) (heap_of c) at c.fuel e)
+      → IfOk r (λ e. IsEnded e (heap_of c) from (trail program limits input n))
   is_at (Err why) want is = tt
   is_at (Ok e) want is =
       let some = is.some in
-      let most = left_at_most n (walk (set_for program limits) come.steps (start_of program input)) (config_at now) fuel
-      come.came in
+      let most = left_at_most n (walk (set_for program limits) come.way.steps (start_of program input)) now c.fuel
+      come.way.came in
       let along : BeginsWith (trail program limits input n).points
-      (seen (set_for program limits) come.steps (start_of program input))
-      (point_in (set_for program limits) (config_at now).params (config_at now).state (config_at now).rest) =
-      (walked program limits input n).along come.steps (config_at now) (n - fuel) done.is (omega arith) in
-      subst (λ (e : Ended). IsEnded e from (trail program limits input n)) (sym is.is)
+      (seen (set_for program limits) come.way.steps (start_of program input))
+      (point_in (set_for program limits) now.params now.state now.rest) =
+      (walked program limits input n).along come.way.steps now (n - c.fuel) done.is (omega arith) in
+      subst (λ (e : Ended). IsEnded e (heap_of c) from (trail program limits input n)) (sym is.is)
       (ap (watched from) along.are
-      ∙ watched_on from at (seen (set_for program limits) come.steps (start_of program input)) _ come.seen
-      ∙ meets (set_for program limits) at (config_at now).params is.arrival.place (config_at now).state
-      (config_at now).rest along.more
+      ∙ watched_on from at (seen (set_for program limits) come.way.steps (start_of program input)) _ come.seen
+      ∙ meets (set_for program limits) at now.params is.arrival.place now.state now.rest along.more
       want is.begins
       ∙ ap (Met at) (sym is.point))
 
   -- with a fault
-  pub is_stopped : {E : Type 0} (r : Result Ended E) (why : Stop) (left : ℕ)
-      → wanted at (next_place (config_at now).rest) ≡ false
-      → Failed why left (metered fuel (next (setting_at now) (config_at now)))
-      → IfOk r (λ e. IsStopped why (behind at (next_place (config_at now).rest)) e)
-      → IfOk r (λ e. IsEnded e from (trail program limits input n))
-  is_stopped (Err none) why left not e is = tt
-  is_stopped (Ok e) (stop.Fault code) left not failed is =
-      let walk_stops = stops (set_for program limits) (start_of program input) now n fuel from at come not left code
-      failed in
-      let w = within_fault n (walk (set_for program limits) (plus come.steps 1) (start_of program input)) code
+  pub is_stopped : {E : Type 0} (r : Result Ended E) (heap : Kept) (why : Stop) (left : ℕ)
+      → wanted at (next_place (config_at c.execution).rest) ≡ false
+      → Failed why left (metered c.fuel (next (setting_at c.execution) (config_at c.execution)))
+      → IfOk r (λ e. IsStopped why (behind at (next_place (config_at c.execution).rest)) e)
+      → IfOk r (λ e. IsEnded e heap from (trail program limits input n))
+  is_stopped (Err none) heap why left not e is = tt
+  is_stopped (Ok e) heap (stop.Fault code) left not failed is =
+      let walk_stops = stops program limits input n c from at come not left code failed in
+      let w = within_fault n (walk (set_for program limits) (plus come.way.steps 1) (start_of program input)) code
       (n - left)
-      (ends_fault n (walk (set_for program limits) (plus come.steps 1) (start_of program input)) code left walk_stops)
+      (ends_fault n (walk (set_for program limits) (plus come.way.steps 1) (start_of program input)) code left
+      walk_stops)
       in
-      let end = (walked program limits input n).fault (plus come.steps 1) code (n - left) w.is w.in_fuel in
-      subst (λ (e : Ended). IsEnded e from (trail program limits input n)) (sym is) (record {
-        seen = ap (watched from) end.1 ∙ passes (set_for program limits) (start_of program input) now n fuel from at
-            come not;
+      let end = (walked program limits input n).fault (plus come.way.steps 1) code (n - left) w.is w.in_fuel in
+      subst (λ (e : Ended). IsEnded e heap from (trail program limits input n)) (sym is) (record {
+        seen = ap (watched from) end.1 ∙ passes program limits input n c from at come not;
         cost = n - left;
         fault = end.0;
       })
-  is_stopped (Ok e) stop.More left not failed is = absurd is
-  is_stopped (Ok e) stop.Arrived left not failed is = absurd is
-  is_stopped (Ok e) stop.NoMemory left not failed is = absurd is
+  is_stopped (Ok e) heap stop.More left not failed is = absurd is
+  is_stopped (Ok e) heap stop.Arrived left not failed is = absurd is
+  is_stopped (Ok e) heap stop.NoMemory left not failed is = absurd is
+
+-- what is kept of a place is the same where the store and the log are
+pub stand_as : (place : Place) (h k : Kept) → h.store ≡ k.store → h.log ≡ k.log → stand_of place h ≡ stand_of place k
+stand_as (place.Point arrival) h k s l =
+    ap (λ (x : Store). AtPoint (point_of arrival (record h { store = x }))) s
+    ∙ ap (λ y. AtPoint (point_of arrival (record k { log = y }))) l
+stand_as place.End h k s l =
+    ap (λ (x : Store). AtEnd (last_state (record h { store = x }))) s
+    ∙ ap (λ y. AtEnd (last_state (record k { log = y }))) l
+
+-- a run that is broken off holds
+pub broken_holds : (program : Source) (limits : Limits) (input : List FieldWord) (c : Course) → c.broken ≡ true
+    → Holds program limits input c
+broken_holds program limits input c broken whole = cc
 
 -- ---- where a run stands
 

@@ -7,6 +7,7 @@ use Rattle.roopl_semantics.specs.Run.{Run, Done, Fault, More}
 use Rattle.roopl_semantics.specs.Store.{State}
 use Rattle.meaning_points.specs.Points.{Point}
 use Rattle.meaning_points.specs.Trail.{Trail}
+use Rattle.source_store.specs.HeapView.{Kept}
 use Rattle.source_debugger.specs.declared.watching.Watching.TheVariants as watch
 use Rattle.source_debugger.specs.Watched.{Watched, Passed, Met, is_given, watched}
 use Rattle.source_debugger.specs.declared.moves.TheConstants.{LAST_POSITION}
@@ -266,16 +267,17 @@ goes_to trail place from goal n last g =
     (forward trail place n from)) (sym two)
     (up_to trail.points place from goal trail.end n trail.points 0 (all_left trail) (omega arith) last g))
 
-pub forward_is : (e : Ended) (trail : Trail) (place : Option ℤ) (from goal n : ℕ)
-    → IsEnded e (watch.First place (from + 1) goal) trail → from ≤ LAST_POSITION → goal ≡ min (from + n) LAST_POSITION
+pub forward_is : (e : Ended) (heap : Kept) (trail : Trail) (place : Option ℤ) (from goal n : ℕ)
+    → IsEnded e heap (watch.First place (from + 1) goal) trail → from ≤ LAST_POSITION
+    → goal ≡ min (from + n) LAST_POSITION
     → forward trail place n from ≡ Some (reached_by e from goal)
-forward_is (ended.At arrival heap last) trail place from goal n is l g =
+forward_is (ended.At arrival last) heap trail place from goal n is l g =
     subst (λ seen. Says seen trail.end from goal (forward trail place n from)) is (goes_to trail place from goal n l g)
-forward_is (ended.Over heap last) trail place from goal n is l g =
+forward_is (ended.Over last) heap trail place from goal n is l g =
     subst (λ end. Says (Passed last) end from goal (forward trail place n from)) is.done
     (subst (λ seen. Says seen trail.end from goal (forward trail place n from)) is.seen
     (goes_to trail place from goal n l g))
-forward_is (ended.Fault code last) trail place from goal n is l g =
+forward_is (ended.Fault code last) heap trail place from goal n is l g =
     subst (λ end. Says (Passed last) end from goal (forward trail place n from)) is.fault
     (subst (λ seen. Says seen trail.end from goal (forward trail place n from)) is.seen
     (goes_to trail place from goal n l g))
@@ -283,8 +285,8 @@ forward_is (ended.Fault code last) trail place from goal n is l g =
 -- no move leads behind the goal
 pub reached_within : (e : Ended) (from goal : ℕ) → from ≤ LAST_POSITION → goal ≤ LAST_POSITION
     → (reached_by e from goal).position ≤ LAST_POSITION
-reached_within (ended.At arrival heap last) from goal f g = omega arith
-reached_within (ended.Over heap last) from goal f g = omega arith
+reached_within (ended.At arrival last) from goal f g = omega arith
+reached_within (ended.Over last) from goal f g = omega arith
 reached_within (ended.Fault code last) from goal f g = by (nat_eq goal from)
   where
     by : (b : Bool) → (if b then ends from Made else ends (max from (goal - left_of last - 1)) (Faulted code)).position

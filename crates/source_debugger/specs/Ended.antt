@@ -40,17 +40,18 @@ pub record IsFaulted (code : ℕ) (first last : Watching) (trail : Trail) : Type
   pub cost : ℕ
   pub fault : trail.end ≡ Fault code cost
 
-abbrev pub IsEnded : Ended → Watching → Trail → Type 0
-IsEnded (ended.At arrival heap last) first trail =
+-- a run ended so with this heap
+abbrev pub IsEnded : Ended → Kept → Watching → Trail → Type 0
+IsEnded (ended.At arrival last) heap first trail =
     watched first trail.points ≡ Met last (point_of arrival heap)
-IsEnded (ended.Over heap last) first trail = IsOver heap first last trail
-IsEnded (ended.Fault code last) first trail = IsFaulted code first last trail
+IsEnded (ended.Over last) heap first trail = IsOver heap first last trail
+IsEnded (ended.Fault code last) heap first trail = IsFaulted code first last trail
 
 -- a run ended at the point where it stands, with some fuel left
-pub record HasStopped (x : Config) (last : Watching) (fuel : ℕ) (e : Ended) : Type 0 where
+pub record HasStopped (x : Config) (heap : Kept) (last : Watching) (fuel : ℕ) (e : Ended)
+    : Type 0 where
   pub arrival : Arrival
-  pub heap : Kept
-  pub is : e ≡ ended.At arrival heap last
+  pub is : e ≡ ended.At arrival last
   pub begins : next_place x.rest ≡ Some arrival.place
   pub point : point_of arrival heap
       ≡ record { place = arrival.place; params = x.params; state = x.state }
@@ -65,8 +66,8 @@ IsStopped stop.NoMemory last e = ⊥
 
 -- the watch as the run left it
 abbrev pub watching_of : Ended → Watching
-watching_of (ended.At arrival heap last) = last
-watching_of (ended.Over heap last) = last
+watching_of (ended.At arrival last) = last
+watching_of (ended.Over last) = last
 watching_of (ended.Fault code last) = last
 
 -- how many points it had left to pass, and how many at the last one at its place
@@ -80,9 +81,9 @@ latest_of (watch.Latest place skip left latest) = latest
 
 -- where moves from a position towards a goal lead, by how the run to it ended
 abbrev pub reached_by : Ended → (from goal : ℕ) → Walk
-reached_by (ended.At arrival heap last) from goal =
+reached_by (ended.At arrival last) from goal =
     record { position = goal - left_of last; ending = Made }
-reached_by (ended.Over heap last) from goal =
+reached_by (ended.Over last) from goal =
     record { position = max from (goal - left_of last); ending = Made }
 reached_by (ended.Fault code last) from goal =
     if nat_eq goal from then record { position = from; ending = Made }

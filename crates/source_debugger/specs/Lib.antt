@@ -1,4 +1,5 @@
 pub mod Watched
+pub mod Courses
 pub mod Ended
 pub mod Walks
 pub mod Named

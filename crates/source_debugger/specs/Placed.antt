@@ -1,10 +1,11 @@
 -- Where a run stands, as it is kept for printing.
+use Rattle.source_store.specs.HeapView.{Kept}
 use Rattle.source_debugger.specs.Watched.{point_of}
 use Rattle.source_debugger.specs.declared.shown.Place.{Place}
 use Rattle.source_debugger.specs.declared.shown.Place.TheVariants as place
 use Rattle.source_debugger.specs.Ended.{last_state}
 use Rattle.source_debugger.specs.Walks.{Stand, AtPoint, AtEnd}
 
-abbrev pub stand_of : Place → Stand
-stand_of (place.Point arrival heap) = AtPoint (point_of arrival heap)
-stand_of (place.End heap) = AtEnd (last_state heap)
+abbrev pub stand_of : Place → Kept → Stand
+stand_of (place.Point arrival) heap = AtPoint (point_of arrival heap)
+stand_of place.End heap = AtEnd (last_state heap)

@@ -1,5 +1,6 @@
 -- What a watch sees of the points of a run.
-use Rattle.std.specs.Prelude.{ℕ, ◌-◌, ℤ, pos, Bool, false, ◌&&◌, ◌||◌, nat_eq, if◌then◌else◌}
+use Rattle.std.specs.Prelude.{ℕ, ◌+◌, ◌-◌, min, ℤ, pos, Bool, false, ◌&&◌, ◌||◌, nat_eq}
+use Rattle.std.specs.Prelude.{if◌then◌else◌}
 use Rattle.std.specs.Prelude.{List, [], ◌∷◌, map, Option, Some, None}
 use Rattle.std.specs.Ordering.{int_eq}
 use Rattle.source_store.specs.HeapView.{Kept}
@@ -35,6 +36,22 @@ wanted w (Some place) = wants w place
 abbrev pub behind : Watching → Option ℕ → Watching
 behind w None = w
 behind w (Some place) = passed w place
+
+-- how many points are passed behind it
+abbrev pub counted : ℕ → Option ℕ → ℕ
+counted passed None = passed
+counted passed (Some place) = passed + 1
+
+-- how many points a watch passes, whatever they are
+abbrev pub surely : Watching → ℕ
+surely (watch.First None skip left) = left
+surely (watch.First (Some place) skip left) = min skip left
+surely (watch.Latest wanted skip left latest) = min skip left
+
+-- a watch behind so many of these
+abbrev pub ahead : Watching → ℕ → Watching
+ahead (watch.First wanted skip left) n = watch.First wanted (skip - n) (left - n)
+ahead (watch.Latest wanted skip left latest) n = watch.Latest wanted (skip - n) (left - n) latest
 
 -- a watch has passed points, or it has met the one that it wants
 pub data Watched : Type 0 where

@@ -6,9 +6,10 @@ ghost use Rattle.source_debugger.specs.declared.running.TheConstants.{MOST_COST}
 ghost use Rattle.source_debugger.specs.declared.moves.TheConstants.{LAST_POSITION};
 ghost use Rattle.source_debugger.specs.Shown.{told_by, walked};
 ghost use Rattle.source_debugger.specs.Standing.{IsValidRun, Leads, IsAlong};
+ghost use Rattle.source_debugger.specs.Courses.{Holds};
 
 use crate::moves::{Walk, backward, forward};
-use crate::running::Run;
+use crate::running::{Course, Run, begin};
 use crate::shown::{cells_text, regs_text, walk_text};
 use class_table::Checked;
 use rpp_words::{Input, Limits, NoMemory};
@@ -16,17 +17,18 @@ use std::alloc::Global;
 use std::marker::Model;
 use two_way_debugger::Command;
 
-/// A debugger of a program's run on an input. It keeps a position, and no state: each command runs
-/// the program from its start.
+/// A debugger of a program's run on an input. It keeps a position, and the run where the last
+/// command left it: a move forward goes on from there, and a move back runs the program anew.
 #[derive(Drop)]
-pub struct SourceDebugger {
-    checked: Checked,
-    input: Input,
+pub struct SourceDebugger<'a> {
+    checked: &'a Checked,
+    input: &'a Input,
     limits: Limits,
     position: u64,
+    course: Course<'a>,
 }
 
-impl Model for SourceDebugger {
+impl<'a> Model for SourceDebugger<'a> {
     ghost use Rattle.rpp_tree.specs.contracts.tree.Stmt as stmt;
     ghost use Rattle.rpp_tree.specs.contracts.tree.Expr as expr;
     ghost use Rattle.std.specs.Coded.{codes};
@@ -34,20 +36,22 @@ impl Model for SourceDebugger {
     ghost use Rattle.rpp_tree.specs.Views.{source_of};
     ghost use Rattle.source_debugger.specs.declared.moves.TheConstants.{LAST_POSITION};
     ghost use Rattle.source_debugger.specs.Standing.{Standing, IsValidRun};
+    ghost use Rattle.source_debugger.specs.Courses.{Holds};
 
     ghost Value = { Standing };
 
     ghost coded = { Prim.hlevel (codes, stmt.the_row.coded, expr.the_row.coded) };
 
     ghost view = { λ d. record {
-      program = d.checked;
+      program = d.checked.now;
       limits = d.limits;
-      input = d.input.words.items;
+      input = d.input.now.words.items;
       position = d.position;
     } };
 
-    ghost invariant = { λ d. IsValidRun (source_of d.checked) d.limits d.input.words.items
-        × (d.position ≤ LAST_POSITION) };
+    ghost invariant = { λ d. IsValidRun (source_of d.checked.now) d.limits d.input.now.words.items
+        × (d.position ≤ LAST_POSITION)
+        × Holds (source_of d.checked.now) d.limits d.input.now.words.items d.course };
 }
 
 // What a command told: where it leads, and its text.
@@ -58,16 +62,20 @@ struct Answer {
 }
 
 // The answer of moves.
-fn walk_answer(run: &Run, walk: Walk) -> Result<Answer, NoMemory>
+fn walk_answer<'a>(run: &Run<'a>, course: &mut Course<'a>, walk: Walk) -> Result<Answer, NoMemory>
     requires run { IsValidRun (source_of run.now.checked.now) run.now.limits
         run.now.input.now.words.items }
+    requires holds { Holds (source_of run.now.checked.now) run.now.limits
+        run.now.input.now.words.items course.old }
     ensures told { IfOk result (λ answer.
         walked (trail (source_of run.now.checked.now) run.now.limits run.now.input.now.words.items
         MOST_COST) (Some walk)
         ≡ Some (record { position = answer.position; text = string_bytes answer.text })) }
     ensures within { IfOk result (λ answer. answer.position ≡ walk.position) }
+    ensures holds { Holds (source_of run.now.checked.now) run.now.limits
+        run.now.input.now.words.items course.new }
 {
-    let text = walk_text(run, walk)?;
+    let text = walk_text(run, course, walk)?;
     Ok(Answer {
         position: walk.position,
         text,
@@ -75,67 +83,84 @@ fn walk_answer(run: &Run, walk: Walk) -> Result<Answer, NoMemory>
 }
 
 // Carries out a command at a position.
-fn carry_out(run: &Run, command: Command, position: u64) -> Result<Answer, NoMemory>
+fn carry_out<'a>(
+    run: &Run<'a>,
+    course: &mut Course<'a>,
+    command: Command,
+    position: u64,
+) -> Result<Answer, NoMemory>
     requires run { IsValidRun (source_of run.now.checked.now) run.now.limits
         run.now.input.now.words.items }
     requires within { position ≤ LAST_POSITION }
+    requires holds { Holds (source_of run.now.checked.now) run.now.limits
+        run.now.input.now.words.items course.old }
     ensures told { IfOk result (λ answer. told_by (source_of run.now.checked.now)
         (trail (source_of run.now.checked.now) run.now.limits run.now.input.now.words.items
         MOST_COST) command position
         ≡ Some (record { position = answer.position; text = string_bytes answer.text })) }
     ensures within { IfOk result (λ answer. answer.position ≤ LAST_POSITION) }
+    ensures holds { Holds (source_of run.now.checked.now) run.now.limits
+        run.now.input.now.words.items course.new }
 {
     match command {
-        Command::Step(most) => walk_answer(run, forward(run, None, most, position)?),
-        Command::Back(most) => walk_answer(run, backward(run, None, most, position)?),
-        Command::To(place, most) => walk_answer(run, forward(run, Some(place), most, position)?),
-        Command::BackTo(place, most) => walk_answer(
-            run,
-            backward(run, Some(place), most, position)?,
-        ),
+        Command::Step(most) => {
+            let walk = forward(run, course, None, most, position)?;
+            walk_answer(run, course, walk)
+        }
+        Command::Back(most) => {
+            let walk = backward(run, course, None, most, position)?;
+            walk_answer(run, course, walk)
+        }
+        Command::To(place, most) => {
+            let walk = forward(run, course, Some(place), most, position)?;
+            walk_answer(run, course, walk)
+        }
+        Command::BackTo(place, most) => {
+            let walk = backward(run, course, Some(place), most, position)?;
+            walk_answer(run, course, walk)
+        }
         Command::Regs => Ok(Answer {
             position,
-            text: regs_text(run, position)?,
+            text: regs_text(run, course, position)?,
         }),
         Command::Cells(from, count) => Ok(Answer {
             position,
-            text: cells_text(run, position, from, count)?,
+            text: cells_text(run, course, position, from, count)?,
         }),
     }
 }
 
-// An equal input.
-fn copy_input(alloc: Global, input: &Input) -> Result<Input, NoMemory>
-    ensures { IfOk result (λ copy. copy.words.items ≡ input.now.words.items) }
-{
-    Ok(Input {
-        words: input.words.to_vec(alloc)?,
-    })
-}
-
-impl SourceDebugger {
+impl<'a> SourceDebugger<'a> {
     /// A debugger of the run of a program on an input, at position 0. The only error is that memory
     /// ran out.
     pub fn new(
         alloc: Global,
-        checked: Checked,
-        input: &Input,
+        checked: &'a Checked,
+        input: &'a Input,
         limits: Limits,
-    ) -> Result<SourceDebugger, NoMemory>
-        requires { IsValidRun (source_of checked) limits input.now.words.items }
+    ) -> Result<SourceDebugger<'a>, NoMemory>
+        requires { IsValidRun (source_of checked.now) limits input.now.words.items }
         ensures { IfOk result (λ debugger. debugger
             ≡ record {
-              program = checked;
+              program = checked.now;
               limits = limits;
               input = input.now.words.items;
               position = 0;
             }) }
     {
+        let run = Run {
+            alloc,
+            checked,
+            limits,
+            input,
+        };
+        let course = begin(&run)?;
         Ok(SourceDebugger {
             checked,
-            input: copy_input(alloc, input)?,
+            input,
             limits,
             position: 0,
+            course,
         })
     }
 
@@ -155,11 +180,11 @@ impl SourceDebugger {
     {
         let run = Run {
             alloc,
-            checked: &self.checked,
+            checked: self.checked,
             limits: self.limits,
-            input: &self.input,
+            input: self.input,
         };
-        let answer = carry_out(&run, *command, self.position)?;
+        let answer = carry_out(&run, &mut self.course, *command, self.position)?;
         out.push_str(answer.text.as_str())?;
         self.position = answer.position;
         Ok(())

@@ -1,7 +1,8 @@
 //! A debugger of the source: it goes both ways along the points of a program's run, by the commands
 //! of a script, and shows variables and objects. A layer above may use that after any list of
 //! commands the position and the text are those of the definitions on the points of the meaning. It
-//! keeps a position alone: each command runs the program from its start to the point that it wants.
+//! keeps the run where the last command left it: a move forward goes on from there, and a move back
+//! runs the program anew from its start.
 #![tactic(auto)]
 
 mod debugger;

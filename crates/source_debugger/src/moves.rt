@@ -5,9 +5,10 @@ ghost use Rattle.meaning_points.specs.Trail.{trail};
 ghost use Rattle.source_debugger.specs.declared.running.TheConstants.{MOST_COST};
 ghost use Rattle.source_debugger.specs.Walks.{forward as forward_in, backward as backward_in};
 ghost use Rattle.source_debugger.specs.Standing.{IsValidRun};
+ghost use Rattle.source_debugger.specs.Courses.{Holds};
 ghost use Rattle.source_debugger.specs.Ended.{watching_of, left_of, latest_of, reached_by, back_by as back_at, back_to as back_to_latest};
 
-use crate::running::{Ended, Run, run_to};
+use crate::running::{Course, Ended, Run, run_to};
 use crate::watching::Watching;
 use rpp_words::NoMemory;
 
@@ -100,18 +101,29 @@ fn reached(ended: &Ended, from: u64, goal: u64) -> Walk
 }
 
 /// Where at most so many moves forward lead, up to the place.
-pub(crate) fn forward(run: &Run, place: Option<i64>, most: u64, from: u64) -> Result<Walk, NoMemory>
+pub(crate) fn forward<'a>(
+    run: &Run<'a>,
+    course: &mut Course<'a>,
+    place: Option<i64>,
+    most: u64,
+    from: u64,
+) -> Result<Walk, NoMemory>
     requires run { IsValidRun (source_of run.now.checked.now) run.now.limits
         run.now.input.now.words.items }
     requires within { from ≤ LAST_POSITION }
+    requires holds { Holds (source_of run.now.checked.now) run.now.limits
+        run.now.input.now.words.items course.old }
     ensures walk { IfOk result (λ walk. forward_in
         (trail (source_of run.now.checked.now) run.now.limits run.now.input.now.words.items
         MOST_COST) place most from ≡ Some walk) }
     ensures within { IfOk result (λ walk. walk.position ≤ LAST_POSITION) }
+    ensures holds { Holds (source_of run.now.checked.now) run.now.limits
+        run.now.input.now.words.items course.new }
 {
     let goal = goal_of(from, most);
     let ended = run_to(
         run,
+        course,
         Watching::First {
             place,
             skip: from + 1,
@@ -149,8 +161,9 @@ fn back_to(latest: Option<u64>, most: u64, from: u64) -> Walk
 }
 
 /// Where at most so many moves back lead, up to the place.
-pub(crate) fn backward(
-    run: &Run,
+pub(crate) fn backward<'a>(
+    run: &Run<'a>,
+    course: &mut Course<'a>,
     place: Option<i64>,
     most: u64,
     from: u64,
@@ -158,16 +171,21 @@ pub(crate) fn backward(
     requires run { IsValidRun (source_of run.now.checked.now) run.now.limits
         run.now.input.now.words.items }
     requires within { from ≤ LAST_POSITION }
+    requires holds { Holds (source_of run.now.checked.now) run.now.limits
+        run.now.input.now.words.items course.old }
     ensures walk { IfOk result (λ walk. backward_in
         (trail (source_of run.now.checked.now) run.now.limits run.now.input.now.words.items
         MOST_COST) place most from ≡ walk) }
     ensures within { IfOk result (λ walk. walk.position ≤ LAST_POSITION) }
+    ensures holds { Holds (source_of run.now.checked.now) run.now.limits
+        run.now.input.now.words.items course.new }
 {
     match place {
         None => Ok(back_by(most, from)),
         Some(place) => {
             let ended = run_to(
                 run,
+                course,
                 Watching::Latest {
                     place,
                     skip: from.saturating_sub(most),

@@ -1,18 +1,22 @@
 // Runs of a program under a watch.
-ghost use Rattle.std.specs.Prelude.{◌≡◌, IfOk};
+ghost use Rattle.std.specs.Prelude.{◌≡◌, ◌+◌, ◌*◌, ◌≤◌, true, false, length, IfOk, IfErr, OnOk, OnErr};
+ghost use Rattle.rpp_words.specs.Limits.{IsLimits};
 ghost use Rattle.rpp_tree.specs.Views.{source_of};
 ghost use Rattle.meaning_points.specs.Trail.{trail};
-ghost use Rattle.source_execution.specs.Standing.{config_at};
+ghost use Rattle.meaning_machine.specs.Machine.{next};
+ghost use Rattle.source_steps.specs.Metered.{Gives, metered};
+ghost use Rattle.source_execution.specs.Standing.{StepFalls, config_at, setting_at, next_place};
 ghost use Rattle.source_debugger.specs.declared.running.TheConstants.{MOST_COST};
 ghost use Rattle.source_debugger.specs.Standing.{IsValidRun};
+ghost use Rattle.source_debugger.specs.Watched.{surely as surely_in, counted as counted_at};
+ghost use Rattle.source_debugger.specs.Courses.{IsUnderWay, Holds, heap_of};
 ghost use Rattle.source_debugger.specs.Ended.{IsEnded, IsStopped, HasStopped};
 
-use crate::watching::{Watching, behind, wanted};
+use crate::watching::{Watching, ahead, behind, surely, wanted};
 use class_table::Checked;
 use rpp_words::{Input, Limits, NoMemory};
 use source_execution::{Execution, Variable};
 use source_steps::Stop;
-use source_store::Heap;
 use std::alloc::Global;
 
 /// The most that a run costs that is looked at: longer ones would take centuries, and count as want
@@ -26,6 +30,16 @@ pub(crate) struct Run<'a> {
     pub checked: &'a Checked,
     pub limits: Limits,
     pub input: &'a Input,
+}
+
+/// A run under way: where it stands, the fuel that it has left, how many points it has passed, and
+/// whether a step failed. One that failed goes nowhere.
+#[derive(Drop)]
+pub(crate) struct Course<'a> {
+    pub execution: Execution<'a>,
+    pub fuel: u64,
+    pub passed: u64,
+    pub broken: bool,
 }
 
 /// A point that was met: the statement's place, how many parameters the method has, its object, the
@@ -45,12 +59,10 @@ pub(crate) enum Ended {
     /// At the wanted point.
     At {
         arrival: Arrival,
-        heap: Heap,
         watching: Watching,
     },
     /// At the end, behind all points.
     Over {
-        heap: Heap,
         watching: Watching,
     },
     /// With a fault, behind all points.
@@ -60,61 +72,160 @@ pub(crate) enum Ended {
     },
 }
 
-/// Runs a program from its start to the point that is wanted. The only error is that memory ran
-/// out, or that the run costs more than 2 ^ 64.
-pub(crate) fn run_to(run: &Run, watching: Watching) -> Result<Ended, NoMemory>
-    requires { IsValidRun (source_of run.now.checked.now) run.now.limits run.now.input.now.words.items }
-    ensures { IfOk result (λ ended. IsEnded ended watching
+/// The run before its first step. The only error is that memory ran out.
+pub(crate) fn begin<'a>(run: &Run<'a>) -> Result<Course<'a>, NoMemory>
+    requires { IsLimits run.now.limits }
+    ensures starts { IfOk result (λ course. IsUnderWay (source_of run.now.checked.now)
+        run.now.limits run.now.input.now.words.items MOST_COST course) }
+    ensures first { IfOk result (λ course. course.passed ≡ 0) }
+{
+    let execution = Execution::start(run.alloc, run.checked, run.limits, run.input)?;
+    Ok(Course {
+        execution,
+        fuel: MOST_COST,
+        passed: 0,
+        broken: false,
+    })
+}
+
+// How many points are passed behind the statement that begins, if one does. More than 2 ^ 64 count
+// as want of memory.
+fn counted(passed: u64, place: Option<u32>) -> Result<u64, Stop>
+    ensures count { IfOk result (λ count. count ≡ counted_at passed place) }
+    ensures memory { IfErr result (λ why. why ≡ Stop.NoMemory) }
+{
+    match place {
+        None => Ok(passed),
+        Some(_place) => match passed.checked_add(1) {
+            None => Err(Stop::NoMemory),
+            Some(more) => Ok(more),
+        },
+    }
+}
+
+// A step. An error breaks the run off.
+fn step(course: &mut Course) -> Result<(), Stop>
+    requires whole { course.old.execution.broken ≡ false }
+    ensures gives { Gives (λ u. config_at course.new.execution) result course.new.fuel
+        (metered course.old.fuel
+        (next (setting_at course.old.execution) (config_at course.old.execution))) }
+    ensures passed { OnOk result (course.new.passed ≡ counted_at course.old.passed
+        (next_place (config_at course.old.execution).rest)) }
+    ensures whole { OnOk result (course.new.execution.broken ≡ false) }
+    ensures breaks { OnErr result (course.new.broken ≡ true) }
+    ensures setting { setting_at course.new.execution ≡ setting_at course.old.execution }
+    ensures falls { OnOk result (StepFalls (config_at course.old.execution)
+        (2 * course.new.fuel + length (config_at course.new.execution).around)
+        (2 * course.old.fuel + length (config_at course.old.execution).around)) }
+{
+    match counted(course.passed, course.execution.place()) {
+        Err(why) => {
+            course.broken = true;
+            Err(why)
+        }
+        Ok(passed) => {
+            course.passed = passed;
+            match course.execution.step(&mut course.fuel) {
+                Ok(()) => Ok(()),
+                Err(why) => {
+                    course.broken = true;
+                    Err(why)
+                }
+            }
+        }
+    }
+}
+
+// A run that is broken off, or has gone too far for a watch, begins anew.
+fn make_ready<'a>(
+    run: &Run<'a>,
+    course: &mut Course<'a>,
+    watching: Watching,
+) -> Result<(), NoMemory>
+    requires limits { IsLimits run.now.limits }
+    requires holds { Holds (source_of run.now.checked.now) run.now.limits
+        run.now.input.now.words.items course.old }
+    ensures ready { OnOk result (IsUnderWay (source_of run.now.checked.now) run.now.limits
+        run.now.input.now.words.items MOST_COST course.new) }
+    ensures sure { OnOk result (course.new.passed ≤ surely_in watching) }
+    ensures holds { Holds (source_of run.now.checked.now) run.now.limits
+        run.now.input.now.words.items course.new }
+{
+    if !course.broken && course.passed <= surely(watching) {
+        return Ok(());
+    }
+    *course = begin(run)?;
+    Ok(())
+}
+
+/// Goes on to the point that is wanted, or anew from the start where the run has gone too far. The
+/// only error is that memory ran out, or that the run costs more than 2 ^ 64.
+pub(crate) fn run_to<'a>(
+    run: &Run<'a>,
+    course: &mut Course<'a>,
+    watching: Watching,
+) -> Result<Ended, NoMemory>
+    requires run { IsValidRun (source_of run.now.checked.now) run.now.limits
+        run.now.input.now.words.items }
+    requires holds { Holds (source_of run.now.checked.now) run.now.limits
+        run.now.input.now.words.items course.old }
+    ensures ended { IfOk result (λ ended. IsEnded ended (heap_of course.new) watching
         (trail (source_of run.now.checked.now) run.now.limits run.now.input.now.words.items
         MOST_COST)) }
+    ensures holds { Holds (source_of run.now.checked.now) run.now.limits
+        run.now.input.now.words.items course.new }
+{
+    make_ready(run, course, watching)?;
+    go_on(run, course, watching)
+}
+
+// Goes on to the point that is wanted. A watch passes all points that are passed.
+fn go_on<'a>(run: &Run<'a>, course: &mut Course<'a>, watching: Watching) -> Result<Ended, NoMemory>
+    requires run { IsValidRun (source_of run.now.checked.now) run.now.limits
+        run.now.input.now.words.items }
+    requires under_way { IsUnderWay (source_of run.now.checked.now) run.now.limits
+        run.now.input.now.words.items MOST_COST course.old }
+    requires sure { course.old.passed ≤ surely_in watching }
+    ensures ended { IfOk result (λ ended. IsEnded ended (heap_of course.new) watching
+        (trail (source_of run.now.checked.now) run.now.limits run.now.input.now.words.items
+        MOST_COST)) }
+    ensures holds { Holds (source_of run.now.checked.now) run.now.limits
+        run.now.input.now.words.items course.new }
 {
     run.checked.program();
-    let mut execution = Execution::start(run.alloc, run.checked, run.limits, run.input)?;
-    let mut fuel = MOST_COST;
-    let mut watch = watching;
-    while !execution.is_over() {
-        if wanted(watch, execution.place()) {
-            return arrive(run.alloc, execution, watch, fuel);
+    let mut watch = ahead(watching, course.passed);
+    while !course.execution.is_over() {
+        if wanted(watch, course.execution.place()) {
+            return arrive(run.alloc, course, watch);
         }
-        watch = behind(watch, execution.place());
-        match execution.step(&mut fuel) {
+        watch = behind(watch, course.execution.place());
+        match step(course) {
             Ok(()) => {}
             Err(stop) => return broken(stop, watch),
         }
     }
-    Ok(Ended::Over {
-        heap: execution.into_heap(),
-        watching: watch,
-    })
+    Ok(Ended::Over { watching: watch })
 }
 
 // The end at the point where a run stands. One that has no fuel left counts as want of memory.
-fn arrive(
-    alloc: Global,
-    execution: Execution,
-    watching: Watching,
-    fuel: u64,
-) -> Result<Ended, NoMemory>
-    ensures { IfOk result (λ ended. HasStopped (config_at execution.entry) watching fuel ended) }
+fn arrive(alloc: Global, course: &Course, watching: Watching) -> Result<Ended, NoMemory>
+    ensures { IfOk result (λ ended. HasStopped (config_at course.now.execution)
+        (heap_of course.now) watching course.now.fuel ended) }
 {
-    if fuel == 0 {
+    if course.fuel == 0 {
         return Err(NoMemory);
     }
-    match execution.place() {
+    match course.execution.place() {
         None => Err(NoMemory),
         Some(place) => {
             let arrival = Arrival {
                 place,
-                params: execution.params(),
-                object: execution.object(),
-                depth: execution.depth(),
-                variables: execution.variables(alloc)?,
+                params: course.execution.params(),
+                object: course.execution.object(),
+                depth: course.execution.depth(),
+                variables: course.execution.variables(alloc)?,
             };
-            Ok(Ended::At {
-                arrival,
-                heap: execution.into_heap(),
-                watching,
-            })
+            Ok(Ended::At { arrival, watching })
         }
     }
 }

@@ -11,11 +11,13 @@ ghost use Rattle.roopl_semantics.specs.Store.{class_of_head, object_at};
 ghost use Rattle.source_store.specs.ValueView.{values_of};
 ghost use Rattle.source_execution.specs.Variables.{binding_of};
 ghost use Rattle.source_debugger.specs.Standing.{IsValidRun};
+ghost use Rattle.source_store.specs.HeapView.{Kept};
+ghost use Rattle.source_debugger.specs.Courses.{Holds, heap_of};
 ghost use Rattle.source_debugger.specs.Placed.{stand_of};
 
 use crate::lines::{add_class_fields, add_frame, add_objects};
 use crate::moves::{Ending, Walk, left_in};
-use crate::running::{Arrival, Ended, Run, run_to};
+use crate::running::{Arrival, Course, Ended, Run, run_to};
 use crate::watching::Watching;
 use class_table::Checked;
 use pisa_isa::Stop;
@@ -28,27 +30,36 @@ use std::alloc::{AllocError, Global};
 /// Where a run stands: at a point, or at its end.
 #[derive(Drop)]
 pub(crate) enum Place {
-    Point { arrival: Arrival, heap: Heap },
-    End { heap: Heap },
+    Point { arrival: Arrival },
+    End,
 }
 
 /// Where a position is. A position that the run does not have counts as want of memory.
-pub(crate) fn place_at(run: &Run, position: u64) -> Result<Place, NoMemory>
-    requires { IsValidRun (source_of run.now.checked.now) run.now.limits run.now.input.now.words.items }
-    ensures { IfOk result (λ place. stand_of place
+pub(crate) fn place_at<'a>(
+    run: &Run<'a>,
+    course: &mut Course<'a>,
+    position: u64,
+) -> Result<Place, NoMemory>
+    requires run { IsValidRun (source_of run.now.checked.now) run.now.limits
+        run.now.input.now.words.items }
+    requires holds { Holds (source_of run.now.checked.now) run.now.limits
+        run.now.input.now.words.items course.old }
+    ensures stands { IfOk result (λ place. stand_of place (heap_of course.new)
         ≡ stand_at (trail (source_of run.now.checked.now) run.now.limits
         run.now.input.now.words.items MOST_COST) position) }
+    ensures holds { Holds (source_of run.now.checked.now) run.now.limits
+        run.now.input.now.words.items course.new }
 {
     let wanted = Watching::First {
         place: None,
         skip: 0,
         left: position,
     };
-    match run_to(run, wanted)? {
-        Ended::At { arrival, heap, .. } => Ok(Place::Point { arrival, heap }),
-        Ended::Over { heap, watching } => {
+    match run_to(run, course, wanted)? {
+        Ended::At { arrival, .. } => Ok(Place::Point { arrival }),
+        Ended::Over { watching } => {
             if left_in(watching) == 0 {
-                Ok(Place::End { heap })
+                Ok(Place::End)
             } else {
                 Err(NoMemory)
             }
@@ -73,32 +84,41 @@ fn add_ending(text: &mut String, ending: Ending) -> Result<(), AllocError>
 
 // The line on where moves led.
 fn line_text(alloc: Global, walk: Walk, place: &Place) -> Result<String, AllocError>
-    ensures { IfOk result (λ text. line_at walk.position (stand_of place.now) walk.ending
-        ≡ Some (string_bytes text)) }
+    ensures { IfOk result (λ text. (heap : Kept)
+        → line_at walk.position (stand_of place.now heap) walk.ending ≡ Some (string_bytes text)) }
 {
     let mut text = String::new(alloc);
     let position = walk.position;
     match place {
-        Place::Point { arrival, .. } => {
+        Place::Point { arrival } => {
             let at = arrival.place;
             let depth = arrival.depth;
             write!(text, "at {position} place {at} depth {depth}")?;
         }
-        Place::End { .. } => write!(text, "at {position} end")?,
+        Place::End => write!(text, "at {position} end")?,
     }
     add_ending(&mut text, walk.ending)?;
     Ok(text)
 }
 
 /// The line on where moves led.
-pub(crate) fn walk_text(run: &Run, walk: Walk) -> Result<String, NoMemory>
-    requires { IsValidRun (source_of run.now.checked.now) run.now.limits run.now.input.now.words.items }
-    ensures { IfOk result (λ text. line_at walk.position
+pub(crate) fn walk_text<'a>(
+    run: &Run<'a>,
+    course: &mut Course<'a>,
+    walk: Walk,
+) -> Result<String, NoMemory>
+    requires run { IsValidRun (source_of run.now.checked.now) run.now.limits
+        run.now.input.now.words.items }
+    requires holds { Holds (source_of run.now.checked.now) run.now.limits
+        run.now.input.now.words.items course.old }
+    ensures told { IfOk result (λ text. line_at walk.position
         (stand_at (trail (source_of run.now.checked.now) run.now.limits
         run.now.input.now.words.items MOST_COST) walk.position) walk.ending
         ≡ Some (string_bytes text)) }
+    ensures holds { Holds (source_of run.now.checked.now) run.now.limits
+        run.now.input.now.words.items course.new }
 {
-    let place = place_at(run, walk.position)?;
+    let place = place_at(run, course, walk.position)?;
     Ok(line_text(run.alloc, walk, &place)?)
 }
 
@@ -139,13 +159,18 @@ fn cells_of(heap: &Heap, name: u32) -> &[Value]
 }
 
 // The lines of fields and variables at a place.
-fn place_regs(alloc: Global, checked: &Checked, place: &Place) -> Result<String, NoMemory>
-    ensures { IfOk result (λ text. regs_at (source_of checked.now) (stand_of place.now)
+fn place_regs(
+    alloc: Global,
+    checked: &Checked,
+    place: &Place,
+    heap: &Heap,
+) -> Result<String, NoMemory>
+    ensures { IfOk result (λ text. regs_at (source_of checked.now) (stand_of place.now heap.now)
         ≡ Some (string_bytes text)) }
 {
     let mut text = String::new(alloc);
     match place {
-        Place::Point { arrival, heap } => add_state(
+        Place::Point { arrival } => add_state(
             &mut text,
             checked,
             heap,
@@ -153,20 +178,29 @@ fn place_regs(alloc: Global, checked: &Checked, place: &Place) -> Result<String,
             arrival.params,
             &arrival.variables,
         )?,
-        Place::End { heap } => add_state(&mut text, checked, heap, 1, 0, &[])?,
+        Place::End => add_state(&mut text, checked, heap, 1, 0, &[])?,
     }
     Ok(text)
 }
 
 /// The lines of fields and variables at a position.
-pub(crate) fn regs_text(run: &Run, position: u64) -> Result<String, NoMemory>
-    requires { IsValidRun (source_of run.now.checked.now) run.now.limits run.now.input.now.words.items }
-    ensures { IfOk result (λ text. regs_at (source_of run.now.checked.now)
+pub(crate) fn regs_text<'a>(
+    run: &Run<'a>,
+    course: &mut Course<'a>,
+    position: u64,
+) -> Result<String, NoMemory>
+    requires run { IsValidRun (source_of run.now.checked.now) run.now.limits
+        run.now.input.now.words.items }
+    requires holds { Holds (source_of run.now.checked.now) run.now.limits
+        run.now.input.now.words.items course.old }
+    ensures told { IfOk result (λ text. regs_at (source_of run.now.checked.now)
         (stand_at (trail (source_of run.now.checked.now) run.now.limits
         run.now.input.now.words.items MOST_COST) position) ≡ Some (string_bytes text)) }
+    ensures holds { Holds (source_of run.now.checked.now) run.now.limits
+        run.now.input.now.words.items course.new }
 {
-    let place = place_at(run, position)?;
-    place_regs(run.alloc, run.checked, &place)
+    let place = place_at(run, course, position)?;
+    place_regs(run.alloc, run.checked, &place, course.execution.heap())
 }
 
 // The lines of objects and arrays at a place.
@@ -174,32 +208,47 @@ fn place_cells(
     alloc: Global,
     checked: &Checked,
     place: &Place,
+    heap: &Heap,
     from: u32,
     count: u32,
 ) -> Result<String, NoMemory>
-    ensures { IfOk result (λ text. cells_at (source_of checked.now) from count (stand_of place.now)
+    ensures { IfOk result (λ text. cells_at (source_of checked.now) from count
+        (stand_of place.now heap.now)
         ≡ Some (string_bytes text)) }
 {
     let mut text = String::new(alloc);
     match place {
-        Place::Point { heap, .. } => add_objects(&mut text, checked, heap, from, count)?,
-        Place::End { heap } => add_objects(&mut text, checked, heap, from, count)?,
+        Place::Point { .. } => add_objects(&mut text, checked, heap, from, count)?,
+        Place::End => add_objects(&mut text, checked, heap, from, count)?,
     }
     Ok(text)
 }
 
 /// The lines of the objects and arrays of so many names from one on, at a position.
-pub(crate) fn cells_text(
-    run: &Run,
+pub(crate) fn cells_text<'a>(
+    run: &Run<'a>,
+    course: &mut Course<'a>,
     position: u64,
     from: u32,
     count: u32,
 ) -> Result<String, NoMemory>
-    requires { IsValidRun (source_of run.now.checked.now) run.now.limits run.now.input.now.words.items }
-    ensures { IfOk result (λ text. cells_at (source_of run.now.checked.now) from count
+    requires run { IsValidRun (source_of run.now.checked.now) run.now.limits
+        run.now.input.now.words.items }
+    requires holds { Holds (source_of run.now.checked.now) run.now.limits
+        run.now.input.now.words.items course.old }
+    ensures told { IfOk result (λ text. cells_at (source_of run.now.checked.now) from count
         (stand_at (trail (source_of run.now.checked.now) run.now.limits
         run.now.input.now.words.items MOST_COST) position) ≡ Some (string_bytes text)) }
+    ensures holds { Holds (source_of run.now.checked.now) run.now.limits
+        run.now.input.now.words.items course.new }
 {
-    let place = place_at(run, position)?;
-    place_cells(run.alloc, run.checked, &place, from, count)
+    let place = place_at(run, course, position)?;
+    place_cells(
+        run.alloc,
+        run.checked,
+        &place,
+        course.execution.heap(),
+        from,
+        count,
+    )
 }

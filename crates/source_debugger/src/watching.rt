@@ -1,7 +1,7 @@
 // The point of a run that is wanted.
 ghost use Rattle.std.specs.Prelude.{◌≡◌, ◌&&◌, nat_eq, pos, if◌then◌else◌};
 ghost use Rattle.std.specs.Ordering.{int_eq};
-ghost use Rattle.source_debugger.specs.Watched.{wants as wants_point, passed as passed_point, is_given, wanted as wanted_at, behind as behind_place};
+ghost use Rattle.source_debugger.specs.Watched.{wants as wants_point, passed as passed_point, is_given, wanted as wanted_at, behind as behind_place, surely as surely_in, ahead as ahead_in};
 
 /// The point of a run that is wanted. Numbers count the points that are passed before.
 #[derive(Clone, Copy, Debug, PartialEq, Eq)]
@@ -95,5 +95,48 @@ pub(crate) fn behind(watching: Watching, place: Option<u32>) -> Watching
     match place {
         None => watching,
         Some(at) => passed(watching, at),
+    }
+}
+
+/// How many points a watch passes, whatever they are.
+pub(crate) fn surely(watching: Watching) -> u64
+    ensures { result ≡ surely_in watching }
+{
+    match watching {
+        Watching::First {
+            place: None,
+            left,
+            ..
+        } => left,
+        Watching::First {
+            place: Some(_place),
+            skip,
+            left,
+        } => skip.min(left),
+        Watching::Latest { skip, left, .. } => skip.min(left),
+    }
+}
+
+/// The watch behind so many of these.
+pub(crate) fn ahead(watching: Watching, passed: u64) -> Watching
+    ensures { result ≡ ahead_in watching passed }
+{
+    match watching {
+        Watching::First { place, skip, left } => Watching::First {
+            place,
+            skip: skip.saturating_sub(passed),
+            left: left.saturating_sub(passed),
+        },
+        Watching::Latest {
+            place,
+            skip,
+            left,
+            latest,
+        } => Watching::Latest {
+            place,
+            skip: skip.saturating_sub(passed),
+            left: left.saturating_sub(passed),
+            latest,
+        },
     }
 }

@@ -143,7 +143,7 @@ fn follow(
     ensures { IfOk result (λ text. Follows commands.now (source_of checked) limits
         input.now.words.items (string_bytes text)) }
 {
-    let mut debugger = SourceDebugger::new(alloc, checked, input, limits)?;
+    let mut debugger = SourceDebugger::new(alloc, &checked, input, limits)?;
     let mut text = String::new(alloc);
     debugger.follow(alloc, commands, &mut text)?;
     Ok(text)

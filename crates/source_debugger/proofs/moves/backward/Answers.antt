@@ -5,6 +5,7 @@ use Rattle.meaning_points.specs.Trail.{trail}
 use Rattle.source_debugger.specs.declared.running.TheConstants.{MOST_COST}
 use Rattle.source_debugger.specs.Ended.{IsEnded, latest_of, back_to}
 use Rattle.source_debugger.specs.Walks.{backward}
+use Rattle.source_debugger.specs.Courses.{heap_of}
 use Rattle.source_debugger.proofs.Backwards.{back_freely, backward_is}
 use Rattle.source_debugger.proofs.moves.backward.Goals as goal
 
@@ -17,12 +18,14 @@ returns-in-None-clause-walk c =
 
 pub returns-in_ok-ended-in-Some-clause-walk : goal.returns-in_ok-ended-in-Some-clause-walk
 returns-in_ok-ended-in-Some-clause-walk c =
-    let ended : IsEnded c.in_ok-ended-in-Some.ended (watch.Latest c.in-Some.place c.saturating_sub.result c.args.from
+    let ended : IsEnded c.in_ok-ended-in-Some.ended (heap_of c.run_to.new.course)
+    (watch.Latest c.in-Some.place c.saturating_sub.result c.args.from
     None) (trail (source_of c.args.run.now.checked.now) c.args.run.now.limits c.args.run.now.input.now.words.items
-    MOST_COST) = search (rules, c.in_ok-ended-in-Some.ensures) in
+    MOST_COST) = search (rules, c.in_ok-ended-in-Some.ensures.ended) in
     ap (λ place. backward (trail (source_of c.args.run.now.checked.now) c.args.run.now.limits
     c.args.run.now.input.now.words.items MOST_COST) place c.args.most c.args.from) c.in-Some.is
-    ∙ backward_is c.in_ok-ended-in-Some.ended (trail (source_of c.args.run.now.checked.now) c.args.run.now.limits
+    ∙ backward_is c.in_ok-ended-in-Some.ended (heap_of c.run_to.new.course)
+    (trail (source_of c.args.run.now.checked.now) c.args.run.now.limits
     c.args.run.now.input.now.words.items MOST_COST) c.in-Some.place c.args.most c.args.from
     c.saturating_sub.result c.saturating_sub.ensures ended
     ∙ ap (λ w. back_to (latest_of w) c.args.most c.args.from) (sym c.watching_in.ensures)

@@ -2,12 +2,14 @@ use Rattle.std.proofs.Common.{◌∙◌, sym, ap, Some}
 use Rattle.rpp_tree.specs.Views.{source_of}
 use Rattle.meaning_points.specs.Trail.{trail}
 use Rattle.source_debugger.specs.declared.running.TheConstants.{MOST_COST}
+use Rattle.source_debugger.specs.Courses.{heap_of}
 use Rattle.source_debugger.proofs.Onwards.{forward_is}
 use Rattle.source_debugger.proofs.moves.forward.Goals as goal
 
 pub returns-clause-walk : goal.returns-clause-walk
 returns-clause-walk c =
-    forward_is c.in_ok-ended.ended (trail (source_of c.args.run.now.checked.now) c.args.run.now.limits
+    forward_is c.in_ok-ended.ended (heap_of c.run_to.new.course)
+    (trail (source_of c.args.run.now.checked.now) c.args.run.now.limits
     c.args.run.now.input.now.words.items MOST_COST) c.args.place c.args.from c.goal_of-goal.result c.args.most
-    c.in_ok-ended.ensures c.requires.within c.goal_of-goal.ensures
+    c.in_ok-ended.ensures.ended c.requires.within c.goal_of-goal.ensures
     ∙ ap Some (sym c.reached.ensures)

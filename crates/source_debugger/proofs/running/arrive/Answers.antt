@@ -1,5 +1,6 @@
 use Rattle.std.proofs.Common.{◌∙◌, refl, sym, arith}
 use Rattle.source_execution.specs.Standing.{config_at}
+use Rattle.source_debugger.specs.Courses.{heap_of}
 use Rattle.source_debugger.specs.declared.running.Arrival.{Arrival}
 use Rattle.source_debugger.proofs.Endings.{stands}
 use Rattle.source_debugger.proofs.running.arrive.Goals as goal
@@ -15,11 +16,9 @@ returns-in_ok-variables-in-Some c =
     } in
     record {
       arrival = arrival;
-      heap = c.into_heap.result;
       is = refl;
       begins = sym c.place.ensures ∙ c.in-Some.is;
-      point = stands (config_at c.args.execution) arrival c.into_heap.result c.params.ensures
-          c.in_ok-variables-in-Some.ensures c.object.ensures c.depth.ensures c.into_heap.ensures.store
-          c.into_heap.ensures.log;
+      point = stands (config_at c.args.course.now.execution) arrival (heap_of c.args.course.now) c.params.ensures
+          c.in_ok-variables-in-Some.ensures c.object.ensures c.depth.ensures refl refl;
       some = omega arith;
     }

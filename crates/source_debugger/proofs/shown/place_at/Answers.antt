@@ -4,22 +4,23 @@ use Rattle.meaning_points.specs.Trail.{trail}
 use Rattle.source_debugger.specs.declared.watching.Watching.TheVariants as watch
 use Rattle.source_debugger.specs.declared.running.TheConstants.{MOST_COST}
 use Rattle.source_debugger.specs.Ended.{IsEnded}
+use Rattle.source_debugger.specs.Courses.{heap_of}
 use Rattle.source_debugger.proofs.Endings.{placed_at, placed_end}
 use Rattle.source_debugger.proofs.shown.place_at.Goals as goal
 
-pub returns-in-At : goal.returns-in-At
-returns-in-At c =
+pub returns-in-At-clause-stands : goal.returns-in-At-clause-stands
+returns-in-At-clause-stands c =
     placed_at (trail (source_of c.args.run.now.checked.now) c.args.run.now.limits c.args.run.now.input.now.words.items
-    MOST_COST) c.args.position c.in-At.arrival c.in-At.heap c.in-At.watching
-    (subst (λ e. IsEnded e (watch.First None 0 c.args.position)
+    MOST_COST) c.args.position c.in-At.arrival (heap_of c.run_to.new.course) c.in-At.watching
+    (subst (λ e. IsEnded e (heap_of c.run_to.new.course) (watch.First None 0 c.args.position)
     (trail (source_of c.args.run.now.checked.now) c.args.run.now.limits c.args.run.now.input.now.words.items
-    MOST_COST)) c.in-At.is c.in_ok-arrival.ensures)
+    MOST_COST)) c.in-At.is c.in_ok-arrival.ensures.ended)
 
-pub returns-then-left_in-eq0 : goal.returns-then-left_in-eq0
-returns-then-left_in-eq0 c =
+pub returns-then-left_in-eq0-clause-stands : goal.returns-then-left_in-eq0-clause-stands
+returns-then-left_in-eq0-clause-stands c =
     placed_end (trail (source_of c.args.run.now.checked.now) c.args.run.now.limits c.args.run.now.input.now.words.items
-    MOST_COST) c.args.position c.in-Over.heap c.in-Over.watching
-    (subst (λ e. IsEnded e (watch.First None 0 c.args.position)
+    MOST_COST) c.args.position (heap_of c.run_to.new.course) c.in-Over.watching
+    (subst (λ e. IsEnded e (heap_of c.run_to.new.course) (watch.First None 0 c.args.position)
     (trail (source_of c.args.run.now.checked.now) c.args.run.now.limits c.args.run.now.input.now.words.items
-    MOST_COST)) c.in-Over.is c.in_ok-arrival.ensures)
+    MOST_COST)) c.in-Over.is c.in_ok-arrival.ensures.ended)
     (sym c.left_in.ensures ∙ c.if-left_in-eq0.true)
