@@ -21,6 +21,7 @@ use Rattle.pisa_isa.specs.Runs.{End, run, steps, visited, zero_registers, counte
 use Rattle.pisa_isa.specs.Runs.{later, stop_at_bound}
 use Rattle.pisa_isa.specs.Ends.{MeetsEndsOnce, is_at_start}
 use Rattle.pisa_isa.specs.Flipped.{flipped}
+use Rattle.pisa_isa.specs.declared.fixed.TheConstants.{END_CELL}
 use Rattle.pisa_isa.proofs.Effect.{state}
 use Rattle.pisa_isa.proofs.Back.{moved-twice}
 use Rattle.pisa_isa.proofs.Mirror.{mirrored, fetch-flipped}
@@ -34,7 +35,6 @@ use Rattle.pisa_isa.proofs.Ends.{Stands, start_stands, finished_at, is_start-inv
 use Rattle.pisa_isa.proofs.Ends.{stops_at_finish}
 use Rattle.code_conventions.specs.Cells.{bra}
 use Rattle.paired_code.specs.Layout.{between}
-use Rattle.bennett_wrap.specs.Copying.{count_at}
 use Rattle.bennett_wrap.specs.Wrapped.{copied_at, entered_at, finish_of, wrapped_code, begun_on, HasRoom, with_zeros}
 use Rattle.bennett_wrap.specs.Wrapped.{values_at, FinishesWith, TrapsWith, Computes, steps_wrapped, Wrapped}
 use Rattle.bennett_wrap.proofs.Carried.{carried, IsNoAddressAt, stops_carried}
@@ -229,7 +229,7 @@ module _ (image : Segments) (i : IsImage image) (cs : List ℕ) (small : length 
       (is_finish-inverse_op c.op ∙ s.is) refl refl
 
   -- from FINISH of the code to START of the flipped code
-  across : (b : List ℕ) → Stands is_finish code f → slice_get b count_at ≡ Some (length b) → AllBelow (length b) cs
+  across : (b : List ℕ) → Stands is_finish code f → slice_get b END_CELL ≡ Some (length b) → AllBelow (length b) cs
       → length b + length cs < 2 ^ 32
       → steps all (2 + (11 + 8 * length cs + 2)) (on f 0 0 0 0 (b ++ zeros))
       ≡ Some (on (entered_at n f cs + 1) 0 0 0 0 (b ++ values_at b cs))
@@ -300,7 +300,7 @@ module _ (image : Segments) (i : IsImage image) (cs : List ℕ) (small : length 
       is_state e.last (pos f) 0 false zero_registers (at.1.place ∙ ap (λ x. pos x) (sym place)) at.1.no_branch
       at.1.forward h.registers in
       let many : length b ≡ length a = length-run code (suc k) m in
-      let counted_b : slice_get b count_at ≡ Some (length b) = h.kept ∙ ap (λ x. Some x) (sym many) in
+      let counted_b : slice_get b END_CELL ≡ Some (length b) = h.kept ∙ ap (λ x. Some x) (sym many) in
       let below : AllBelow (length b) cs = subst (λ x. AllBelow x cs) (sym many) (all_below (length a) cs room.among) in
       let free = room.room in
       let half = ahead_steps a (suc k) h.narrow in

@@ -11,9 +11,10 @@ use Rattle.pisa_isa.specs.Image.{is_start, is_finish}
 use Rattle.pisa_isa.specs.Runs.{End, run, started, zero_registers}
 use Rattle.pisa_isa.specs.Ends.{MeetsEndsOnce}
 use Rattle.pisa_isa.specs.Flipped.{flipped}
+use Rattle.pisa_isa.specs.declared.fixed.TheConstants.{END_CELL}
 use Rattle.code_conventions.specs.Cells.{bra}
 use Rattle.paired_code.specs.Layout.{between}
-use Rattle.bennett_wrap.specs.Copying.{copy_cells, count_at}
+use Rattle.bennett_wrap.specs.Copying.{copy_cells}
 
 -- ---- the cells
 
@@ -71,7 +72,7 @@ run_on code bound cells = run code bound (begun_on code cells)
 -- copied is one of them, and so many addresses are left behind it.
 pub record HasRoom (a cells : List ℕ) : Type 0 where
   pub words : All IsWord a
-  pub counted : slice_get a count_at ≡ Some (length a)
+  pub counted : slice_get a END_CELL ≡ Some (length a)
   pub among : All (λ c. c < length a) cells
   pub room : length a + length cells < 2 ^ 32
 
@@ -105,7 +106,7 @@ pub record Computes (code : List Cell) (bound : ℕ) (a : List ℕ) : Type 0 whe
   pub narrow : IsNarrow code bound a
   pub finished : (run_on code bound a).why ≡ Finished
   pub registers : (run_on code bound a).last.regs ≡ zero_registers
-  pub kept : slice_get (run_on code bound a).last.cells count_at ≡ Some (length a)
+  pub kept : slice_get (run_on code bound a).last.cells END_CELL ≡ Some (length a)
 
 -- how many steps it takes to compute in n steps, to copy and to compute back
 abbrev pub steps_wrapped : ℕ → List ℕ → ℕ

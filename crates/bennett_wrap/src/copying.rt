@@ -8,12 +8,9 @@ ghost use Rattle.bennett_wrap.specs.Copying.{find_cells, copy_one, copies, endin
 
 use code_conventions::cells::{add, addi, exch, sub, xor};
 use paired_code::{Piece, empty, link, plain, seq};
-use pisa_isa::{Cell, Image};
+use pisa_isa::{Cell, END_CELL, Image};
 use rpp_words::{NoMemory, wrap_sub};
 use std::alloc::Global;
-
-/// The data cell that holds the number of a program's cells.
-const COUNT_AT: u32 = 4;
 
 /// The address of a cell that is read.
 pub const AT: u8 = 1;
@@ -66,11 +63,11 @@ fn copy_row(alloc: Global, cells: &[u32]) -> Result<Vec<Cell>, NoMemory>
 fn put_find(row: &mut Vec<Cell>) -> Result<(), NoMemory>
     ensures { OnOk result (row.new.items ≡ row.old.items ++ find_cells) }
 {
-    row.push(addi(AT, COUNT_AT))?;
+    row.push(addi(AT, END_CELL))?;
     row.push(exch(WORD, AT))?;
     row.push(add(BEHIND, WORD))?;
     row.push(exch(WORD, AT))?;
-    row.push(addi(AT, wrap_sub(0, COUNT_AT)))?;
+    row.push(addi(AT, wrap_sub(0, END_CELL)))?;
     Ok(())
 }
 
@@ -101,10 +98,10 @@ fn put_ending(row: &mut Vec<Cell>, count: u32) -> Result<(), NoMemory>
     ensures { OnOk result (row.new.items ≡ row.old.items ++ ending_cells count) }
 {
     row.push(addi(BEHIND, wrap_sub(0, count)))?;
-    row.push(addi(AT, COUNT_AT))?;
+    row.push(addi(AT, END_CELL))?;
     row.push(exch(WORD, AT))?;
     row.push(sub(BEHIND, WORD))?;
     row.push(exch(WORD, AT))?;
-    row.push(addi(AT, wrap_sub(0, COUNT_AT)))?;
+    row.push(addi(AT, wrap_sub(0, END_CELL)))?;
     Ok(())
 }

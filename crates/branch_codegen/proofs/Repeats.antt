@@ -3,6 +3,8 @@ use Rattle.std.proofs.Common.{◌≡◌, ◌≢◌, ℕ, zero, suc, ◌+◌, ◌
 use Rattle.std.proofs.Common.{◌++◌, refl, sym, ap, ◌∙◌, subst, arith, append-nil, append_assoc}
 use Rattle.std.specs.Prelude.{not}
 use Rattle.std.proofs.Math.Nat.{mul-add, mul-le-mul_right}
+use Rattle.code_conventions.specs.declared.faults.TheConstants.{LOOP}
+use Rattle.code_conventions.specs.declared.registers.TheConstants.{FLAG}
 use Rattle.rpp_tree.specs.Tree.{Expression, Number, Null, Variable, Element, Binary, Statements, From, nodes}
 use Rattle.stmt_inverter.specs.Inverse.{inverse}
 use Rattle.pisa_isa.specs.Machine.{Memory}
@@ -124,7 +126,7 @@ two_counts b c c' k k' h g = omega (arith, h, g, mul-add b k k')
 module _ (w : World) (thousand : w.rates.steps ≡ 1000) (counts : 1 ≤ w.rates.counts) (s : Scope) (u : w.Under)
     (d : Bool) (e1 e2 : Expression) (first again : Statements) (n : ℕ) where
   abbrev looped : Bool → Told State → Told State
-  looped true t = Fault 2 0
+  looped true t = Fault LOOP 0
   looped false t = t
 
   abbrev ended : Bool → Told State → Told State → Told State
@@ -187,15 +189,15 @@ module _ (w : World) (thousand : w.rates.steps ≡ 1000) (counts : 1 ≤ w.rates
   after_first j end = told_then (told (tested w.setting e2 end))
       (λ c b. ended b (Fine end 0) (told_then (told (exec w.setting n again end)) (λ c end2. enters false j end2)))
 
-  flag_zero : (st : State) (m : Memory) → Flagged w s u false st m → reg m 11 ≡ 0
-  flag_zero st m h = ap (λ z. reg z 11) (as_known m _ h.regs_are)
+  flag_zero : (st : State) (m : Memory) → Flagged w s u false st m → reg m FLAG ≡ 0
+  flag_zero st m h = ap (λ z. reg z FLAG) (as_known m _ h.regs_are)
 
-  flag_one : (st : State) (m : Memory) → Flagged w s u true st m → reg m 11 ≢ 0
-  flag_one st m h e = let q : reg m 11 ≡ 1 = ap (λ z. reg z 11) (as_known m _ h.regs_are) in omega (arith, e, q)
+  flag_one : (st : State) (m : Memory) → Flagged w s u true st m → reg m FLAG ≢ 0
+  flag_one st m h e = let q : reg m FLAG ≡ 1 = ap (λ z. reg z FLAG) (as_known m _ h.regs_are) in omega (arith, e, q)
 
   check_passes : (st : State) (m : Memory) → Flagged w s u false st m
-      → Will w.im (check_cells 11 2) d m (Quiet (Flagged w s u false st) 4)
-  check_passes st m h = will_of w.im _ d m _ _ (runs_check_zero w.im d 11 2 m (flag_zero st m h))
+      → Will w.im (check_cells FLAG LOOP) d m (Quiet (Flagged w s u false st) 4)
+  check_passes st m h = will_of w.im _ d m _ _ (runs_check_zero w.im d FLAG LOOP m (flag_zero st m h))
       (quiet h (omega arith))
 
   turn_small : to_tail d + to_head d ≡ 6
@@ -239,10 +241,10 @@ module _ (w : World) (thousand : w.rates.steps ≡ 1000) (counts : 1 ≤ w.rates
   module _ (pa pb ps pt hd : List Symbol) (h1 : FlagLaw w s e1 pa) (h2 : FlagLaw w s e2 pb)
       (first_does : Does w.im ps d (Open w s u) (Open w s u) w.rates n 0 (λ st. told (exec w.setting n first st)))
       (again_does : Does w.im pt d (Open w s u) (Open w s u) w.rates n 0 (λ st. told (exec w.setting n again st)))
-      (hd_is : in_order d (pa ∷ check_cells 11 2 ∷ ps ∷ check_cells 11 2 ∷ pb ∷ []) ≡ hd) where
+      (hd_is : in_order d (pa ∷ check_cells FLAG LOOP ∷ ps ∷ check_cells FLAG LOOP ∷ pb ∷ []) ≡ hd) where
     abbrev Rounds : ℕ → Type 0
     Rounds j = (v : Bool) (st : State) (m : Memory) → Flagged w s u v st m
-        → Turns w.im 11 hd pt d m (Left j (enters v j st))
+        → Turns w.im FLAG hd pt d m (Left j (enters v j st))
 
     module _ (j : ℕ) (ih : Rounds j) (fuel : suc j ≤ n) (t : Told State) (c1 cs c2 k : ℕ) (st2 : State)
         (t_is : t ≡ plus (c1 + (cs + c2)) (told_then (told (exec w.setting n again st2))
@@ -252,7 +254,7 @@ module _ (w : World) (thousand : w.rates.steps ≡ 1000) (counts : 1 ≤ w.rates
       Q o = Left (suc j) t o
 
       abbrev N : Outcome → Type 0
-      N o = Next (λ m2 k2. (reg m2 11 ≡ 0) × Turns w.im 11 hd pt d m2
+      N o = Next (λ m2 k2. (reg m2 FLAG ≡ 0) × Turns w.im FLAG hd pt d m2
           (λ o. Q (after (k + to_tail d + (k2 + to_head d)) o))) (λ o. Q (after (k + to_tail d) o)) o
 
       small_tail : to_tail d ≤ 4
@@ -275,7 +277,7 @@ module _ (w : World) (thousand : w.rates.steps ≡ 1000) (counts : 1 ≤ w.rates
           (two_counts w.rates.counts (c1 + (cs + c2)) ct k kt counted l) (omega arith) in
           let x' : kt ≤ 1000 * ct = thousand_is kt ct x in (
             flag_zero end2 m2 i,
-            turns_more w.im d 11 hd pt m2 _ _
+            turns_more w.im d FLAG hd pt m2 _ _
                 (λ o q. subst (λ z. Left (suc j) z (after k0 o)) (sym told_is)
                 (onward (c1 + (cs + c2) + ct) k0 paid (omega (arith, moves))
                 (omega (arith, turn_small, x', steps, some)) q)) (ih false end2 m2 i),
@@ -315,7 +317,7 @@ module _ (w : World) (thousand : w.rates.steps ≡ 1000) (counts : 1 ≤ w.rates
         QH o = Left (suc j) (enters v (suc j) st) o
 
         abbrev P : Outcome → Type 0
-        P o = Next (After_head w.im 11 hd pt d QH) QH o
+        P o = Next (After_head w.im FLAG hd pt d QH) QH o
 
         heading : (a1 k2 a2 k3 cs c2 : ℕ) (st2 : State) (m3 : Memory) (b : Bool)
             → told (exec w.setting n first st) ≡ Fine st2 cs → told (tested w.setting e2 st2) ≡ Fine b c2
@@ -354,15 +356,17 @@ module _ (w : World) (thousand : w.rates.steps ≡ 1000) (counts : 1 ≤ w.rates
             )
 
         rest_does : (m : Memory) → Flagged w s u false st m
-            → Will w.im (in_order d (check_cells 11 2 ∷ ps ∷ check_cells 11 2 ∷ pb ∷ [])) d m (λ o. P (after k1 o))
+            → Will w.im (in_order d (check_cells FLAG LOOP ∷ ps ∷ check_cells FLAG LOOP ∷ pb ∷ [])) d m
+            (λ o. P (after k1 o))
         rest_does m h =
-            quiet_then w.im d (Flagged w s u false st) 4 (check_cells 11 2) (ps ∷ check_cells 11 2 ∷ pb ∷ []) m
+            quiet_then w.im d (Flagged w s u false st) 4 (check_cells FLAG LOOP) (ps ∷ check_cells FLAG LOOP ∷ pb ∷ [])
+            m
             (λ o. P (after k1 o)) (check_passes st m h) (λ m1 a1 i la.
-            step_then w.im d (Open w s u) w.rates n 0 ps (check_cells 11 2 ∷ pb ∷ []) m1
+            step_then w.im d (Open w s u) w.rates n 0 ps (check_cells FLAG LOOP ∷ pb ∷ []) m1
             (told (exec w.setting n first st)) (λ o. P (after k1 (after a1 o)))
             (first_does.does st m1 (record { regs_are = i.regs_are; open_frame = i.open_frame }))
             (λ st2 m2 cs k2 es o2 n2 l2.
-            quiet_then w.im d (Flagged w s u false st2) 4 (check_cells 11 2) (pb ∷ []) m2
+            quiet_then w.im d (Flagged w s u false st2) 4 (check_cells FLAG LOOP) (pb ∷ []) m2
             (λ o. P (after k1 (after a1 (after k2 o)))) (check_passes st2 m2
             (record { regs_are = o2.regs_are; open_frame = o2.open_frame })) (λ m3 a2 i3 lb.
             step_last w.im d (λ b m4. Flagged w s u b st2 m4) (test_rates w) n 50 pb m3 (told (tested w.setting e2 st2))
@@ -406,27 +410,28 @@ module _ (w : World) (thousand : w.rates.steps ≡ 1000) (counts : 1 ≤ w.rates
       QA o = Left jj (enters v jj st) o
 
       abbrev PA : Outcome → Type 0
-      PA o = Next (After_head w.im 11 hd pt d QA) QA o
+      PA o = Next (After_head w.im FLAG hd pt d QA) QA o
 
       abbrev Rest : Type 0
       Rest = (c1 k1 : ℕ) → told (tested w.setting e1 st) ≡ Fine v c1 → c1 ≤ w.rates.counts * k1 → k1 ≤ 400 * c1 + 50
           → (m : Memory) → Flagged w s u false st m → Will w.im
-          (in_order d (check_cells 11 2 ∷ ps ∷ check_cells 11 2 ∷ pb ∷ [])) d m (λ o. PA (after k1 o))
+          (in_order d (check_cells FLAG LOOP ∷ ps ∷ check_cells FLAG LOOP ∷ pb ∷ [])) d m (λ o. PA (after k1 o))
 
       tried : Rest → (f b : Bool) → xor v b ≡ f → (c1 k1 : ℕ) → told (tested w.setting e1 st) ≡ Fine b c1
           → c1 ≤ w.rates.counts * k1 → k1 ≤ 400 * c1 + 50 → (m : Memory) → Flagged w s u (xor v b) st m
-          → Will w.im (in_order d (check_cells 11 2 ∷ ps ∷ check_cells 11 2 ∷ pb ∷ [])) d m (λ o. PA (after k1 o))
+          → Will w.im (in_order d (check_cells FLAG LOOP ∷ ps ∷ check_cells FLAG LOOP ∷ pb ∷ [])) d m
+          (λ o. PA (after k1 o))
       tried go true b f_is c1 k1 e n1 l1 m h =
           let i : Flagged w s u true st m = subst (λ z. Flagged w s u z st m) f_is h in
-          let k = runs_check_other w.im d 11 2 m (flag_one st m i) in
-          let told_is : enters v jj st ≡ Fault 2 (c1 + 0) = then_at _ b c1 (λ b. looped (xor v b) (says jj st)) e
+          let k = runs_check_other w.im d FLAG LOOP m (flag_one st m i) in
+          let told_is : enters v jj st ≡ Fault LOOP (c1 + 0) = then_at _ b c1 (λ b. looped (xor v b) (says jj st)) e
           ∙ ap (λ z. plus c1 (looped z (says jj st))) f_is in
           let some = test_costs w.setting e1 st b c1 e in
           let Q1 : Outcome → Type 0 = λ o. PA (after k1 o) in
-          let W1 : Memory → ℕ → Type 0 = λ m1 k. Will w.im (in_order d (ps ∷ check_cells 11 2 ∷ pb ∷ [])) d m1
+          let W1 : Memory → ℕ → Type 0 = λ m1 k. Will w.im (in_order d (ps ∷ check_cells FLAG LOOP ∷ pb ∷ [])) d m1
           (λ o. Q1 (after k o)) in
-          will_first w.im d (check_cells 11 2) (ps ∷ check_cells 11 2 ∷ pb ∷ []) m Q1
-          (will_of w.im _ d m (Trapped 2 k.0) (Next W1 Q1) k.2
+          will_first w.im d (check_cells FLAG LOOP) (ps ∷ check_cells FLAG LOOP ∷ pb ∷ []) m Q1
+          (will_of w.im _ d m (Trapped LOOP k.0) (Next W1 Q1) k.2
           (meets_told _ _ (sym told_is) (faults (of_thousand _ (c1 + 0) 0
           (let q = k.1 in omega (arith, some, l1, q))))))
       tried go false b f_is c1 k1 e n1 l1 m h =
@@ -437,7 +442,7 @@ module _ (w : World) (thousand : w.rates.steps ≡ 1000) (counts : 1 ≤ w.rates
       begins go m h =
           subst (λ z. Will w.im z d m PA) hd_is
           (step_then w.im d (λ b m1. Flagged w s u (xor v b) st m1) (test_rates w) n 50 pa
-          (check_cells 11 2 ∷ ps ∷ check_cells 11 2 ∷ pb ∷ []) m (told (tested w.setting e1 st)) PA
+          (check_cells FLAG LOOP ∷ ps ∷ check_cells FLAG LOOP ∷ pb ∷ []) m (told (tested w.setting e1 st)) PA
           (h1 n d u v st m h)
           (λ b m1 c1 k1 e i n1 l1. tried go (xor v b) b refl c1 k1 e n1 l1 m1 i)
           (λ x c k e l.
@@ -450,18 +455,18 @@ module _ (w : World) (thousand : w.rates.steps ≡ 1000) (counts : 1 ≤ w.rates
 
     rounds : (j : ℕ) → j ≤ n → Rounds j
     rounds zero l v st m h =
-        turn w.im d 11 hd pt m _ (begins zero l v st (λ c1 k1 e n1 l1 m1 i.
+        turn w.im d FLAG hd pt m _ (begins zero l v st (λ c1 k1 e n1 l1 m1 i.
         let told_is : enters v zero st ≡ More = enters_is v st c1 k1 e n1 l1 zero in
         will_of w.im _ d m1 _ _ (runs_still w.im _ d m1) (meets_told _ _ (sym told_is) (more (omega arith)))) m h)
     rounds (suc j) l v st m h =
-        turn w.im d 11 hd pt m _ (begins (suc j) l v st (λ c1 k1 e n1 l1 m1 i. rest_does v st c1 k1 e n1 l1 j
+        turn w.im d FLAG hd pt m _ (begins (suc j) l v st (λ c1 k1 e n1 l1 m1 i. rest_does v st c1 k1 e n1 l1 j
         (rounds j (omega arith)) l m1 i) m h)
 
     -- the loop, entered with the flag 1
     loop_does : (st : State) (m : Memory) → Flagged w s u true st m
-        → Will w.im (loop_cells 11 hd pt) d m (Meets (Flagged w s u true) w.rates n 3 (enters true n st))
-    loop_does st m h = will_loop w.im d 11 hd pt m _ (flag_one st m h)
-        (turns_more w.im d 11 hd pt m _ _ (λ o q. entered q) (rounds n (omega arith) true st m h))
+        → Will w.im (loop_cells FLAG hd pt) d m (Meets (Flagged w s u true) w.rates n 3 (enters true n st))
+    loop_does st m h = will_loop w.im d FLAG hd pt m _ (flag_one st m h)
+        (turns_more w.im d FLAG hd pt m _ _ (λ o q. entered q) (rounds n (omega arith) true st m h))
       where
         entered : {t : Told State} {o : Outcome} → Meets (Flagged w s u true) w.rates n 0 t o
             → Meets (Flagged w s u true) w.rates n 3 t (after 3 o)
@@ -476,14 +481,14 @@ module _ (w : World) (thousand : w.rates.steps ≡ 1000) (counts : 1 ≤ w.rates
         ))
 
     pub whole_loop : (st : State) (m : Memory) → Open w s u st m
-        → Will w.im (around (line (flips ∷ [])) (loop_cells 11 hd pt)) d m
+        → Will w.im (around (line (flips ∷ [])) (loop_cells FLAG hd pt)) d m
         (Meets (Open w s u) w.rates (suc n) 0 (plus 1 (enters true n st)))
     whole_loop st m h =
         let ob = w.object_of u in
         let fr = w.frame_of u in
         let cs = m.cells in
         let t = enters true n st in
-        let all = wraps_spent w.im d (line (flips ∷ [])) (loop_cells 11 hd pt) (mk 0 ob fr 0 0 0 0 0 cs)
+        let all = wraps_spent w.im d (line (flips ∷ [])) (loop_cells FLAG hd pt) (mk 0 ob fr 0 0 0 0 0 cs)
         (mk 0 ob fr 0 0 0 1 0 cs) (Flagged w s u true) (Open w s u) w.rates n 3 1 1 1 0 t (λ a. Fine a 0) counts
         (omega arith) (omega (arith, thousand))
         (will_row w.im false (flips ∷ []) 1 _ _ (next refl (omega arith) refl here))
@@ -494,7 +499,7 @@ module _ (w : World) (thousand : w.rates.steps ≡ 1000) (counts : 1 ≤ w.rates
         (fine (record { regs_are = refl; open_frame = r.open_frame }) (omega arith) (omega arith)))
         (will_row w.im true (flips ∷ []) 1 _ _ (next refl (omega arith) refl here)))) in
         let one_more : n + 1 ≡ suc n = omega arith in
-        subst (λ z. Will w.im (around (line (flips ∷ [])) (loop_cells 11 hd pt)) d z
+        subst (λ z. Will w.im (around (line (flips ∷ [])) (loop_cells FLAG hd pt)) d z
         (Meets (Open w s u) w.rates (suc n) 0 (plus 1 t))) (sym (as_known m _ h.regs_are))
         (will_more w.im _ d _ _ _ (λ o q. meets_told _ _ (ap (plus 1) (alone t))
         (subst (λ k. Meets (Open w s u) w.rates k 0 (plus 1 (told_then t (λ c a. Fine a 0))) o) one_more q))
@@ -513,7 +518,7 @@ module _ (w : World) (thousand : w.rates.steps ≡ 1000) (counts : 1 ≤ w.rates
     hx = test_flags w s exit px tx
 
     abbrev chk : List Symbol
-    chk = check_cells 11 2
+    chk = check_cells FLAG LOOP
 
     abbrev head_code : List Symbol
     head_code = pe ++ (chk ++ (pf ++ (chk ++ px)))

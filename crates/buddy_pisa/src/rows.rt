@@ -1,7 +1,7 @@
 // The registers of the allocator, and its rows: instructions that are run one after the other.
 
 use code_conventions::registers;
-use pisa_isa::Op;
+use pisa_isa::{HEAP_CELL, LIST_HEADS, ORDER_CELL, Op};
 
 // An instruction: its row of the machine's table, its registers a, b and c, and its word.
 pub type Instruction = (Op, u8, u8, u8, u32);
@@ -48,17 +48,17 @@ pub const TOP: u8 = 26;
 // The heap's base.
 pub const BASE: u8 = 27;
 
-// TOP becomes the word of cell 1, and BASE that of cell 2.
+// TOP becomes the heap's order, and BASE its address, as the machine's own cells tell them.
 pub const LIMITS_ROW: [Instruction; 9] = [
-    (Op::Addi, ANY, 0, 0, 1),
+    (Op::Addi, ANY, 0, 0, ORDER_CELL),
     (Op::Exch, FIRST, ANY, 0, 0),
     (Op::Xor, TOP, FIRST, 0, 0),
     (Op::Exch, FIRST, ANY, 0, 0),
-    (Op::Addi, ANY, 0, 0, 1),
+    (Op::Addi, ANY, 0, 0, HEAP_CELL - ORDER_CELL),
     (Op::Exch, FIRST, ANY, 0, 0),
     (Op::Xor, BASE, FIRST, 0, 0),
     (Op::Exch, FIRST, ANY, 0, 0),
-    (Op::Addi, ANY, 0, 0, 0xFFFF_FFFE),
+    (Op::Addi, ANY, 0, 0, u32::MAX - HEAP_CELL + 1),
 ];
 
 // ZERO becomes 1 where the order is above the highest one, or negative as a signed word.
@@ -72,9 +72,9 @@ pub const OVER_ROW: [Instruction; 2] = [
 pub const ORDER_ROW: [Instruction; 5] = [
     (Op::Xori, FLAG, 0, 0, 1),
     (Op::Sllvx, SIZE, FLAG, ORDER, 0),
-    (Op::Addi, TOP, 0, 0, 8),
+    (Op::Addi, TOP, 0, 0, LIST_HEADS),
     (Op::Add, HEAD, ORDER, 0, 0),
-    (Op::Addi, HEAD, 0, 0, 8),
+    (Op::Addi, HEAD, 0, 0, LIST_HEADS),
 ];
 
 // FLAG turns where LEVEL is 0.

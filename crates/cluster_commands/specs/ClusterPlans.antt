@@ -12,7 +12,7 @@ use Rattle.command_plan.specs.Files.{Needed, image_file}
 use Rattle.command_plan.specs.Plans.{Planned, prints, WithText}
 use Rattle.command_plan.specs.Texts.{bad_command_line, image_line}
 use Rattle.cluster_commands.specs.declared.script.Event.{Event}
-use Rattle.cluster_commands.specs.declared.script.TheConstants.{MOST_SCRIPT}
+use Rattle.pisa_scripts.specs.declared.lines.TheConstants.{MOST_SCRIPT}
 use Rattle.cluster_commands.specs.declared.error.ScriptError.{ScriptError}
 use Rattle.cluster_commands.specs.declared.error.ScriptError.TheVariants.{BadEvent}
 use Rattle.cluster_commands.specs.declared.error.ScriptError.TheVariants as script

@@ -9,4 +9,4 @@ mod script;
 mod shown;
 
 pub use planning::cluster;
-pub use script::{Event, MOST_AT_ONCE, MOST_SCRIPT};
+pub use script::{Event, MOST_AT_ONCE};

@@ -10,12 +10,13 @@ ghost use Rattle.cluster_commands.specs.ClusterPlans.{cluster_files, images_at, 
 
 use crate::error::ScriptError;
 use crate::following::follow;
-use crate::script::{Event, MOST_SCRIPT, read_events};
+use crate::script::{Event, read_events};
 use crate::shown::add_end;
 use command_plan::{MOST_IMAGE, NoPlan, Plan, Verdict, bad_command_line, image_line, read_file};
 use pisa_cluster::Cluster;
 use pisa_image::{ImageError, read_image};
 use pisa_isa::Image;
+use pisa_scripts::MOST_SCRIPT;
 use rpp_ports::Shelf;
 use rpp_words::NoMemory;
 use std::alloc::Global;

@@ -4,11 +4,8 @@ ghost use Rattle.pisa_scripts.specs.Lines.{pieces as pieces_of, number_up_to as 
 ghost use Rattle.cluster_commands.specs.ClusterScripts.{IsEvent, from_one, event_of as event_of_words, step_event, undo_event, rewind_event, with_line, events_from, events_of, Gives};
 
 use crate::error::ScriptError;
-use pisa_scripts::{is_blank, number_up_to, pieces, without_returns};
+use pisa_scripts::{MOST_SCRIPT, is_blank, number_up_to, pieces, without_returns};
 use std::alloc::Global;
-
-/// The most bytes of a script.
-pub const MOST_SCRIPT: usize = 65_536;
 
 /// The most steps that one line asks for.
 pub const MOST_AT_ONCE: u32 = 10_000;

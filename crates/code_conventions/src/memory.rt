@@ -1,5 +1,8 @@
 // Where things stand in the memory of a program. How many cells the machine itself has, and the words
 // of a frame and of an object's header, are constants of rpp_words, which the loader shares.
+ghost use Rattle.std.specs.Prelude.{◌≡◌};
+ghost use Rattle.code_conventions.specs.Header.{header};
+
 use rpp_words::FIXED_CELLS;
 
 /// The words in front of an object's fields, or of an array's elements: its class's table's address
@@ -23,3 +26,10 @@ pub const PLACE_WORD: u32 = 2;
 pub const FIRST_VARIABLE: u32 = 16;
 /// The most variables of a method: parameters and nested locals.
 pub const MOST_VARIABLES: u32 = 48;
+
+/// The words of an object's or array's header: what it begins with, and how many cells refer to it.
+pub fn header(head: u32, count: u32) -> [u32; 2]
+    ensures { result ≡ header head count }
+{
+    [head, count]
+}

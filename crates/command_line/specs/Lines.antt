@@ -1,8 +1,7 @@
 -- What the words ask for, with lists of bytes for texts.
-use Rattle.std.specs.Prelude.{ℕ, ◌+◌, ◌-◌, ◌*◌, ◌^◌, ◌<◌, List, [], ◌∷◌, length}
+use Rattle.std.specs.Prelude.{ℕ, ◌^◌, ◌<◌, List, [], ◌∷◌, length}
 use Rattle.std.specs.Prelude.{None, Some, option_map, if◌then◌else◌, nat_le, nat_lt, ◌&&◌}
 use Rattle.std.specs.Prelude.{string_bytes, codes, ◌≤◌, map}
-use Rattle.std.specs.Char.{is_ascii_digit}
 use Rattle.std.specs.declared.option.Option.{Option}
 use Rattle.std.specs.Str.{bytes_eq}
 use Rattle.command_line.specs.declared.line.Line.{Line}
@@ -11,10 +10,11 @@ use Rattle.command_line.specs.declared.line.FilesCommand.TheVariants as files
 use Rattle.command_line.specs.declared.line.ProgramCommand.{ProgramCommand}
 use Rattle.command_line.specs.declared.line.ProgramCommand.TheVariants as program
 use Rattle.command_line.specs.declared.line.TheConstants.{MOST_ITEMS, MOST_COMMON}
-use Rattle.command_line.specs.declared.line.TheConstants.{MOST_PROCESSORS, MOST_DIGITS}
+use Rattle.command_line.specs.declared.line.TheConstants.{MOST_PROCESSORS}
 use Rattle.command_plan.specs.declared.plan.Room.{Room}
 use Rattle.command_plan.specs.declared.plan.Sizes.{Sizes}
 use Rattle.command_plan.specs.Files.{state_named, state_of_names, save_of_names}
+use Rattle.pisa_scripts.specs.Lines.{short_number}
 use Rattle.command_line.specs.declared.line.Line.TheVariants as line
 
 -- a line as contracts see it
@@ -62,15 +62,9 @@ asked (line.Wrap file heap deep steps names input) =
 asked (line.Explain file heap deep fuel input) =
     Explain (string_bytes file) heap deep fuel (option_map string_bytes input)
 
--- the number after the digits so far, if the rest are digits
-abbrev pub digits_after : ℕ → List ℕ → Option ℕ
-digits_after n [] = Some n
-digits_after n (c ∷ cs) = if is_ascii_digit c then digits_after (10 * n + (c - 48)) cs else None
-
--- the number that 1 to 18 decimal digits are
-abbrev pub number_of : List ℕ → Option ℕ
-number_of word = if nat_lt 0 (length word) && nat_le (length word) MOST_DIGITS
-    then digits_after 0 word else None
+-- the number that the digits of a word write
+unfoldable pub number_of : List ℕ → Option ℕ
+number_of word = short_number word
 
 -- a number from 1 to so many
 abbrev pub up_to : (most : ℕ) → Option ℕ → Option ℕ

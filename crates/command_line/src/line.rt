@@ -5,6 +5,7 @@ ghost use Rattle.command_line.specs.declared.line.TheConstants.{MOST_ITEMS, MOST
 ghost use Rattle.command_plan.specs.Files.{state_of_names, save_of_names};
 
 use command_plan::{Room, Sizes, StateNames};
+use pisa_scripts::short_number;
 use rpp_words::NoMemory;
 use std::alloc::Global;
 
@@ -524,9 +525,6 @@ fn trace_with(
     }))
 }
 
-// The most digits of a number.
-const MOST_DIGITS: usize = 18;
-
 // The most items of a generated source.
 const MOST_ITEMS: u32 = 800;
 
@@ -569,21 +567,11 @@ fn read_room(heap: &String, deep: &String) -> Option<Room>
     Some(Room { heap, deep })
 }
 
-// The number that 1 to 18 decimal digits are.
+// The number that the digits of a word write.
+#[tactic(auto, unfolding(crate::specs::Lines::number_of))]
 fn read_number(word: &str) -> Option<u64>
     ensures value { result ≡ number_of word.now }
     ensures short { IfSome result (λ number. number < 10 ^ 18) }
 {
-    let bytes = word.as_bytes();
-    if bytes.is_empty() || bytes.len() > MOST_DIGITS {
-        return None;
-    }
-    let mut number = 0;
-    for b in bytes {
-        if !b.is_ascii_digit() {
-            return None;
-        }
-        number = 10 * number + (*b - b'0') as u64;
-    }
-    Some(number)
+    short_number(word.as_bytes())
 }

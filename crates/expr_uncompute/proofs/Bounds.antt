@@ -27,6 +27,8 @@ use Rattle.expr_uncompute.proofs.HeldBounds.{some_nodes, operator_most, length_a
 use Rattle.expr_uncompute.proofs.HeldBounds.{held_value_most, held_test_most, held_most, held_least, held_length}
 use Rattle.expr_uncompute.proofs.HeldBounds.{held_value_least, held_test_least, held_value_length, held_test_length}
 use Rattle.expr_uncompute.specs.Found.{found_place_steps, found_value_steps, found_places_steps}
+use Rattle.code_conventions.specs.declared.registers.TheConstants.{AMOUNT, CONTENT, FIRST_WORD, ITEM, LEFT, OTHER_PLACE}
+use Rattle.code_conventions.specs.declared.registers.TheConstants.{OUTCOME, PLACE, RIGHT, SECOND_WORD, TRUTH}
 
 -- ---- steps
 
@@ -263,7 +265,7 @@ tokens_most (Binary at o left right) = let a = tokens_most left in let b = token
 
 module _ (spot : List ℕ → Spot) (free : ℕ) where
   copy_cells : (s : Spot) (into : ℕ) → length (Code.copy_cells s into) ≡ 5
-  copy_cells s into = length_around (Code.reach_cells s) (Code.xor into Code.content ∷ [])
+  copy_cells s into = length_around (Code.reach_cells s) (Code.xor into CONTENT ∷ [])
 
   operand_cells : (e : Expression) (i into : ℕ) → length (Code.operand_cells spot free e i into) ≤ 5
   operand_cells (Number at word) i into = omega arith
@@ -298,10 +300,10 @@ module _ (spot : List ℕ → Spot) (free : ℕ) where
 
   checked_cells : (name : List ℕ) (index : Expression) (i : ℕ) → length (Code.checked_cells spot free name index i) ≤ 27
   checked_cells name index i =
-      let a = operand_cells index i Code.left_operand in
-      let c = copy_cells (spot name) Code.right_operand in
-      let p = Code.operand_cells spot free index i Code.left_operand in
-      let r = Code.copy_cells (spot name) Code.right_operand in
+      let a = operand_cells index i LEFT in
+      let c = copy_cells (spot name) RIGHT in
+      let p = Code.operand_cells spot free index i LEFT in
+      let r = Code.copy_cells (spot name) RIGHT in
       omega (
         arith,
         length-append p (r ++ (Code.nil_check ++ Code.index_check)),
@@ -326,18 +328,18 @@ module _ (spot : List ℕ → Spot) (free : ℕ) where
       omega (
         arith,
         length-append (Code.checked_cells spot free name.text index (i + 1))
-            (Code.point_cells ++ Code.exch Code.item Code.right_operand ∷ []),
+            (Code.point_cells ++ Code.exch ITEM RIGHT ∷ []),
       )
   open_cells (Binary at o left right) i =
-      let a = operand_cells left (i + 1) Code.left_operand in
-      let c = operand_cells right (i + 1 + Code.words left) Code.right_operand in
+      let a = operand_cells left (i + 1) LEFT in
+      let c = operand_cells right (i + 1 + Code.words left) RIGHT in
       let d = operator_cells o in
-      let p = Code.operand_cells spot free left (i + 1) Code.left_operand in
-      let r = Code.operand_cells spot free right (i + 1 + Code.words left) Code.right_operand in
+      let p = Code.operand_cells spot free left (i + 1) LEFT in
+      let r = Code.operand_cells spot free right (i + 1 + Code.words left) RIGHT in
       omega (arith, length-append p (r ++ Code.operator_cells o), length-append r (Code.operator_cells o))
 
   store_cells : (s : Spot) (r : ℕ) → length (Code.store_cells s r) ≡ 5
-  store_cells s r = length_around (Code.reach_cells s) (Code.xor Code.content r ∷ [])
+  store_cells s r = length_around (Code.reach_cells s) (Code.xor CONTENT r ∷ [])
 
   prepare_cells : (e : Expression) (i : ℕ) → length (Code.prepare_cells spot free e i) + 16 ≤ 29 * tokens e
   prepare_cells (Number at word) i = omega arith
@@ -345,7 +347,7 @@ module _ (spot : List ℕ → Spot) (free : ℕ) where
   prepare_cells (Variable name) i = omega arith
   prepare_cells (Element name index) i =
       let whole : Expression = Element name index in
-      let s = Code.store_cells (Rattle.refine_form.specs.declared.spot.Spot.TheVariants.Frame (free + i)) Code.item
+      let s = Code.store_cells (Rattle.refine_form.specs.declared.spot.Spot.TheVariants.Frame (free + i)) ITEM
       in
       let a = prepare_cells index (i + 1) in
       let c = open_cells whole i in
@@ -354,7 +356,7 @@ module _ (spot : List ℕ → Spot) (free : ℕ) where
         length-append (Code.prepare_cells spot free index (i + 1))
             (Code.around (Code.open_cells spot free whole i) s),
         length_around (Code.open_cells spot free whole i) s,
-        store_cells (Rattle.refine_form.specs.declared.spot.Spot.TheVariants.Frame (free + i)) Code.item,
+        store_cells (Rattle.refine_form.specs.declared.spot.Spot.TheVariants.Frame (free + i)) ITEM,
       )
   prepare_cells (Binary at o left right) i =
       let whole : Expression = Binary at o left right in
@@ -413,15 +415,15 @@ module _ (spot : List ℕ → Spot) (free : ℕ) where
 
   prepared_test_cells : (e : Expression) (into : ℕ) → length (Code.prepared_test_cells spot free e into) ≤ 58 * tokens e
   prepared_test_cells e into =
-      let w = Code.open_cells spot free e 0 ++ Code.truth_cells Code.truth (Code.result_of e) in
-      let mid = Code.around w (Code.xor into Code.truth ∷ []) in
+      let w = Code.open_cells spot free e 0 ++ Code.truth_cells TRUTH (Code.result_of e) in
+      let mid = Code.around w (Code.xor into TRUTH ∷ []) in
       omega (
         arith,
         both_cells e 0,
         length_around (Code.parts_cells spot free e 0) mid,
-        length_around w (Code.xor into Code.truth ∷ []),
+        length_around w (Code.xor into TRUTH ∷ []),
         length-append (Code.open_cells spot free e 0)
-            (Code.truth_cells Code.truth (Code.result_of e)),
+            (Code.truth_cells TRUTH (Code.result_of e)),
       )
 
   pub test_cells : (e : Expression) (into : ℕ) → length (Code.test_cells spot free e into) ≤ 58 * tokens e
@@ -465,7 +467,7 @@ module _ (spot : List ℕ → Spot) (free : ℕ) where
   place_cells (Whole name) i into = omega arith
   place_cells (Item name index) i into =
       let w = Code.checked_cells spot free name.text index i ++ Code.point_cells in
-      let mid = Code.xor into Code.right_operand ∷ [] in
+      let mid = Code.xor into RIGHT ∷ [] in
       let a = checked_cells name.text index i in
       let c = prepare_cells index i in
       omega (
@@ -478,14 +480,14 @@ module _ (spot : List ℕ → Spot) (free : ℕ) where
   -- two arrays compared, 22 cells: an element has three tokens and those of its index
   compare_length : (x y : Spot) → length (Code.compare_cells x y) ≡ 22
   compare_length x y =
-      let w = Code.copy_cells x Code.left_operand in
-      let r = Code.sltx Code.outcome Code.left_operand Code.content
-      ∷ Code.sltx Code.outcome Code.content Code.left_operand ∷ Code.xori Code.outcome 1 ∷ [] in
+      let w = Code.copy_cells x LEFT in
+      let r = Code.sltx OUTCOME LEFT CONTENT
+      ∷ Code.sltx OUTCOME CONTENT LEFT ∷ Code.xori OUTCOME 1 ∷ [] in
       omega (
         arith,
-        length_around (w ++ Code.reach_cells y) (r ++ check_cells Code.outcome 16),
+        length_around (w ++ Code.reach_cells y) (r ++ check_cells OUTCOME 16),
         length-append w (Code.reach_cells y),
-        copy_cells x Code.left_operand,
+        copy_cells x LEFT,
       )
 
   compare_all : (x : Spot) (e : Expression) → length (Code.compare_all spot x e) ≤ 11 * tokens e
@@ -525,9 +527,9 @@ module _ (spot : List ℕ → Spot) (free : ℕ) where
   pub place_around : (target : Lvalue) (mid : List Symbol)
       → length (Code.around (Code.found_place_cells spot free target) mid) ≤ length mid + 80 * (1 + place_tokens target)
   place_around target mid =
-      let p = Code.place_cells spot free target 0 Code.place in
+      let p = Code.place_cells spot free target 0 PLACE in
       let k = Code.apart_cells spot target (index_of target) (Null 0) in
-      let a = place_cells target 0 Code.place in
+      let a = place_cells target 0 PLACE in
       let d = apart_cells target (index_of target) (Null 0) in
       let t = index_tokens target in
       omega (arith, length_around (p ++ k) mid, length-append p k)
@@ -536,10 +538,10 @@ module _ (spot : List ℕ → Spot) (free : ℕ) where
       → length (Code.around (Code.found_value_cells spot free target e) mid) ≤ length mid + 80 *
       (place_tokens target + tokens e)
   value_around target e mid =
-      let p = Code.place_cells spot free target 0 Code.place in
-      let v = Code.fetch_cells spot free e (Code.place_words target) Code.amount in
-      let a = place_cells target 0 Code.place in
-      let c = fetch_cells e (Code.place_words target) Code.amount in
+      let p = Code.place_cells spot free target 0 PLACE in
+      let v = Code.fetch_cells spot free e (Code.place_words target) AMOUNT in
+      let a = place_cells target 0 PLACE in
+      let c = fetch_cells e (Code.place_words target) AMOUNT in
       let k = Code.apart_cells spot target (index_of target) e in
       let d = apart_cells target (index_of target) e in
       let t = index_tokens target in
@@ -549,10 +551,10 @@ module _ (spot : List ℕ → Spot) (free : ℕ) where
       → length (Code.around (Code.found_places_cells spot free source target) mid) ≤ length mid + 80 *
       (place_tokens source + place_tokens target)
   places_around source target mid =
-      let p = Code.place_cells spot free source 0 Code.place in
-      let v = Code.place_cells spot free target (Code.place_words source) Code.other_place in
-      let a = place_cells source 0 Code.place in
-      let c = place_cells target (Code.place_words source) Code.other_place in
+      let p = Code.place_cells spot free source 0 PLACE in
+      let v = Code.place_cells spot free target (Code.place_words source) OTHER_PLACE in
+      let a = place_cells source 0 PLACE in
+      let c = place_cells target (Code.place_words source) OTHER_PLACE in
       let k = Code.apart_cells spot target (index_of source) (index_of target) in
       let d = apart_cells target (index_of source) (index_of target) in
       let t = index_tokens source in
@@ -562,12 +564,12 @@ module _ (spot : List ℕ → Spot) (free : ℕ) where
   found_update_cells : (o : UpdateOp) (target : Lvalue) (e : Expression)
       → length (Code.found_update_cells spot free o target e) ≤ 80 * (place_tokens target + 1 + tokens e)
   found_update_cells o target e =
-      let p = Code.place_cells spot free target 0 Code.place in
-      let v = Code.fetch_cells spot free e (Code.place_words target) Code.amount in
-      let mid = Code.exch Code.content Code.place ∷ Code.update_cell o Code.content Code.amount
-      ∷ Code.exch Code.content Code.place ∷ [] in
-      let a = place_cells target 0 Code.place in
-      let c = fetch_cells e (Code.place_words target) Code.amount in
+      let p = Code.place_cells spot free target 0 PLACE in
+      let v = Code.fetch_cells spot free e (Code.place_words target) AMOUNT in
+      let mid = Code.exch CONTENT PLACE ∷ Code.update_cell o CONTENT AMOUNT
+      ∷ Code.exch CONTENT PLACE ∷ [] in
+      let a = place_cells target 0 PLACE in
+      let c = fetch_cells e (Code.place_words target) AMOUNT in
       let k = Code.apart_cells spot target (index_of target) e in
       let d = apart_cells target (index_of target) e in
       let t = index_tokens target in
@@ -577,12 +579,12 @@ module _ (spot : List ℕ → Spot) (free : ℕ) where
       → length (Code.update_cells spot free o target e) ≤ 80 * (place_tokens target + 1 + tokens e)
   update_cells o (Whole name) (Number at word) = omega (
     arith,
-    length_around (Code.reach_cells (spot name.text)) (Code.number_cell o Code.content word ∷ []),
+    length_around (Code.reach_cells (spot name.text)) (Code.number_cell o CONTENT word ∷ []),
   )
   update_cells o (Whole name) (Variable other) = omega (
     arith,
     length_around (Code.both_reached (spot other.text) (spot name.text))
-        (Code.update_cell o Code.content Code.amount ∷ []),
+        (Code.update_cell o CONTENT AMOUNT ∷ []),
   )
   update_cells o (Whole name) (Null at) = found_update_cells o (Whole name) (Null at)
   update_cells o (Whole name) (Element array index) = found_update_cells o (Whole name) (Element array index)
@@ -592,7 +594,7 @@ module _ (spot : List ℕ → Spot) (free : ℕ) where
       by : (e : Expression) (t : Bool) → length (if t then Code.held_update_cells spot o (spot name.text) e
           else Code.found_update_cells spot free o (Whole name) e) ≤ 80 * (place_tokens (Whole name) + 1 + tokens e)
       by e true =
-          let alter = Code.update_cell o Code.content (Code.part 0) ∷ [] in
+          let alter = Code.update_cell o CONTENT (Code.part 0) ∷ [] in
           let a = held_length spot e 0 in
           omega (
             arith,
@@ -617,30 +619,30 @@ module _ (spot : List ℕ → Spot) (free : ℕ) where
             length-append (Code.near_place_cells spot free name.text index) k,
             length-append p (r ++ Code.point_cells),
             length-append r Code.point_cells,
-            length_around (Code.exch Code.content Code.right_operand ∷ [])
-                (Code.update_cell o Code.content (Code.part 4) ∷ []),
+            length_around (Code.exch CONTENT RIGHT ∷ [])
+                (Code.update_cell o CONTENT (Code.part 4) ∷ []),
           )
       by false = found_update_cells o (Item name index) e
 
   found_swap_cells : (left right : Lvalue) → length (Code.found_swap_cells spot free left right) ≤ swap_size left right
   found_swap_cells (Whole name) right =
-      let p = Code.place_cells spot free (Whole name) 0 Code.place in
-      let v = Code.place_cells spot free right (Code.place_words (Whole name)) Code.other_place in
-      let mid = Code.exch Code.first_word Code.place ∷ Code.exch Code.second_word Code.other_place
-      ∷ Code.exch Code.second_word Code.place ∷ Code.exch Code.first_word Code.other_place ∷ [] in
-      let c = place_cells right (Code.place_words (Whole name)) Code.other_place in
+      let p = Code.place_cells spot free (Whole name) 0 PLACE in
+      let v = Code.place_cells spot free right (Code.place_words (Whole name)) OTHER_PLACE in
+      let mid = Code.exch FIRST_WORD PLACE ∷ Code.exch SECOND_WORD OTHER_PLACE
+      ∷ Code.exch SECOND_WORD PLACE ∷ Code.exch FIRST_WORD OTHER_PLACE ∷ [] in
+      let c = place_cells right (Code.place_words (Whole name)) OTHER_PLACE in
       let l = Code.apart_cells spot right (index_of (Whole name)) (index_of right) in
       let e = apart_cells right (index_of (Whole name)) (index_of right) in
       let u = index_tokens right in
       omega (arith, length_around ((p ++ v) ++ ([] ++ l)) mid, length-append (p ++ v) ([] ++ l), length-append p v)
   found_swap_cells (Item name index) right =
       let left : Lvalue = Item name index in
-      let p = Code.place_cells spot free left 0 Code.place in
-      let v = Code.place_cells spot free right (Code.place_words left) Code.other_place in
-      let mid = Code.exch Code.first_word Code.place ∷ Code.exch Code.second_word Code.other_place
-      ∷ Code.exch Code.second_word Code.place ∷ Code.exch Code.first_word Code.other_place ∷ [] in
-      let a = place_cells left 0 Code.place in
-      let c = place_cells right (Code.place_words left) Code.other_place in
+      let p = Code.place_cells spot free left 0 PLACE in
+      let v = Code.place_cells spot free right (Code.place_words left) OTHER_PLACE in
+      let mid = Code.exch FIRST_WORD PLACE ∷ Code.exch SECOND_WORD OTHER_PLACE
+      ∷ Code.exch SECOND_WORD PLACE ∷ Code.exch FIRST_WORD OTHER_PLACE ∷ [] in
+      let a = place_cells left 0 PLACE in
+      let c = place_cells right (Code.place_words left) OTHER_PLACE in
       let k = Code.apart_cells spot left (index_of left) (index_of right) in
       let l = Code.apart_cells spot right (index_of left) (index_of right) in
       let d = apart_cells left (index_of left) (index_of right) in
@@ -656,13 +658,13 @@ module _ (spot : List ℕ → Spot) (free : ℕ) where
       )
 
   beyond_length : (x y : Spot) → length (Code.beyond x y) ≡ 4
-  beyond_length x y = length_around (Code.onward x y ∷ []) (Code.exch Code.second_word (Code.base_of y)
-      ∷ Code.exch Code.first_word (Code.base_of y) ∷ [])
+  beyond_length x y = length_around (Code.onward x y ∷ []) (Code.exch SECOND_WORD (Code.base_of y)
+      ∷ Code.exch FIRST_WORD (Code.base_of y) ∷ [])
 
   by_one_length : (x y : Spot) → length (Code.swap_by_one x y) ≡ 8
   by_one_length x y =
-      let w = Code.exch Code.first_word (Code.base_of x) ∷ Code.beyond x y in
-      let last = Code.exch Code.second_word (Code.base_of x) ∷ [] in
+      let w = Code.exch FIRST_WORD (Code.base_of x) ∷ Code.beyond x y in
+      let last = Code.exch SECOND_WORD (Code.base_of x) ∷ [] in
       omega (
         arith,
         length_around (Code.addi (Code.base_of x) (offset_of x) ∷ []) (w ++ last),
@@ -702,21 +704,21 @@ module _ (spot : List ℕ → Spot) (free : ℕ) where
   swap_cells (Whole name) (Item other index) = by (is_near_index index)
     where
       by : (t : Bool) → length (if t then Code.near_swap_cells spot free (Code.base_of (spot name.text))
-          Code.right_operand (spot name.text) other.text index
+          RIGHT (spot name.text) other.text index
           else Code.found_swap_cells spot free (Whole name) (Item other index))
           ≤ swap_size (Whole name) (Item other index)
       by true =
-          let a = near_swap (Code.base_of (spot name.text)) Code.right_operand (spot name.text) other.text index in
+          let a = near_swap (Code.base_of (spot name.text)) RIGHT (spot name.text) other.text index in
           omega arith
       by false = found_swap_cells (Whole name) (Item other index)
   swap_cells (Item name index) (Whole other) = by (is_near_index index)
     where
-      by : (t : Bool) → length (if t then Code.near_swap_cells spot free Code.right_operand
+      by : (t : Bool) → length (if t then Code.near_swap_cells spot free RIGHT
           (Code.base_of (spot other.text)) (spot other.text) name.text index
           else Code.found_swap_cells spot free (Item name index) (Whole other))
           ≤ swap_size (Item name index) (Whole other)
       by true =
-          let a = near_swap Code.right_operand (Code.base_of (spot other.text)) (spot other.text) name.text index in
+          let a = near_swap RIGHT (Code.base_of (spot other.text)) (spot other.text) name.text index in
           omega arith
       by false = found_swap_cells (Item name index) (Whole other)
   swap_cells (Item name index) (Item other k) = found_swap_cells (Item name index) (Item other k)

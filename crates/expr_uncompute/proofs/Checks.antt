@@ -6,9 +6,10 @@ use Rattle.std.proofs.lemmas.Bool.Decides.{nat_tests}
 use Rattle.code_conventions.specs.declared.memory.TheConstants.{HEADER_WORDS}
 use Rattle.pisa_isa.specs.Machine.{Memory}
 use Rattle.pisa_isa.specs.Table.{word_of}
+use Rattle.code_conventions.specs.declared.registers.TheConstants.{CONTENT, LEFT, NOUGHT, OUTCOME, RIGHT}
 use Rattle.rpp_words.specs.Words.{is_less, sum_of}
 use Rattle.roopl_semantics.specs.Operators.{truth_word}
-use Rattle.expr_uncompute.specs.Code.{content, left_operand, right_operand, nought, outcome, exch, sltx, xori}
+use Rattle.expr_uncompute.specs.Code.{exch, sltx, xori}
 use Rattle.expr_uncompute.specs.Code.{nil_check, index_check, point_cells}
 use Rattle.expr_uncompute.specs.Number.{Bases}
 use Rattle.expr_uncompute.proofs.Comparing.{not_less, above, not_above, past_end}
@@ -20,7 +21,7 @@ use Rattle.expr_uncompute.proofs.Operators.{operands}
 
 module _ (m p q : ℕ) (b : Bases) (f : ℕ → ℕ) (cells : List ℕ) (x y : ℕ) where
   -- whether the array is nil
-  nil_row : (t : Bool) → is_less 0 y ≡ t → Goes (sltx outcome nought right_operand ∷ xori outcome 1 ∷ []) 2
+  nil_row : (t : Bool) → is_less 0 y ≡ t → Goes (sltx OUTCOME NOUGHT RIGHT ∷ xori OUTCOME 1 ∷ []) 2
       (mem b f (operands m p q x y) cells) (mem b f (record (operands m p q x y) { outcome = truth_word (not t) })
       cells)
   nil_row t e =
@@ -31,20 +32,20 @@ module _ (m p q : ℕ) (b : Bases) (f : ℕ → ℕ) (cells : List ℕ) (x y : �
 
   pub nil_goes : y < 2 ^ 31 → y ≢ 0 → Goes nil_check 6 (mem b f (operands m p q x y) cells)
       (mem b f (operands m p q x y) cells)
-  nil_goes h n = goes_seq (nil_row true (above y h n)) (goes_check outcome 5 _ refl)
+  nil_goes h n = goes_seq (nil_row true (above y h n)) (goes_check OUTCOME 5 _ refl)
 
   pub nil_traps : y ≡ 0 → Traps nil_check 6 5 (mem b f (operands m p q x y) cells)
-  nil_traps e = traps_then (nil_row false (ap (is_less 0) e ∙ not_above)) (traps_check outcome 5 _ one_is_not)
+  nil_traps e = traps_then (nil_row false (ap (is_less 0) e ∙ not_above)) (traps_check OUTCOME 5 _ one_is_not)
     where
       one_is_not : ◌≡◌ {A = ℕ} 1 0 → ⊥
       one_is_not e = omega arith
 
-  -- the array's length in `content`
+  -- the array's length in `CONTENT`
   abbrev measured : (n : ℕ) → Scratch
   measured n = record (operands m p q x y) { content = n }
 
   length_goes : (n : ℕ) → y < length cells → slice_index cells y ≡ n
-      → Goes (exch content right_operand ∷ []) 1 (mem b f (operands m p q x y) cells)
+      → Goes (exch CONTENT RIGHT ∷ []) 1 (mem b f (operands m p q x y) cells)
       (mem b f (measured n) (slice_set cells y 0))
   length_goes n h e =
       goes_to refl refl (ap (λ z. mem b f (measured z) (slice_set cells y 0)) e)
@@ -52,7 +53,7 @@ module _ (m p q : ℕ) (b : Bases) (f : ℕ → ℕ) (cells : List ℕ) (x y : �
 
   -- whether the index is past its end
   index_row : (n : ℕ) (zs : List ℕ) → x < 2 ^ 32 → n < 2 ^ 31
-      → Goes (sltx outcome left_operand content ∷ sltx outcome left_operand nought ∷ xori outcome 1 ∷ []) 3
+      → Goes (sltx OUTCOME LEFT CONTENT ∷ sltx OUTCOME LEFT NOUGHT ∷ xori OUTCOME 1 ∷ []) 3
       (mem b f (measured n) zs) (mem b f (record (measured n) { outcome = truth_word (not (nat_lt x n)) }) zs)
   index_row n zs h k =
       let put : ℕ → Memory = λ z. mem b f (record (measured n) { outcome = z }) zs in
@@ -67,14 +68,14 @@ module _ (m p q : ℕ) (b : Bases) (f : ℕ → ℕ) (cells : List ℕ) (x y : �
       let row = index_row n (slice_set cells y 0) (omega arith) k in
       let passed = goes_to refl refl (ap (λ z. mem b f (record (measured n) { outcome = truth_word (not z) })
       (slice_set cells y 0)) t) row in
-      goes_around (length_goes n h e) (goes_seq passed (goes_check outcome 9 _ refl)) (length_goes n h e)
+      goes_around (length_goes n h e) (goes_seq passed (goes_check OUTCOME 9 _ refl)) (length_goes n h e)
 
   pub index_traps : (n : ℕ) → x < 2 ^ 32 → y < length cells → slice_index cells y ≡ n → n < 2 ^ 31 → n ≤ x
       → Traps index_check 8 9 (mem b f (operands m p q x y) cells)
   index_traps n w h e k l =
       let t : nat_lt x n ≡ false = grind (arith, nat_tests) in
       let nz : truth_word (not (nat_lt x n)) ≢ 0 = λ z. one_is_not (sym (ap (λ z. truth_word (not z)) t) ∙ z) in
-      traps_mid (length_goes n h e) (traps_then (index_row n (slice_set cells y 0) w k) (traps_check outcome 9 _ nz))
+      traps_mid (length_goes n h e) (traps_then (index_row n (slice_set cells y 0) w k) (traps_check OUTCOME 9 _ nz))
     where
       one_is_not : ◌≡◌ {A = ℕ} 1 0 → ⊥
       one_is_not e = omega arith

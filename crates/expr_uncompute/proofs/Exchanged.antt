@@ -8,11 +8,12 @@ use Rattle.std.proofs.lemmas.Bool.{cases_eq}
 use Rattle.std.proofs.lemmas.Bool.Decides.{nat_tests}
 use Rattle.code_conventions.specs.declared.memory.TheConstants.{HEADER_WORDS}
 use Rattle.pisa_isa.specs.Machine.{Memory}
+use Rattle.code_conventions.specs.declared.registers.TheConstants.{FIRST_WORD, RIGHT, SECOND_WORD}
 use Rattle.paired_code.specs.declared.part.Symbol.{Symbol}
 use Rattle.refine_form.specs.declared.spot.Spot.{Spot}
 use Rattle.refine_form.specs.declared.spot.Spot.TheVariants.{Field, Frame}
 use Rattle.code_scope.specs.Visible.{offset_of}
-use Rattle.expr_uncompute.specs.Code.{right_operand, first_word, second_word, addi, exch, base_of, onward}
+use Rattle.expr_uncompute.specs.Code.{addi, exch, base_of, onward}
 use Rattle.expr_uncompute.specs.Code.{four_exchanges}
 use Rattle.expr_uncompute.specs.Code.{swap_at, swap_by_one}
 use Rattle.expr_uncompute.specs.Code.{have_one_base, swap_spots}
@@ -106,7 +107,7 @@ module _ (b : Bases) (f : ℕ → ℕ) where
   abbrev holding : (x y : ℕ) → Scratch
   holding x y = record (keeping 0 0 0) { first = x; second = y }
 
-  first_out : (y : ℕ) → Exchanges f first_word (λ z. holding z y)
+  first_out : (y : ℕ) → Exchanges f FIRST_WORD (λ z. holding z y)
   first_out y = record {
     by_object = λ c z ws h. goes_exch _ (λ z ws. mem c f (holding z y) ws) c.object z ws h refl (omega arith)
         (λ z ws. refl) (λ z ws. refl);
@@ -114,7 +115,7 @@ module _ (b : Bases) (f : ℕ → ℕ) where
         (λ z ws. refl) (λ z ws. refl);
   }
 
-  second_out : (x : ℕ) → Exchanges f second_word (λ z. holding x z)
+  second_out : (x : ℕ) → Exchanges f SECOND_WORD (λ z. holding x z)
   second_out x = record {
     by_object = λ c z ws h. goes_exch _ (λ z ws. mem c f (holding x z) ws) c.object z ws h refl (omega arith)
         (λ z ws. refl) (λ z ws. refl);
@@ -137,8 +138,8 @@ module _ (b : Bases) (f : ℕ → ℕ) where
       let c : Bases = onto b x y in
       let e' : stand c y ≡ q = stands_on b x y in
       goes_around (both_at x y zs (omega arith) (omega arith)) (four_swap (λ x y ws. mem c f (holding x y) ws) p q
-      (exch first_word (base_of x)) (exch second_word (base_of y)) (exch second_word (base_of x))
-      (exch first_word (base_of y)) (λ z w ws l. exchanged f (first_out w) c x p e z ws l)
+      (exch FIRST_WORD (base_of x)) (exch SECOND_WORD (base_of y)) (exch SECOND_WORD (base_of x))
+      (exch FIRST_WORD (base_of y)) (λ z w ws l. exchanged f (first_out w) c x p e z ws l)
       (λ z w ws l. exchanged f (second_out z) c y q e' w ws l) (λ z w ws l. exchanged f (second_out z) c x p e w ws l)
       (λ z w ws l. exchanged f (first_out w) c y q e' z ws l) zs h k)
       (both_at x y (swapped_at p q zs) (omega arith) (omega arith))
@@ -217,7 +218,7 @@ module _ (b : Bases) (f : ℕ → ℕ) (i a : ℕ) where
   abbrev beside : (x y : ℕ) → Scratch
   beside x y = record (operands 0 0 0 i a) { first = x; second = y }
 
-  first_at : (y : ℕ) → Exchanges f first_word (λ z. beside z y)
+  first_at : (y : ℕ) → Exchanges f FIRST_WORD (λ z. beside z y)
   first_at y = record {
     by_object = λ c z ws h. goes_exch _ (λ z ws. mem c f (beside z y) ws) c.object z ws h refl (omega arith)
         (λ z ws. refl) (λ z ws. refl);
@@ -225,7 +226,7 @@ module _ (b : Bases) (f : ℕ → ℕ) (i a : ℕ) where
         (λ z ws. refl) (λ z ws. refl);
   }
 
-  second_at : (x : ℕ) → Exchanges f second_word (λ z. beside x z)
+  second_at : (x : ℕ) → Exchanges f SECOND_WORD (λ z. beside x z)
   second_at x = record {
     by_object = λ c z ws h. goes_exch _ (λ z ws. mem c f (beside x z) ws) c.object z ws h refl (omega arith)
         (λ z ws. refl) (λ z ws. refl);
@@ -236,36 +237,36 @@ module _ (b : Bases) (f : ℕ → ℕ) (i a : ℕ) where
   abbrev there : Bases → (u v : ℕ) → List ℕ → Memory
   there c u v ws = mem c f (beside u v) ws
 
-  first_element : (c : Bases) (u v : ℕ) (ws : List ℕ) → a < length ws → Goes (exch first_word right_operand ∷ []) 1
+  first_element : (c : Bases) (u v : ℕ) (ws : List ℕ) → a < length ws → Goes (exch FIRST_WORD RIGHT ∷ []) 1
       (there c u v ws) (there c (slice_index ws a) v (slice_set ws a u))
   first_element c u v ws l = goes_exch _ (λ z zs. there c z v zs) a u ws l refl (omega arith) (λ z zs. refl)
       (λ z zs. refl)
 
-  second_element : (c : Bases) (u v : ℕ) (ws : List ℕ) → a < length ws → Goes (exch second_word right_operand ∷ []) 1
+  second_element : (c : Bases) (u v : ℕ) (ws : List ℕ) → a < length ws → Goes (exch SECOND_WORD RIGHT ∷ []) 1
       (there c u v ws) (there c u (slice_index ws a) (slice_set ws a v))
   second_element c u v ws l = goes_exch _ (λ z zs. there c u z zs) a v ws l refl (omega arith) (λ z zs. refl)
       (λ z zs. refl)
 
   pub variable_first : (x : Spot) (ys : List ℕ) → address_of b x < length ys → a < length ys
-      → Goes (four_exchanges (base_of x) right_operand) 4 (mem (moved b x) f (operands 0 0 0 i a) ys)
+      → Goes (four_exchanges (base_of x) RIGHT) 4 (mem (moved b x) f (operands 0 0 0 i a) ys)
       (mem (moved b x) f (operands 0 0 0 i a) (swapped_at (address_of b x) a ys))
   variable_first x ys h k =
       let c : Bases = moved b x in
       let p : ℕ = address_of b x in
       let e : stand c x ≡ p = stands_there b x in
-      four_swap (there c) p a (exch first_word (base_of x)) (exch second_word right_operand)
-      (exch second_word (base_of x)) (exch first_word right_operand)
+      four_swap (there c) p a (exch FIRST_WORD (base_of x)) (exch SECOND_WORD RIGHT)
+      (exch SECOND_WORD (base_of x)) (exch FIRST_WORD RIGHT)
       (λ u v ws l. exchanged f (first_at v) c x p e u ws l) (second_element c)
       (λ u v ws l. exchanged f (second_at u) c x p e v ws l) (first_element c) ys h k
 
   pub variable_second : (x : Spot) (ys : List ℕ) → a < length ys → address_of b x < length ys
-      → Goes (four_exchanges right_operand (base_of x)) 4 (mem (moved b x) f (operands 0 0 0 i a) ys)
+      → Goes (four_exchanges RIGHT (base_of x)) 4 (mem (moved b x) f (operands 0 0 0 i a) ys)
       (mem (moved b x) f (operands 0 0 0 i a) (swapped_at a (address_of b x) ys))
   variable_second x ys k h =
       let c : Bases = moved b x in
       let p : ℕ = address_of b x in
       let e : stand c x ≡ p = stands_there b x in
-      four_swap (there c) a p (exch first_word right_operand) (exch second_word (base_of x))
-      (exch second_word right_operand) (exch first_word (base_of x)) (first_element c)
+      four_swap (there c) a p (exch FIRST_WORD RIGHT) (exch SECOND_WORD (base_of x))
+      (exch SECOND_WORD RIGHT) (exch FIRST_WORD (base_of x)) (first_element c)
       (λ u v ws l. exchanged f (second_at u) c x p e v ws l) (second_element c)
       (λ u v ws l. exchanged f (first_at v) c x p e u ws l) ys k h

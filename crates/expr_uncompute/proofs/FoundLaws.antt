@@ -4,10 +4,11 @@ use Rattle.std.proofs.Common.{◌≡◌, ℕ, ◌+◌, Bool, true, false, List, 
 use Rattle.std.specs.Prelude.{Ok, Err}
 use Rattle.rpp_tree.specs.Tree.{Expression, Lvalue}
 use Rattle.pisa_isa.specs.Machine.{Memory}
+use Rattle.code_conventions.specs.declared.registers.TheConstants.{OTHER_PLACE, PLACE}
 use Rattle.paired_code.specs.declared.part.Symbol.{Symbol}
 use Rattle.paired_code.specs.Machine.{Image, reg}
 use Rattle.refine_form.specs.declared.spot.Spot.{Spot}
-use Rattle.expr_uncompute.specs.Code.{words, place_words, place, other_place, around, place_cells, apart_cells}
+use Rattle.expr_uncompute.specs.Code.{words, place_words, around, place_cells, apart_cells}
 use Rattle.expr_uncompute.specs.Code.{found_value_cells}
 use Rattle.expr_uncompute.specs.Number.{number, read_of, index_of, place_address, shares, update_shares}
 use Rattle.expr_uncompute.specs.Steps.{place_steps, apart_steps}
@@ -32,7 +33,7 @@ module _ (spot : List ℕ → Spot) (free : ℕ) (m : Memory) where
   -- the address of a place
   pub place_found : (target : Lvalue) (a : ℕ) → Ready free (place_words target) m → SeesIn spot free m (read_of target)
       → place_address spot (bases_of m) m.cells target ≡ Ok a
-      → Goes (place_cells spot free target 0 place) (place_steps target) m
+      → Goes (place_cells spot free target 0 PLACE) (place_steps target) m
       (found 0 a 0 (placed spot free (bases_of m) target 0 m.cells) m)
   place_found target a h s n =
       let fit : FitPlace spot free (bases_of m) target 0 m.cells = record {
@@ -43,13 +44,13 @@ module _ (spot : List ℕ → Spot) (free : ℕ) (m : Memory) where
         empty = λ k lo hi. h.empty k (omega arith) (omega arith);
       } in
       goes_to refl (sym (as_mem free (place_words target) m h)) (shown_as (place_words target) h 0 a 0 _)
-      (place_goes spot free (bases_of m) place (reg m) 0 0 0 0 a 0 a
+      (place_goes spot free (bases_of m) PLACE (reg m) 0 0 0 0 a 0 a
       (place_points spot free (bases_of m) (reg m) 0 0 a) 0 m.cells target fit n)
 
   -- or its fault, whatever is to be done with it
   pub place_fails : (target : Lvalue) (c : ℕ) (check mid : List Symbol) → Ready free (place_words target) m
       → SeesIn spot free m (read_of target) → place_address spot (bases_of m) m.cells target ≡ Err c
-      → (im : Image) (d : Bool) → IsTrap im (around (place_cells spot free target 0 place ++ check) mid) d m c
+      → (im : Image) (d : Bool) → IsTrap im (around (place_cells spot free target 0 PLACE ++ check) mid) d m c
       (place_steps target)
   place_fails target c check mid h s n im d =
       let fit : FitPlace spot free (bases_of m) target 0 m.cells = record {
@@ -60,7 +61,7 @@ module _ (spot : List ℕ → Spot) (free : ℕ) (m : Memory) where
         empty = λ k lo hi. h.empty k (omega arith) (omega arith);
       } in
       run_traps spot free m (place_words target) h im d _ (place_steps target) c
-      (traps_around mid (traps_first check (place_traps spot free (bases_of m) place (reg m) 0 0 0 target 0 c
+      (traps_around mid (traps_first check (place_traps spot free (bases_of m) PLACE (reg m) 0 0 0 target 0 c
       m.cells fit n)))
 
   -- a place and a value, and the check of arrays
@@ -80,7 +81,7 @@ module _ (spot : List ℕ → Spot) (free : ℕ) (m : Memory) where
   pub places_found : (target other : Lvalue) (a a' : ℕ) → CanRun spot free (place_words target + place_words other)
       (read_of target) (read_of other) m → place_address spot (bases_of m) m.cells target ≡ Ok a
       → place_address spot (bases_of m) m.cells other ≡ Ok a'
-      → Goes (place_cells spot free target 0 place ++ place_cells spot free other (place_words target) other_place)
+      → Goes (place_cells spot free target 0 PLACE ++ place_cells spot free other (place_words target) OTHER_PLACE)
       (place_steps target + place_steps other) m (found 0 a a'
       (both_placed spot free (bases_of m) target other m.cells) m)
   places_found target other a a' h na na' =
@@ -95,7 +96,7 @@ module _ (spot : List ℕ → Spot) (free : ℕ) (m : Memory) where
   pub place_held : (target : Lvalue) (e e' : Expression) (a : ℕ) → Ready free (place_words target) m
       → SeesIn spot free m (read_of target) → SeesIn spot free m e → SeesIn spot free m e'
       → place_address spot (bases_of m) m.cells target ≡ Ok a → shares spot (bases_of m) m.cells target e e' ≡ false
-      → Goes (place_cells spot free target 0 place ++ apart_cells spot target e e')
+      → Goes (place_cells spot free target 0 PLACE ++ apart_cells spot target e e')
       (place_steps target + apart_steps target e e') m (found 0 a 0 (placed spot free (bases_of m) target 0 m.cells)
       m)
   place_held target e e' a h s t t' n apart =
@@ -118,7 +119,7 @@ module _ (spot : List ℕ → Spot) (free : ℕ) (m : Memory) where
       → Ready free (place_words target) m → SeesIn spot free m (read_of target) → SeesIn spot free m e
       → SeesIn spot free m e' → place_address spot (bases_of m) m.cells target ≡ Ok a
       → shares spot (bases_of m) m.cells target e e' ≡ true
-      → (im : Image) (d : Bool) → IsTrap im (around (place_cells spot free target 0 place
+      → (im : Image) (d : Bool) → IsTrap im (around (place_cells spot free target 0 PLACE
       ++ apart_cells spot target e e') mid) d m 16 (place_steps target + apart_steps target e e')
   place_shares target e e' a mid h s t t' n shared im d =
       let ys : List ℕ = placed spot free (bases_of m) target 0 m.cells in
@@ -143,7 +144,7 @@ module _ (spot : List ℕ → Spot) (free : ℕ) (m : Memory) where
       (read_of target) (read_of other) m → place_address spot (bases_of m) m.cells target ≡ Ok a
       → place_address spot (bases_of m) m.cells other ≡ Ok a'
       → shares spot (bases_of m) m.cells other (index_of target) (index_of other) ≡ false
-      → Goes ((place_cells spot free target 0 place ++ place_cells spot free other (place_words target) other_place)
+      → Goes ((place_cells spot free target 0 PLACE ++ place_cells spot free other (place_words target) OTHER_PLACE)
       ++ apart_cells spot other (index_of target) (index_of other))
       (place_steps target + place_steps other + apart_steps other (index_of target) (index_of other)) m
       (found 0 a a' (both_placed spot free (bases_of m) target other m.cells) m)
@@ -170,8 +171,8 @@ module _ (spot : List ℕ → Spot) (free : ℕ) (m : Memory) where
       → CanRun spot free (place_words target + place_words other) (read_of target) (read_of other) m
       → place_address spot (bases_of m) m.cells target ≡ Ok a → place_address spot (bases_of m) m.cells other ≡ Ok a'
       → shares spot (bases_of m) m.cells other (index_of target) (index_of other) ≡ true
-      → (im : Image) (d : Bool) → IsTrap im (around ((place_cells spot free target 0 place
-      ++ place_cells spot free other (place_words target) other_place)
+      → (im : Image) (d : Bool) → IsTrap im (around ((place_cells spot free target 0 PLACE
+      ++ place_cells spot free other (place_words target) OTHER_PLACE)
       ++ apart_cells spot other (index_of target) (index_of other)) mid) d m 16
       (place_steps target + place_steps other + apart_steps other (index_of target) (index_of other))
   places_share target other a a' mid h na na' shared im d =

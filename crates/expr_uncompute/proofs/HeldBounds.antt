@@ -19,6 +19,7 @@ use Rattle.expr_uncompute.specs.Held.{is_literal, literal_in, is_zero, spot_in, 
 use Rattle.expr_uncompute.specs.Steps.{operator_steps, before_steps, core_steps, told_steps, operated_steps, held_steps}
 use Rattle.expr_uncompute.specs.Steps.{given_steps}
 use Rattle.expr_uncompute.specs.Steps.{held_value_steps, held_test_steps, tokens}
+use Rattle.code_conventions.specs.declared.registers.TheConstants.{CONTENT, NOUGHT}
 
 pub some_nodes : (e : Expression) → 1 ≤ nodes e
 some_nodes (Number at word) = omega arith
@@ -383,15 +384,15 @@ told_length false w k = omega (arith, length-append w (Code.truth_cells (Code.pa
 module _ (spot : List ℕ → Spot) where
   core_length : (z l r : Bool) (x y : Spot) (a s : ℕ) (mid : ℕ → ℕ → List Symbol)
       → ((a s : ℕ) → length (mid a s) ≤ 3) → length (Code.core z l r x y a s mid) ≤ 7
-  core_length true true r x y a s mid h = let k = h Code.content Code.nought in
-      omega (arith, length_around (Code.reach_cells x) (mid Code.content Code.nought))
-  core_length true false r x y a s mid h = let k = h a Code.nought in omega arith
-  core_length false true true x y a s mid h = let k = h a Code.content in
-      omega (arith, length_around (Code.reach_cells y) (mid a Code.content))
-  core_length false false true x y a s mid h = let k = h a Code.content in
-      omega (arith, length_around (Code.reach_cells y) (mid a Code.content))
-  core_length false true false x y a s mid h = let k = h Code.content s in
-      omega (arith, length_around (Code.reach_cells x) (mid Code.content s))
+  core_length true true r x y a s mid h = let k = h CONTENT NOUGHT in
+      omega (arith, length_around (Code.reach_cells x) (mid CONTENT NOUGHT))
+  core_length true false r x y a s mid h = let k = h a NOUGHT in omega arith
+  core_length false true true x y a s mid h = let k = h a CONTENT in
+      omega (arith, length_around (Code.reach_cells y) (mid a CONTENT))
+  core_length false false true x y a s mid h = let k = h a CONTENT in
+      omega (arith, length_around (Code.reach_cells y) (mid a CONTENT))
+  core_length false true false x y a s mid h = let k = h CONTENT s in
+      omega (arith, length_around (Code.reach_cells x) (mid CONTENT s))
   core_length false false false x y a s mid h = let k = h a s in omega arith
 
   changed_length : (z : Bool) (o : BinOp) (d word : ℕ) (rest : List Symbol) → length rest ≤ 7
@@ -436,7 +437,7 @@ module _ (spot : List ℕ → Spot) where
   held_length (Variable name) k = omega (
     arith,
     length_around (Code.reach_cells (spot name.text))
-        (Code.xor (Code.part k) Code.content ∷ []),
+        (Code.xor (Code.part k) CONTENT ∷ []),
   )
   held_length (Element name index) k =
       let w = Code.held_cells spot index (k + 2) in
@@ -446,7 +447,7 @@ module _ (spot : List ℕ → Spot) where
       let x = Code.nil_check_of a in
       let y = Code.index_check_of a i in
       let p = Code.point_of a i in
-      let last = Code.around (Code.exch Code.content a ∷ []) (Code.xor (Code.part k) Code.content ∷ []) in
+      let last = Code.around (Code.exch CONTENT a ∷ []) (Code.xor (Code.part k) CONTENT ∷ []) in
       let h = held_length index (k + 2) in
       omega (
         arith,
@@ -455,8 +456,8 @@ module _ (spot : List ℕ → Spot) where
         length-append (w ++ c) (x ++ y),
         length-append w c,
         length-append x y,
-        length_around (Code.reach_cells (spot name.text)) (Code.xor a Code.content ∷ []),
-        length_around (Code.exch Code.content a ∷ []) (Code.xor (Code.part k) Code.content ∷ []),
+        length_around (Code.reach_cells (spot name.text)) (Code.xor a CONTENT ∷ []),
+        length_around (Code.exch CONTENT a ∷ []) (Code.xor (Code.part k) CONTENT ∷ []),
       )
   held_length (Binary at o left right) k =
       let i : ℕ = left_at (kind o) (is_truth left) k in

@@ -6,9 +6,10 @@ use Rattle.std.specs.Int.Bits.{xor_zero_l}
 use Rattle.std.proofs.lemmas.Bool.Decides.{nat_tests}
 use Rattle.code_conventions.specs.declared.memory.TheConstants.{HEADER_WORDS}
 use Rattle.pisa_isa.specs.Table.{word_of}
+use Rattle.code_conventions.specs.declared.registers.TheConstants.{CONTENT, NOUGHT, OUTCOME}
 use Rattle.rpp_words.specs.Words.{is_less, sum_of}
 use Rattle.roopl_semantics.specs.Operators.{truth_word}
-use Rattle.expr_uncompute.specs.Code.{content, nought, outcome, exch, sltx, xori, nil_check_of, index_check_of}
+use Rattle.expr_uncompute.specs.Code.{exch, sltx, xori, nil_check_of, index_check_of}
 use Rattle.expr_uncompute.specs.Code.{point_of}
 use Rattle.expr_uncompute.proofs.Comparing.{not_less, above, not_above, past_end}
 use Rattle.expr_uncompute.proofs.Goes.{Goes, Traps, goes_cons, goes_around, goes_to, goes_check, goes_seq}
@@ -20,99 +21,99 @@ use Rattle.expr_uncompute.proofs.Results.{written}
 one_is_not : ◌≡◌ {A = ℕ} 1 0 → ⊥
 one_is_not e = omega arith
 
-module _ (n : ℕ) (f : ℕ → ℕ) (zs : List ℕ) (room : outcome < n) (clear : f outcome ≡ 0) (nothing_there : f nought ≡ 0)
+module _ (n : ℕ) (f : ℕ → ℕ) (zs : List ℕ) (room : OUTCOME < n) (clear : f OUTCOME ≡ 0) (nothing_there : f NOUGHT ≡ 0)
   where
     -- the flag as it was
-    unflagged : known n (written f outcome 0) zs ≡ known n f zs
-    unflagged = known_same n _ _ zs (λ r l. written_same f outcome 0 r clear)
+    unflagged : known n (written f OUTCOME 0) zs ≡ known n f zs
+    unflagged = known_same n _ _ zs (λ r l. written_same f OUTCOME 0 r clear)
 
-    flag_is : (z : ℕ) → Rattle.paired_code.specs.Machine.reg (known n (written f outcome z) zs) outcome ≡ z
-    flag_is z = known_at n (written f outcome z) zs outcome room ∙ written_at f outcome z
+    flag_is : (z : ℕ) → Rattle.paired_code.specs.Machine.reg (known n (written f OUTCOME z) zs) OUTCOME ≡ z
+    flag_is z = known_at n (written f OUTCOME z) zs OUTCOME room ∙ written_at f OUTCOME z
 
     -- whether the array is nil
-    nil_row : (a : ℕ) → a < n → a ≢ outcome → (t : Bool) → is_less 0 (f a) ≡ t
-        → Goes (sltx outcome nought a ∷ xori outcome 1 ∷ []) 2 (known n f zs)
-        (known n (written f outcome (truth_word (not t))) zs)
+    nil_row : (a : ℕ) → a < n → a ≢ OUTCOME → (t : Bool) → is_less 0 (f a) ≡ t
+        → Goes (sltx OUTCOME NOUGHT a ∷ xori OUTCOME 1 ∷ []) 2 (known n f zs)
+        (known n (written f OUTCOME (truth_word (not t))) zs)
     nil_row a ha na t e =
-        let w : ℕ = word_of (is_less (f nought) (f a)) in
+        let w : ℕ = word_of (is_less (f NOUGHT) (f a)) in
         let is : bit_xor (bit_xor 0 w) 1 ≡ truth_word (not t) =
         ap (λ z. bit_xor z 1) (xor_zero_l w) ∙ ap (λ z. bit_xor (word_of (is_less z (f a))) 1) nothing_there
         ∙ not_less (is_less 0 (f a)) ∙ ap (λ t. truth_word (not t)) e in
-        goes_to refl unflagged (ap (λ z. known n (written f outcome z) zs) is)
-        (goes_cons (sltx_goes n f zs outcome room nought a (omega arith) ha (λ e. omega arith) na 0)
-        (xori_goes n f zs outcome room 1 (bit_xor 0 w) (omega arith)))
+        goes_to refl unflagged (ap (λ z. known n (written f OUTCOME z) zs) is)
+        (goes_cons (sltx_goes n f zs OUTCOME room NOUGHT a (omega arith) ha (λ e. omega arith) na 0)
+        (xori_goes n f zs OUTCOME room 1 (bit_xor 0 w) (omega arith)))
 
-    pub nil_goes : (a : ℕ) → a < n → a ≢ outcome → f a < 2 ^ 31 → f a ≢ 0
+    pub nil_goes : (a : ℕ) → a < n → a ≢ OUTCOME → f a < 2 ^ 31 → f a ≢ 0
         → Goes (nil_check_of a) 6 (known n f zs) (known n f zs)
     nil_goes a ha na h z = goes_seq (nil_row a ha na true (above (f a) h z))
-        (goes_to refl refl unflagged (goes_check outcome 5 _ (flag_is 0)))
+        (goes_to refl refl unflagged (goes_check OUTCOME 5 _ (flag_is 0)))
 
-    pub nil_traps : (a : ℕ) → a < n → a ≢ outcome → f a ≡ 0 → Traps (nil_check_of a) 6 5 (known n f zs)
+    pub nil_traps : (a : ℕ) → a < n → a ≢ OUTCOME → f a ≡ 0 → Traps (nil_check_of a) 6 5 (known n f zs)
     nil_traps a ha na e = traps_then (nil_row a ha na false (ap (is_less 0) e ∙ not_above))
-        (traps_check outcome 5 _ (λ z. one_is_not (sym (flag_is 1) ∙ z)))
+        (traps_check OUTCOME 5 _ (λ z. one_is_not (sym (flag_is 1) ∙ z)))
 
     -- whether the index is past the end of the array
-    index_row : (i : ℕ) → i < n → i ≢ outcome → (m : ℕ) → f content ≡ m → f i < 2 ^ 32 → m < 2 ^ 31
-        → Goes (sltx outcome i content ∷ sltx outcome i nought ∷ xori outcome 1 ∷ []) 3 (known n f zs)
-        (known n (written f outcome (truth_word (not (nat_lt (f i) m)))) zs)
+    index_row : (i : ℕ) → i < n → i ≢ OUTCOME → (m : ℕ) → f CONTENT ≡ m → f i < 2 ^ 32 → m < 2 ^ 31
+        → Goes (sltx OUTCOME i CONTENT ∷ sltx OUTCOME i NOUGHT ∷ xori OUTCOME 1 ∷ []) 3 (known n f zs)
+        (known n (written f OUTCOME (truth_word (not (nat_lt (f i) m)))) zs)
     index_row i hi ni m e h k =
-        let p : ℕ = word_of (is_less (f i) (f content)) in
-        let q : ℕ = word_of (is_less (f i) (f nought)) in
+        let p : ℕ = word_of (is_less (f i) (f CONTENT)) in
+        let q : ℕ = word_of (is_less (f i) (f NOUGHT)) in
         let is : bit_xor (bit_xor (bit_xor 0 p) q) 1 ≡ truth_word (not (nat_lt (f i) m)) =
         ap (λ z. bit_xor (bit_xor z q) 1) (xor_zero_l p)
         ∙ ap (λ z. bit_xor (bit_xor (word_of (is_less (f i) z)) q) 1) e
         ∙ ap (λ z. bit_xor (bit_xor (word_of (is_less (f i) m)) (word_of (is_less (f i) z))) 1) nothing_there
         ∙ past_end (f i) m h k in
-        goes_to refl unflagged (ap (λ z. known n (written f outcome z) zs) is)
-        (goes_cons (sltx_goes n f zs outcome room i content hi (omega arith) ni (λ e. omega arith) 0)
-        (goes_cons (sltx_goes n f zs outcome room i nought hi (omega arith) ni (λ e. omega arith) (bit_xor 0 p))
-        (xori_goes n f zs outcome room 1 (bit_xor (bit_xor 0 p) q) (omega arith))))
+        goes_to refl unflagged (ap (λ z. known n (written f OUTCOME z) zs) is)
+        (goes_cons (sltx_goes n f zs OUTCOME room i CONTENT hi (omega arith) ni (λ e. omega arith) 0)
+        (goes_cons (sltx_goes n f zs OUTCOME room i NOUGHT hi (omega arith) ni (λ e. omega arith) (bit_xor 0 p))
+        (xori_goes n f zs OUTCOME room 1 (bit_xor (bit_xor 0 p) q) (omega arith))))
 
--- with the array's length in `content`
-module _ (n : ℕ) (f : ℕ → ℕ) (zs : List ℕ) (room : outcome < n) (clear : f outcome ≡ 0) (nothing_there : f nought ≡ 0)
-    (empty : f content ≡ 0) (a i : ℕ) (ha : a < n) (hi : i < n) (na : a ≢ outcome) (ni : i ≢ outcome) (ac : a ≢ content)
-    (ic : i ≢ content) (h : f a < length zs) (k : slice_index zs (f a) < 2 ^ 31) where
+-- with the array's length in `CONTENT`
+module _ (n : ℕ) (f : ℕ → ℕ) (zs : List ℕ) (room : OUTCOME < n) (clear : f OUTCOME ≡ 0) (nothing_there : f NOUGHT ≡ 0)
+    (empty : f CONTENT ≡ 0) (a i : ℕ) (ha : a < n) (hi : i < n) (na : a ≢ OUTCOME) (ni : i ≢ OUTCOME) (ac : a ≢ CONTENT)
+    (ic : i ≢ CONTENT) (h : f a < length zs) (k : slice_index zs (f a) < 2 ^ 31) where
   abbrev measured : ℕ → ℕ
-  measured = written f content (slice_index zs (f a))
+  measured = written f CONTENT (slice_index zs (f a))
 
   abbrev opened : List ℕ
   opened = slice_set zs (f a) 0
 
-  length_out : Goes (exch content a ∷ []) 1 (known n f zs) (known n measured (slice_set zs (f a) 0))
+  length_out : Goes (exch CONTENT a ∷ []) 1 (known n f zs) (known n measured (slice_set zs (f a) 0))
   length_out = word_out n f zs a (f a) ha (omega arith) ac refl empty h
 
-  still : (r : ℕ) → r ≢ content → measured r ≡ f r
-  still r ne = written_off f content (slice_index zs (f a)) r ne
+  still : (r : ℕ) → r ≢ CONTENT → measured r ≡ f r
+  still r ne = written_off f CONTENT (slice_index zs (f a)) r ne
 
-  row : f i < 2 ^ 32 → Goes (sltx outcome i content ∷ sltx outcome i nought ∷ xori outcome 1 ∷ []) 3
+  row : f i < 2 ^ 32 → Goes (sltx OUTCOME i CONTENT ∷ sltx OUTCOME i NOUGHT ∷ xori OUTCOME 1 ∷ []) 3
       (known n measured (slice_set zs (f a) 0))
-      (known n (written measured outcome (truth_word (not (nat_lt (measured i) (slice_index zs (f a))))))
+      (known n (written measured OUTCOME (truth_word (not (nat_lt (measured i) (slice_index zs (f a))))))
       (slice_set zs (f a) 0))
-  row w = index_row n measured (slice_set zs (f a) 0) room (still outcome (λ e. omega arith) ∙ clear)
-      (still nought (λ e. omega arith) ∙ nothing_there) i hi ni (slice_index zs (f a))
-      (written_at f content (slice_index zs (f a))) (subst (λ z. z < 2 ^ 32) (sym (still i ic)) w) k
+  row w = index_row n measured (slice_set zs (f a) 0) room (still OUTCOME (λ e. omega arith) ∙ clear)
+      (still NOUGHT (λ e. omega arith) ∙ nothing_there) i hi ni (slice_index zs (f a))
+      (written_at f CONTENT (slice_index zs (f a))) (subst (λ z. z < 2 ^ 32) (sym (still i ic)) w) k
 
   pub index_goes : f i < slice_index zs (f a) → Goes (index_check_of a i) 9 (known n f zs) (known n f zs)
   index_goes l =
       let same = still i ic in
       let t : nat_lt (measured i) (slice_index zs (f a)) ≡ true = grind (arith, nat_tests) in
-      let c : measured outcome ≡ 0 = still outcome (λ e. omega arith) ∙ clear in
-      let passed = goes_to refl refl (ap (λ z. known n (written measured outcome (truth_word (not z)))
+      let c : measured OUTCOME ≡ 0 = still OUTCOME (λ e. omega arith) ∙ clear in
+      let passed = goes_to refl refl (ap (λ z. known n (written measured OUTCOME (truth_word (not z)))
       (slice_set zs (f a) 0)) t) (row (omega arith)) in
       goes_around length_out (goes_seq passed (goes_to refl refl
-      (unflagged n measured (slice_set zs (f a) 0) room c (still nought (λ e. omega arith) ∙ nothing_there))
-      (goes_check outcome 9 _ (flag_is n measured (slice_set zs (f a) 0) room c
-      (still nought (λ e. omega arith) ∙ nothing_there) 0)))) length_out
+      (unflagged n measured (slice_set zs (f a) 0) room c (still NOUGHT (λ e. omega arith) ∙ nothing_there))
+      (goes_check OUTCOME 9 _ (flag_is n measured (slice_set zs (f a) 0) room c
+      (still NOUGHT (λ e. omega arith) ∙ nothing_there) 0)))) length_out
 
   pub index_traps : f i < 2 ^ 32 → slice_index zs (f a) ≤ f i → Traps (index_check_of a i) 8 9 (known n f zs)
   index_traps w l =
       let same = still i ic in
       let t : nat_lt (measured i) (slice_index zs (f a)) ≡ false = grind (arith, nat_tests) in
-      let c : measured outcome ≡ 0 = still outcome (λ e. omega arith) ∙ clear in
+      let c : measured OUTCOME ≡ 0 = still OUTCOME (λ e. omega arith) ∙ clear in
       let v : ℕ = truth_word (not (nat_lt (measured i) (slice_index zs (f a)))) in
       let one : v ≡ 1 = ap (λ z. truth_word (not z)) t in
-      traps_mid length_out (traps_then (row w) (traps_check outcome 9 _ (λ z. one_is_not (sym one
-      ∙ sym (flag_is n measured (slice_set zs (f a) 0) room c (still nought (λ e. omega arith) ∙ nothing_there) v)
+      traps_mid length_out (traps_then (row w) (traps_check OUTCOME 9 _ (λ z. one_is_not (sym one
+      ∙ sym (flag_is n measured (slice_set zs (f a) 0) room c (still NOUGHT (λ e. omega arith) ∙ nothing_there) v)
       ∙ z))))
 
 -- the element's address in the array's register

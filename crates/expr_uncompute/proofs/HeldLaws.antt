@@ -7,12 +7,13 @@ use Rattle.rpp_words.proofs.Laws.{xor-twice}
 use Rattle.rpp_tree.specs.declared.tree.BinOp.{BinOp}
 use Rattle.rpp_tree.specs.Tree.{Expression, Number, Null, Variable, Element, Binary}
 use Rattle.pisa_isa.specs.Machine.{Memory}
+use Rattle.code_conventions.specs.declared.registers.TheConstants.{CONTENT, FRAME, NOUGHT, OBJECT, OUTCOME}
 use Rattle.paired_code.specs.declared.part.Symbol.{Symbol}
 use Rattle.paired_code.specs.Machine.{Image, reg, with_reg}
 use Rattle.paired_code.specs.Pieces.{Done, Trapped, Runs}
 use Rattle.roopl_semantics.specs.Operators.{operated, is_true, truth_word}
 use Rattle.refine_form.specs.declared.spot.Spot.{Spot}
-use Rattle.expr_uncompute.specs.Code.{Target, object, frame, content, nought, outcome, words, xor, around, truth_cells}
+use Rattle.expr_uncompute.specs.Code.{Target, words, xor, around, truth_cells}
 use Rattle.expr_uncompute.specs.Code.{part}
 use Rattle.expr_uncompute.specs.Code.{core, give_cells, held_cells, given_cells, held_value_cells}
 use Rattle.expr_uncompute.specs.Code.{held_test_cells}
@@ -57,11 +58,11 @@ module _ (n : ℕ) (b : Bases) (zs : List ℕ) (spot : List ℕ → Spot) (small
   -- another value in the register into which a result is xored stays there
   free_written : (f : ℕ → ℕ) (v : ℕ) → Free b 0 top f → Free b 0 top (written f into v)
   free_written f v r = record {
-    object_is = written_off f into v object away.object_not ∙ r.object_is;
-    frame_is = written_off f into v frame away.frame_not ∙ r.frame_is;
-    content_is = written_off f into v content away.content_not ∙ r.content_is;
-    nought_is = written_off f into v nought away.nought_not ∙ r.nought_is;
-    outcome_is = written_off f into v outcome away.outcome_not ∙ r.outcome_is;
+    object_is = written_off f into v OBJECT away.object_not ∙ r.object_is;
+    frame_is = written_off f into v FRAME away.frame_not ∙ r.frame_is;
+    content_is = written_off f into v CONTENT away.content_not ∙ r.content_is;
+    nought_is = written_off f into v NOUGHT away.nought_not ∙ r.nought_is;
+    outcome_is = written_off f into v OUTCOME away.outcome_not ∙ r.outcome_is;
     clear = λ q lo up. written_off f into v q (λ e. ⊎_elim (λ l. omega arith) (λ l. omega arith) away.side)
         ∙ r.clear q lo up;
   }
@@ -95,7 +96,7 @@ module _ (n : ℕ) (b : Bases) (zs : List ℕ) (spot : List ℕ → Spot) (small
       abbrev v : ℕ
       v = given (number spot b zs e)
 
-      hc : content < n
+      hc : CONTENT < n
       hc = omega arith
 
       -- the expression opened in the first registers
@@ -130,7 +131,7 @@ module _ (n : ℕ) (b : Bases) (zs : List ℕ) (spot : List ℕ → Spot) (small
           let vw : v < 2 ^ 32 = value_word spot b zs low all e sees fine in
           told_goes n b only spot still_small hc zs (wide.puts f) into (part 0) (f into) v hi (omega arith)
           (omega arith)
-          away.nought_not part_not (wide.low f nought (omega arith) ∙ r.nought_is) (open_first.has f) vw
+          away.nought_not part_not (wide.low f NOUGHT (omega arith) ∙ r.nought_is) (open_first.has f) vw
 
       truth_into : (f : ℕ → ℕ) → Free b 0 top f
           → Goes (around (held_cells spot e 0) (truth_cells into (part 0))) (held_steps e + (2 + held_steps e))
@@ -157,7 +158,7 @@ module _ (n : ℕ) (b : Bases) (zs : List ℕ) (spot : List ℕ → Spot) (small
           (given_steps which.Gives o left right (held_steps (Binary at o left right))) (known n f zs)
           (known n (written f into (bit_xor (f into) (given (number spot b zs (Binary at o left right))))) zs)
       go fits =
-          let hc : content < n = omega arith in
+          let hc : CONTENT < n = omega arith in
           let a = need_least left in
           let c = need_least right in
           let both = both_of n b only spot still_small hc {top = top} (omega arith) (omega arith) (omega arith)
@@ -187,7 +188,7 @@ module _ (n : ℕ) (b : Bases) (zs : List ℕ) (spot : List ℕ → Spot) (small
           (given_steps which.Joins o left right (held_steps (Binary at o left right))) (known n f zs)
           (known n (written f into (bit_xor (f into) (given (number spot b zs (Binary at o left right))))) zs)
       go fits =
-          let hc : content < n = omega arith in
+          let hc : CONTENT < n = omega arith in
           let a = need_least left in
           let c = need_least right in
           let p = past_is (is_truth left) 0 in

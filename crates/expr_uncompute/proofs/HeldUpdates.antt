@@ -10,12 +10,13 @@ use Rattle.rpp_tree.specs.declared.tree.UpdateOp.TheVariants as update
 use Rattle.rpp_tree.specs.Tree.{Expression, Number, Null, Variable, Element, Binary}
 use Rattle.std.specs.Prelude.{bit_xor}
 use Rattle.pisa_isa.specs.Machine.{Memory}
+use Rattle.code_conventions.specs.declared.registers.TheConstants.{CONTENT, FRAME, OBJECT, RIGHT}
 use Rattle.paired_code.specs.declared.part.Symbol.{Symbol}
 use Rattle.roopl_semantics.specs.Operators.{updated}
 use Rattle.refine_form.specs.declared.spot.Spot.{Spot}
 use Rattle.refine_form.specs.declared.spot.Spot.TheVariants.{Field, Frame}
-use Rattle.expr_uncompute.specs.Code.{object, frame, content, around, base_of, reach_cells, update_cell, part}
-use Rattle.expr_uncompute.specs.Code.{right_operand, held_cells, held_update_cells, near_middle}
+use Rattle.expr_uncompute.specs.Code.{around, base_of, reach_cells, update_cell, part}
+use Rattle.expr_uncompute.specs.Code.{held_cells, held_update_cells, near_middle}
 use Rattle.expr_uncompute.specs.Held.{need, has_element}
 use Rattle.expr_uncompute.specs.Number.{Bases, address_of, given, number, Sees, Same}
 use Rattle.expr_uncompute.specs.Steps.{around_steps, held_steps}
@@ -85,41 +86,41 @@ module _ (b : Bases) (f : ℕ → ℕ) where
 -- the word that is out, updated by a register of parts
 module _ (k : ℕ) (hk : k < 9) where
   alter : (op : UpdateOp) (g : ℕ → ℕ) (ws : List ℕ) (x v : ℕ) → g (part k) ≡ v → x < 2 ^ 32 → v < 2 ^ 32
-      → Goes (update_cell op content (part k) ∷ []) 1 (known 32 (written g content x) ws)
-      (known 32 (written g content (updated op x v)) ws)
-  alter update.Add g ws x v e h l = goes_to refl refl (ap (λ u. known 32 (written g content (sum_of x u)) ws) e)
-      (add_goes 32 g ws content (omega arith) (part k) (omega arith) (λ e. omega arith) x h
+      → Goes (update_cell op CONTENT (part k) ∷ []) 1 (known 32 (written g CONTENT x) ws)
+      (known 32 (written g CONTENT (updated op x v)) ws)
+  alter update.Add g ws x v e h l = goes_to refl refl (ap (λ u. known 32 (written g CONTENT (sum_of x u)) ws) e)
+      (add_goes 32 g ws CONTENT (omega arith) (part k) (omega arith) (λ e. omega arith) x h
       (subst (λ u. u < 2 ^ 32) (sym e) l))
-  alter update.Sub g ws x v e h l = goes_to refl refl (ap (λ u. known 32 (written g content (difference_of x u)) ws) e)
-      (sub_goes 32 g ws content (omega arith) (part k) (omega arith) (λ e. omega arith) x h
+  alter update.Sub g ws x v e h l = goes_to refl refl (ap (λ u. known 32 (written g CONTENT (difference_of x u)) ws) e)
+      (sub_goes 32 g ws CONTENT (omega arith) (part k) (omega arith) (λ e. omega arith) x h
       (subst (λ u. u < 2 ^ 32) (sym e) l))
-  alter update.Xor g ws x v e h l = goes_to refl refl (ap (λ u. known 32 (written g content (bit_xor x u)) ws) e)
-      (xor_goes 32 g ws content (omega arith) (part k) (omega arith) (λ e. omega arith) x)
+  alter update.Xor g ws x v e h l = goes_to refl refl (ap (λ u. known 32 (written g CONTENT (bit_xor x u)) ws) e)
+      (xor_goes 32 g ws CONTENT (omega arith) (part k) (omega arith) (λ e. omega arith) x)
 
   -- between the cells that take it out and put it back
   around_alter : {w : List Symbol} {t : ℕ} (op : UpdateOp) (zs : List ℕ) (g h : ℕ → ℕ) (a v : ℕ) → h (part k) ≡ v
       → v < 2 ^ 32 → AllWords zs → a < length zs
       → ((ws : List ℕ) → length ws ≡ length zs → Goes w t (known 32 g ws)
-      (known 32 (written h content (slice_index ws a)) (slice_set ws a 0)))
-      → Goes (around w (update_cell op content (part k) ∷ [])) (t + (1 + t)) (known 32 g zs)
+      (known 32 (written h CONTENT (slice_index ws a)) (slice_set ws a 0)))
+      → Goes (around w (update_cell op CONTENT (part k) ∷ [])) (t + (1 + t)) (known 32 g zs)
       (known 32 g (slice_set zs a (updated op (slice_index zs a) v)))
   around_alter op zs g h a v ev vw all l out =
       let x : ℕ = slice_index zs a in
       let y : ℕ = updated op x v in
       let ws : List ℕ = slice_set zs a y in
       goes_around (out zs refl) (alter op h (slice_set zs a 0) x v ev (all a) vw)
-      (goes_to refl refl (ap (λ z. known 32 (written h content z) (slice_set ws a 0)) (get_or-set_same zs a y 0 l)
-      ∙ ap (known 32 (written h content y)) (set-set zs a y 0)) (out ws (length-set zs a y)))
+      (goes_to refl refl (ap (λ z. known 32 (written h CONTENT z) (slice_set ws a 0)) (get_or-set_same zs a y 0 l)
+      ∙ ap (known 32 (written h CONTENT y)) (set-set zs a y 0)) (out ws (length-set zs a y)))
 
 part_not : (sp : Spot) → part 0 ≢ base_of sp
 part_not (Field i) e = omega arith
 part_not (Frame i) e = omega arith
 
 -- the word of a spot
-word_goes : (b : Bases) (op : UpdateOp) (g : ℕ → ℕ) (zs : List ℕ) (sp : Spot) (v : ℕ) → g object ≡ b.object
-    → g frame ≡ b.frame → g content ≡ 0 → g (part 0) ≡ v → AllWords zs → v < 2 ^ 32 → address_of b sp < length zs
+word_goes : (b : Bases) (op : UpdateOp) (g : ℕ → ℕ) (zs : List ℕ) (sp : Spot) (v : ℕ) → g OBJECT ≡ b.object
+    → g FRAME ≡ b.frame → g CONTENT ≡ 0 → g (part 0) ≡ v → AllWords zs → v < 2 ^ 32 → address_of b sp < length zs
     → length zs ≤ 2 ^ 31
-    → Goes (around (reach_cells sp) (update_cell op content (part 0) ∷ [])) 5 (known 32 g zs)
+    → Goes (around (reach_cells sp) (update_cell op CONTENT (part 0) ∷ [])) 5 (known 32 g zs)
     (known 32 g (slice_set zs (address_of b sp) (updated op (slice_index zs (address_of b sp)) v)))
 word_goes b op g zs sp v eo ef ec ep w vw h l =
     let a : ℕ = address_of b sp in
@@ -128,11 +129,11 @@ word_goes b op g zs sp v eo ef ec ep w vw h l =
     (λ ws q. reach_goes 32 b g ws sp (omega arith) eo ef ec (rw q h) (rw q l))
 
 -- the word at an address in the register of the array
-point_goes : (op : UpdateOp) (g : ℕ → ℕ) (zs : List ℕ) (a v : ℕ) → g right_operand ≡ a → g content ≡ 0
+point_goes : (op : UpdateOp) (g : ℕ → ℕ) (zs : List ℕ) (a v : ℕ) → g RIGHT ≡ a → g CONTENT ≡ 0
     → g (part 4) ≡ v → AllWords zs → v < 2 ^ 32 → a < length zs
     → Goes (near_middle op) 3 (known 32 g zs) (known 32 g (slice_set zs a (updated op (slice_index zs a) v)))
 point_goes op g zs a v ea ec ep w vw h = around_alter 4 (omega arith) op zs g g a v ep vw w h
-    (λ ws q. word_out 32 g ws right_operand a (omega arith) (omega arith) (λ e. omega arith) ea ec (rw q h))
+    (λ ws q. word_out 32 g ws RIGHT a (omega arith) (omega arith) (λ e. omega arith) ea ec (rw q h))
 
 module _ (b : Bases) (spot : List ℕ → Spot) (low : ℕ) (op : UpdateOp) (e : Expression) (zs zs' : List ℕ)
     (a v k : ℕ) (few : k + need e < 10) (plain : has_element e ≡ false) (all : AllWords zs) (small : length zs ≤ 2 ^ 31)
@@ -205,8 +206,8 @@ module _ (b : Bases) (f : ℕ → ℕ) (spot : List ℕ → Spot) (low : ℕ) (o
       (opened_around b spot low op e zs zs' (address_of b sp) v 0 (omega arith) plain all small inside below sees same
       value
       made (none_kept b f) free (nothing (known 32 (none_kept b f) zs)) (nothing (known 32 (none_kept b f) zs'))
-      (λ h is has vw. word_goes b op h zs sp v (is object (omega arith) ∙ free.object_is)
-      (is frame (omega arith) ∙ free.frame_is) (is content (omega arith) ∙ free.content_is) has all vw below small))
+      (λ h is has vw. word_goes b op h zs sp v (is OBJECT (omega arith) ∙ free.object_is)
+      (is FRAME (omega arith) ∙ free.frame_is) (is CONTENT (omega arith) ∙ free.content_is) has all vw below small))
 
   -- an element whose index and address these cells have in two registers
   pub near_update_goes : (front : List Symbol) (j x a : ℕ) (z z' : Memory) → need e < 6 → a < length zs
@@ -217,5 +218,5 @@ module _ (b : Bases) (f : ℕ → ℕ) (spot : List ℕ → Spot) (low : ℕ) (o
       let free = above_free b f x a in
       opened_around b spot low op e zs zs' a v 4 (omega arith) plain all small inside below sees same value made
       (two_kept b f x a) free there back
-      (λ h is has vw. point_goes op h zs a v (is right_operand (omega arith))
-      (is content (omega arith) ∙ free.content_is) has all vw below)
+      (λ h is has vw. point_goes op h zs a v (is RIGHT (omega arith))
+      (is CONTENT (omega arith) ∙ free.content_is) has all vw below)

@@ -6,11 +6,12 @@ use Rattle.pisa_isa.specs.Machine.{Memory}
 use Rattle.rpp_words.specs.Words.{is_less}
 use Rattle.rpp_tree.specs.Tree.{Expression, Number, Null, Variable, Element, Binary, Lvalue, Whole, Item}
 use Rattle.pisa_isa.specs.Table.{word_of as word_of_truth}
+use Rattle.code_conventions.specs.declared.registers.TheConstants.{CONTENT, LEFT, OUTCOME}
 use Rattle.roopl_semantics.specs.Operators.{truth_word}
 use Rattle.refine_form.specs.declared.spot.Spot.{Spot}
 use Rattle.expr_uncompute.specs.Number.{Bases, address_of, word_of, read_of, index_of, reads_array, shares, swap_shares}
 use Rattle.expr_uncompute.specs.Number.{Sees}
-use Rattle.expr_uncompute.specs.Code.{content, outcome, left_operand, reach_cells, copy_cells, compare_cells}
+use Rattle.expr_uncompute.specs.Code.{reach_cells, copy_cells, compare_cells}
 use Rattle.expr_uncompute.specs.Code.{compare_all, apart_cells, both_apart_cells, sltx, xori}
 use Rattle.expr_uncompute.specs.Steps.{compare_steps, apart_steps, both_apart_steps}
 use Rattle.expr_uncompute.proofs.Comparing.{equal}
@@ -85,7 +86,7 @@ module _ (spot : List ℕ → Spot) (b : Bases) (low : ℕ) where
         (slice_set zs (address_of b y) 0)
 
     both_there : (x y : Spot) → address_of b x < length zs → address_of b y < length zs
-        → Goes (copy_cells x left_operand ++ reach_cells y) 7 (mem b f (keeping v p q) zs) (compared x y 0)
+        → Goes (copy_cells x LEFT ++ reach_cells y) 7 (mem b f (keeping v p q) zs) (compared x y 0)
     both_there x y h k =
         let u : ℕ = slice_index zs (address_of b x) in
         goes_seq (copy_goes b zs x h small refl (left_takes b f (keeping v p q) u))
@@ -93,7 +94,7 @@ module _ (spot : List ℕ → Spot) (b : Bases) (low : ℕ) where
 
     same_row : (x y : Spot) (t : Bool)
         → nat_eq (slice_index zs (address_of b x)) (slice_index zs (address_of b y)) ≡ t
-        → Goes (sltx outcome left_operand content ∷ sltx outcome content left_operand ∷ xori outcome 1 ∷ []) 3
+        → Goes (sltx OUTCOME LEFT CONTENT ∷ sltx OUTCOME CONTENT LEFT ∷ xori OUTCOME 1 ∷ []) 3
         (compared x y 0) (compared x y (truth_word t))
     same_row x y t e =
         let u : ℕ = slice_index zs (address_of b x) in
@@ -108,13 +109,13 @@ module _ (spot : List ℕ → Spot) (b : Bases) (low : ℕ) where
         → nat_eq (slice_index zs (address_of b x)) (slice_index zs (address_of b y)) ≡ false
         → Goes (compare_cells x y) 21 (mem b f (keeping v p q) zs) (mem b f (keeping v p q) zs)
     compare_goes x y h k e = goes_around (both_there x y h k)
-        (goes_seq (same_row x y false e) (goes_check outcome 16 _ refl)) (both_there x y h k)
+        (goes_seq (same_row x y false e) (goes_check OUTCOME 16 _ refl)) (both_there x y h k)
 
     compare_traps : (x y : Spot) → address_of b x < length zs → address_of b y < length zs
         → nat_eq (slice_index zs (address_of b x)) (slice_index zs (address_of b y)) ≡ true
         → Traps (compare_cells x y) 14 16 (mem b f (keeping v p q) zs)
     compare_traps x y h k e = traps_mid (both_there x y h k)
-        (traps_then (same_row x y true e) (traps_check outcome 16 _ one_is_not))
+        (traps_then (same_row x y true e) (traps_check OUTCOME 16 _ one_is_not))
 
     -- ---- all elements that an expression reads
 

@@ -8,11 +8,12 @@ use Rattle.code_conventions.specs.declared.memory.TheConstants.{HEADER_WORDS}
 use Rattle.rpp_words.specs.Words.{is_less, sum_of, difference_of, negated}
 use Rattle.pisa_isa.specs.Table.{word_of}
 use Rattle.pisa_isa.specs.Machine.{Memory}
+use Rattle.code_conventions.specs.declared.registers.TheConstants.{CONTENT, FRAME, OBJECT}
 use Rattle.paired_code.specs.Machine.{reg, with_reg}
 use Rattle.paired_code.specs.Pieces.{Done, Bad}
 use Rattle.refine_form.specs.declared.spot.Spot.{Spot}
 use Rattle.refine_form.specs.declared.spot.Spot.TheVariants.{Field, Frame}
-use Rattle.expr_uncompute.specs.Code.{object, frame, content, add, sub, xor, addi, xori, andx, orx, sltx, exch}
+use Rattle.expr_uncompute.specs.Code.{add, sub, xor, addi, xori, andx, orx, sltx, exch}
 use Rattle.expr_uncompute.specs.Code.{base_of, reach_cells}
 use Rattle.expr_uncompute.specs.Number.{Bases, address_of}
 use Rattle.expr_uncompute.proofs.Goes.{Goes, goes_to, goes_cons, goes_xor, goes_add, goes_sub, goes_addi}
@@ -201,9 +202,9 @@ module _ (n : ℕ) where
 
   -- ---- a word taken out
 
-  -- the registers with a base at an address and the word there in `content`
+  -- the registers with a base at an address and the word there in `CONTENT`
   abbrev pub taken : (f : ℕ → ℕ) (r a : ℕ) → List ℕ → ℕ → ℕ
-  taken f r a zs = written (written f r a) content (slice_index zs a)
+  taken f r a zs = written (written f r a) CONTENT (slice_index zs a)
 
   there : (f : ℕ → ℕ) (zs : List ℕ) (r x i a : ℕ) → r < n → f r ≡ x → x + i ≡ a → a < 2 ^ 32
       → Goes (addi r i ∷ []) 1 (known f zs) (known (written f r a) zs)
@@ -217,44 +218,44 @@ module _ (n : ℕ) where
       step z u = done f zs r hr z _ _ (ap (λ w. sum_of w u) (mine f zs r hr z))
 
   abbrev out : (ℕ → ℕ) → ℕ → List ℕ → Memory
-  out g z ws = known (written g content z) ws
+  out g z ws = known (written g CONTENT z) ws
 
   abbrev exchanged : (ℕ → ℕ) → (z : ℕ) → List ℕ → (at word : ℕ) → Memory
   exchanged g z ws at word = record {
-    regs = slice_set (tabulated n (written g content z)) content (slice_index ws at);
+    regs = slice_set (tabulated n (written g CONTENT z)) CONTENT (slice_index ws at);
     cells = slice_set ws at word;
   }
 
-  pub word_out : (g : ℕ → ℕ) (zs : List ℕ) (r a : ℕ) → r < n → content < n → r ≢ content → g r ≡ a → g content ≡ 0
-      → a < length zs → Goes (exch content r ∷ []) 1 (known g zs)
-      (known (written g content (slice_index zs a)) (slice_set zs a 0))
+  pub word_out : (g : ℕ → ℕ) (zs : List ℕ) (r a : ℕ) → r < n → CONTENT < n → r ≢ CONTENT → g r ≡ a → g CONTENT ≡ 0
+      → a < length zs → Goes (exch CONTENT r ∷ []) 1 (known g zs)
+      (known (written g CONTENT (slice_index zs a)) (slice_set zs a 0))
   word_out g zs r a hr hc ne e z h =
-      goes_to refl (known_same _ _ zs (λ j l. written_same g content 0 j z)) refl
+      goes_to refl (known_same _ _ zs (λ j l. written_same g CONTENT 0 j z)) refl
       (goes_exch _ (out g) a 0 zs h refl (omega arith) (λ z ws. step z ws) (λ z ws. step z ws))
     where
       step : (z : ℕ) (ws : List ℕ) → (if nat_lt (reg (out g z ws) r) (length ws)
-          then Done (exchanged g z ws (reg (out g z ws) r) (reg (out g z ws) content)) 1
+          then Done (exchanged g z ws (reg (out g z ws) r) (reg (out g z ws) CONTENT)) 1
           else Bad (reg (out g z ws) r) 0)
           ≡ (if nat_lt a (length ws) then Done (out g (slice_index ws a) (slice_set ws a z)) 1 else Bad a 0)
       step z ws =
-          let at_r : reg (out g z ws) r ≡ a = other g ws content hc r z hr ne ∙ e in
-          ap (λ u. if nat_lt u (length ws) then Done (exchanged g z ws u (reg (out g z ws) content)) 1 else Bad u 0)
+          let at_r : reg (out g z ws) r ≡ a = other g ws CONTENT hc r z hr ne ∙ e in
+          ap (λ u. if nat_lt u (length ws) then Done (exchanged g z ws u (reg (out g z ws) CONTENT)) 1 else Bad u 0)
           at_r
-          ∙ ap (λ u. if nat_lt a (length ws) then Done (exchanged g z ws a u) 1 else Bad a 0) (mine g ws content hc z)
+          ∙ ap (λ u. if nat_lt a (length ws) then Done (exchanged g z ws a u) 1 else Bad a 0) (mine g ws CONTENT hc z)
           ∙ ap (λ u. if nat_lt a (length ws) then Done (record u { cells = slice_set ws a z }) 1 else Bad a 0)
-          (set g ws content hc z (slice_index ws a))
+          (set g ws CONTENT hc z (slice_index ws a))
 
-  pub reach_goes : (b : Bases) (f : ℕ → ℕ) (zs : List ℕ) (sp : Spot) → content < n → f object ≡ b.object
-      → f frame ≡ b.frame → f content ≡ 0 → address_of b sp < length zs → length zs ≤ 2 ^ 31
+  pub reach_goes : (b : Bases) (f : ℕ → ℕ) (zs : List ℕ) (sp : Spot) → CONTENT < n → f OBJECT ≡ b.object
+      → f FRAME ≡ b.frame → f CONTENT ≡ 0 → address_of b sp < length zs → length zs ≤ 2 ^ 31
       → Goes (reach_cells sp) 2 (known f zs)
       (known (taken f (base_of sp) (address_of b sp) zs) (slice_set zs (address_of b sp) 0))
   reach_goes b f zs (Field i) hc eo ef ec h k =
       let a : ℕ = address_of b (Field i) in
-      goes_cons (there f zs object b.object (HEADER_WORDS + i) a (omega arith) eo refl (omega arith))
-      (word_out (written f object a) zs object a (omega arith) hc (λ e. omega arith) (written_at f object a)
-      (written_off f object a content (λ e. omega arith) ∙ ec) h)
+      goes_cons (there f zs OBJECT b.object (HEADER_WORDS + i) a (omega arith) eo refl (omega arith))
+      (word_out (written f OBJECT a) zs OBJECT a (omega arith) hc (λ e. omega arith) (written_at f OBJECT a)
+      (written_off f OBJECT a CONTENT (λ e. omega arith) ∙ ec) h)
   reach_goes b f zs (Frame i) hc eo ef ec h k =
       let a : ℕ = address_of b (Frame i) in
-      goes_cons (there f zs frame b.frame i a (omega arith) ef refl (omega arith))
-      (word_out (written f frame a) zs frame a (omega arith) hc (λ e. omega arith) (written_at f frame a)
-      (written_off f frame a content (λ e. omega arith) ∙ ec) h)
+      goes_cons (there f zs FRAME b.frame i a (omega arith) ef refl (omega arith))
+      (word_out (written f FRAME a) zs FRAME a (omega arith) hc (λ e. omega arith) (written_at f FRAME a)
+      (written_off f FRAME a CONTENT (λ e. omega arith) ∙ ec) h)

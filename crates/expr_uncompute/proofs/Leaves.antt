@@ -9,10 +9,11 @@ use Rattle.rpp_words.specs.Words.{sum_of, difference_of}
 use Rattle.rpp_tree.specs.declared.tree.UpdateOp.{UpdateOp}
 use Rattle.rpp_tree.specs.declared.tree.UpdateOp.TheVariants as update
 use Rattle.pisa_isa.specs.Machine.{Memory}
+use Rattle.code_conventions.specs.declared.registers.TheConstants.{AMOUNT, CONTENT}
 use Rattle.roopl_semantics.specs.Operators.{updated}
 use Rattle.refine_form.specs.declared.spot.Spot.{Spot}
 use Rattle.code_scope.specs.Visible.{offset_of}
-use Rattle.expr_uncompute.specs.Code.{content, amount, around, addi, exch, base_of, reach_cells, update_cell}
+use Rattle.expr_uncompute.specs.Code.{around, addi, exch, base_of, reach_cells, update_cell}
 use Rattle.expr_uncompute.specs.Code.{number_cell, onward, both_reached}
 use Rattle.expr_uncompute.specs.Number.{Bases, address_of}
 use Rattle.expr_uncompute.proofs.Goes.{Goes, goes_seq, goes_cons, goes_to, goes_around, goes_xor, goes_add, goes_sub}
@@ -77,7 +78,7 @@ module _ (b : Bases) (f : ℕ → ℕ) where
   -- ---- by a number
 
   alter_by : (op : UpdateOp) (x word : ℕ) → x < 2 ^ 32 → word < 2 ^ 32 → (c : Bases) (zs : List ℕ)
-      → Goes (number_cell op content word ∷ []) 1 (mem c f (record (keeping 0 0 0) { content = x }) zs)
+      → Goes (number_cell op CONTENT word ∷ []) 1 (mem c f (record (keeping 0 0 0) { content = x }) zs)
       (mem c f (record (keeping 0 0 0) { content = updated op x word }) zs)
   alter_by update.Add x word h k c zs = goes_addi_word _
       (λ z. mem c f (record (keeping 0 0 0) { content = z }) zs) x word h k refl k (λ z. refl) (λ z. refl)
@@ -90,7 +91,7 @@ module _ (b : Bases) (f : ℕ → ℕ) where
       refl k (λ z. refl) (λ z. refl)
 
   pub number_goes : (op : UpdateOp) (sp : Spot) (word : ℕ) (zs : List ℕ) → AllWords zs → address_of b sp < length zs
-      → length zs ≤ 2 ^ 31 → word < 2 ^ 32 → Goes (around (reach_cells sp) (number_cell op content word ∷ [])) 5
+      → length zs ≤ 2 ^ 31 → word < 2 ^ 32 → Goes (around (reach_cells sp) (number_cell op CONTENT word ∷ [])) 5
       (mem b f (keeping 0 0 0) zs) (mem b f (keeping 0 0 0) (slice_set zs (address_of b sp)
       (updated op (slice_index zs (address_of b sp)) word)))
   number_goes op sp word zs w h small k =
@@ -101,13 +102,13 @@ module _ (b : Bases) (f : ℕ → ℕ) where
   -- ---- by a variable
 
   take_goes : (zs : List ℕ) (x : Spot) → address_of b x < length zs → length zs ≤ 2 ^ 31
-      → Goes (addi (base_of x) (offset_of x) ∷ exch amount (base_of x) ∷ []) 2 (mem b f (keeping 0 0 0) zs)
+      → Goes (addi (base_of x) (offset_of x) ∷ exch AMOUNT (base_of x) ∷ []) 2 (mem b f (keeping 0 0 0) zs)
       (mem (moved b x) f (keeping (slice_index zs (address_of b x)) 0 0) (slice_set zs (address_of b x) 0))
   take_goes zs x h k = goes_cons (there_goes b f (keeping 0 0 0) zs x (omega arith))
       (exchanged f (amount_out f) (moved b x) x (address_of b x) (stands_there b x) 0 zs h)
 
   onward_goes : (v : ℕ) (zs : List ℕ) (x y : Spot) → address_of b x < 2 ^ 32 → address_of b y < length zs
-      → length zs ≤ 2 ^ 31 → Goes (onward x y ∷ exch content (base_of y) ∷ []) 2
+      → length zs ≤ 2 ^ 31 → Goes (onward x y ∷ exch CONTENT (base_of y) ∷ []) 2
       (mem (moved b x) f (keeping v 0 0) zs)
       (mem (onto b x y) f (record (keeping v 0 0) { content = slice_index zs (address_of b y) })
       (slice_set zs (address_of b y) 0))
@@ -125,7 +126,7 @@ module _ (b : Bases) (f : ℕ → ℕ) where
       (rw (length-set zs p 0) k) (rw (length-set zs p 0) small))
 
   alter : (op : UpdateOp) (c : Bases) (u v : ℕ) (ws : List ℕ) → u < 2 ^ 32 → v < 2 ^ 32
-      → Goes (update_cell op content amount ∷ []) 1 (mem c f (record (keeping v 0 0) { content = u }) ws)
+      → Goes (update_cell op CONTENT AMOUNT ∷ []) 1 (mem c f (record (keeping v 0 0) { content = u }) ws)
       (mem c f (record (keeping v 0 0) { content = updated op u v }) ws)
   alter update.Add c u v ws h k = goes_add _ (λ z. mem c f (record (keeping v 0 0) { content = z }) ws) u v h k refl
       (omega arith) (λ z. refl) (λ z. refl)
@@ -138,7 +139,7 @@ module _ (b : Bases) (f : ℕ → ℕ) where
       → address_of b y < length zs → length zs ≤ 2 ^ 31 → slice_index (slice_set zs (address_of b y)
       (updated op (slice_index zs (address_of b y)) (slice_index zs (address_of b x)))) (address_of b x)
       ≡ slice_index zs (address_of b x)
-      → Goes (around (both_reached x y) (update_cell op content amount ∷ [])) 9 (mem b f (keeping 0 0 0) zs)
+      → Goes (around (both_reached x y) (update_cell op CONTENT AMOUNT ∷ [])) 9 (mem b f (keeping 0 0 0) zs)
       (mem b f (keeping 0 0 0) (slice_set zs (address_of b y)
       (updated op (slice_index zs (address_of b y)) (slice_index zs (address_of b x)))))
   variable_goes op x y zs w h k small kept =

@@ -10,7 +10,7 @@ use Rattle.rpp_tree.specs.declared.tree.Ident.{Ident}
 use Rattle.rpp_tree.specs.Tree.{Expression, Element, Binary}
 use Rattle.refine_form.specs.declared.spot.Spot.{Spot}
 use Rattle.refine_form.specs.declared.spot.Spot.TheVariants.{Frame}
-use Rattle.expr_uncompute.specs.Code.{words, content, item, around, open_cells, store_cells, operator_result}
+use Rattle.expr_uncompute.specs.Code.{words, around, open_cells, store_cells, operator_result}
 use Rattle.expr_uncompute.specs.Number.{Bases, given, word_of, number, element_at, Sees}
 use Rattle.expr_uncompute.specs.Steps.{open_steps, around_steps}
 use Rattle.expr_uncompute.proofs.Goes.{Goes, goes_to, goes_around}
@@ -22,8 +22,9 @@ use Rattle.expr_uncompute.proofs.Numbers.{Agree, AllWords, number_same, sees_sam
 use Rattle.expr_uncompute.proofs.Stored.{home, Reads, reads_same}
 use Rattle.expr_uncompute.proofs.Opening.{Room, Parted, element_place, opened, open_goes, open_gives, result_has}
 use Rattle.expr_uncompute.proofs.Ways.{ok_is, inside_of, address_of_word}
+use Rattle.code_conventions.specs.declared.registers.TheConstants.{CONTENT, ITEM}
 
-operator_apart : (o : BinOp) → operator_result o ≢ content
+operator_apart : (o : BinOp) → operator_result o ≢ CONTENT
 operator_apart op.Add e = omega arith
 operator_apart op.Sub e = omega arith
 operator_apart op.Xor e = omega arith
@@ -107,7 +108,7 @@ module _ (spot : List ℕ → Spot) (free : ℕ) (b : Bases) where
     pub element_node : (name : Ident) (index : Expression) → Sees spot b low zs (Element name index)
         → Room spot free b (Element name index) i zs → Parted spot free b zs (Element name index) i
         → number spot b zs (Element name index) ≡ Ok v → slice_index zs (home spot free b i) ≡ 0
-        → Goes (around (open_cells spot free (Element name index) i) (store_cells (Frame (free + i)) item))
+        → Goes (around (open_cells spot free (Element name index) i) (store_cells (Frame (free + i)) ITEM))
         (around_steps (open_steps (Element name index)) 5) (mem b f (keeping m p q) zs)
         (mem b f (keeping m p q) (slice_set zs (home spot free b i) v))
     element_node name index s r k e z =
@@ -121,9 +122,9 @@ module _ (spot : List ℕ → Spot) (free : ℕ) (b : Bases) where
         let small1 : length zs1 ≤ 2 ^ 31 = rw (length-set zs pl 0) r.small in
         let z1 : slice_index zs1 (home spot free b i) ≡ 0 = get_or-set_other zs pl (home spot free b i) 0 0 n ∙ z in
         let first = open_goes spot free b m p q f whole i v zs w s r k e in
-        let sink = content_goes b item (λ q. omega arith) (result_has spot free b m p q f whole) f
+        let sink = content_goes b ITEM (λ q. omega arith) (result_has spot free b m p q f whole) f
         (opened spot free b m p q zs whole) v (λ zs'. open_gives spot free b m p q f whole v zs zs' e) in
-        let store = store_goes b item v f (opened spot free b m p q zs whole) zs1 (Frame (free + i)) h1 small1 z1 sink
+        let store = store_goes b ITEM v f (opened spot free b m p q zs whole) zs1 (Frame (free + i)) h1 small1 z1 sink
         in
         let zs2 : List ℕ = slice_set zs (home spot free b i) v in
         let s2 = sees_same spot b low zs zs2 agrees whole s in

@@ -13,11 +13,12 @@ use Rattle.rpp_tree.specs.Tree.{Expression, Number, Null, Variable, Element, Bin
 use Rattle.pisa_isa.specs.Machine.{Memory}
 use Rattle.paired_code.specs.declared.part.Symbol.{Symbol}
 use Rattle.pisa_isa.specs.Table as table
+use Rattle.code_conventions.specs.declared.registers.TheConstants.{CONTENT, FRAME, NOUGHT, OBJECT, OUTCOME}
 use Rattle.roopl_semantics.specs.Operators.{operated, is_true, truth_word}
 use Rattle.refine_form.specs.declared.spot.Spot.{Spot}
 use Rattle.refine_form.specs.declared.spot.Spot.TheVariants.{Field, Frame}
-use Rattle.expr_uncompute.specs.Code.{object, frame, content, nought, xor, around, base_of, reach_cells, part, before}
-use Rattle.expr_uncompute.specs.Code.{core, outcome, exch, copy_cells, nil_check_of, index_check_of, point_of}
+use Rattle.expr_uncompute.specs.Code.{xor, around, base_of, reach_cells, part, before}
+use Rattle.expr_uncompute.specs.Code.{core, exch, copy_cells, nil_check_of, index_check_of, point_of}
 use Rattle.expr_uncompute.specs.Code.{element_cells}
 use Rattle.expr_uncompute.specs.Code.{core_cells}
 use Rattle.expr_uncompute.specs.Code.{truth_cells, told_cells, change_cells, literal_cells, give_cells, operated_cells}
@@ -173,20 +174,20 @@ module _ (spot : List ℕ → Spot) (b : Bases) (zs : List ℕ) where
 
 -- the bases stand there, and the registers of parts from k on, up to one, are 0
 pub record Free (b : Bases) (k top : ℕ) (f : ℕ → ℕ) : Type 0 where
-  pub object_is : f object ≡ b.object
-  pub frame_is : f frame ≡ b.frame
-  pub content_is : f content ≡ 0
-  pub nought_is : f nought ≡ 0
-  pub outcome_is : f outcome ≡ 0
+  pub object_is : f OBJECT ≡ b.object
+  pub frame_is : f FRAME ≡ b.frame
+  pub content_is : f CONTENT ≡ 0
+  pub nought_is : f NOUGHT ≡ 0
+  pub outcome_is : f OUTCOME ≡ 0
   pub clear : (r : ℕ) → part k ≤ r → r < part top → f r ≡ 0
 
 -- a register that is none of these
 pub record Apart (k top d : ℕ) : Type 0 where
-  pub object_not : object ≢ d
-  pub frame_not : frame ≢ d
-  pub content_not : content ≢ d
-  pub nought_not : nought ≢ d
-  pub outcome_not : outcome ≢ d
+  pub object_not : OBJECT ≢ d
+  pub frame_not : FRAME ≢ d
+  pub content_not : CONTENT ≢ d
+  pub nought_not : NOUGHT ≢ d
+  pub outcome_not : OUTCOME ≢ d
   pub side : (d < part k) ⊎ (part top ≤ d)
 
 module _ (n : ℕ) (b : Bases) (like : List ℕ → Type 0) where
@@ -207,11 +208,11 @@ module _ (n : ℕ) (b : Bases) (like : List ℕ → Type 0) where
   pub still_free : {w : List Symbol} {t k j : ℕ} → (c : Changes w t k j) → k ≤ j → (f : ℕ → ℕ) → (most : ℕ) → j ≤ most
       → Free b k most f → Free b j most (c.puts f)
   still_free {k = k} {j = j} c h f most l r = record {
-    object_is = c.low f object (omega arith) ∙ r.object_is;
-    frame_is = c.low f frame (omega arith) ∙ r.frame_is;
-    content_is = c.low f content (omega arith) ∙ r.content_is;
-    nought_is = c.low f nought (omega arith) ∙ r.nought_is;
-    outcome_is = c.low f outcome (omega arith) ∙ r.outcome_is;
+    object_is = c.low f OBJECT (omega arith) ∙ r.object_is;
+    frame_is = c.low f FRAME (omega arith) ∙ r.frame_is;
+    content_is = c.low f CONTENT (omega arith) ∙ r.content_is;
+    nought_is = c.low f NOUGHT (omega arith) ∙ r.nought_is;
+    outcome_is = c.low f OUTCOME (omega arith) ∙ r.outcome_is;
     clear = λ q lo hi. c.high f q lo ∙ r.clear q (omega arith) hi;
   }
 
@@ -294,48 +295,48 @@ module _ (n : ℕ) (b : Bases) (like : List ℕ → Type 0) where
   from_known zs g d x y z e q s = goes_to refl (known_same n _ _ zs (λ r l. written_same g d x r e))
       (ap (λ y. known n (written g d y) zs) q) s
 
-  module _ (spot : List ℕ → Spot) (small : (zs : List ℕ) → like zs → length zs ≤ 2 ^ 31) (hc : content < n) where
-    base_not : (sp : Spot) (d : ℕ) → object ≢ d → frame ≢ d → d ≢ base_of sp
+  module _ (spot : List ℕ → Spot) (small : (zs : List ℕ) → like zs → length zs ≤ 2 ^ 31) (hc : CONTENT < n) where
+    base_not : (sp : Spot) (d : ℕ) → OBJECT ≢ d → FRAME ≢ d → d ≢ base_of sp
     base_not (Field i) d h k e = h (sym e)
     base_not (Frame i) d h k e = k (sym e)
 
     -- a register changes while a word is out
     out_goes : (zs : List ℕ) → like zs → (sp : Spot) (mid : List Symbol) (t d z z' : ℕ) (g : ℕ → ℕ)
-        → g object ≡ b.object → g frame ≡ b.frame
-        → g content ≡ 0 → object ≢ d → frame ≢ d → content ≢ d → address_of b sp < length zs
+        → g OBJECT ≡ b.object → g FRAME ≡ b.frame
+        → g CONTENT ≡ 0 → OBJECT ≢ d → FRAME ≢ d → CONTENT ≢ d → address_of b sp < length zs
         → Goes mid t
         (known n (written (taken n g (base_of sp) (address_of b sp) zs) d z) (slice_set zs (address_of b sp) 0))
         (known n (written (taken n g (base_of sp) (address_of b sp) zs) d z') (slice_set zs (address_of b sp) 0))
         → Goes (around (reach_cells sp) mid) (2 + (t + 2)) (known n (written g d z) zs) (known n (written g d z') zs)
     out_goes zs y sp mid t d z z' g eo ef ec po pf pc h m = goes_around (there z) m (there z')
       where
-        same : (z r : ℕ) → written (written (written g d z) (base_of sp) (address_of b sp)) content
+        same : (z r : ℕ) → written (written (written g d z) (base_of sp) (address_of b sp)) CONTENT
             (slice_index zs (address_of b sp)) r
-            ≡ written (written (written g (base_of sp) (address_of b sp)) content
+            ≡ written (written (written g (base_of sp) (address_of b sp)) CONTENT
             (slice_index zs (address_of b sp))) d z r
         same z r = written_local (written (written g d z) (base_of sp) (address_of b sp))
-            (written (written g (base_of sp) (address_of b sp)) d z) content (slice_index zs (address_of b sp)) r
+            (written (written g (base_of sp) (address_of b sp)) d z) CONTENT (slice_index zs (address_of b sp)) r
             (written_both g d z (base_of sp) (address_of b sp) r (base_not sp d po pf))
-            ∙ written_both (written g (base_of sp) (address_of b sp)) d z content
+            ∙ written_both (written g (base_of sp) (address_of b sp)) d z CONTENT
             (slice_index zs (address_of b sp)) r (λ e. pc (sym e))
 
         there : (z : ℕ) → Goes (reach_cells sp) 2 (known n (written g d z) zs)
             (known n (written (taken n g (base_of sp) (address_of b sp) zs) d z)
             (slice_set zs (address_of b sp) 0))
         there z = goes_to refl refl (known_same n _ _ (slice_set zs (address_of b sp) 0) (λ r l. same z r))
-            (reach_goes n b (written g d z) zs sp hc (written_off g d z object po ∙ eo)
-            (written_off g d z frame pf ∙ ef) (written_off g d z content pc ∙ ec) h (small zs y))
+            (reach_goes n b (written g d z) zs sp hc (written_off g d z OBJECT po ∙ eo)
+            (written_off g d z FRAME pf ∙ ef) (written_off g d z CONTENT pc ∙ ec) h (small zs y))
 
     -- what is in the registers then
-    taken_word : (zs : List ℕ) (g : ℕ → ℕ) (sp : Spot) → taken n g (base_of sp) (address_of b sp) zs content
+    taken_word : (zs : List ℕ) (g : ℕ → ℕ) (sp : Spot) → taken n g (base_of sp) (address_of b sp) zs CONTENT
         ≡ slice_index zs (address_of b sp)
-    taken_word zs g sp = written_at (written g (base_of sp) (address_of b sp)) content
+    taken_word zs g sp = written_at (written g (base_of sp) (address_of b sp)) CONTENT
         (slice_index zs (address_of b sp))
 
-    taken_other : (zs : List ℕ) (g : ℕ → ℕ) (sp : Spot) (r : ℕ) → object ≢ r → frame ≢ r → content ≢ r
+    taken_other : (zs : List ℕ) (g : ℕ → ℕ) (sp : Spot) (r : ℕ) → OBJECT ≢ r → FRAME ≢ r → CONTENT ≢ r
         → taken n g (base_of sp) (address_of b sp) zs r ≡ g r
     taken_other zs g sp r po pf pc =
-        written_off (written g (base_of sp) (address_of b sp)) content (slice_index zs (address_of b sp)) r
+        written_off (written g (base_of sp) (address_of b sp)) CONTENT (slice_index zs (address_of b sp)) r
         (λ e. pc (sym e)) ∙ written_off g (base_of sp) (address_of b sp) r (base_not sp r po pf)
 
     -- ---- the operands of an operator
@@ -387,7 +388,7 @@ module _ (n : ℕ) (b : Bases) (like : List ℕ → Type 0) where
       right_alone = more_change (omega arith) (omega arith) two.change
 
       right_out : (sp : Spot) → Shows true sp y
-          → Both Gives w t (λ mid. around (reach_cells sp) (mid (part k) content)) (λ o. 2 + (operator_steps o + 2)) k
+          → Both Gives w t (λ mid. around (reach_cells sp) (mid (part k) CONTENT)) (λ o. 2 + (operator_steps o + 2)) k
           top
           x y
       right_out sp q = record {
@@ -398,16 +399,16 @@ module _ (n : ℕ) (b : Bases) (like : List ℕ → Type 0) where
             let i = q zs s in
             let ea : g' (part k) ≡ x = taken_other zs g sp (part k) (λ e. omega arith) (λ e. omega arith)
             (λ e. omega arith) ∙ one.has f in
-            let es : g' content ≡ y = taken_word zs g sp ∙ i.1 in
-            out_goes zs s sp (give_cells o d (part k) content) (operator_steps o) d z (bit_xor z (operated o x y)) g
-            (left_alone.low f object (omega arith) ∙ r.object_is) (left_alone.low f frame (omega arith) ∙ r.frame_is)
-            (left_alone.low f content (omega arith) ∙ r.content_is) away.object_not away.frame_not away.content_not i.0
-            (given_goes o e g' (slice_set zs (address_of b sp) 0) d z (part k) content x y hd (omega arith) hc
+            let es : g' CONTENT ≡ y = taken_word zs g sp ∙ i.1 in
+            out_goes zs s sp (give_cells o d (part k) CONTENT) (operator_steps o) d z (bit_xor z (operated o x y)) g
+            (left_alone.low f OBJECT (omega arith) ∙ r.object_is) (left_alone.low f FRAME (omega arith) ∙ r.frame_is)
+            (left_alone.low f CONTENT (omega arith) ∙ r.content_is) away.object_not away.frame_not away.content_not i.0
+            (given_goes o e g' (slice_set zs (address_of b sp) 0) d z (part k) CONTENT x y hd (omega arith) hc
             (none_of away (part k) (omega arith) (omega arith)) away.content_not ea es wx wy);
       }
 
       left_out : (sp : Spot) → Shows true sp x
-          → Both Gives v u (λ mid. around (reach_cells sp) (mid content (part j))) (λ o. 2 + (operator_steps o + 2)) k
+          → Both Gives v u (λ mid. around (reach_cells sp) (mid CONTENT (part j))) (λ o. 2 + (operator_steps o + 2)) k
           top
           x y
       left_out sp q = record {
@@ -418,11 +419,11 @@ module _ (n : ℕ) (b : Bases) (like : List ℕ → Type 0) where
             let i = q zs s in
             let es : g' (part j) ≡ y = taken_other zs g sp (part j) (λ e. omega arith) (λ e. omega arith)
             (λ e. omega arith) ∙ two.has f in
-            let ea : g' content ≡ x = taken_word zs g sp ∙ i.1 in
-            out_goes zs s sp (give_cells o d content (part j)) (operator_steps o) d z (bit_xor z (operated o x y)) g
-            (right_alone.low f object (omega arith) ∙ r.object_is) (right_alone.low f frame (omega arith) ∙ r.frame_is)
-            (right_alone.low f content (omega arith) ∙ r.content_is) away.object_not away.frame_not away.content_not i.0
-            (given_goes o e g' (slice_set zs (address_of b sp) 0) d z content (part j) x y hd hc (omega arith)
+            let ea : g' CONTENT ≡ x = taken_word zs g sp ∙ i.1 in
+            out_goes zs s sp (give_cells o d CONTENT (part j)) (operator_steps o) d z (bit_xor z (operated o x y)) g
+            (right_alone.low f OBJECT (omega arith) ∙ r.object_is) (right_alone.low f FRAME (omega arith) ∙ r.frame_is)
+            (right_alone.low f CONTENT (omega arith) ∙ r.content_is) away.object_not away.frame_not away.content_not i.0
+            (given_goes o e g' (slice_set zs (address_of b sp) 0) d z CONTENT (part j) x y hd hc (omega arith)
             away.content_not (none_of away (part j) (omega arith) (omega arith)) ea es wx wy);
       }
 
@@ -443,7 +444,7 @@ module _ (n : ℕ) (b : Bases) (like : List ℕ → Type 0) where
 
       -- the right operand is 0
       zero_out : (sp : Spot) → Shows true sp x → y ≡ 0
-          → Both Gives [] 0 (λ mid. around (reach_cells sp) (mid content nought)) (λ o. 2 + (operator_steps o + 2)) k
+          → Both Gives [] 0 (λ mid. around (reach_cells sp) (mid CONTENT NOUGHT)) (λ o. 2 + (operator_steps o + 2)) k
           top
           x y
       zero_out sp q z0 = record {
@@ -451,22 +452,22 @@ module _ (n : ℕ) (b : Bases) (like : List ℕ → Type 0) where
         give = λ o e f r d z hd away zs s.
             let g' : ℕ → ℕ = taken n f (base_of sp) (address_of b sp) zs in
             let i = q zs s in
-            let es : g' nought ≡ y = taken_other zs f sp nought (λ e. omega arith) (λ e. omega arith)
+            let es : g' NOUGHT ≡ y = taken_other zs f sp NOUGHT (λ e. omega arith) (λ e. omega arith)
             (λ e. omega arith) ∙ r.nought_is ∙ sym z0 in
-            let ea : g' content ≡ x = taken_word zs f sp ∙ i.1 in
-            out_goes zs s sp (give_cells o d content nought) (operator_steps o) d z (bit_xor z (operated o x y)) f
+            let ea : g' CONTENT ≡ x = taken_word zs f sp ∙ i.1 in
+            out_goes zs s sp (give_cells o d CONTENT NOUGHT) (operator_steps o) d z (bit_xor z (operated o x y)) f
             r.object_is r.frame_is r.content_is away.object_not away.frame_not away.content_not i.0
-            (given_goes o e g' (slice_set zs (address_of b sp) 0) d z content nought x y hd hc (omega arith)
+            (given_goes o e g' (slice_set zs (address_of b sp) 0) d z CONTENT NOUGHT x y hd hc (omega arith)
             away.content_not away.nought_not ea es wx wy);
       }
 
-      zero_kept : y ≡ 0 → Both Gives w t (λ mid. mid (part k) nought) (λ o. operator_steps o) k top x y
+      zero_kept : y ≡ 0 → Both Gives w t (λ mid. mid (part k) NOUGHT) (λ o. operator_steps o) k top x y
       zero_kept z0 = record {
         change = left_alone;
         give = λ o e f r d z hd away zs s.
-            given_goes o e (one.change.puts f) zs d z (part k) nought x y hd (omega arith) (omega arith)
+            given_goes o e (one.change.puts f) zs d z (part k) NOUGHT x y hd (omega arith) (omega arith)
             (none_of away (part k) (omega arith) (omega arith)) away.nought_not (one.has f)
-            (left_alone.low f nought (omega arith) ∙ r.nought_is ∙ sym z0) wx wy;
+            (left_alone.low f NOUGHT (omega arith) ∙ r.nought_is ∙ sym z0) wx wy;
       }
 
       pub both_of : (z p q : Bool) (xs ys : Spot) → (z ≡ true → y ≡ 0) → Shows p xs x → Shows q ys y
@@ -503,17 +504,17 @@ module _ (n : ℕ) (b : Bases) (like : List ℕ → Type 0) where
       }
         where
           there : (f : ℕ → ℕ) → Free b k top f → (zs : List ℕ) → like zs
-              → Goes (around (reach_cells ys) (change_cells o (part k) content)) (2 + (operator_steps o + 2))
+              → Goes (around (reach_cells ys) (change_cells o (part k) CONTENT)) (2 + (operator_steps o + 2))
               (known n (one.change.puts f) zs) (known n (written (one.change.puts f) (part k) (operated o x y)) zs)
           there f r zs s =
               let g : ℕ → ℕ = one.change.puts f in
               let g' : ℕ → ℕ = taken n g (base_of ys) (address_of b ys) zs in
               let i = q zs s in
               from_known zs g (part k) x (operated o x y) (operated o x y) (one.has f) refl
-              (out_goes zs s ys (change_cells o (part k) content) (operator_steps o) (part k) x (operated o x y) g
-              (left_alone.low f object (omega arith) ∙ r.object_is) (left_alone.low f frame (omega arith) ∙ r.frame_is)
-              (left_alone.low f content (omega arith) ∙ r.content_is) (λ e. omega arith) (λ e. omega arith)
-              (λ e. omega arith) i.0 (changed_goes o e g' (slice_set zs (address_of b ys) 0) (part k) content x y
+              (out_goes zs s ys (change_cells o (part k) CONTENT) (operator_steps o) (part k) x (operated o x y) g
+              (left_alone.low f OBJECT (omega arith) ∙ r.object_is) (left_alone.low f FRAME (omega arith) ∙ r.frame_is)
+              (left_alone.low f CONTENT (omega arith) ∙ r.content_is) (λ e. omega arith) (λ e. omega arith)
+              (λ e. omega arith) i.0 (changed_goes o e g' (slice_set zs (address_of b ys) 0) (part k) CONTENT x y
               (omega arith) hc (λ e. omega arith) (taken_word zs g ys ∙ i.1) wx wy))
       changed o e false xs ys q = record {
         change = then_written (operated o x y) (omega arith) (omega arith) both_there there;
@@ -573,20 +574,20 @@ module _ (n : ℕ) (b : Bases) (like : List ℕ → Type 0) where
             (both.give o e f (less_free (omega arith) (omega arith) f r) (part k) 0 (omega arith) away zs s)
 
     -- the truth of a register xored into another
-    pub told_goes : (zs : List ℕ) (g : ℕ → ℕ) (d a z v : ℕ) → d < n → a < n → nought < n → nought ≢ d → a ≢ d
-        → g nought ≡ 0
+    pub told_goes : (zs : List ℕ) (g : ℕ → ℕ) (d a z v : ℕ) → d < n → a < n → NOUGHT < n → NOUGHT ≢ d → a ≢ d
+        → g NOUGHT ≡ 0
         → g a ≡ v → v < 2 ^ 32
         → Goes (truth_cells d a) 2 (known n (written g d z) zs)
         (known n (written g d (bit_xor z (truth_word (is_true v)))) zs)
     told_goes zs g d a z v hd ha hn nd na zero has vw =
-        let p : ℕ = table.word_of (is_less (g nought) (g a)) in
-        let q : ℕ = table.word_of (is_less (g a) (g nought)) in
+        let p : ℕ = table.word_of (is_less (g NOUGHT) (g a)) in
+        let q : ℕ = table.word_of (is_less (g a) (g NOUGHT)) in
         let is : bit_xor p q ≡ truth_word (is_true v) =
         ap (λ u. bit_xor (table.word_of (is_less u (g a))) (table.word_of (is_less (g a) u))) zero
         ∙ ap (λ u. bit_xor (table.word_of (is_less 0 u)) (table.word_of (is_less u 0))) has ∙ Comparing.truth_of v vw in
         goes_to refl refl (ap (λ u. known n (written g d u) zs) (xor_assoc z p q ∙ ap (bit_xor z) is))
-        (goes_cons (sltx_goes n g zs d hd nought a hn ha nd na z)
-        (sltx_goes n g zs d hd a nought ha hn na nd (bit_xor z p)))
+        (goes_cons (sltx_goes n g zs d hd NOUGHT a hn ha nd na z)
+        (sltx_goes n g zs d hd a NOUGHT ha hn na nd (bit_xor z p)))
 
     -- ---- traps: an operand meets its fault
 
@@ -633,16 +634,16 @@ module _ (n : ℕ) (b : Bases) (like : List ℕ → Type 0) where
 
     copy_goes : (sp : Spot) (k x : ℕ) → part k < n → Shows true sp x → (f : ℕ → ℕ) → Free b k (k + 1) f
         → (zs : List ℕ) → like zs
-        → Goes (around (reach_cells sp) (xor (part k) content ∷ [])) 5 (known n (written f (part k) 0) zs)
+        → Goes (around (reach_cells sp) (xor (part k) CONTENT ∷ [])) 5 (known n (written f (part k) 0) zs)
         (known n (written f (part k) (bit_xor 0 x)) zs)
     copy_goes sp k x h q f r zs s =
         let f' : ℕ → ℕ = taken n f (base_of sp) (address_of b sp) zs in
         let ws : List ℕ = slice_set zs (address_of b sp) 0 in
         let i = q zs s in
-        out_goes zs s sp (xor (part k) content ∷ []) 1 (part k) 0 (bit_xor 0 x) f r.object_is r.frame_is r.content_is
+        out_goes zs s sp (xor (part k) CONTENT ∷ []) 1 (part k) 0 (bit_xor 0 x) f r.object_is r.frame_is r.content_is
         (λ e. omega arith) (λ e. omega arith) (λ e. omega arith) i.0
         (goes_to refl refl (ap (λ v. known n (written f' (part k) (bit_xor 0 v)) ws) (taken_word zs f sp ∙ i.1))
-        (xor_goes n f' ws (part k) h content hc (λ e. omega arith) 0))
+        (xor_goes n f' ws (part k) h CONTENT hc (λ e. omega arith) 0))
 
     -- a truth by the value opened past it
     told_by : {w : List Symbol} {t k m v : ℕ} (p : Bool) → (p ≡ true → v ≡ truth_word (is_true v)) → 1 ≤ m
@@ -665,7 +666,7 @@ module _ (n : ℕ) (b : Bases) (like : List ℕ → Type 0) where
             (one.change.low f (part k) (omega arith) ∙ r.clear (part k) (omega arith) (omega arith))
             (xor_zero_l (truth_word (is_true v)))
             (told_goes zs g (part k) (part (k + 1)) 0 v (omega arith) (omega arith) (omega arith) (λ e. omega arith)
-            (λ e. omega arith) (one.change.low f nought (omega arith) ∙ r.nought_is) (one.has f) vw)
+            (λ e. omega arith) (one.change.low f NOUGHT (omega arith) ∙ r.nought_is) (one.has f) vw)
 
     -- a right operand that is a number, or any other
     changed_by : {w v : List Symbol} {t u k j top x y : ℕ} → k < j → j < top → part top ≤ n → Opens w t k j x
@@ -769,13 +770,13 @@ module _ (n : ℕ) (b : Bases) (like : List ℕ → Type 0) where
             from_known ws g (part (k + 1)) 0 (bit_xor 0 arr) arr
             (one.change.low f (part (k + 1)) (omega arith) ∙ r.clear (part (k + 1)) (omega arith) (omega arith))
             (xor_zero_l arr)
-            (out_goes ws y sp (xor (part (k + 1)) content ∷ []) 1 (part (k + 1)) 0 (bit_xor 0 arr) g
-            (one.change.low f object (omega arith) ∙ r.object_is) (one.change.low f frame (omega arith) ∙ r.frame_is)
-            (one.change.low f content (omega arith) ∙ r.content_is) (λ e. omega arith) (λ e. omega arith)
+            (out_goes ws y sp (xor (part (k + 1)) CONTENT ∷ []) 1 (part (k + 1)) 0 (bit_xor 0 arr) g
+            (one.change.low f OBJECT (omega arith) ∙ r.object_is) (one.change.low f FRAME (omega arith) ∙ r.frame_is)
+            (one.change.low f CONTENT (omega arith) ∙ r.content_is) (λ e. omega arith) (λ e. omega arith)
             (λ e. omega arith) (let h = s.0 in omega arith)
             (goes_to refl refl (ap (λ z. known n (written g' (part (k + 1)) (bit_xor 0 z))
             (slice_set ws (address_of b sp) 0)) (taken_word ws g sp ∙ e))
-            (xor_goes n g' (slice_set ws (address_of b sp) 0) (part (k + 1)) (omega arith) content hc
+            (xor_goes n g' (slice_set ws (address_of b sp) 0) (part (k + 1)) (omega arith) CONTENT hc
             (λ e. omega arith) 0)))))
 
         has_array : (f : ℕ → ℕ) → with_array.puts f (part (k + 1)) ≡ arr
@@ -813,9 +814,9 @@ module _ (n : ℕ) (b : Bases) (like : List ℕ → Type 0) where
               let g : ℕ → ℕ = with_array.puts f in
               let ea : g (part (k + 1)) ≡ arr = has_array f in
               let ei : g (part (k + 2)) ≡ x = has_index f in
-              let co : g outcome ≡ 0 = with_array.low f outcome (omega arith) ∙ r.outcome_is in
-              let cn : g nought ≡ 0 = with_array.low f nought (omega arith) ∙ r.nought_is in
-              let cc' : g content ≡ 0 = with_array.low f content (omega arith) ∙ r.content_is in
+              let co : g OUTCOME ≡ 0 = with_array.low f OUTCOME (omega arith) ∙ r.outcome_is in
+              let cn : g NOUGHT ≡ 0 = with_array.low f NOUGHT (omega arith) ∙ r.nought_is in
+              let cc' : g CONTENT ≡ 0 = with_array.low f CONTENT (omega arith) ∙ r.content_is in
               let a0 = need_least index in
               let a1 = t.array_is in
               let a2 = t.array_small in
@@ -854,21 +855,21 @@ module _ (n : ℕ) (b : Bases) (like : List ℕ → Type 0) where
                 let a5 = t.below in
                 let l : length ws ≡ length zs = ap (λ u. length u) q in
                 let w : slice_index ws a ≡ v = ap (λ u. slice_index u a) q ∙ t.word in
-                let g' : ℕ → ℕ = written g content (slice_index ws a) in
-                let out : (z : ℕ) → Goes (exch content (part (k + 1)) ∷ []) 1 (known n (written g (part k) z) ws)
+                let g' : ℕ → ℕ = written g CONTENT (slice_index ws a) in
+                let out : (z : ℕ) → Goes (exch CONTENT (part (k + 1)) ∷ []) 1 (known n (written g (part k) z) ws)
                 (known n (written g' (part k) z) (slice_set ws a 0)) =
                 λ z. goes_to refl refl (known_same n _ _ (slice_set ws a 0)
-                (λ r l. written_both g (part k) z content (slice_index ws a) r (λ e. omega arith)))
+                (λ r l. written_both g (part k) z CONTENT (slice_index ws a) r (λ e. omega arith)))
                 (word_out n (written g (part k) z) ws (part (k + 1)) a (omega arith) hc (λ e. omega arith)
                 (written_off g (part k) z (part (k + 1)) (λ e. omega arith)
                 ∙ written_at (checked.puts f) (part (k + 1)) a)
-                (written_off g (part k) z content (λ e. omega arith) ∙ pointed.low f content (omega arith)
+                (written_off g (part k) z CONTENT (λ e. omega arith) ∙ pointed.low f CONTENT (omega arith)
                 ∙ r.content_is) (omega arith)) in
                 from_known ws g (part k) 0 (bit_xor 0 v) v
                 (pointed_below f r) (xor_zero_l v)
                 (goes_around (out 0) (goes_to refl refl (ap (λ u. known n (written g' (part k) (bit_xor 0 u))
-                (slice_set ws a 0)) (written_at g content (slice_index ws a) ∙ w))
-                (xor_goes n g' (slice_set ws a 0) (part k) (omega arith) content hc (λ e. omega arith) 0))
+                (slice_set ws a 0)) (written_at g CONTENT (slice_index ws a) ∙ w))
+                (xor_goes n g' (slice_set ws a 0) (part k) (omega arith) CONTENT hc (λ e. omega arith) 0))
                 (out (bit_xor 0 v)))));
             has = λ f. written_at (pointed.puts f) (part k) v;
           }
@@ -1027,7 +1028,7 @@ module _ (n : ℕ) (b : Bases) (like : List ℕ → Type 0) where
           one g = held_opens index (k + 2) (omega arith) (omega arith) g s.2 inner
 
           last : List Symbol
-          last = around (exch content (part (k + 1)) ∷ []) (xor (part k) content ∷ [])
+          last = around (exch CONTENT (part (k + 1)) ∷ []) (xor (part k) CONTENT ∷ [])
 
           by : (number spot b zs index ≡ Err c
               → Traps (held_cells spot index (k + 2)) (held_steps index) c (known n f zs))
@@ -1046,8 +1047,8 @@ module _ (n : ℕ) (b : Bases) (like : List ℕ → Type 0) where
               (sym five)
               (traps_more (omega arith) (traps_first last (traps_first (point_of (part (k + 1)) (part (k + 2)))
               (traps_then (ch.goes f p zs y) (traps_first (index_check_of (part (k + 1)) (part (k + 2)))
-              (nil_traps n (ch.puts f) zs (omega arith) (ch.low f outcome (omega arith) ∙ p.outcome_is)
-              (ch.low f nought (omega arith) ∙ p.nought_is) (part (k + 1)) (omega arith) (λ e. omega arith)
+              (nil_traps n (ch.puts f) zs (omega arith) (ch.low f OUTCOME (omega arith) ∙ p.outcome_is)
+              (ch.low f NOUGHT (omega arith) ∙ p.nought_is) (part (k + 1)) (omega arith) (λ e. omega arith)
               (has_array name index k (omega arith) s a (one g) f ∙ z)))))))
           by inner_traps (by_end x q z l nine) =
               let g = ok_fine spot b zs (number spot b zs index) x q in
@@ -1061,8 +1062,8 @@ module _ (n : ℕ) (b : Bases) (like : List ℕ → Type 0) where
               let short = s.1.short z in
               let low_in = inside zs y in
               let m = small zs y in
-              let co = ch.low f outcome (omega arith) ∙ p.outcome_is in
-              let cn = ch.low f nought (omega arith) ∙ p.nought_is in
+              let co = ch.low f OUTCOME (omega arith) ∙ p.outcome_is in
+              let cn = ch.low f NOUGHT (omega arith) ∙ p.nought_is in
               let len : slice_index zs (ch.puts f (part (k + 1))) ≡ slice_index zs (word_of spot b zs name.text) =
               ap (slice_index zs) ea in
               subst (λ c. Traps (held_cells spot (Element name index) k) (held_steps (Element name index)) c
@@ -1073,7 +1074,7 @@ module _ (n : ℕ) (b : Bases) (like : List ℕ → Type 0) where
               (nil_goes n (ch.puts f) zs (omega arith) co cn (part (k + 1)) (omega arith) (λ e. omega arith)
               (omega arith)
               (λ e. z (sym ea ∙ e)))
-              (index_traps n (ch.puts f) zs (omega arith) co cn (ch.low f content (omega arith) ∙ p.content_is)
+              (index_traps n (ch.puts f) zs (omega arith) co cn (ch.low f CONTENT (omega arith) ∙ p.content_is)
               (part (k + 1)) (part (k + 2)) (omega arith) (omega arith) (λ e. omega arith) (λ e. omega arith)
               (λ e. omega arith) (λ e. omega arith) (omega arith) (omega arith) (omega arith) (omega arith)))))))
       held_traps (Binary at o left right) k c r h s a e y f p =

@@ -7,7 +7,7 @@ use Rattle.paired_code.specs.Machine.{reg}
 use Rattle.roopl_semantics.specs.Operators.{operated}
 use Rattle.refine_form.specs.declared.spot.Spot.{Spot}
 use Rattle.refine_form.specs.declared.spot.Spot.TheVariants.{Frame}
-use Rattle.expr_uncompute.specs.Code.{words, left_operand, right_operand, content, item, operand_cells, checked_cells}
+use Rattle.expr_uncompute.specs.Code.{words, operand_cells, checked_cells}
 use Rattle.expr_uncompute.specs.Code.{open_cells, point_cells, exch, result_of}
 use Rattle.expr_uncompute.specs.Number.{Bases, address_of, given, word_of, number, element_at, IsArray, Sees}
 use Rattle.expr_uncompute.specs.Steps.{operand_steps, checked_steps, open_steps}
@@ -22,6 +22,7 @@ use Rattle.expr_uncompute.proofs.Numbers.{AllWords, number_word}
 use Rattle.expr_uncompute.proofs.Stored.{home, Reads}
 use Rattle.expr_uncompute.proofs.Ways.{ok_is, both_ok, inside_of, fault_of, address_of_word, fault_of_word, IsFault}
 use Rattle.expr_uncompute.proofs.Ways.{by_index, by_nil, by_end}
+use Rattle.code_conventions.specs.declared.registers.TheConstants.{LEFT, RIGHT}
 
 module _ (spot : List ℕ → Spot) (free : ℕ) (b : Bases) where
   abbrev low : ℕ
@@ -60,11 +61,11 @@ module _ (spot : List ℕ → Spot) (free : ℕ) (b : Bases) where
     x_word : x < 2 ^ 32
     x_word = number_word spot b low zs all index sees x gives
 
-    index_there : Goes (operand_cells spot free index i left_operand) (operand_steps index) (mem b f (keeping m p q) zs)
+    index_there : Goes (operand_cells spot free index i LEFT) (operand_steps index) (mem b f (keeping m p q) zs)
         (mem b f (operands m p q x 0) zs)
     index_there = operand_goes index i zs sees room reads (left_takes b f (keeping m p q) x)
 
-    array_there : Goes (Rattle.expr_uncompute.specs.Code.copy_cells (spot name) right_operand) 5
+    array_there : Goes (Rattle.expr_uncompute.specs.Code.copy_cells (spot name) RIGHT) 5
         (mem b f (operands m p q x 0) zs) (mem b f (operands m p q x (word_of spot b zs name)) zs)
     array_there = let l = room.fits in copy_goes b zs (spot name) (omega arith) room.small refl
         (right_takes b f (operands m p q x 0) (word_of spot b zs name))

@@ -6,9 +6,10 @@ use Rattle.rpp_tree.specs.declared.tree.BinOp.{BinOp}
 use Rattle.rpp_tree.specs.declared.tree.BinOp.TheVariants as op
 use Rattle.pisa_isa.specs.Table.{word_of}
 use Rattle.pisa_isa.specs.Machine.{Memory}
+use Rattle.code_conventions.specs.declared.registers.TheConstants.{LEFT, LEFT_TRUTH, RIGHT, RIGHT_TRUTH}
 use Rattle.paired_code.specs.Machine.{reg}
 use Rattle.roopl_semantics.specs.Operators.{operated, is_true, truth_word}
-use Rattle.expr_uncompute.specs.Code.{left_operand, right_operand, left_truth, right_truth, truth_cells, operator_cells}
+use Rattle.expr_uncompute.specs.Code.{truth_cells, operator_cells}
 use Rattle.expr_uncompute.specs.Code.{operator_result}
 use Rattle.expr_uncompute.specs.Number.{Bases}
 use Rattle.expr_uncompute.specs.Steps.{operator_steps}
@@ -52,7 +53,7 @@ module _ (m p q : ℕ) where
 
   module _ (b : Bases) (f : ℕ → ℕ) (cells : List ℕ) (x y : ℕ) (xw : x < 2 ^ 32) (yw : y < 2 ^ 32) where
     -- the truths of both
-    left_true : Goes (truth_cells left_truth left_operand) 2 (mem b f (operands x y) cells)
+    left_true : Goes (truth_cells LEFT_TRUTH LEFT) 2 (mem b f (operands x y) cells)
         (mem b f (record (operands x y) { left = truth_word (is_true x) }) cells)
     left_true =
         let put : ℕ → Memory = λ z. mem b f (record (operands x y) { left = z }) cells in
@@ -60,7 +61,7 @@ module _ (m p q : ℕ) where
         (goes_xor_to _ put (word_of (is_less 0 x)) (word_of (is_less x 0)) (truth_word (is_true x)) (truth_of x xw)
         refl (omega arith) (λ z. refl) (λ z. refl))
 
-    right_true : Goes (truth_cells right_truth right_operand) 2
+    right_true : Goes (truth_cells RIGHT_TRUTH RIGHT) 2
         (mem b f (record (operands x y) { left = truth_word (is_true x) }) cells)
         (mem b f (record (operands x y) { left = truth_word (is_true x); right = truth_word (is_true y) }) cells)
     right_true =

@@ -6,11 +6,12 @@ use Rattle.code_conventions.specs.declared.memory.TheConstants.{HEADER_WORDS}
 use Rattle.rpp_tree.specs.declared.tree.Ident.{Ident}
 use Rattle.rpp_tree.specs.Tree.{Expression, Number, Null, Variable, Element, Binary, Lvalue, Whole, Item}
 use Rattle.pisa_isa.specs.Machine.{Memory}
+use Rattle.code_conventions.specs.declared.registers.TheConstants.{AMOUNT, OTHER_PLACE, PLACE, RIGHT}
 use Rattle.paired_code.specs.Layout.{mirror_cells}
 use Rattle.paired_code.specs.declared.part.Symbol.{Symbol}
 use Rattle.refine_form.specs.declared.spot.Spot.{Spot}
 use Rattle.refine_form.specs.declared.spot.Spot.TheVariants.{Field, Frame}
-use Rattle.expr_uncompute.specs.Code.{xor, addi, amount, place, other_place, right_operand, around, base_of}
+use Rattle.expr_uncompute.specs.Code.{xor, addi, around, base_of}
 use Rattle.expr_uncompute.specs.Code.{checked_cells, point_cells, open_cells, prepare_cells, fetch_cells, place_words}
 use Rattle.expr_uncompute.specs.Code.{place_cells}
 use Rattle.expr_uncompute.specs.Code.{result_of}
@@ -52,11 +53,11 @@ module _ (spot : List ℕ → Spot) (free : ℕ) (b : Bases) where
     pub by_base : (zs : List ℕ) (sp : Spot) → address_of b sp ≡ a → a < 2 ^ 32
         → Goes (xor into (base_of sp) ∷ addi into (offset_of sp) ∷ []) 2 (mem b f (keeping m p q) zs)
         (mem b f (keeping m' p' q') zs)
-    pub by_operand : (x : ℕ) (zs : List ℕ) → Goes (xor into right_operand ∷ []) 1 (mem b f (operands m p q x a) zs)
+    pub by_operand : (x : ℕ) (zs : List ℕ) → Goes (xor into RIGHT ∷ []) 1 (mem b f (operands m p q x a) zs)
         (mem b f (operands m' p' q' x a) zs)
 
   place_base : (f : ℕ → ℕ) (m q : ℕ) (zs : List ℕ) (sp : Spot) → address_of b sp < 2 ^ 32
-      → Goes (xor place (base_of sp) ∷ addi place (offset_of sp) ∷ []) 2 (mem b f (keeping m 0 q) zs)
+      → Goes (xor PLACE (base_of sp) ∷ addi PLACE (offset_of sp) ∷ []) 2 (mem b f (keeping m 0 q) zs)
       (mem b f (keeping m (address_of b sp) q) zs)
   place_base f m q zs (Field i) h = goes_cons (goes_set _ (λ z. mem b f (keeping m z q) zs) b.object refl (omega arith)
       (λ z. refl) (λ z. refl)) (goes_addi _ (λ z. mem b f (keeping m z q) zs) b.object (HEADER_WORDS + i) h refl
@@ -67,7 +68,7 @@ module _ (spot : List ℕ → Spot) (free : ℕ) (b : Bases) where
       (λ z. refl) (λ z. refl))
 
   other_base : (f : ℕ → ℕ) (m p : ℕ) (zs : List ℕ) (sp : Spot) → address_of b sp < 2 ^ 32
-      → Goes (xor other_place (base_of sp) ∷ addi other_place (offset_of sp) ∷ []) 2 (mem b f (keeping m p 0) zs)
+      → Goes (xor OTHER_PLACE (base_of sp) ∷ addi OTHER_PLACE (offset_of sp) ∷ []) 2 (mem b f (keeping m p 0) zs)
       (mem b f (keeping m p (address_of b sp)) zs)
   other_base f m p zs (Field i) h = goes_cons (goes_set _ (λ z. mem b f (keeping m p z) zs) b.object refl (omega arith)
       (λ z. refl) (λ z. refl)) (goes_addi _ (λ z. mem b f (keeping m p z) zs) b.object (HEADER_WORDS + i) h refl
@@ -77,13 +78,13 @@ module _ (spot : List ℕ → Spot) (free : ℕ) (b : Bases) where
       (λ z. refl) (λ z. refl)) (goes_addi _ (λ z. mem b f (keeping m p z) zs) b.frame i h refl (omega arith)
       (λ z. refl) (λ z. refl))
 
-  pub place_points : (f : ℕ → ℕ) (m q a : ℕ) → Points place f m 0 q m a q a
+  pub place_points : (f : ℕ → ℕ) (m q a : ℕ) → Points PLACE f m 0 q m a q a
   place_points f m q a = record {
     by_base = λ zs sp e h. goes_to refl refl (ap (λ z. mem b f (keeping m z q) zs) e) (place_base f m q zs sp (rw e h));
     by_operand = λ x zs. goes_set _ (λ z. mem b f (operands m z q x a) zs) a refl (omega arith) (λ z. refl) (λ z. refl);
   }
 
-  pub other_points : (f : ℕ → ℕ) (m p a : ℕ) → Points other_place f m p 0 m p a a
+  pub other_points : (f : ℕ → ℕ) (m p a : ℕ) → Points OTHER_PLACE f m p 0 m p a a
   other_points f m p a = record {
     by_base = λ zs sp e h. goes_to refl refl (ap (λ z. mem b f (keeping m p z) zs) e) (other_base f m p zs sp (rw e h));
     by_operand = λ x zs. goes_set _ (λ z. mem b f (operands m p z x a) zs) a refl (omega arith) (λ z. refl) (λ z. refl);
@@ -233,11 +234,11 @@ module _ (spot : List ℕ → Spot) (free : ℕ) (b : Bases) where
       (mem b f (keeping m p q) zs)
   place_traps into f m p q (Whole name) i c zs h n = absurd (cc)
   place_traps into f m p q (Item name index) i c zs h n = traps_more (omega arith)
-      (front_traps f m p q name index i c zs h n (λ w. around (w ++ point_cells) (xor into right_operand ∷ []))
-      (λ w k d z t. traps_first ((xor into right_operand ∷ []) ++ mirror_cells (w ++ point_cells))
+      (front_traps f m p q name index i c zs h n (λ w. around (w ++ point_cells) (xor into RIGHT ∷ []))
+      (λ w k d z t. traps_first ((xor into RIGHT ∷ []) ++ mirror_cells (w ++ point_cells))
       (traps_first point_cells t)))
 
-  -- ---- a value kept in `amount`
+  -- ---- a value kept in `AMOUNT`
 
   no_amount : (p q : ℕ) (zs : List ℕ) (e : Expression) → record (opened spot free b 0 p q zs e) { amount = 0 }
       ≡ opened spot free b 0 p q zs e
@@ -256,7 +257,7 @@ module _ (spot : List ℕ → Spot) (free : ℕ) (b : Bases) where
   an_amount p q v zs (Binary at o left right) = refl
 
   module _ (f : ℕ → ℕ) (p q : ℕ) (e : Expression) (i : ℕ) (zs : List ℕ) (fit : Fit spot free b e i zs) where
-    pub fetch_goes : (v : ℕ) → number spot b zs e ≡ Ok v → Goes (fetch_cells spot free e i amount) (fetch_steps e)
+    pub fetch_goes : (v : ℕ) → number spot b zs e ≡ Ok v → Goes (fetch_cells spot free e i AMOUNT) (fetch_steps e)
         (mem b f (keeping 0 p q) zs) (mem b f (keeping v p q) (parted spot free b e i zs))
     fetch_goes v n =
         let zs1 : List ℕ = parted spot free b e i zs in
@@ -276,7 +277,7 @@ module _ (spot : List ℕ → Spot) (free : ℕ) (b : Bases) where
         goes_seq (parts_goes spot free b 0 p q f e i v zs fit n) (goes_around (there 0) kept (there v))
 
     pub fetch_traps : (c : ℕ) → number spot b zs e ≡ Err c
-        → Traps (fetch_cells spot free e i amount) (fetch_steps e) c (mem b f (keeping 0 p q) zs)
+        → Traps (fetch_cells spot free e i AMOUNT) (fetch_steps e) c (mem b f (keeping 0 p q) zs)
     fetch_traps c n = traps_more (omega arith) (fault_then spot free b 0 p q f e i c zs
-        (node_fault spot free b 0 p q f e i c zs fit n) ((xor amount (result_of e) ∷ [])
+        (node_fault spot free b 0 p q f e i c zs fit n) ((xor AMOUNT (result_of e) ∷ [])
         ++ mirror_cells (open_cells spot free e i)))

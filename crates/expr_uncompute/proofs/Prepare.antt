@@ -6,11 +6,12 @@ use Rattle.rpp_tree.specs.declared.tree.BinOp.{BinOp}
 use Rattle.rpp_tree.specs.declared.tree.Ident.{Ident}
 use Rattle.rpp_tree.specs.Tree.{Expression, Number, Null, Variable, Element, Binary}
 use Rattle.pisa_isa.specs.Machine.{Memory}
+use Rattle.code_conventions.specs.declared.registers.TheConstants.{ITEM, RIGHT}
 use Rattle.paired_code.specs.Layout.{mirror_cells}
 use Rattle.paired_code.specs.declared.part.Symbol.{Symbol}
 use Rattle.refine_form.specs.declared.spot.Spot.{Spot}
 use Rattle.refine_form.specs.declared.spot.Spot.TheVariants.{Frame}
-use Rattle.expr_uncompute.specs.Code.{words, item, point_cells, exch, right_operand, open_cells, store_cells}
+use Rattle.expr_uncompute.specs.Code.{words, point_cells, exch, open_cells, store_cells}
 use Rattle.expr_uncompute.specs.Code.{prepare_cells, parts_cells, operator_result}
 use Rattle.expr_uncompute.specs.Number.{Bases, given, word_of, number, element_at, word_in, Sees}
 use Rattle.expr_uncompute.specs.Steps.{open_steps, prepare_steps, parts_steps}
@@ -230,7 +231,7 @@ module _ (spot : List ℕ → Spot) (free : ℕ) (b : Bases) where
     prepared_traps (Element name index) i c zs n h =
         let whole : Expression = Element name index in
         traps_more (omega arith) (fault_then whole i c zs h
-        (store_cells (Frame (free + i)) item ++ mirror_cells (open_cells spot free whole i)))
+        (store_cells (Frame (free + i)) ITEM ++ mirror_cells (open_cells spot free whole i)))
     prepared_traps (Binary at o left right) i c zs n h =
         let whole : Expression = Binary at o left right in
         traps_more (omega arith) (fault_then whole i c zs h
@@ -259,7 +260,7 @@ module _ (spot : List ℕ → Spot) (free : ℕ) (b : Bases) where
             let g : number spot b (parted spot free b whole i zs) index ≡ Ok x =
             number_same spot b low zs _ d.below index h.sees.2 ∙ e in
             late (prepare_goes index (i + 1) x zs part e) (traps_more (omega arith)
-            (traps_first (point_cells ++ exch item right_operand ∷ [])
+            (traps_first (point_cells ++ exch ITEM RIGHT ∷ [])
             (open_traps spot free b m p q f 0 name index i x c (parted spot free b whole i zs) d.all
             (parted_sees whole i zs h) (parted_room whole i zs h) d.parts g
             (parted_number whole i zs h ∙ n))))

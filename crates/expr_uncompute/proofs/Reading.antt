@@ -6,19 +6,20 @@ use Rattle.code_conventions.specs.declared.memory.TheConstants.{HEADER_WORDS}
 use Rattle.paired_code.specs.declared.part.Symbol.{Symbol}
 use Rattle.refine_form.specs.declared.spot.Spot.{Spot}
 use Rattle.refine_form.specs.declared.spot.Spot.TheVariants.{Field, Frame}
-use Rattle.expr_uncompute.specs.Code.{content, left_operand, right_operand, item, outcome, truth, xor, xori}
+use Rattle.expr_uncompute.specs.Code.{xor, xori}
 use Rattle.expr_uncompute.specs.Code.{around, reach_cells, copy_cells, store_cells}
 use Rattle.expr_uncompute.specs.Number.{Bases, address_of}
 use Rattle.expr_uncompute.proofs.Goes.{Goes, goes_cons, goes_around, goes_to, goes_set, goes_addi, goes_exch}
 use Rattle.expr_uncompute.proofs.Scratch.{Scratch, mem}
+use Rattle.code_conventions.specs.declared.registers.TheConstants.{CONTENT, ITEM, LEFT, OUTCOME, RIGHT, TRUTH}
 
 -- the registers that have a result
 pub data HasResult : ℕ → Type 0 where
-  in_content : HasResult content
-  in_outcome : HasResult outcome
-  in_left : HasResult left_operand
-  in_item : HasResult item
-  in_truth : HasResult truth
+  in_content : HasResult CONTENT
+  in_outcome : HasResult OUTCOME
+  in_left : HasResult LEFT
+  in_item : HasResult ITEM
+  in_truth : HasResult TRUTH
 
 module _ (b : Bases) where
   -- the bases while the word of a spot is out: its own stands at the word
@@ -45,16 +46,16 @@ module _ (b : Bases) where
       (goes_exch _ (λ z zs. mem (record b { frame = a }) f (record s { content = z }) zs) a 0 cells h refl
       (omega arith) (λ z zs. refl) (λ z zs. refl))
 
-  -- a register that takes a word: from `content`, as a number, or 0 as nothing
+  -- a register that takes a word: from `CONTENT`, as a number, or 0 as nothing
   pub record Takes (into v : ℕ) (f f' : ℕ → ℕ) (s s' : Scratch) : Type 0 where
-    pub by_content : (c : Bases) (zs : List ℕ) → Goes (xor into content ∷ []) 1
+    pub by_content : (c : Bases) (zs : List ℕ) → Goes (xor into CONTENT ∷ []) 1
         (mem c f (record s { content = v }) zs) (mem c f' (record s' { content = v }) zs)
     pub by_number : v < 2 ^ 32 → (zs : List ℕ) → Goes (xori into v ∷ []) 1
         (mem b f (record s { content = 0 }) zs) (mem b f' (record s' { content = 0 }) zs)
     pub by_nothing : v ≡ 0 → (zs : List ℕ) → mem b f (record s { content = 0 }) zs
         ≡ mem b f' (record s' { content = 0 }) zs
 
-  pub left_takes : (f : ℕ → ℕ) (s : Scratch) (v : ℕ) → Takes left_operand v f f (record s { a = 0 })
+  pub left_takes : (f : ℕ → ℕ) (s : Scratch) (v : ℕ) → Takes LEFT v f f (record s { a = 0 })
       (record s { a = v })
   left_takes f s v = record {
     by_content = λ c zs. goes_set _ (λ z. mem c f (record s { content = v; a = z }) zs) v refl
@@ -64,7 +65,7 @@ module _ (b : Bases) where
     by_nothing = λ e zs. ap (λ z. mem b f (record s { content = 0; a = z }) zs) (sym e);
   }
 
-  pub right_takes : (f : ℕ → ℕ) (s : Scratch) (v : ℕ) → Takes right_operand v f f (record s { b = 0 })
+  pub right_takes : (f : ℕ → ℕ) (s : Scratch) (v : ℕ) → Takes RIGHT v f f (record s { b = 0 })
       (record s { b = v })
   right_takes f s v = record {
     by_content = λ c zs. goes_set _ (λ z. mem c f (record s { content = v; b = z }) zs) v refl
@@ -89,7 +90,7 @@ module _ (b : Bases) where
       (reach_goes g r cells sp h k) in
       goes_around (there f s) (t.by_content (moved sp) emptied) (there f' s')
 
-  -- a word of memory changed in `content`
+  -- a word of memory changed in `CONTENT`
   pub changed_goes : {mid : List Symbol} {n : ℕ} (x y : ℕ) (f : ℕ → ℕ) (s : Scratch) (cells : List ℕ) (sp : Spot)
       → address_of b sp < length cells → length cells ≤ 2 ^ 31 → slice_index cells (address_of b sp) ≡ x
       → ((c : Bases) (zs : List ℕ) → Goes mid n (mem c f (record s { content = x }) zs)
@@ -111,7 +112,7 @@ module _ (b : Bases) where
   -- a register xored into a word of memory that is 0
   pub store_goes : (r v : ℕ) (f : ℕ → ℕ) (s : Scratch) (cells : List ℕ) (sp : Spot) → address_of b sp < length cells
       → length cells ≤ 2 ^ 31 → slice_index cells (address_of b sp) ≡ 0
-      → ((c : Bases) (zs : List ℕ) → Goes (xor content r ∷ []) 1 (mem c f (record s { content = 0 }) zs)
+      → ((c : Bases) (zs : List ℕ) → Goes (xor CONTENT r ∷ []) 1 (mem c f (record s { content = 0 }) zs)
       (mem c f (record s { content = v }) zs))
       → Goes (store_cells sp r) 5 (mem b f (record s { content = 0 }) cells)
       (mem b f (record s { content = 0 }) (slice_set cells (address_of b sp) v))

@@ -5,11 +5,11 @@ use Rattle.std.proofs.lemmas.Bool.{cases_eq}
 use Rattle.pisa_isa.specs.Table.{word_of}
 use Rattle.rpp_words.specs.Words.{is_less}
 use Rattle.pisa_isa.specs.Machine.{Memory}
+use Rattle.code_conventions.specs.declared.registers.TheConstants.{AMOUNT, CONTENT, ITEM, LEFT, NOUGHT, OUTCOME, TRUTH}
 use Rattle.paired_code.specs.Machine.{reg}
 use Rattle.paired_code.specs.Pieces.{Done}
 use Rattle.roopl_semantics.specs.Operators.{is_true, truth_word}
-use Rattle.expr_uncompute.specs.Code.{content, left_operand, right_operand, item, outcome, truth, amount, place}
-use Rattle.expr_uncompute.specs.Code.{other_place, Target, xor, truth_cells}
+use Rattle.expr_uncompute.specs.Code.{Target, xor, truth_cells}
 use Rattle.expr_uncompute.specs.Number.{Bases}
 use Rattle.expr_uncompute.proofs.Comparing.{truth_of}
 use Rattle.expr_uncompute.proofs.Goes.{Goes, goes_cons, goes_to, goes_xor, goes_set}
@@ -92,9 +92,9 @@ module _ (b : Bases) where
     into_goes i at30 = goes_xor _ (put 30) (f 30) v refl (omega arith) (gives 30) (gives 30)
     into_goes i at31 = goes_xor _ (put 31) (f 31) v refl (omega arith) (gives 31) (gives 31)
 
-  -- kept in `amount`
+  -- kept in `AMOUNT`
   pub amount_goes : (r : ℕ) → HasResult r → (f : ℕ → ℕ) (s : Scratch) (zs : List ℕ) (v : ℕ) → reg (mem b f s zs) r ≡ v
-      → Goes (xor amount r ∷ []) 1 (mem b f (record s { amount = 0 }) zs) (mem b f (record s { amount = v }) zs)
+      → Goes (xor AMOUNT r ∷ []) 1 (mem b f (record s { amount = 0 }) zs) (mem b f (record s { amount = v }) zs)
   amount_goes r in_content f s zs v e = goes_to refl refl (ap (λ z. mem b f (record s { amount = z }) zs) e)
       (goes_set _ (λ z. mem b f (record s { amount = z }) zs) s.content refl (omega arith) (λ z. refl) (λ z. refl))
   amount_goes r in_outcome f s zs v e = goes_to refl refl (ap (λ z. mem b f (record s { amount = z }) zs) e)
@@ -107,9 +107,9 @@ module _ (b : Bases) where
       (goes_set _ (λ z. mem b f (record s { amount = z }) zs) s.truth refl (omega arith) (λ z. refl) (λ z. refl))
 
   -- into the word that is open
-  pub content_goes : (r : ℕ) → r ≢ content → HasResult r → (f : ℕ → ℕ) (s : Scratch) (v : ℕ)
+  pub content_goes : (r : ℕ) → r ≢ CONTENT → HasResult r → (f : ℕ → ℕ) (s : Scratch) (v : ℕ)
       → ((zs : List ℕ) → reg (mem b f s zs) r ≡ v) → (c : Bases) (zs : List ℕ)
-      → Goes (xor content r ∷ []) 1 (mem c f (record s { content = 0 }) zs)
+      → Goes (xor CONTENT r ∷ []) 1 (mem c f (record s { content = 0 }) zs)
       (mem c f (record s { content = v }) zs)
   content_goes r n in_content f s v e c zs = absurd (n refl)
   content_goes r n in_outcome f s v e c zs = goes_to refl refl
@@ -131,37 +131,37 @@ module _ (b : Bases) where
 
   -- and its truth
   truth_by : (r v : ℕ) (put : ℕ → Memory) → v < 2 ^ 32 → Goes
-      (Rattle.expr_uncompute.specs.Code.sltx truth Rattle.expr_uncompute.specs.Code.nought r ∷ []) 1 (put 0)
-      (put (word_of (is_less 0 v))) → Goes (Rattle.expr_uncompute.specs.Code.sltx truth r
-      Rattle.expr_uncompute.specs.Code.nought ∷ []) 1 (put (word_of (is_less 0 v)))
+      (Rattle.expr_uncompute.specs.Code.sltx TRUTH NOUGHT r ∷ []) 1 (put 0)
+      (put (word_of (is_less 0 v))) → Goes (Rattle.expr_uncompute.specs.Code.sltx TRUTH r
+      NOUGHT ∷ []) 1 (put (word_of (is_less 0 v)))
       (put (bit_xor (word_of (is_less 0 v)) (word_of (is_less v 0))))
-      → Goes (truth_cells truth r) 2 (put 0) (put (truth_word (is_true v)))
+      → Goes (truth_cells TRUTH r) 2 (put 0) (put (truth_word (is_true v)))
   truth_by r v put h g k = goes_cons g (goes_to refl refl (ap put (truth_of v h)) k)
 
-  pub truth_goes : (r : ℕ) → r ≢ truth → HasResult r → (f : ℕ → ℕ) (s : Scratch) (zs : List ℕ) (v : ℕ) → v < 2 ^ 32
-      → reg (mem b f s zs) r ≡ v → Goes (truth_cells truth r) 2 (mem b f (record s { truth = 0 }) zs)
+  pub truth_goes : (r : ℕ) → r ≢ TRUTH → HasResult r → (f : ℕ → ℕ) (s : Scratch) (zs : List ℕ) (v : ℕ) → v < 2 ^ 32
+      → reg (mem b f s zs) r ≡ v → Goes (truth_cells TRUTH r) 2 (mem b f (record s { truth = 0 }) zs)
       (mem b f (record s { truth = truth_word (is_true v) }) zs)
   truth_goes r n in_content f s zs v h e =
       let put : ℕ → Memory = λ z. mem b f (record s { truth = z }) zs in
-      subst (λ v. Goes (truth_cells truth content) 2 (put 0) (put (truth_word (is_true v)))) e
-      (truth_by content s.content put (rw e h) (goes_set _ put (word_of (is_less 0 s.content)) refl (omega arith)
+      subst (λ v. Goes (truth_cells TRUTH CONTENT) 2 (put 0) (put (truth_word (is_true v)))) e
+      (truth_by CONTENT s.content put (rw e h) (goes_set _ put (word_of (is_less 0 s.content)) refl (omega arith)
       (λ z. refl) (λ z. refl)) (goes_xor _ put _ (word_of (is_less s.content 0)) refl (omega arith) (λ z. refl)
       (λ z. refl)))
   truth_goes r n in_outcome f s zs v h e =
       let put : ℕ → Memory = λ z. mem b f (record s { truth = z }) zs in
-      subst (λ v. Goes (truth_cells truth outcome) 2 (put 0) (put (truth_word (is_true v)))) e
-      (truth_by outcome s.outcome put (rw e h) (goes_set _ put (word_of (is_less 0 s.outcome)) refl (omega arith)
+      subst (λ v. Goes (truth_cells TRUTH OUTCOME) 2 (put 0) (put (truth_word (is_true v)))) e
+      (truth_by OUTCOME s.outcome put (rw e h) (goes_set _ put (word_of (is_less 0 s.outcome)) refl (omega arith)
       (λ z. refl) (λ z. refl)) (goes_xor _ put _ (word_of (is_less s.outcome 0)) refl (omega arith) (λ z. refl)
       (λ z. refl)))
   truth_goes r n in_left f s zs v h e =
       let put : ℕ → Memory = λ z. mem b f (record s { truth = z }) zs in
-      subst (λ v. Goes (truth_cells truth left_operand) 2 (put 0) (put (truth_word (is_true v)))) e
-      (truth_by left_operand s.a put (rw e h) (goes_set _ put (word_of (is_less 0 s.a)) refl (omega arith)
+      subst (λ v. Goes (truth_cells TRUTH LEFT) 2 (put 0) (put (truth_word (is_true v)))) e
+      (truth_by LEFT s.a put (rw e h) (goes_set _ put (word_of (is_less 0 s.a)) refl (omega arith)
       (λ z. refl) (λ z. refl)) (goes_xor _ put _ (word_of (is_less s.a 0)) refl (omega arith) (λ z. refl)
       (λ z. refl)))
   truth_goes r n in_item f s zs v h e =
       let put : ℕ → Memory = λ z. mem b f (record s { truth = z }) zs in
-      subst (λ v. Goes (truth_cells truth item) 2 (put 0) (put (truth_word (is_true v)))) e
-      (truth_by item s.item put (rw e h) (goes_set _ put (word_of (is_less 0 s.item)) refl (omega arith) (λ z. refl)
+      subst (λ v. Goes (truth_cells TRUTH ITEM) 2 (put 0) (put (truth_word (is_true v)))) e
+      (truth_by ITEM s.item put (rw e h) (goes_set _ put (word_of (is_less 0 s.item)) refl (omega arith) (λ z. refl)
       (λ z. refl)) (goes_xor _ put _ (word_of (is_less s.item 0)) refl (omega arith) (λ z. refl) (λ z. refl)))
   truth_goes r n in_truth f s zs v h e = absurd (n refl)

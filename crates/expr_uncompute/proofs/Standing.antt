@@ -4,10 +4,11 @@ use Rattle.std.specs.Prelude.{slice_index, slice_set}
 use Rattle.code_conventions.specs.declared.memory.TheConstants.{HEADER_WORDS}
 use Rattle.rpp_words.specs.Words.{sum_of, difference_of}
 use Rattle.pisa_isa.specs.Machine.{Memory}
+use Rattle.code_conventions.specs.declared.registers.TheConstants.{AMOUNT, CONTENT, FRAME, OBJECT}
 use Rattle.refine_form.specs.declared.spot.Spot.{Spot}
 use Rattle.refine_form.specs.declared.spot.Spot.TheVariants.{Field, Frame}
 use Rattle.code_scope.specs.Visible.{offset_of}
-use Rattle.expr_uncompute.specs.Code.{object, frame, content, amount, addi, exch, base_of, onward}
+use Rattle.expr_uncompute.specs.Code.{addi, exch, base_of, onward}
 use Rattle.expr_uncompute.specs.Number.{Bases, address_of}
 use Rattle.expr_uncompute.proofs.Goes.{Goes, goes_to, goes_addi, goes_addi_word, goes_exch}
 use Rattle.expr_uncompute.proofs.Reading.{moved}
@@ -68,9 +69,9 @@ module _ (b : Bases) where
 module _ (f : ℕ → ℕ) where
   -- a register that is exchanged with the word at a base, by what stands in it
   pub record Exchanges (r : ℕ) (put : ℕ → Scratch) : Type 0 where
-    pub by_object : (c : Bases) (z : ℕ) (ws : List ℕ) → c.object < length ws → Goes (exch r object ∷ []) 1
+    pub by_object : (c : Bases) (z : ℕ) (ws : List ℕ) → c.object < length ws → Goes (exch r OBJECT ∷ []) 1
         (mem c f (put z) ws) (mem c f (put (slice_index ws c.object)) (slice_set ws c.object z))
-    pub by_frame : (c : Bases) (z : ℕ) (ws : List ℕ) → c.frame < length ws → Goes (exch r frame ∷ []) 1
+    pub by_frame : (c : Bases) (z : ℕ) (ws : List ℕ) → c.frame < length ws → Goes (exch r FRAME ∷ []) 1
         (mem c f (put z) ws) (mem c f (put (slice_index ws c.frame)) (slice_set ws c.frame z))
 
   pub exchanged : {r : ℕ} {put : ℕ → Scratch} → Exchanges r put → (c : Bases) (x : Spot) (a : ℕ) → stand c x ≡ a
@@ -84,7 +85,7 @@ module _ (f : ℕ → ℕ) where
       there (Field i) h = e.by_object c z ws h
       there (Frame i) h = e.by_frame c z ws h
 
-  pub amount_out : Exchanges amount (λ z. keeping z 0 0)
+  pub amount_out : Exchanges AMOUNT (λ z. keeping z 0 0)
   amount_out = record {
     by_object = λ c z ws h. goes_exch _ (λ z ws. mem c f (keeping z 0 0) ws) c.object z ws h refl (omega arith)
         (λ z ws. refl) (λ z ws. refl);
@@ -92,7 +93,7 @@ module _ (f : ℕ → ℕ) where
         (λ z ws. refl) (λ z ws. refl);
   }
 
-  pub content_out : (v : ℕ) → Exchanges content (λ z. record (keeping v 0 0) { content = z })
+  pub content_out : (v : ℕ) → Exchanges CONTENT (λ z. record (keeping v 0 0) { content = z })
   content_out v = record {
     by_object = λ c z ws h. goes_exch _ (λ z ws. mem c f (record (keeping v 0 0) { content = z }) ws) c.object z ws h
         refl (omega arith) (λ z ws. refl) (λ z ws. refl);

@@ -8,16 +8,18 @@ use Rattle.rpp_tree.specs.declared.tree.UpdateOp.TheVariants as update
 use Rattle.rpp_tree.specs.declared.tree.Ident.{Ident}
 use Rattle.rpp_tree.specs.Tree.{Expression, Number, Null, Variable, Element, Binary, Lvalue, Whole, Item}
 use Rattle.pisa_isa.specs.Machine.{Memory}
+use Rattle.code_conventions.specs.declared.registers.TheConstants.{AMOUNT, CONTENT, FIRST_WORD, OTHER_PLACE, PLACE}
+use Rattle.code_conventions.specs.declared.registers.TheConstants.{RIGHT, SECOND_WORD}
 use Rattle.paired_code.specs.declared.part.Symbol.{Symbol}
 use Rattle.roopl_semantics.specs.Operators.{updated}
 use Rattle.refine_form.specs.declared.spot.Spot.{Spot}
-use Rattle.expr_uncompute.specs.Code.{around, words, content, amount, place, other_place, first_word, second_word, exch}
+use Rattle.expr_uncompute.specs.Code.{around, words, exch}
 use Rattle.expr_uncompute.specs.Code.{update_cell, place_words, place_cells, fetch_cells, apart_cells, both_apart_cells}
 use Rattle.expr_uncompute.specs.Code.{update_middle, four_exchanges, swap_middle, found_update_cells, update_cells}
 use Rattle.expr_uncompute.specs.Code.{found_swap_cells, swap_cells, held_cells}
 use Rattle.expr_uncompute.specs.Code.{held_update_cells, operated_update_cells}
 use Rattle.expr_uncompute.specs.Code.{near_place_cells, near_middle, near_update_cells, item_update_cells}
-use Rattle.expr_uncompute.specs.Code.{near_swap_cells, right_operand, base_of, addi}
+use Rattle.expr_uncompute.specs.Code.{near_swap_cells, base_of, addi}
 use Rattle.code_scope.specs.Visible.{offset_of}
 use Rattle.expr_uncompute.specs.Held.{need, has_element, is_opened_once, is_near, is_near_index}
 use Rattle.expr_uncompute.specs.Number.{Bases, address_of, number, word_of, element_at, read_of, index_of}
@@ -66,7 +68,7 @@ module _ (b : Bases) (f : ℕ → ℕ) (v a : ℕ) where
   put z ws = mem b f (record (keeping v a 0) { content = z }) ws
 
   alter : (op : UpdateOp) (x : ℕ) (ws : List ℕ) → x < 2 ^ 32 → v < 2 ^ 32
-      → Goes (update_cell op content amount ∷ []) 1 (mem b f (record (keeping v a 0) { content = x }) ws)
+      → Goes (update_cell op CONTENT AMOUNT ∷ []) 1 (mem b f (record (keeping v a 0) { content = x }) ws)
       (mem b f (record (keeping v a 0) { content = updated op x v }) ws)
   alter update.Add x ws h k = goes_add _ (λ z. put z ws) x v h k refl (omega arith) (λ z. refl) (λ z. refl)
   alter update.Sub x ws h k = goes_sub _ (λ z. put z ws) x v h k refl (omega arith) (λ z. refl) (λ z. refl)
@@ -74,7 +76,7 @@ module _ (b : Bases) (f : ℕ → ℕ) (v a : ℕ) where
 
   pub update_mid : (op : UpdateOp) (x : ℕ) (ys : List ℕ) → a < length ys → slice_index ys a ≡ x → x < 2 ^ 32
       → v < 2 ^ 32
-      → Goes (exch content place ∷ update_cell op content amount ∷ exch content place ∷ []) 3
+      → Goes (exch CONTENT PLACE ∷ update_cell op CONTENT AMOUNT ∷ exch CONTENT PLACE ∷ []) 3
       (mem b f (keeping v a 0) ys) (mem b f (keeping v a 0) (slice_set ys a (updated op x v)))
   update_mid op x ys h e xw vw =
       let ws : List ℕ = slice_set ys a 0 in
@@ -94,10 +96,10 @@ module _ (b : Bases) (f : ℕ → ℕ) (p q : ℕ) where
   both x y ws = mem b f (record (keeping 0 p q) { first = x; second = y }) ws
 
   pub swap_mid : (ys : List ℕ) → p < length ys → q < length ys
-      → Goes (four_exchanges place other_place) 4 (mem b f (keeping 0 p q) ys)
+      → Goes (four_exchanges PLACE OTHER_PLACE) 4 (mem b f (keeping 0 p q) ys)
       (mem b f (keeping 0 p q) (swapped_at p q ys))
-  swap_mid ys h k = four_swap both p q (exch first_word place) (exch second_word other_place) (exch second_word place)
-      (exch first_word other_place)
+  swap_mid ys h k = four_swap both p q (exch FIRST_WORD PLACE) (exch SECOND_WORD OTHER_PLACE) (exch SECOND_WORD PLACE)
+      (exch FIRST_WORD OTHER_PLACE)
       (λ x y ws l. goes_exch _ (λ z zs. both z y zs) p x ws l refl (omega arith) (λ z zs. refl) (λ z zs. refl))
       (λ x y ws l. goes_exch _ (λ z zs. both x z zs) q y ws l refl (omega arith) (λ z zs. refl) (λ z zs. refl))
       (λ x y ws l. goes_exch _ (λ z zs. both x z zs) p y ws l refl (omega arith) (λ z zs. refl) (λ z zs. refl))
@@ -120,15 +122,15 @@ module _ (spot : List ℕ → Spot) (free : ℕ) (b : Bases) where
       omega arith
 
   module _ (f : ℕ → ℕ) (target : Lvalue) (e : Expression) where
-    -- the address in `place` and the value in `amount`
+    -- the address in `PLACE` and the value in `AMOUNT`
     pub found_goes : (zs : List ℕ) (a v : ℕ) → FitFrom spot free b target (words e) zs → Sees spot b low zs e
         → place_address spot b zs target ≡ Ok a → number spot b zs e ≡ Ok v
-        → Goes (place_cells spot free target 0 place ++ fetch_cells spot free e (place_words target) amount)
+        → Goes (place_cells spot free target 0 PLACE ++ fetch_cells spot free e (place_words target) AMOUNT)
         (place_steps target + fetch_steps e) (mem b f (keeping 0 0 0) zs)
         (mem b f (keeping v a 0) (filled spot free b target e zs))
     found_goes zs a v h s na nv =
         let zs1 : List ℕ = placed spot free b target 0 zs in
-        goes_seq (place_goes spot free b place f 0 0 0 0 a 0 a (place_points spot free b f 0 0 a) 0 zs target
+        goes_seq (place_goes spot free b PLACE f 0 0 0 0 a 0 a (place_points spot free b f 0 0 a) 0 zs target
         (place_fits spot free b target (words e) zs h) na)
         (fetch_goes spot free b f a 0 e (place_words target) zs1 (value_fits spot free b target e zs h s) v
         (number_same spot b low zs zs1 (placed_below spot free b target zs) e s ∙ nv))
@@ -188,7 +190,7 @@ module _ (spot : List ℕ → Spot) (free : ℕ) (b : Bases) where
     -- place, value and check
     pub held_goes : (zs : List ℕ) (a v : ℕ) → FitFrom spot free b target (words e) zs → Sees spot b low zs e
         → place_address spot b zs target ≡ Ok a → number spot b zs e ≡ Ok v → update_shares spot b zs target e ≡ false
-        → Goes ((place_cells spot free target 0 place ++ fetch_cells spot free e (place_words target) amount)
+        → Goes ((place_cells spot free target 0 PLACE ++ fetch_cells spot free e (place_words target) AMOUNT)
         ++ apart_cells spot target (index_of target) e) (place_steps target + fetch_steps e + apart_steps target
         (index_of target) e) (mem b f (keeping 0 0 0) zs)
         (mem b f (keeping v a 0) (filled spot free b target e zs))
@@ -197,21 +199,21 @@ module _ (spot : List ℕ → Spot) (free : ℕ) (b : Bases) where
     -- the place's fault comes first, whatever is to be done
     pub found_traps_place : (check mid : List Symbol) (zs : List ℕ) (c : ℕ) → FitFrom spot free b target (words e) zs
         → place_address spot b zs target ≡ Err c
-        → TrapsBoth (around ((place_cells spot free target 0 place
-        ++ fetch_cells spot free e (place_words target) amount) ++ check) mid) (place_steps target) c
+        → TrapsBoth (around ((place_cells spot free target 0 PLACE
+        ++ fetch_cells spot free e (place_words target) AMOUNT) ++ check) mid) (place_steps target) c
         (mem b f (keeping 0 0 0) zs)
     found_traps_place check mid zs c h n =
-        traps_around mid (traps_first check (traps_first (fetch_cells spot free e (place_words target) amount)
-        (place_traps spot free b place f 0 0 0 target 0 c zs (place_fits spot free b target (words e) zs h) n)))
+        traps_around mid (traps_first check (traps_first (fetch_cells spot free e (place_words target) AMOUNT)
+        (place_traps spot free b PLACE f 0 0 0 target 0 c zs (place_fits spot free b target (words e) zs h) n)))
 
     pub found_traps_value : (check mid : List Symbol) (zs : List ℕ) (a c : ℕ) → FitFrom spot free b target (words e) zs
         → Sees spot b low zs e → place_address spot b zs target ≡ Ok a → number spot b zs e ≡ Err c
-        → TrapsBoth (around ((place_cells spot free target 0 place
-        ++ fetch_cells spot free e (place_words target) amount) ++ check) mid)
+        → TrapsBoth (around ((place_cells spot free target 0 PLACE
+        ++ fetch_cells spot free e (place_words target) AMOUNT) ++ check) mid)
         (place_steps target + fetch_steps e) c (mem b f (keeping 0 0 0) zs)
     found_traps_value check mid zs a c h s na n =
         let zs1 : List ℕ = placed spot free b target 0 zs in
-        traps_around mid (traps_first check (traps_then (place_goes spot free b place f 0 0 0 0 a 0 a
+        traps_around mid (traps_first check (traps_then (place_goes spot free b PLACE f 0 0 0 0 a 0 a
         (place_points spot free b f 0 0 a) 0 zs target (place_fits spot free b target (words e) zs h) na)
         (fetch_traps spot free b f a 0 e (place_words target) zs1 (value_fits spot free b target e zs h s) c
         (number_same spot b low zs zs1 (placed_below spot free b target zs) e s ∙ n))))
@@ -220,8 +222,8 @@ module _ (spot : List ℕ → Spot) (free : ℕ) (b : Bases) where
     pub found_traps_sharing : (mid : List Symbol) (zs : List ℕ) (a v : ℕ) → FitFrom spot free b target (words e) zs
         → Sees spot b low zs e → place_address spot b zs target ≡ Ok a → number spot b zs e ≡ Ok v
         → update_shares spot b zs target e ≡ true
-        → TrapsBoth (around ((place_cells spot free target 0 place
-        ++ fetch_cells spot free e (place_words target) amount)
+        → TrapsBoth (around ((place_cells spot free target 0 PLACE
+        ++ fetch_cells spot free e (place_words target) AMOUNT)
         ++ apart_cells spot target (index_of target) e) mid)
         (place_steps target + fetch_steps e + apart_steps target (index_of target) e) 16
         (mem b f (keeping 0 0 0) zs)
@@ -445,14 +447,14 @@ module _ (spot : List ℕ → Spot) (free : ℕ) (b : Bases) where
     pub both_found : (zs : List ℕ) (p q : ℕ) → FitFrom spot free b target (place_words other) zs
         → Sees spot b low zs (read_of other) → place_address spot b zs target ≡ Ok p
         → place_address spot b zs other ≡ Ok q
-        → Goes (place_cells spot free target 0 place ++ place_cells spot free other (place_words target) other_place)
+        → Goes (place_cells spot free target 0 PLACE ++ place_cells spot free other (place_words target) OTHER_PLACE)
         (place_steps target + place_steps other) (mem b f (keeping 0 0 0) zs)
         (mem b f (keeping 0 p q) (both_placed spot free b target other zs))
     both_found zs p q h s np nq =
         let zs1 : List ℕ = placed spot free b target 0 zs in
-        goes_seq (place_goes spot free b place f 0 0 0 0 p 0 p (place_points spot free b f 0 0 p) 0 zs target
+        goes_seq (place_goes spot free b PLACE f 0 0 0 0 p 0 p (place_points spot free b f 0 0 p) 0 zs target
         (place_fits spot free b target (place_words other) zs h) np)
-        (place_goes spot free b other_place f 0 p 0 0 p q q (other_points spot free b f 0 p q) (place_words target) zs1
+        (place_goes spot free b OTHER_PLACE f 0 p 0 0 p q q (other_points spot free b f 0 p q) (place_words target) zs1
         other (other_fits spot free b target other zs h s)
         (address_same other zs zs1 (placed_below spot free b target zs) s ∙ nq))
 
@@ -519,7 +521,7 @@ module _ (spot : List ℕ → Spot) (free : ℕ) (b : Bases) where
     both_held : (zs : List ℕ) (p q : ℕ) → FitFrom spot free b target (place_words other) zs
         → Sees spot b low zs (read_of other) → place_address spot b zs target ≡ Ok p
         → place_address spot b zs other ≡ Ok q → swap_shares spot b zs target other ≡ false
-        → Goes ((place_cells spot free target 0 place ++ place_cells spot free other (place_words target) other_place)
+        → Goes ((place_cells spot free target 0 PLACE ++ place_cells spot free other (place_words target) OTHER_PLACE)
         ++ both_apart_cells spot target other) (place_steps target + place_steps other + both_apart_steps target
         other) (mem b f (keeping 0 0 0) zs) (mem b f (keeping 0 p q) (both_placed spot free b target other zs))
     both_held zs p q h s np nq apart = goes_seq (both_found zs p q h s np nq) (both_apart_on zs p q h s apart)
@@ -560,26 +562,26 @@ module _ (spot : List ℕ → Spot) (free : ℕ) (b : Bases) where
 
     pub both_traps_first : (check mid : List Symbol) (zs : List ℕ) (c : ℕ)
         → FitFrom spot free b target (place_words other) zs → place_address spot b zs target ≡ Err c
-        → TrapsBoth (around ((place_cells spot free target 0 place
-        ++ place_cells spot free other (place_words target) other_place) ++ check) mid) (place_steps target) c
+        → TrapsBoth (around ((place_cells spot free target 0 PLACE
+        ++ place_cells spot free other (place_words target) OTHER_PLACE) ++ check) mid) (place_steps target) c
         (mem b f (keeping 0 0 0) zs)
     both_traps_first check mid zs c h n =
-        traps_around mid (traps_first check (traps_first (place_cells spot free other (place_words target) other_place)
-        (place_traps spot free b place f 0 0 0 target 0 c zs
+        traps_around mid (traps_first check (traps_first (place_cells spot free other (place_words target) OTHER_PLACE)
+        (place_traps spot free b PLACE f 0 0 0 target 0 c zs
         (place_fits spot free b target (place_words other) zs h) n)))
 
     pub both_traps_second : (check mid : List Symbol) (zs : List ℕ) (p c : ℕ)
         → FitFrom spot free b target (place_words other) zs → Sees spot b low zs (read_of other)
         → place_address spot b zs target ≡ Ok p → place_address spot b zs other ≡ Err c
-        → TrapsBoth (around ((place_cells spot free target 0 place
-        ++ place_cells spot free other (place_words target) other_place) ++ check) mid)
+        → TrapsBoth (around ((place_cells spot free target 0 PLACE
+        ++ place_cells spot free other (place_words target) OTHER_PLACE) ++ check) mid)
         (place_steps target + place_steps other) c (mem b f (keeping 0 0 0) zs)
     both_traps_second check mid zs p c h s np n =
         let zs1 : List ℕ = placed spot free b target 0 zs in
-        traps_around mid (traps_first check (traps_then (place_goes spot free b place f 0 0 0 0 p 0 p
+        traps_around mid (traps_first check (traps_then (place_goes spot free b PLACE f 0 0 0 0 p 0 p
         (place_points spot free b f 0 0 p) 0 zs target
         (place_fits spot free b target (place_words other) zs h) np)
-        (place_traps spot free b other_place f 0 p 0 other (place_words target) c zs1
+        (place_traps spot free b OTHER_PLACE f 0 p 0 other (place_words target) c zs1
         (other_fits spot free b target other zs h s) (address_same other zs zs1
         (placed_below spot free b target zs) s ∙ n))))
 
@@ -589,8 +591,8 @@ module _ (spot : List ℕ → Spot) (free : ℕ) (b : Bases) where
         → TrapsBoth (found_swap_cells spot free target other) (place_steps target + place_steps other + both_apart_steps
         target other) 16 (mem b f (keeping 0 0 0) zs)
     found_swap_traps_sharing zs p q h s np nq shared =
-        traps_around (exch first_word place ∷ exch second_word other_place ∷ exch second_word place
-        ∷ exch first_word other_place ∷ []) (traps_then (both_found zs p q h s np nq)
+        traps_around (exch FIRST_WORD PLACE ∷ exch SECOND_WORD OTHER_PLACE ∷ exch SECOND_WORD PLACE
+        ∷ exch FIRST_WORD OTHER_PLACE ∷ []) (traps_then (both_found zs p q h s np nq)
         (both_sharing_traps zs p q h s shared))
 
   module _ (f : ℕ → ℕ) where
@@ -645,7 +647,7 @@ module _ (spot : List ℕ → Spot) (free : ℕ) (b : Bases) where
         (there_goes b f (operands 0 0 0 n.x a) ys' x (omega arith)))
 
     by_first : (name other : Ident) (index : Expression) → Swaps f (Whole name) (Item other index)
-        (near_swap_cells spot free (base_of (spot name.text)) right_operand (spot name.text) other.text index)
+        (near_swap_cells spot free (base_of (spot name.text)) RIGHT (spot name.text) other.text index)
         (near_swap_steps index)
     by_first name other index zs zs' p q h h' s s' np np' nq nq' st so apart apart' e =
         let x : ℕ = address_of b (spot name.text) in
@@ -653,14 +655,14 @@ module _ (spot : List ℕ → Spot) (free : ℕ) (b : Bases) where
         let fits = h.fits in
         let ql : q < low = place_low (Item other index) q zs s nq in
         near_swap_goes (spot name.text) other index zs zs' x q q
-        (four_exchanges (base_of (spot name.text)) right_operand) (omega arith) ql (omega arith)
+        (four_exchanges (base_of (spot name.text)) RIGHT) (omega arith) ql (omega arith)
         (other_fits spot free b (Whole name) (Item other index) zs h s)
         (other_fits spot free b (Whole name) (Item other index) zs' h' s') nq nq' so
         (e ∙ sym (ap (λ i. swapped_at i q zs) (ok_is np)))
         (λ i ys same. variable_first b f i q (spot name.text) ys (omega arith) (omega arith))
 
     by_second : (name other : Ident) (index : Expression) → Swaps f (Item name index) (Whole other)
-        (near_swap_cells spot free right_operand (base_of (spot other.text)) (spot other.text) name.text index)
+        (near_swap_cells spot free RIGHT (base_of (spot other.text)) (spot other.text) name.text index)
         (near_swap_steps index)
     by_second name other index zs zs' p q h h' s s' np np' nq nq' st so apart apart' e =
         let x : ℕ = address_of b (spot other.text) in
@@ -668,7 +670,7 @@ module _ (spot : List ℕ → Spot) (free : ℕ) (b : Bases) where
         let fits = h.fits in
         let pl : p < low = place_low (Item name index) p zs h.sees np in
         near_swap_goes (spot other.text) name index zs zs' p x p
-        (four_exchanges right_operand (base_of (spot other.text))) pl (omega arith) (omega arith)
+        (four_exchanges RIGHT (base_of (spot other.text))) pl (omega arith) (omega arith)
         (place_fits spot free b (Item name index) (place_words (Whole other)) zs h)
         (place_fits spot free b (Item name index) (place_words (Whole other)) zs' h') np np' st
         (e ∙ sym (ap (λ i. swapped_at p i zs) (ok_is nq)))
@@ -679,7 +681,7 @@ module _ (spot : List ℕ → Spot) (free : ℕ) (b : Bases) where
     first_goes name other index = by (is_near_index index)
       where
         by : (t : Bool) → Swaps f (Whole name) (Item other index)
-            (if t then near_swap_cells spot free (base_of (spot name.text)) right_operand (spot name.text) other.text
+            (if t then near_swap_cells spot free (base_of (spot name.text)) RIGHT (spot name.text) other.text
             index else found_swap_cells spot free (Whole name) (Item other index))
             (if t then near_swap_steps index else found_swap_steps (Whole name) (Item other index))
         by true = by_first name other index
@@ -690,7 +692,7 @@ module _ (spot : List ℕ → Spot) (free : ℕ) (b : Bases) where
     second_goes name other index = by (is_near_index index)
       where
         by : (t : Bool) → Swaps f (Item name index) (Whole other)
-            (if t then near_swap_cells spot free right_operand (base_of (spot other.text)) (spot other.text) name.text
+            (if t then near_swap_cells spot free RIGHT (base_of (spot other.text)) (spot other.text) name.text
             index else found_swap_cells spot free (Item name index) (Whole other))
             (if t then near_swap_steps index else found_swap_steps (Item name index) (Whole other))
         by true = by_second name other index
@@ -721,11 +723,11 @@ module _ (spot : List ℕ → Spot) (free : ℕ) (b : Bases) where
     swap_traps_first (Item name index) (Whole other) zs c h n = by (is_near_index index)
       where
         by : (t : Bool) → TrapsBoth (if t
-            then near_swap_cells spot free right_operand (base_of (spot other.text)) (spot other.text) name.text index
+            then near_swap_cells spot free RIGHT (base_of (spot other.text)) (spot other.text) name.text index
             else found_swap_cells spot free (Item name index) (Whole other)) (place_steps (Item name index)) c
             (mem b f (keeping 0 0 0) zs)
         by true = near_swap_traps (spot other.text) name index
-            (four_exchanges right_operand (base_of (spot other.text))) zs c
+            (four_exchanges RIGHT (base_of (spot other.text))) zs c
             (place_fits spot free b (Item name index) (place_words (Whole other)) zs h) n
         by false = both_traps_first f (Item name index) (Whole other)
             (both_apart_cells spot (Item name index) (Whole other)) swap_middle zs c h n
@@ -741,11 +743,11 @@ module _ (spot : List ℕ → Spot) (free : ℕ) (b : Bases) where
     swap_traps_second (Whole name) (Item other index) zs p c h s np n = by (is_near_index index)
       where
         by : (t : Bool) → TrapsBoth (if t
-            then near_swap_cells spot free (base_of (spot name.text)) right_operand (spot name.text) other.text index
+            then near_swap_cells spot free (base_of (spot name.text)) RIGHT (spot name.text) other.text index
             else found_swap_cells spot free (Whole name) (Item other index))
             (place_steps (Whole name) + place_steps (Item other index)) c (mem b f (keeping 0 0 0) zs)
         by true = both_more (omega arith) (near_swap_traps (spot name.text) other index
-            (four_exchanges (base_of (spot name.text)) right_operand) zs c
+            (four_exchanges (base_of (spot name.text)) RIGHT) zs c
             (other_fits spot free b (Whole name) (Item other index) zs h s) n)
         by false = both_traps_second f (Whole name) (Item other index)
             (both_apart_cells spot (Whole name) (Item other index)) swap_middle zs p c h s np n
@@ -767,7 +769,7 @@ module _ (spot : List ℕ → Spot) (free : ℕ) (b : Bases) where
     swap_traps_sharing (Whole name) (Item other index) zs p q h s np nq shared = by (is_near_index index) refl
       where
         by : (t : Bool) → is_near_index index ≡ t → TrapsBoth (if t
-            then near_swap_cells spot free (base_of (spot name.text)) right_operand (spot name.text) other.text index
+            then near_swap_cells spot free (base_of (spot name.text)) RIGHT (spot name.text) other.text index
             else found_swap_cells spot free (Whole name) (Item other index))
             (place_steps (Whole name) + place_steps (Item other index) + both_apart_steps (Whole name)
             (Item other index)) 16 (mem b f (keeping 0 0 0) zs)
@@ -776,7 +778,7 @@ module _ (spot : List ℕ → Spot) (free : ℕ) (b : Bases) where
     swap_traps_sharing (Item name index) (Whole other) zs p q h s np nq shared = by (is_near_index index) refl
       where
         by : (t : Bool) → is_near_index index ≡ t → TrapsBoth (if t
-            then near_swap_cells spot free right_operand (base_of (spot other.text)) (spot other.text) name.text index
+            then near_swap_cells spot free RIGHT (base_of (spot other.text)) (spot other.text) name.text index
             else found_swap_cells spot free (Item name index) (Whole other))
             (place_steps (Item name index) + place_steps (Whole other) + both_apart_steps (Item name index)
             (Whole other)) 16 (mem b f (keeping 0 0 0) zs)

@@ -9,7 +9,7 @@ use Rattle.paired_code.specs.Machine.{reg}
 use Rattle.paired_code.specs.declared.part.Symbol.{Symbol}
 use Rattle.roopl_semantics.specs.Operators.{is_true, truth_word}
 use Rattle.refine_form.specs.declared.spot.Spot.{Spot}
-use Rattle.expr_uncompute.specs.Code.{truth, around, xor, truth_cells, open_cells, parts_cells, result_of}
+use Rattle.expr_uncompute.specs.Code.{around, xor, truth_cells, open_cells, parts_cells, result_of}
 use Rattle.expr_uncompute.specs.Code.{operator_result}
 use Rattle.expr_uncompute.specs.Number.{Bases, number}
 use Rattle.expr_uncompute.specs.Steps.{open_steps, parts_steps, prepared_value_steps, prepared_test_steps}
@@ -24,6 +24,7 @@ use Rattle.expr_uncompute.proofs.Stored.{parted}
 use Rattle.expr_uncompute.proofs.Opening.{based, emptied, opened, open_goes, open_gives, result_has}
 use Rattle.expr_uncompute.proofs.Prepare.{Fit, parts_done, parted_sees, parted_number, parted_room, parts_goes}
 use Rattle.expr_uncompute.proofs.Prepare.{NodeFault, early, late, node_fault}
+use Rattle.code_conventions.specs.declared.registers.TheConstants.{TRUTH}
 
 -- a register is as it was after the same xor again
 pub written_twice : (b : Bases) (f : ℕ → ℕ) (s : Scratch) (zs : List ℕ) (i v : ℕ) → IsTarget i
@@ -44,13 +45,13 @@ written_twice b f s zs i v at29 = ap (λ z. mem b (written f 29 z) s zs) (xor-tw
 written_twice b f s zs i v at30 = ap (λ z. mem b (written f 30 z) s zs) (xor-twice (f 30) v)
 written_twice b f s zs i v at31 = ap (λ z. mem b (written f 31 z) s zs) (xor-twice (f 31) v)
 
-operator_apart : (o : BinOp) → operator_result o ≢ truth
+operator_apart : (o : BinOp) → operator_result o ≢ TRUTH
 operator_apart op.Add h = omega arith
 operator_apart op.Sub h = omega arith
 operator_apart op.Xor h = omega arith
 operator_apart _ h = omega arith
 
-result_apart : (e : Expression) → result_of e ≢ truth
+result_apart : (e : Expression) → result_of e ≢ TRUTH
 result_apart (Number at word) h = omega arith
 result_apart (Null at) h = omega arith
 result_apart (Variable name) h = omega arith
@@ -104,7 +105,7 @@ module _ (spot : List ℕ → Spot) (free : ℕ) (b : Bases) where
       abbrev with_truth : Scratch
       with_truth = record (opened spot free b m p q whole_parts e) { truth = told }
 
-      truth_there : (g : ℕ → ℕ) → Goes (open_cells spot free e i ++ truth_cells truth (result_of e)) (open_steps e + 2)
+      truth_there : (g : ℕ → ℕ) → Goes (open_cells spot free e i ++ truth_cells TRUTH (result_of e)) (open_steps e + 2)
           (mem b g (keeping m p q) whole_parts) (mem (based spot free b e) g with_truth
           (emptied spot free b e whole_parts))
       truth_there g =
@@ -125,13 +126,13 @@ module _ (spot : List ℕ → Spot) (free : ℕ) (b : Bases) where
           no_truth (Binary at o left right) = refl
 
       pub test_into : Goes (around (parts_cells spot free e i)
-          (around (open_cells spot free e i ++ truth_cells truth (result_of e)) (xor into truth ∷ [])))
+          (around (open_cells spot free e i ++ truth_cells TRUTH (result_of e)) (xor into TRUTH ∷ [])))
           (prepared_test_steps e)
           (mem b f (keeping m p q) zs) (mem b (written f into (bit_xor (f into) (truth_word (is_true v))))
           (keeping m p q) zs)
       test_into =
           let g : ℕ → ℕ = written f into (bit_xor (f into) told) in
-          let sink = into_goes (based spot free b e) f with_truth (emptied spot free b e whole_parts) truth told
+          let sink = into_goes (based spot free b e) f with_truth (emptied spot free b e whole_parts) TRUTH told
           in_truth refl into t in
           goes_around (parts_goes spot free b m p q f e i v zs fit n) (goes_around (truth_there f) sink (truth_there g))
           (parts_goes spot free b m p q g e i v zs fit n)

@@ -5,12 +5,13 @@ use Rattle.std.proofs.Common.{arith}
 use Rattle.std.specs.Prelude.{slice_index, bit_xor, if◌then◌else◌, Result, Ok, Err}
 use Rattle.rpp_tree.specs.Tree.{Expression}
 use Rattle.pisa_isa.specs.Machine.{Memory}
+use Rattle.code_conventions.specs.declared.registers.TheConstants.{TRUTH}
 use Rattle.paired_code.specs.Machine.{Image, reg, with_reg}
 use Rattle.paired_code.specs.Pieces.{Done, Trapped, Runs}
 use Rattle.paired_code.specs.declared.part.Symbol.{Symbol}
 use Rattle.roopl_semantics.specs.Operators.{is_true, truth_word}
 use Rattle.refine_form.specs.declared.spot.Spot.{Spot}
-use Rattle.expr_uncompute.specs.Code.{Target, words, truth, xor, truth_cells, value_cells, test_cells, result_of}
+use Rattle.expr_uncompute.specs.Code.{Target, words, xor, truth_cells, value_cells, test_cells, result_of}
 use Rattle.expr_uncompute.specs.Code.{prepared_value_cells, prepared_test_cells, held_value_cells, held_test_cells}
 use Rattle.expr_uncompute.specs.Held.{is_held}
 use Rattle.expr_uncompute.proofs.HeldBounds.{held_few}
@@ -145,7 +146,7 @@ module _ (spot : List ℕ → Spot) (free into : ℕ) (e : Expression) (m : Memo
         (written_twice b (reg m) (keeping 0 0 0) m.cells into (truth_word (is_true v)) t) back) im d)
     test_by (Err c) n =
         let a = (both_more (omega arith) (into_traps spot free b 0 0 0 e 0 m.cells (fit_of spot free e m ready sees)
-        (reg m) c (truth_cells truth (result_of e)) (xor into truth ∷ []) n)).runs im d in
+        (reg m) c (truth_cells TRUTH (result_of e)) (xor into TRUTH ∷ []) n)).runs im d in
         (a.0, a.1, subst (λ z. Runs im (prepared_test_cells spot free e into) d z (Trapped c a.0)) (sym same) a.2)
 
     prepared_test : Xored into (prepared_test_steps e) m (truth_of (number spot (bases_of m) m.cells e)) im

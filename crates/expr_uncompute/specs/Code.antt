@@ -14,6 +14,12 @@ use Rattle.rpp_tree.specs.Tree.{Item}
 use Rattle.pisa_isa.specs.declared.cell.Op.{Op}
 use Rattle.pisa_isa.specs.declared.cell.Op.TheVariants.{Add, Sub, Xor, Addi, Xori, Andx, Orx, Sltx}
 use Rattle.pisa_isa.specs.declared.cell.Op.TheVariants.{Exch}
+use Rattle.code_conventions.specs.declared.registers.TheConstants.{AMOUNT, CONTENT, FIRST_WORD}
+use Rattle.code_conventions.specs.declared.registers.TheConstants.{FRAME, ITEM, LEFT, LEFT_TRUTH}
+use Rattle.code_conventions.specs.declared.registers.TheConstants.{LINK, NOUGHT, OBJECT}
+use Rattle.code_conventions.specs.declared.registers.TheConstants.{OTHER_PLACE, OUTCOME, PLACE}
+use Rattle.code_conventions.specs.declared.registers.TheConstants.{RIGHT, RIGHT_TRUTH, SECOND_WORD}
+use Rattle.code_conventions.specs.declared.registers.TheConstants.{TRUTH}
 use Rattle.paired_code.specs.declared.part.Symbol.{Symbol}
 use Rattle.paired_code.specs.declared.part.Symbol.TheVariants.{Own}
 use Rattle.paired_code.specs.Layout.{mirror_cells, check_cells}
@@ -25,75 +31,15 @@ use Rattle.code_scope.specs.Visible.{offset_of}
 use Rattle.expr_uncompute.specs.Number.{index_of}
 use Rattle.expr_uncompute.specs.declared.held.Kind.{Kind}
 use Rattle.expr_uncompute.specs.declared.held.Kind.TheVariants.{Changes, Gives, Joins, Neither}
-use Rattle.expr_uncompute.specs.Held.{kind, past, need, told_need, left_at, right_at, is_held, is_opened_once, is_near}
-use Rattle.expr_uncompute.specs.Held.{is_near_index, is_variable, is_literal, literal_in, is_zero, spot_in}
+use Rattle.expr_uncompute.specs.Held.{kind, past, need, told_need, left_at, right_at, is_held}
+use Rattle.expr_uncompute.specs.Held.{is_opened_once, is_near}
+use Rattle.expr_uncompute.specs.Held.{is_near_index, is_variable, is_literal, literal_in, is_zero}
+use Rattle.expr_uncompute.specs.Held.{spot_in}
 use Rattle.expr_uncompute.specs.Held.{is_truth}
-
--- ---- the registers
-
-abbrev pub link : ℕ
-link = 2
-
-abbrev pub object : ℕ
-object = 3
-
-abbrev pub frame : ℕ
-frame = 4
-
--- the word that is read
-abbrev pub content : ℕ
-content = 6
-
--- always 0
-abbrev pub nought : ℕ
-nought = 7
-
--- whether an operand is true, and what an operator gives
-abbrev pub left_truth : ℕ
-left_truth = 8
-
-abbrev pub right_truth : ℕ
-right_truth = 9
-
-abbrev pub outcome : ℕ
-outcome = 10
-
--- the operands: of an element, its index and its array
-abbrev pub left_operand : ℕ
-left_operand = 16
-
-abbrev pub right_operand : ℕ
-right_operand = 17
-
--- an element
-abbrev pub item : ℕ
-item = 18
-
--- the value that an update adds
-abbrev pub amount : ℕ
-amount = 19
-
--- the address of a place, and of a second one
-abbrev pub place : ℕ
-place = 20
-
-abbrev pub other_place : ℕ
-other_place = 21
-
--- the words of two places that are swapped
-abbrev pub first_word : ℕ
-first_word = 22
-
-abbrev pub second_word : ℕ
-second_word = 23
-
--- the truth of a value
-abbrev pub truth : ℕ
-truth = 24
 
 -- a register that no code of expressions uses for itself
 abbrev pub Target : ℕ → Type 0
-Target r = (r < 2) ⊎ (((10 < r) × (r < 16)) ⊎ ((24 < r) × (r < 32)))
+Target r = (r < LINK) ⊎ (((OUTCOME < r) × (r < LEFT)) ⊎ ((TRUTH < r) × (r < 32)))
 
 -- ---- cells
 
@@ -140,19 +86,19 @@ around w mid = w ++ (mid ++ mirror_cells w)
 -- ---- words of memory
 
 abbrev pub base_of : Spot → ℕ
-base_of (Field i) = object
-base_of (Frame i) = frame
+base_of (Field i) = OBJECT
+base_of (Frame i) = FRAME
 
--- the base goes to a spot, whose word is then in `content`
+-- the base goes to a spot, whose word is then in `CONTENT`
 abbrev pub reach_cells : Spot → List Symbol
-reach_cells s = addi (base_of s) (offset_of s) ∷ exch content (base_of s) ∷ []
+reach_cells s = addi (base_of s) (offset_of s) ∷ exch CONTENT (base_of s) ∷ []
 
 abbrev pub copy_cells : Spot → ℕ → List Symbol
-copy_cells s into = around (reach_cells s) (xor into content ∷ [])
+copy_cells s into = around (reach_cells s) (xor into CONTENT ∷ [])
 
 -- register r xored into the word
 abbrev pub store_cells : Spot → ℕ → List Symbol
-store_cells s r = around (reach_cells s) (xor content r ∷ [])
+store_cells s r = around (reach_cells s) (xor CONTENT r ∷ [])
 
 -- ---- one node
 
@@ -166,74 +112,74 @@ words (Binary at op left right) = 1 + (words left + words right)
 
 -- the truth of register a in register t
 abbrev pub truth_cells : (t a : ℕ) → List Symbol
-truth_cells t a = sltx t nought a ∷ sltx t a nought ∷ []
+truth_cells t a = sltx t NOUGHT a ∷ sltx t a NOUGHT ∷ []
 
 -- an operator's result, from its operands
 abbrev pub operator_cells : BinOp → List Symbol
-operator_cells op.Add = add left_operand right_operand ∷ []
-operator_cells op.Sub = sub left_operand right_operand ∷ []
-operator_cells op.Xor = xor left_operand right_operand ∷ []
-operator_cells op.And = andx outcome left_operand right_operand ∷ []
-operator_cells op.Or = orx outcome left_operand right_operand ∷ []
-operator_cells op.AndAlso = truth_cells left_truth left_operand
-    ++ (truth_cells right_truth right_operand ++ andx outcome left_truth right_truth ∷ [])
-operator_cells op.OrElse = truth_cells left_truth left_operand
-    ++ (truth_cells right_truth right_operand ++ orx outcome left_truth right_truth ∷ [])
-operator_cells op.Less = sltx outcome left_operand right_operand ∷ []
-operator_cells op.Greater = sltx outcome right_operand left_operand ∷ []
-operator_cells op.AtMost = sltx outcome right_operand left_operand ∷ xori outcome 1 ∷ []
-operator_cells op.AtLeast = sltx outcome left_operand right_operand ∷ xori outcome 1 ∷ []
-operator_cells op.Equal = sltx outcome left_operand right_operand
-    ∷ sltx outcome right_operand left_operand ∷ xori outcome 1 ∷ []
-operator_cells op.NotEqual = sltx outcome left_operand right_operand
-    ∷ sltx outcome right_operand left_operand ∷ []
+operator_cells op.Add = add LEFT RIGHT ∷ []
+operator_cells op.Sub = sub LEFT RIGHT ∷ []
+operator_cells op.Xor = xor LEFT RIGHT ∷ []
+operator_cells op.And = andx OUTCOME LEFT RIGHT ∷ []
+operator_cells op.Or = orx OUTCOME LEFT RIGHT ∷ []
+operator_cells op.AndAlso = truth_cells LEFT_TRUTH LEFT
+    ++ (truth_cells RIGHT_TRUTH RIGHT ++ andx OUTCOME LEFT_TRUTH RIGHT_TRUTH ∷ [])
+operator_cells op.OrElse = truth_cells LEFT_TRUTH LEFT
+    ++ (truth_cells RIGHT_TRUTH RIGHT ++ orx OUTCOME LEFT_TRUTH RIGHT_TRUTH ∷ [])
+operator_cells op.Less = sltx OUTCOME LEFT RIGHT ∷ []
+operator_cells op.Greater = sltx OUTCOME RIGHT LEFT ∷ []
+operator_cells op.AtMost = sltx OUTCOME RIGHT LEFT ∷ xori OUTCOME 1 ∷ []
+operator_cells op.AtLeast = sltx OUTCOME LEFT RIGHT ∷ xori OUTCOME 1 ∷ []
+operator_cells op.Equal = sltx OUTCOME LEFT RIGHT
+    ∷ sltx OUTCOME RIGHT LEFT ∷ xori OUTCOME 1 ∷ []
+operator_cells op.NotEqual = sltx OUTCOME LEFT RIGHT
+    ∷ sltx OUTCOME RIGHT LEFT ∷ []
 operator_cells op.Mul = []
 operator_cells op.Div = []
 operator_cells op.Rem = []
 
 -- the register that has it
 abbrev pub operator_result : BinOp → ℕ
-operator_result op.Add = left_operand
-operator_result op.Sub = left_operand
-operator_result op.Xor = left_operand
-operator_result _ = outcome
+operator_result op.Add = LEFT
+operator_result op.Sub = LEFT
+operator_result op.Xor = LEFT
+operator_result _ = OUTCOME
 
 -- a check that passed leaves its flag 0, so that nothing is to be undone after it
 
 -- fault 5 where the array is nil
 abbrev pub nil_check_of : (array : ℕ) → List Symbol
-nil_check_of array = sltx outcome nought array ∷ xori outcome 1 ∷ [] ++ check_cells outcome NIL
+nil_check_of array = sltx OUTCOME NOUGHT array ∷ xori OUTCOME 1 ∷ [] ++ check_cells OUTCOME NIL
 
 abbrev pub nil_check : List Symbol
-nil_check = nil_check_of right_operand
+nil_check = nil_check_of RIGHT
 
 -- fault 9 where the index, without sign, is not below the array's length
 abbrev pub index_check_of : (array index : ℕ) → List Symbol
 index_check_of array index =
-    around (exch content array ∷ []) (sltx outcome index content
-    ∷ sltx outcome index nought ∷ xori outcome 1 ∷ [] ++ check_cells outcome INDEX)
+    around (exch CONTENT array ∷ []) (sltx OUTCOME index CONTENT
+    ∷ sltx OUTCOME index NOUGHT ∷ xori OUTCOME 1 ∷ [] ++ check_cells OUTCOME INDEX)
 
 abbrev pub index_check : List Symbol
-index_check = index_check_of right_operand left_operand
+index_check = index_check_of RIGHT LEFT
 
 -- fault 16 where the words of two spots are the same
 abbrev pub compare_cells : (x y : Spot) → List Symbol
 compare_cells x y =
-    around (copy_cells x left_operand ++ reach_cells y) (sltx outcome left_operand content
-    ∷ sltx outcome content left_operand ∷ xori outcome 1 ∷ [] ++ check_cells outcome SHARED_ARRAY)
+    around (copy_cells x LEFT ++ reach_cells y) (sltx OUTCOME LEFT CONTENT
+    ∷ sltx OUTCOME CONTENT LEFT ∷ xori OUTCOME 1 ∷ [] ++ check_cells OUTCOME SHARED_ARRAY)
 
 -- the address of the element in the array's register
 abbrev pub point_of : (array index : ℕ) → List Symbol
 point_of array index = add array index ∷ addi array HEADER_WORDS ∷ []
 
 abbrev pub point_cells : List Symbol
-point_cells = point_of right_operand left_operand
+point_cells = point_of RIGHT LEFT
 
 -- the register that has the value of an opened expression
 abbrev pub result_of : Expression → ℕ
-result_of (Element name index) = item
+result_of (Element name index) = ITEM
 result_of (Binary at op left right) = operator_result op
-result_of _ = content
+result_of _ = CONTENT
 
 -- the words of the frame that a place needs
 abbrev pub place_words : Lvalue → ℕ
@@ -253,34 +199,34 @@ number_cell update.Xor d word = xori d word
 
 -- from an offset at which a base stands, it goes to a spot, or the other base does
 abbrev pub from_object : (from : ℕ) → Spot → Symbol
-from_object from (Field i) = addi object (difference_of (offset_of (Field i)) from)
-from_object from (Frame i) = addi frame i
+from_object from (Field i) = addi OBJECT (difference_of (offset_of (Field i)) from)
+from_object from (Frame i) = addi FRAME i
 
 abbrev pub from_frame : (from : ℕ) → Spot → Symbol
-from_frame from (Field i) = addi object (offset_of (Field i))
-from_frame from (Frame i) = addi frame (difference_of i from)
+from_frame from (Field i) = addi OBJECT (offset_of (Field i))
+from_frame from (Frame i) = addi FRAME (difference_of i from)
 
 -- the same from a spot at which its base stands
 abbrev pub onward : (x y : Spot) → Symbol
 onward (Field i) y = from_object (offset_of (Field i)) y
 onward (Frame i) y = from_frame i y
 
--- the word of one spot in `amount`, and that of another in `content`
+-- the word of one spot in `AMOUNT`, and that of another in `CONTENT`
 abbrev pub both_reached : (x y : Spot) → List Symbol
-both_reached x y = addi (base_of x) (offset_of x) ∷ exch amount (base_of x) ∷ onward x y
-    ∷ exch content (base_of y) ∷ []
+both_reached x y = addi (base_of x) (offset_of x) ∷ exch AMOUNT (base_of x) ∷ onward x y
+    ∷ exch CONTENT (base_of y) ∷ []
 
 -- the word of a place updated by the value, and the words of two places swapped
 abbrev pub update_middle : UpdateOp → List Symbol
-update_middle op = exch content place ∷ update_cell op content amount ∷ exch content place ∷ []
+update_middle op = exch CONTENT PLACE ∷ update_cell op CONTENT AMOUNT ∷ exch CONTENT PLACE ∷ []
 
 -- at two addresses in registers; where the two are one, its word stays
 abbrev pub four_exchanges : (p q : ℕ) → List Symbol
 four_exchanges p q =
-    exch first_word p ∷ exch second_word q ∷ exch second_word p ∷ exch first_word q ∷ []
+    exch FIRST_WORD p ∷ exch SECOND_WORD q ∷ exch SECOND_WORD p ∷ exch FIRST_WORD q ∷ []
 
 abbrev pub swap_middle : List Symbol
-swap_middle = four_exchanges place other_place
+swap_middle = four_exchanges PLACE OTHER_PLACE
 
 -- of two spots that have two bases or are one: both bases stand there
 abbrev pub swap_at : (x y : Spot) → List Symbol
@@ -289,12 +235,12 @@ swap_at x y = around (addi (base_of x) (offset_of x) ∷ onward x y ∷ [])
 
 -- of two spots of one base: while the first word is out, it goes to the second spot and back
 abbrev pub beyond : (x y : Spot) → List Symbol
-beyond x y = around (onward x y ∷ []) (exch second_word (base_of y) ∷ exch first_word (base_of y)
+beyond x y = around (onward x y ∷ []) (exch SECOND_WORD (base_of y) ∷ exch FIRST_WORD (base_of y)
     ∷ [])
 
 abbrev pub swap_by_one : (x y : Spot) → List Symbol
 swap_by_one x y = around (addi (base_of x) (offset_of x) ∷ [])
-    ((exch first_word (base_of x) ∷ beyond x y) ++ exch second_word (base_of x) ∷ [])
+    ((exch FIRST_WORD (base_of x) ∷ beyond x y) ++ exch SECOND_WORD (base_of x) ∷ [])
 
 abbrev pub have_one_base : (x y : Spot) → Bool
 have_one_base x y = nat_eq (base_of x) (base_of y) && not (nat_eq (offset_of x) (offset_of y))
@@ -329,11 +275,11 @@ module _ (spot : List ℕ → Spot) where
 
 -- the registers of parts, in order
 abbrev pub part : ℕ → ℕ
-part k = left_operand + k
+part k = LEFT + k
 
 -- the word of an element updated by the value above its index and its address
 abbrev pub near_middle : UpdateOp → List Symbol
-near_middle op = around (exch content right_operand ∷ []) (update_cell op content (part 4) ∷ [])
+near_middle op = around (exch CONTENT RIGHT ∷ []) (update_cell op CONTENT (part 4) ∷ [])
 
 abbrev pub change_cells : BinOp → (d s : ℕ) → List Symbol
 change_cells op.Add d s = add d s ∷ []
@@ -369,9 +315,9 @@ before z l r w v = if z then (if l then [] else w)
 -- and the operator's cells with its operands: their spots and their registers
 abbrev pub core : (z l r : Bool) → (x y : Spot) → (a s : ℕ) → (ℕ → ℕ → List Symbol) → List Symbol
 core z l r x y a s mid =
-    if z then (if l then around (reach_cells x) (mid content nought) else mid a nought)
-    else (if r then around (reach_cells y) (mid a content)
-    else (if l then around (reach_cells x) (mid content s) else mid a s))
+    if z then (if l then around (reach_cells x) (mid CONTENT NOUGHT) else mid a NOUGHT)
+    else (if r then around (reach_cells y) (mid a CONTENT)
+    else (if l then around (reach_cells x) (mid CONTENT s) else mid a s))
 
 -- the truth of what was opened past register k, in that register; a truth is in it already
 abbrev pub told_cells : Bool → List Symbol → (k : ℕ) → List Symbol
@@ -424,7 +370,7 @@ module _ (spot : List ℕ → Spot) where
   held_cells (Null at) k = xori (part k) 0 ∷ []
   held_cells (Variable name) k = copy_cells (spot name.text) (part k)
   held_cells (Element name index) k = element_cells name.text (held_cells index (k + 2)) k
-      ++ around (exch content (part (k + 1)) ∷ []) (xor (part k) content ∷ [])
+      ++ around (exch CONTENT (part (k + 1)) ∷ []) (xor (part k) CONTENT ∷ [])
   held_cells (Binary at o left right) k = operated_cells (kind o) o left right
       (held_cells left (left_at (kind o) (is_truth left) k))
       (held_cells right (right_at (kind o) (is_truth left) (is_truth right) (need left) k)) k
@@ -458,7 +404,7 @@ module _ (spot : List ℕ → Spot) where
 
   abbrev pub held_update_cells : UpdateOp → Spot → Expression → List Symbol
   held_update_cells op s e = around (held_cells e 0)
-      (around (reach_cells s) (update_cell op content (part 0) ∷ []))
+      (around (reach_cells s) (update_cell op CONTENT (part 0) ∷ []))
 
 module _ (spot : List ℕ → Spot) (free : ℕ) where
   -- the value of an operand xored into a register: a word of the frame has it, from i on, where it
@@ -473,19 +419,19 @@ module _ (spot : List ℕ → Spot) (free : ℕ) where
   -- an element's index and array, both checked
   abbrev pub checked_cells : List ℕ → Expression → (i : ℕ) → List Symbol
   checked_cells name index i =
-      operand_cells index i left_operand
-      ++ (copy_cells (spot name) right_operand ++ (nil_check ++ index_check))
+      operand_cells index i LEFT
+      ++ (copy_cells (spot name) RIGHT ++ (nil_check ++ index_check))
 
   -- the value of an expression in its register, where its parts are prepared
   abbrev pub open_cells : Expression → (i : ℕ) → List Symbol
-  open_cells (Number at word) i = xori content word ∷ []
+  open_cells (Number at word) i = xori CONTENT word ∷ []
   open_cells (Null at) i = []
   open_cells (Variable name) i = reach_cells (spot name.text)
   open_cells (Element name index) i =
-      checked_cells name.text index (i + 1) ++ (point_cells ++ exch item right_operand ∷ [])
+      checked_cells name.text index (i + 1) ++ (point_cells ++ exch ITEM RIGHT ∷ [])
   open_cells (Binary at op left right) i =
-      operand_cells left (i + 1) left_operand
-      ++ (operand_cells right (i + 1 + words left) right_operand ++ operator_cells op)
+      operand_cells left (i + 1) LEFT
+      ++ (operand_cells right (i + 1 + words left) RIGHT ++ operator_cells op)
 
   -- every element and operator computed once into its word of the frame, from word i on
   abbrev pub prepare_cells : Expression → (i : ℕ) → List Symbol
@@ -494,7 +440,7 @@ module _ (spot : List ℕ → Spot) (free : ℕ) where
   prepare_cells (Variable name) i = []
   prepare_cells (Element name index) i =
       prepare_cells index (i + 1) ++ around (open_cells (Element name index) i)
-      (store_cells (Frame (free + i)) item)
+      (store_cells (Frame (free + i)) ITEM)
   prepare_cells (Binary at op left right) i =
       (prepare_cells left (i + 1) ++ prepare_cells right (i + 1 + words left))
       ++ around (open_cells (Binary at op left right) i)
@@ -521,8 +467,8 @@ module _ (spot : List ℕ → Spot) (free : ℕ) where
   -- whether it is true xored into a register
   abbrev pub prepared_test_cells : Expression → (into : ℕ) → List Symbol
   prepared_test_cells e into =
-      around (parts_cells e 0) (around (open_cells e 0 ++ truth_cells truth (result_of e))
-      (xor into truth ∷ []))
+      around (parts_cells e 0) (around (open_cells e 0 ++ truth_cells TRUTH (result_of e))
+      (xor into TRUTH ∷ []))
 
   -- the same with parts in registers, where there are enough
   abbrev pub value_cells : Expression → (into : ℕ) → List Symbol
@@ -539,24 +485,24 @@ module _ (spot : List ℕ → Spot) (free : ℕ) where
       xor into (base_of (spot name.text)) ∷ addi into (offset_of (spot name.text)) ∷ []
   place_cells (Item name index) i into =
       prepare_cells index i ++ around (checked_cells name.text index i ++ point_cells)
-      (xor into right_operand ∷ [])
+      (xor into RIGHT ∷ [])
 
   -- what a statement finds, and the check that the place that changes is an element of no array
   -- that is read: a place
   abbrev pub found_place_cells : Lvalue → List Symbol
-  found_place_cells target = place_cells target 0 place ++ apart_cells spot target (index_of target)
+  found_place_cells target = place_cells target 0 PLACE ++ apart_cells spot target (index_of target)
       (Null 0)
 
   -- a place and a value
   abbrev pub found_value_cells : Lvalue → Expression → List Symbol
   found_value_cells target value =
-      (place_cells target 0 place ++ fetch_cells value (place_words target) amount)
+      (place_cells target 0 PLACE ++ fetch_cells value (place_words target) AMOUNT)
       ++ apart_cells spot target (index_of target) value
 
   -- two places, of which the second changes
   abbrev pub found_places_cells : (source target : Lvalue) → List Symbol
   found_places_cells source target =
-      (place_cells source 0 place ++ place_cells target (place_words source) other_place)
+      (place_cells source 0 PLACE ++ place_cells target (place_words source) OTHER_PLACE)
       ++ apart_cells spot target (index_of source) (index_of target)
 
   -- an update of a place by a value
@@ -573,9 +519,9 @@ module _ (spot : List ℕ → Spot) (free : ℕ) where
   -- of a variable: by a number or another variable it needs no address in a register
   abbrev pub whole_update_cells : UpdateOp → Ident → Expression → List Symbol
   whole_update_cells op name (Number at word) =
-      around (reach_cells (spot name.text)) (number_cell op content word ∷ [])
+      around (reach_cells (spot name.text)) (number_cell op CONTENT word ∷ [])
   whole_update_cells op name (Variable other) =
-      around (both_reached (spot other.text) (spot name.text)) (update_cell op content amount ∷ [])
+      around (both_reached (spot other.text) (spot name.text)) (update_cell op CONTENT AMOUNT ∷ [])
   whole_update_cells op name (Binary at o left right) =
       operated_update_cells op name (Binary at o left right)
   whole_update_cells op name value = found_update_cells op (Whole name) value
@@ -600,24 +546,26 @@ module _ (spot : List ℕ → Spot) (free : ℕ) where
   -- the words of two places swapped; where they are one, it stays as it is
   abbrev pub found_swap_cells : Lvalue → Lvalue → List Symbol
   found_swap_cells left right =
-      around ((place_cells left 0 place ++ place_cells right (place_words left) other_place)
+      around ((place_cells left 0 PLACE ++ place_cells right (place_words left) OTHER_PLACE)
       ++ both_apart_cells spot left right) swap_middle
 
-  -- of a variable and an element that is found once, whose base and register of its array are p and q
+  -- of a variable and an element that is found once, whose base and register of its array are p and
+  -- q
   abbrev pub near_swap_cells : (p q : ℕ) → Spot → List ℕ → (index : Expression) → List Symbol
   near_swap_cells p q x name index =
-      around (near_place_cells name index ++ addi (base_of x) (offset_of x) ∷ []) (four_exchanges p q)
+      around (near_place_cells name index ++ addi (base_of x) (offset_of x) ∷ [])
+      (four_exchanges p q)
 
   -- those of two variables need no addresses in registers
   abbrev pub whole_swap_cells : Ident → Lvalue → List Symbol
   whole_swap_cells name (Whole other) = swap_spots (spot name.text) (spot other.text)
   whole_swap_cells name (Item other index) = if is_near_index index
-      then near_swap_cells (base_of (spot name.text)) right_operand (spot name.text) other.text index
+      then near_swap_cells (base_of (spot name.text)) RIGHT (spot name.text) other.text index
       else found_swap_cells (Whole name) (Item other index)
 
   abbrev pub item_swap_cells : Ident → Expression → Lvalue → List Symbol
   item_swap_cells name index (Whole other) = if is_near_index index
-      then near_swap_cells right_operand (base_of (spot other.text)) (spot other.text) name.text index
+      then near_swap_cells RIGHT (base_of (spot other.text)) (spot other.text) name.text index
       else found_swap_cells (Item name index) (Whole other)
   item_swap_cells name index (Item other k) = found_swap_cells (Item name index) (Item other k)
 

@@ -4,12 +4,13 @@ use Rattle.std.specs.Prelude.{◌≡◌, ℕ, ◌+◌, ◌^◌, ◌<◌, ◌≤�
 use Rattle.std.specs.Prelude.{slice_index, Ok, Err}
 use Rattle.rpp_tree.specs.Tree.{Expression, Null, Lvalue}
 use Rattle.pisa_isa.specs.Machine.{Memory}
+use Rattle.code_conventions.specs.declared.registers.TheConstants.{AMOUNT, OTHER_PLACE, PLACE}
 use Rattle.paired_code.specs.declared.part.Symbol.{Symbol}
 use Rattle.paired_code.specs.Machine.{Image, with_reg}
 use Rattle.paired_code.specs.Pieces.{Outcome, Done, Trapped, Will}
 use Rattle.roopl_semantics.specs.Elements.{shared_array_fault}
 use Rattle.refine_form.specs.declared.spot.Spot.{Spot}
-use Rattle.expr_uncompute.specs.Code.{amount, place, other_place, words, place_words}
+use Rattle.expr_uncompute.specs.Code.{words, place_words}
 use Rattle.expr_uncompute.specs.Number.{Bases, number, read_of, index_of, place_address, shares}
 use Rattle.expr_uncompute.specs.Number.{update_shares, Sees, SamePlace}
 use Rattle.expr_uncompute.specs.Steps.{place_steps, fetch_steps, apart_steps}
@@ -28,9 +29,9 @@ pub data TrapsWithin (code most : ℕ) : Outcome → Type 0 where
 
 -- ---- what a middle finds, and what it may change
 
--- a value in `amount`, and the addresses of a place and of a second one, over other cells
+-- a value in `AMOUNT`, and the addresses of a place and of a second one, over other cells
 abbrev pub found : (v a a' : ℕ) → List ℕ → Memory → Memory
-found v a a' cells m = record (with_reg (with_reg (with_reg m amount v) place a) other_place a')
+found v a a' cells m = record (with_reg (with_reg (with_reg m AMOUNT v) PLACE a) OTHER_PLACE a')
     { cells = cells }
 
 -- the same cells, but for n words from an address on, which hold any words

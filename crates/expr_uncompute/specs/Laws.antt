@@ -5,11 +5,11 @@ use Rattle.rpp_tree.specs.declared.tree.UpdateOp.{UpdateOp}
 use Rattle.rpp_tree.specs.Tree.{Expression, Lvalue}
 use Rattle.stmt_inverter.specs.Inverse.{inverse_operator}
 use Rattle.pisa_isa.specs.Machine.{Memory}
+use Rattle.code_conventions.specs.declared.registers.TheConstants.{FRAME, OBJECT}
 use Rattle.paired_code.specs.declared.part.Symbol.{Symbol}
 use Rattle.paired_code.specs.Machine.{Image, reg, with_reg}
 use Rattle.paired_code.specs.Pieces.{Done, Trapped, Runs}
 use Rattle.roopl_semantics.specs.Operators.{is_true, truth_word, updated}
-use Rattle.expr_uncompute.specs.Code.{object, frame}
 use Rattle.refine_form.specs.declared.spot.Spot.{Spot}
 use Rattle.expr_uncompute.specs.Number.{Bases, read_of, update_shares, swap_shares, Sees, Same}
 use Rattle.expr_uncompute.specs.Number.{SamePlace}
@@ -20,7 +20,7 @@ Temporary r = ((4 < r) × (r < 11)) ⊎ ((15 < r) × (r < 25))
 
 -- where the present object and the open frame stand
 abbrev pub bases_of : Memory → Bases
-bases_of m = record { object = reg m object; frame = reg m frame }
+bases_of m = record { object = reg m OBJECT; frame = reg m FRAME }
 
 -- the temporaries are 0, and so are n words of the frame from word `free` on
 pub record Ready (free n : ℕ) (m : Memory) : Type 0 where
@@ -28,8 +28,8 @@ pub record Ready (free n : ℕ) (m : Memory) : Type 0 where
   pub clear : (r : ℕ) → Temporary r → reg m r ≡ 0
   pub small : length m.cells ≤ 2 ^ 31
   pub words : (a : ℕ) → slice_index m.cells a < 2 ^ 32
-  pub inside : reg m frame + (free + n) ≤ length m.cells
-  pub empty : (a : ℕ) → reg m frame + free ≤ a → a < reg m frame + (free + n)
+  pub inside : reg m FRAME + (free + n) ≤ length m.cells
+  pub empty : (a : ℕ) → reg m FRAME + free ≤ a → a < reg m FRAME + (free + n)
       → slice_index m.cells a ≡ 0
 
 -- the result is xored into a register and nothing else differs, or its fault is a trap; the steps

@@ -3,12 +3,13 @@ use Rattle.std.specs.Prelude.{◌≡◌, ℕ, ◌+◌, ◌≤◌, Bool, true, fa
 use Rattle.rpp_tree.specs.declared.tree.UpdateOp.{UpdateOp}
 use Rattle.rpp_tree.specs.Tree.{Expression, Lvalue}
 use Rattle.pisa_isa.specs.Machine.{Memory}
+use Rattle.code_conventions.specs.declared.registers.TheConstants.{FRAME}
 use Rattle.paired_code.specs.declared.part.Symbol.{Symbol}
 use Rattle.paired_code.specs.Machine.{Image, reg}
 use Rattle.paired_code.specs.Pieces.{Done, Trapped, Runs}
 use Rattle.roopl_semantics.specs.Elements.{shared_array_fault}
 use Rattle.refine_form.specs.declared.spot.Spot.{Spot}
-use Rattle.expr_uncompute.specs.Code.{frame, words, place_words}
+use Rattle.expr_uncompute.specs.Code.{words, place_words}
 use Rattle.expr_uncompute.specs.Number.{number, read_of, index_of, place_address, update_shares}
 use Rattle.expr_uncompute.specs.Number.{swap_shares, Sees}
 use Rattle.expr_uncompute.specs.Steps.{value_steps, test_steps, place_steps, fetch_steps}
@@ -18,7 +19,7 @@ use Rattle.expr_uncompute.specs.Laws.{Stays, BothStay}
 
 -- where the free words of the frame begin: all that is read stands below
 abbrev pub free_at : ℕ → Memory → ℕ
-free_at free m = reg m frame + free
+free_at free m = reg m FRAME + free
 
 abbrev pub SeesIn : (List ℕ → Spot) → ℕ → Memory → Expression → Type 0
 SeesIn spot free m e = Sees spot (bases_of m) (free_at free m) m.cells e

@@ -8,9 +8,9 @@ ghost use Rattle.code_scope.specs.Visible.{offset_of, spot_of as spot_of_name, k
 ghost use Rattle.expr_uncompute.specs.Number.{read_of, index_of};
 
 use crate::cells::{enclosed, sltx, xori};
-use crate::rows::{LEFT, copy, reached};
+use crate::rows::{copy, reached};
 use code_conventions::faults::SHARED_ARRAY;
-use code_conventions::registers::{CONTENT, OUTCOME};
+use code_conventions::registers::{CONTENT, LEFT, OUTCOME};
 use code_scope::{Names, spot_of};
 use paired_code::{Piece, check_zero, empty, seq};
 use refine_form::Spot;

@@ -7,8 +7,9 @@ ghost use Rattle.code_scope.specs.Visible.{offset_of, spot_of as spot_of_name, f
 
 use crate::apart::{apart, apart_from, own_apart};
 use crate::cells::{addi, enclosed, xor};
-use crate::rows::{RIGHT, base, offset, point};
+use crate::rows::{base, offset, point};
 use crate::values::{checked, open, parts, place_words, prepare, result_register};
+use code_conventions::registers::{AMOUNT, FRAME, OTHER_PLACE, PLACE, RIGHT};
 use code_scope::{Names, spot_of};
 use paired_code::{Piece, seq};
 use refine_form::Spot;
@@ -16,16 +17,9 @@ use rpp_tree::tree::{Expr, Place};
 use rpp_words::NoMemory;
 use std::alloc::Global;
 
-/// The value that an update adds.
-pub const AMOUNT: u8 = 19;
-/// The address of a place.
-pub const PLACE: u8 = 20;
-/// The address of a second place.
-pub const OTHER_PLACE: u8 = 21;
-
 fn spot_address(alloc: Global, spot: Spot, into: u8) -> Result<Piece, NoMemory>
     requires small { offset_of spot < 2 ^ 32 }
-    requires low { 4 < into }
+    requires low { FRAME < into }
     requires register { into < 32 }
     ensures { IfOk result (λ p.
         p ≡ unmarked (xor_cell into (base_of spot) ∷ addi_cell into (offset_of spot) ∷ [])) }
@@ -44,7 +38,7 @@ pub fn place_code(
     i: u32,
     into: u8,
 ) -> Result<Piece, NoMemory>
-    requires low { 19 < into }
+    requires low { AMOUNT < into }
     requires register { into < 32 }
     requires room { i + words_of_place (lvalue_of place.now) ≤ 1000 }
     ensures { IfOk result (λ p.

@@ -8,8 +8,8 @@ ghost use Rattle.expr_uncompute.specs.Number.{read_of};
 ghost use Rattle.code_scope.specs.Visible.{spot_of as spot_of_name, known_by, offset_of};
 
 use crate::cells::{add, addi, andx, enclosed, orx, sltx, sub, xor, xori};
-use crate::rows::{LEFT, copy, element, element_word, reached, truth};
-use code_conventions::registers::{CONTENT, NOUGHT};
+use crate::rows::{copy, element, element_word, reached, truth};
+use code_conventions::registers::{CONTENT, LEFT, NOUGHT};
 use code_scope::{Names, spot_of};
 use paired_code::{Piece, empty, seq};
 use refine_form::Spot;

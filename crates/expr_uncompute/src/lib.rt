@@ -18,4 +18,3 @@ mod values;
 pub use around::{place_and_value_around, place_around, places_around};
 pub use code_scope::{Scope, Spot};
 pub use expressions::{swap_code, test_code, update_code, value_code};
-pub use found::{AMOUNT, OTHER_PLACE, PLACE};

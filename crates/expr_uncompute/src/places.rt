@@ -13,11 +13,13 @@ ghost use Rattle.code_scope.specs.Visible.{offset_of, spot_of as spot_of_name, f
 
 use crate::apart::both_apart;
 use crate::cells::{add, addi, enclosed, exch, sub, xor, xori};
-use crate::found::{AMOUNT, OTHER_PLACE, PLACE, both_places, found_value};
+use crate::found::{both_places, found_value};
 use crate::held::{held, is_near, is_near_index, is_opened_once};
-use crate::rows::{LEFT, RIGHT, base, offset, point, reached};
+use crate::rows::{base, offset, point, reached};
 use crate::values::{checked, prepare};
-use code_conventions::registers::{CONTENT, FRAME, OBJECT};
+use code_conventions::registers::{
+    AMOUNT, CONTENT, FIRST_WORD, FRAME, LEFT, OBJECT, OTHER_PLACE, PLACE, RIGHT, SECOND_WORD,
+};
 use code_scope::{Names, spot_of};
 use paired_code::{Piece, seq};
 use refine_form::Spot;
@@ -26,12 +28,8 @@ use rpp_tree::tree::{Expr, Place, UpdateOp};
 use rpp_words::{NoMemory, wrap_sub};
 use std::alloc::Global;
 
-const FIRST_WORD: u8 = 22;
-
-const SECOND_WORD: u8 = 23;
-
 // What is added to an element that is found once.
-const ABOVE: u8 = 20;
+const ABOVE: u8 = PLACE;
 
 // The word that is out updated by a register.
 fn update_cell(alloc: Global, op: UpdateOp, by: u8) -> Result<Piece, NoMemory>

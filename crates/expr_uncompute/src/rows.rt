@@ -7,21 +7,14 @@ ghost use Rattle.code_scope.specs.Visible.{offset_of};
 use crate::cells::{add, addi, andx, enclosed, exch, orx, sltx, sub, xor, xori};
 use code_conventions::faults::{INDEX, NIL};
 use code_conventions::memory::HEADER_WORDS;
-use code_conventions::registers::{CONTENT, FRAME, NOUGHT, OBJECT, OUTCOME};
+use code_conventions::registers::{
+    CONTENT, FRAME, LEFT, LEFT_TRUTH, NOUGHT, OBJECT, OUTCOME, RIGHT, RIGHT_TRUTH,
+};
 use paired_code::{Piece, check_zero, empty, seq};
 use refine_form::Spot;
 use rpp_tree::tree::BinOp;
 use rpp_words::NoMemory;
 use std::alloc::Global;
-
-const LEFT_TRUTH: u8 = 8;
-
-const RIGHT_TRUTH: u8 = 9;
-
-/// The left operand, or an index.
-pub const LEFT: u8 = 16;
-/// The right operand, or an array.
-pub const RIGHT: u8 = 17;
 
 /// The register of a spot's base.
 pub fn base(spot: Spot) -> u8

@@ -11,10 +11,9 @@ ghost use Rattle.code_scope.specs.Visible.{spot_of as spot_of_name, free_of, kno
 use crate::cells::{enclosed, exch, xor, xori};
 use crate::held::{held_test, held_value, is_held};
 use crate::rows::{
-    LEFT, RIGHT, copy, index_check, nil_check, operator, operator_register, point, reached, store,
-    truth,
+    copy, index_check, nil_check, operator, operator_register, point, reached, store, truth,
 };
-use code_conventions::registers::CONTENT;
+use code_conventions::registers::{CONTENT, ITEM, LEFT, RIGHT, TRUTH};
 use code_scope::{Names, free_word, spot_of};
 use paired_code::{Piece, empty, seq};
 use refine_form::Spot;
@@ -22,11 +21,6 @@ use rpp_tree::Text;
 use rpp_tree::tree::{Expr, Place};
 use rpp_words::NoMemory;
 use std::alloc::Global;
-
-/// An element.
-pub const ITEM: u8 = 18;
-/// The truth of a value.
-pub const TRUTH: u8 = 24;
 
 /// How many words of the frame an expression needs.
 #[cycle(count_words)]

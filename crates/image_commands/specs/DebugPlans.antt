@@ -14,7 +14,7 @@ use Rattle.pisa_image.specs.declared.error.ImageError.{ImageError}
 use Rattle.pisa_image.specs.Reading.{image_at}
 use Rattle.pisa_loader.specs.Limiting.{limits_refusal}
 use Rattle.pisa_loader.specs.declared.error.LoadError.{LoadError}
-use Rattle.two_way_debugger.specs.declared.script.TheConstants.{MOST_SCRIPT}
+use Rattle.pisa_scripts.specs.declared.lines.TheConstants.{MOST_SCRIPT}
 use Rattle.two_way_debugger.specs.declared.command.Command.{Command}
 use Rattle.two_way_debugger.specs.declared.error.ScriptError.{ScriptError}
 use Rattle.two_way_debugger.specs.declared.error.ScriptError.TheVariants.{BadCommand, NoMemory}

@@ -4,7 +4,7 @@ ghost use Rattle.pisa_image.specs.Reading.{image_at};
 ghost use Rattle.pisa_loader.specs.Limiting.{limits_refusal};
 ghost use Rattle.rpp_words.specs.Limits.{IsLimits};
 ghost use Rattle.rpp_words.specs.declared.input.TheConstants.{MOST_DEEP};
-ghost use Rattle.two_way_debugger.specs.declared.script.TheConstants.{MOST_SCRIPT};
+ghost use Rattle.pisa_scripts.specs.declared.lines.TheConstants.{MOST_SCRIPT};
 ghost use Rattle.two_way_debugger.specs.Scripts.{script_of};
 ghost use Rattle.two_way_debugger.specs.Shown.{shown, spent_in};
 ghost use Rattle.command_plan.specs.Files.{OnlyReads, UnreadCause, image_file};
@@ -18,11 +18,12 @@ use pisa_image::{ImageError, read_image};
 use pisa_isa::Image;
 use pisa_loader::{check_limits, load};
 use pisa_machine::{Machine, Steps};
+use pisa_scripts::MOST_SCRIPT;
 use rpp_ports::Shelf;
 use rpp_words::{Input, Limits, MOST_DEEP, NoMemory};
 use std::alloc::Global;
 use std::sync::ledger::Ledger;
-use two_way_debugger::{Command, Debugger, MOST_SCRIPT, ScriptError, read_script};
+use two_way_debugger::{Command, Debugger, ScriptError, read_script};
 
 /// Follows the script in a file along the run of the image in a file, from the loaded memory on,
 /// and tells what its commands print. It makes the steps of their moves and no others, and none

@@ -2,6 +2,7 @@
 use Rattle.std.proofs.Common.{◌≡◌, ℕ, suc, ◌+◌, ◌≤◌, refl, sym, ap, subst, ◌∙◌, arith, true, false, Bool, not, List, []}
 use Rattle.std.proofs.Common.{◌∷◌, ◌++◌, length, map, Option, Some, None, nat_lt, unwrap_or, length-append, position}
 use Rattle.std.proofs.Common.{slice_get}
+use Rattle.std.proofs.lemmas.List.{map-append}
 use Rattle.std.specs.Str.{bytes_eq}
 use Rattle.rpp_tree.specs.declared.tree.Ident.{Ident}
 use Rattle.rpp_tree.specs.Tree.{Whole, Statements, Call, End, Then, Procedure}
@@ -50,10 +51,6 @@ map_map f g (x ∷ xs) = ap (λ l. g (f x) ∷ l) (map_map f g xs)
 map_alike : {A B : Type 0} (f g : A → B) (xs : List A) → ((x : A) → f x ≡ g x) → map f xs ≡ map g xs
 map_alike f g [] h = refl
 map_alike f g (x ∷ xs) h = ap (λ y. y ∷ map f xs) (h x) ∙ ap (λ l. g x ∷ l) (map_alike f g xs h)
-
-map_joined : {A B : Type 0} (f : A → B) (xs ys : List A) → map f (xs ++ ys) ≡ map f xs ++ map f ys
-map_joined f [] ys = refl
-map_joined f (x ∷ xs) ys = ap (λ l. f x ∷ l) (map_joined f xs ys)
 
 length_map : {A B : Type 0} (f : A → B) (xs : List A) → length (map f xs) ≡ length xs
 length_map f [] = refl
@@ -217,11 +214,11 @@ module _ (setting : Setting) (G : Ground setting) where
       (facts.sorts end b one.after good_end later_in good_b one.second) in
       let parts = same_rest (map (read b) receiver) (map (read b) args) (map (read a) receiver)
       (map (λ binding. binding.value) end.frame) (length_map (read b) receiver ∙ sym (length_map (read a) receiver))
-      (sym (map_joined (read b) receiver args) ∙ moved.holds) in
+      (sym (map-append (read b) receiver args) ∙ moved.holds) in
       let receiver' = map (cell_for f) receiver in
       let args' = map (cell_for f) args in
       let cells' = receiver' ++ args' in
-      let joins : map (cell_for f) cells ≡ cells' = map_joined (cell_for f) receiver args in
+      let joins : map (cell_for f) cells ≡ cells' = map-append (cell_for f) receiver args in
       let caller' = moved_out cells' b' in
       let P : List Cell → Type 0 = λ l. Sees h f (moved_out cells b) (moved_out l b') in
       let Q : State → Type 0 = λ s. Sees h f s caller' in
@@ -279,8 +276,8 @@ module _ (setting : Setting) (G : Ground setting) where
       ∙ ap (λ l. map (renamed g.there) (map (read a) receiver) ++ l)
       (ap (map (λ binding. binding.value)) inner.sees.frame ∙ values_renamed g.there entry.frame
       ∙ ap (map (renamed g.there)) (bound_values method.params (map (read a) args) many_args))
-      ∙ sym (map_joined (renamed g.there) (map (read a) receiver) (map (read a) args))
-      ∙ ap (map (renamed g.there)) (sym (map_joined (read a) receiver args)) in
+      ∙ sym (map-append (renamed g.there) (map (read a) receiver) (map (read a) args))
+      ∙ ap (map (renamed g.there)) (sym (map-append (read a) receiver args)) in
       let S : Statements → Type 0 = λ s. Runs setting s entry' inner.back one.before in
       let runs = subst S (sym (direction_turned back method.body)) inner.runs in
       let after : moved_back cells' (map (read b') receiver' ++ map (λ binding. binding.value) inner.back.frame) mid'

@@ -19,7 +19,7 @@ use Rattle.meaning_inverse.proofs.Cells.{written_twice, written_same, read_writt
 use Rattle.meaning_inverse.proofs.Seen.{Names, Sees, cell_for, read_seen, share_seen, found_seen, written_seen}
 use Rattle.meaning_inverse.proofs.Seen.{counted_seen, is_same_value, same_value_itself, same_names}
 use Rattle.meaning_inverse.proofs.Ground.{Ground, CopyFacts, copied, uncopied, CleanIn}
-use Rattle.meaning_inverse.proofs.Undone.{Undone, is_same_cell, turned}
+use Rattle.meaning_inverse.proofs.Undone.{Undone, UndoneExactly, cell_alike, is_same_cell, turned}
 
 abbrev pub with_count : (ℕ → ℕ) → Object → Object
 with_count change object = record object { count = change object.count }
@@ -101,7 +101,7 @@ module _ (setting : Setting) (G : Ground setting) where
       → index_nodes source + (index_nodes target + (read_cost (own_element target)
       (index_elements source ++ index_elements target) + 0)) ≡ c
       → (f : Names) (b' : State) → Sees setting.limits.heap f b b'
-      → Undone setting (Copy at kind source target) f a b b' c
+      → UndoneExactly setting (Copy at kind source target) f a b b' c
   copied_undone at kind source target a x y b c facts some none is clean cost f b' sees =
       let h = setting.limits.heap in
       let n = facts.name in
@@ -140,32 +140,39 @@ module _ (setting : Setting) (G : Ground setting) where
       (ap (λ v. same_value v (read b' y')) reads_x' ∙ ap (λ v. same_value (Name (f.there n)) v) reads_y'
       ∙ same_value_itself (Name (f.there n))) (same_cell_renamed f x y ∙ apart) in
       record {
-        back = back;
-        names = f;
-        does = record {
-          by = λ m l.
-              done_then (found setting.program source b') _ x' back (index_nodes source)
-              (index_nodes target + (spent + 0)) c sources
-              (done_then (found setting.program target b') _ y' back (index_nodes target) (spent + 0)
-              (index_nodes target + (spent + 0)) targets
-              (done_then (kept_apart setting.program (own_element target)
-              (index_elements source ++ index_elements target) b') _ tt back spent 0 (spent + 0) unshared
-              (done_then (fault_if nil_fault (is_nil (read b' x'))) _ tt back 0 0 0
-              (passes nil_fault (is_nil (read b' x')) (ap is_nil reads_x'))
-              (done_then (fault_if not_same_fault (not (same_value (read b' x') (read b' y')) || same_cell x' y')) _ tt
-              back 0 0 0 (passes not_same_fault (not (same_value (read b' x') (read b' y')) || same_cell x' y')
-              check) (ap (λ s. Done s 0) result) refl) refl) refl) refl) cost;
+        undone = record {
+          back = back;
+          names = f;
+          does = record {
+            by = λ m l.
+                done_then (found setting.program source b') _ x' back (index_nodes source)
+                (index_nodes target + (spent + 0)) c sources
+                (done_then (found setting.program target b') _ y' back (index_nodes target) (spent + 0)
+                (index_nodes target + (spent + 0)) targets
+                (done_then (kept_apart setting.program (own_element target)
+                (index_elements source ++ index_elements target) b') _ tt back spent 0 (spent + 0) unshared
+                (done_then (fault_if nil_fault (is_nil (read b' x'))) _ tt back 0 0 0
+                (passes nil_fault (is_nil (read b' x')) (ap is_nil reads_x'))
+                (done_then (fault_if not_same_fault (not (same_value (read b' x') (read b' y')) || same_cell x' y')) _
+                tt
+                back 0 0 0 (passes not_same_fault (not (same_value (read b' x') (read b' y')) || same_cell x' y')
+                check) (ap (λ s. Done s 0) result) refl) refl) refl) refl) cost;
+          };
+          sees = subst R same (counted_seen h f (written b y Nil) (written b' y' Nil) (written_seen h f b b' sees y Nil)
+              one_less n);
+          same = λ name o p k l. refl;
         };
-        sees = subst R same (counted_seen h f (written b y Nil) (written b' y' Nil) (written_seen h f b b' sees y Nil)
-            one_less n);
-        same = λ name o p k l. refl;
+        exact = λ here alike.
+            ap (λ (s : State). counted one_less (written s y' Nil) (f.there n)) here
+            ∙ ap (λ (d : Cell). counted one_less (written b d Nil) (f.there n)) (cell_alike f y alike)
+            ∙ ap (λ (k : ℕ). counted one_less (written b y Nil) k) (alike n) ∙ same;
       }
 
-  pub undo_copy : (n : ℕ) (C : G.Context) (at : ℕ) (kind : VarType) (source target : Lvalue) (a b : State) (c : ℕ)
+  pub copy_exactly : (n : ℕ) (C : G.Context) (at : ℕ) (kind : VarType) (source target : Lvalue) (a b : State) (c : ℕ)
       → G.Typed C (Then (Copy at kind source target) End) → G.Good C a → G.Good C b
       → statement setting n (exec setting n) (Copy at kind source target) a ≡ Done b c → (f : Names) (b' : State)
-      → Sees setting.limits.heap f b b' → Undone setting (Copy at kind source target) f a b b' c
-  undo_copy n C at kind source target a b c typed good good_b e f b' sees =
+      → Sees setting.limits.heap f b b' → UndoneExactly setting (Copy at kind source target) f a b b' c
+  copy_exactly n C at kind source target a b c typed good good_b e f b' sees =
       let d4 : Cell → Cell → Unit {0} → Run State = λ x y w. give (copied a x y) in
       let d3 : Cell → Cell → Unit {0} → Run State = λ x y u. fault_if not_nil_fault (not (is_nil (read a y))) >>= d4 x y
       in
@@ -194,6 +201,13 @@ module _ (setting : Setting) (G : Ground setting) where
       let k3 = some.1 in let k4 = none.1 in let k5 = unshared.1 in let s1 = one.sum in let s2 = two.sum in
       let s3 = three.sum in let s4 = four.sum in let s5 = five.sum in omega arith) f b' sees
 
+  pub undo_copy : (n : ℕ) (C : G.Context) (at : ℕ) (kind : VarType) (source target : Lvalue) (a b : State) (c : ℕ)
+      → G.Typed C (Then (Copy at kind source target) End) → G.Good C a → G.Good C b
+      → statement setting n (exec setting n) (Copy at kind source target) a ≡ Done b c → (f : Names) (b' : State)
+      → Sees setting.limits.heap f b b' → Undone setting (Copy at kind source target) f a b b' c
+  undo_copy n C at kind source target a b c typed good good_b e f b' sees =
+      (copy_exactly n C at kind source target a b c typed good good_b e f b' sees).undone
+
   uncopied_undone : (C : G.Context) (at : ℕ) (kind : VarType) (source target : Lvalue) (a : State) (x y : Cell)
       (b : State) (c : ℕ) → G.Good C a
       → CopyFacts setting.program a (uncopied a x y) source target x y → is_nil (read a x) ≡ false → read a x ≡ read a y
@@ -201,7 +215,7 @@ module _ (setting : Setting) (G : Ground setting) where
       → index_nodes source + (index_nodes target + (read_cost (own_element target)
       (index_elements source ++ index_elements target) + 0)) ≡ c
       → (f : Names) (b' : State) → Sees setting.limits.heap f b b'
-      → Undone setting (Uncopy at kind source target) f a b b' c
+      → UndoneExactly setting (Uncopy at kind source target) f a b b' c
   uncopied_undone C at kind source target a x y b c good facts some alike apart is clean cost f b' sees =
       let h = setting.limits.heap in
       let n = facts.name in
@@ -237,35 +251,41 @@ module _ (setting : Setting) (G : Ground setting) where
       (index_elements source ++ index_elements target) ∙ subst S is facts.apart_stays) in
       let result : copied b' x' y' ≡ back = ap (λ v. counted suc (written b' y' v) (number_of v)) reads_x' in
       record {
-        back = back;
-        names = f;
-        does = record {
-          by = λ m l.
-              done_then (found setting.program source b') _ x' back (index_nodes source)
-              (index_nodes target + (spent + 0)) c sources
-              (done_then (found setting.program target b') _ y' back (index_nodes target) (spent + 0)
-              (index_nodes target + (spent + 0)) targets
-              (done_then (kept_apart setting.program (own_element target)
-              (index_elements source ++ index_elements target) b') _ tt back spent 0 (spent + 0) unshared
-              (done_then (fault_if nil_fault (is_nil (read b' x'))) _ tt back 0 0 0
-              (passes nil_fault (is_nil (read b' x')) (ap is_nil reads_x'))
-              (done_then (fault_if not_nil_fault (not (is_nil (read b' y')))) _ tt back 0 0 0
-              (passes not_nil_fault (not (is_nil (read b' y'))) (ap (λ v. not (is_nil v)) reads_y'))
-              (ap (λ s. Done s 0) result) refl) refl) refl) refl) cost;
+        undone = record {
+          back = back;
+          names = f;
+          does = record {
+            by = λ m l.
+                done_then (found setting.program source b') _ x' back (index_nodes source)
+                (index_nodes target + (spent + 0)) c sources
+                (done_then (found setting.program target b') _ y' back (index_nodes target) (spent + 0)
+                (index_nodes target + (spent + 0)) targets
+                (done_then (kept_apart setting.program (own_element target)
+                (index_elements source ++ index_elements target) b') _ tt back spent 0 (spent + 0) unshared
+                (done_then (fault_if nil_fault (is_nil (read b' x'))) _ tt back 0 0 0
+                (passes nil_fault (is_nil (read b' x')) (ap is_nil reads_x'))
+                (done_then (fault_if not_nil_fault (not (is_nil (read b' y')))) _ tt back 0 0 0
+                (passes not_nil_fault (not (is_nil (read b' y'))) (ap (λ v. not (is_nil v)) reads_y'))
+                (ap (λ s. Done s 0) result) refl) refl) refl) refl) cost;
+          };
+          sees = subst R same (counted_seen h f (written b y (Name n)) (written b' y' (Name (f.there n)))
+              (written_seen h f b b' sees y (Name n)) suc n);
+          same = λ name o p k l. refl;
         };
-        sees = subst R same (counted_seen h f (written b y (Name n)) (written b' y' (Name (f.there n)))
-            (written_seen h f b b' sees y (Name n)) suc n);
-        same = λ name o p k l. refl;
+        exact = λ here alike.
+            ap (λ (s : State). counted suc (written s y' (Name (f.there n))) (f.there n)) here
+            ∙ ap (λ (d : Cell). counted suc (written b d (Name (f.there n))) (f.there n)) (cell_alike f y alike)
+            ∙ ap (λ (k : ℕ). counted suc (written b y (Name k)) k) (alike n) ∙ same;
       }
     where
       positive : (k : ℕ) → 0 < k → suc (one_less k) ≡ k
       positive k h = omega arith
 
-  pub undo_uncopy : (n : ℕ) (C : G.Context) (at : ℕ) (kind : VarType) (source target : Lvalue) (a b : State) (c : ℕ)
+  pub uncopy_exactly : (n : ℕ) (C : G.Context) (at : ℕ) (kind : VarType) (source target : Lvalue) (a b : State) (c : ℕ)
       → G.Typed C (Then (Uncopy at kind source target) End) → G.Good C a → G.Good C b
       → statement setting n (exec setting n) (Uncopy at kind source target) a ≡ Done b c → (f : Names) (b' : State)
-      → Sees setting.limits.heap f b b' → Undone setting (Uncopy at kind source target) f a b b' c
-  undo_uncopy n C at kind source target a b c typed good good_b e f b' sees =
+      → Sees setting.limits.heap f b b' → UndoneExactly setting (Uncopy at kind source target) f a b b' c
+  uncopy_exactly n C at kind source target a b c typed good good_b e f b' sees =
       let d4 : Cell → Cell → Unit {0} → Run State = λ x y w. give (uncopied a x y) in
       let d3 : Cell → Cell → Unit {0} → Run State = λ x y u. fault_if not_same_fault
       (not (same_value (read a x) (read a y)) || same_cell x y) >>= d4 x y in
@@ -297,3 +317,10 @@ module _ (setting : Setting) (G : Ground setting) where
       (let z = done_cost (uncopied a x y) b 0 four.after four.second in let k1 = from.1 in let k2 = to.1 in
       let k3 = some.1 in let k4 = check.1 in let k5 = unshared.1 in let s1 = one.sum in let s2 = two.sum in
       let s3 = three.sum in let s4 = four.sum in let s5 = five.sum in omega arith) f b' sees
+
+  pub undo_uncopy : (n : ℕ) (C : G.Context) (at : ℕ) (kind : VarType) (source target : Lvalue) (a b : State) (c : ℕ)
+      → G.Typed C (Then (Uncopy at kind source target) End) → G.Good C a → G.Good C b
+      → statement setting n (exec setting n) (Uncopy at kind source target) a ≡ Done b c → (f : Names) (b' : State)
+      → Sees setting.limits.heap f b b' → Undone setting (Uncopy at kind source target) f a b b' c
+  undo_uncopy n C at kind source target a b c typed good good_b e f b' sees =
+      (uncopy_exactly n C at kind source target a b c typed good good_b e f b' sees).undone

@@ -14,14 +14,14 @@ use Rattle.class_table.specs.Scope.{Typing, Locals}
 use Rattle.class_table.specs.Expressions.{is_int, type_of, place_type}
 use Rattle.class_table.specs.Statements.{in_turn, test_rules, check_statements}
 use Rattle.class_table.specs.Program.{setting_in}
-use Rattle.buddy_book.specs.Place.{Log}
+use Rattle.buddy_book.specs.Place.{Log, count_taken}
 use Rattle.roopl_semantics.specs.Run.{Done}
 use Rattle.roopl_semantics.specs.Store.{Nil, Name, Object, Store, Binding, State, is_nil, object_at}
 use Rattle.roopl_semantics.specs.Value.{Cell, Slot, Part, cell_named, own_class, read}
 use Rattle.roopl_semantics.specs.Execution.{Setting, same_cell, bound, moved_out, moved_back, cells_named, class_of}
 use Rattle.roopl_semantics.specs.Execution.{exec}
 use Rattle.class_table.specs.Inheritance.{kind_of_var}
-use Rattle.meaning_sound.specs.Sound.{head_of, head_named, is_live, fits, cell_kinds, cell_kind}
+use Rattle.meaning_sound.specs.Sound.{head_of, head_named, is_live, fits, cell_kinds, cell_kind, Descending}
 use Rattle.meaning_sound.proofs.Lists.{all_inside, all_get}
 use Rattle.meaning_sound.proofs.Stores.{live_object}
 use Rattle.meaning_sound.specs.Sound.{Typed}
@@ -438,6 +438,25 @@ module _ (setting : Setting) (classes : KnowsClasses setting.program) where
         delete_objects = λ C at class size target st cell v h g e f some end. delete_objects_facts setting classes C at
             class size target st cell v h g e f some end;
       }
+
+  -- the ground of the law, for laws above: checked blocks are typed in it, states that are good are good in it, and the
+  -- names of good states descend
+  pub record CheckedGround : Type 1 where
+    pub ground : Ground setting
+    pub context : Context setting → ground.Context
+    pub typed : (C : Context setting) (body : Statements) → Checked setting C body → ground.Typed (context C) body
+    pub good : (C : Context setting) (st : State) → Good setting C st → ground.Good (context C) st
+    pub fresh : (C : ground.Context) (st : State) → ground.Good C st → Descending (2 + count_taken st.log) st.store
+
+  pub checked_ground : CheckedGround
+  unfolding grounded
+  checked_ground = record {
+    ground = grounded;
+    context = λ C. C;
+    typed = λ C body h. h;
+    good = λ C st g. g;
+    fresh = λ C st g. g.sound.fresh;
+  }
 
   -- the inverse of a checked block leads back from where the block led from a good state
   pub leads_back_from : (C : Context setting) (n : ℕ) (body : Statements) (a b : State) (c : ℕ) → Checked setting C body

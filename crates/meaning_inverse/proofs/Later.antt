@@ -25,6 +25,7 @@ use Rattle.roopl_semantics.specs.Execution.{order_of_cells, counted, one_less, e
 use Rattle.roopl_semantics.specs.Execution.{cells_named, class_of, is_too_deep, invoked, allocated, freed, new_array}
 use Rattle.roopl_semantics.specs.Execution.{delete_array, with_local, turn_end, turns, statement, exec, holds}
 use Rattle.roopl_semantics.specs.Laws.{HasNamesOnce as IsUnique}
+pub use Rattle.meaning_reached.proofs.SameReports.{named_without_same, unique_without}
 use Rattle.meaning_inverse.proofs.Runs.{in_parts, done_result}
 use Rattle.meaning_inverse.proofs.Cells.{names_with, named_changed}
 
@@ -69,36 +70,6 @@ named_without ((k, o) ∷ store) n m e = by (named_without store n m e) (nat_eq 
         ≡ (if nat_eq k m then Some o else object_named store m)
     by again true f = rw (ap (λ x. nat_eq x m) (eqb-true k n f) ∙ e) refl
     by again false f = ap (λ x. if nat_eq k m then Some o else x) again
-
-none_without : (store : Store) (n m : ℕ) → object_named store m ≡ None → object_named (without store n) m ≡ None
-none_without [] n m e = refl
-none_without ((k, o) ∷ store) n m e = by (none_without store n m) (nat_eq k m) refl (nat_eq k n)
-  where
-    none : nat_eq k m ≡ true → (P : Type 0) → P
-    none f P = let g : Some o ≡ None = ap (λ t. if t then Some o else object_named store m) (sym f) ∙ e in cc
-
-    by : (object_named store m ≡ None → object_named (without store n) m ≡ None) → (s : Bool) → nat_eq k m ≡ s
-        → (t : Bool) → object_named (if t then store else (k, o) ∷ without store n) m ≡ None
-    by again true f t = none f _
-    by again false f true = ap (λ t. if t then Some o else object_named store m) (sym f) ∙ e
-    by again false f false = rw f (again (ap (λ t. if t then Some o else object_named store m) (sym f) ∙ e))
-
-pub named_without_same : (store : Store) (n : ℕ) → IsUnique store → object_named (without store n) n ≡ None
-named_without_same [] n u = refl
-named_without_same ((k, o) ∷ store) n u = by (named_without_same store n u.1) (nat_eq k n) refl
-  where
-    by : object_named (without store n) n ≡ None → (s : Bool) → nat_eq k n ≡ s
-        → object_named (if s then store else (k, o) ∷ without store n) n ≡ None
-    by again true f = let P : ℕ → Type 0 = λ x. object_named store x ≡ None in subst P (eqb-true k n f) u.0
-    by again false f = rw f again
-
-pub unique_without : (store : Store) (n : ℕ) → IsUnique store → IsUnique (without store n)
-unique_without [] n u = tt
-unique_without ((k, o) ∷ store) n u = by (unique_without store n u.1) (nat_eq k n)
-  where
-    by : IsUnique (without store n) → (s : Bool) → IsUnique (if s then store else (k, o) ∷ without store n)
-    by again true = u.1
-    by again false = (none_without store n k u.0, again)
 
 none_changed : (store : Store) (n : ℕ) (g : Object → Object) (m : ℕ) → object_named store m ≡ None
     → object_named (changed_at store n g) m ≡ None

@@ -19,6 +19,7 @@ pub mod Drawn
 pub mod Heap
 pub mod Arrays
 pub mod Whole
+pub mod Equal
 pub mod Steady
 pub mod Known
 pub mod Apart

@@ -11,7 +11,7 @@ use Rattle.rpp_tree.specs.Tree.{index_nodes}
 use Rattle.stmt_inverter.specs.Inverse.{inverse_operator, inverse_statement, inverse}
 use Rattle.roopl_semantics.specs.Operators.{updated}
 use Rattle.roopl_semantics.specs.Run.{Run, Done, ◌>>=◌, give}
-use Rattle.roopl_semantics.specs.Store.{Value, Word, Object, State, object_named, number_of}
+use Rattle.roopl_semantics.specs.Store.{Value, Word, Nil, Name, Object, State, object_named, number_of}
 use Rattle.roopl_semantics.specs.Value.{Cell, Slot, Part, read, written, value as value_in, cell_of, evaluated, found}
 use Rattle.roopl_semantics.specs.Elements.{elements, index_elements, own_element, share_array, read_cost, kept_apart}
 use Rattle.roopl_semantics.specs.Execution.{Setting, statement, exec, same_cell}
@@ -44,6 +44,20 @@ pub record Undone (setting : Setting) (s : Statement) (f : Names) (a b b' : Stat
   pub does : Does setting (inverse_statement s) b' back cost
   pub sees : Sees setting.limits.heap names a back
   pub same : SameOn f names a b
+
+-- where that state is b itself, and no name is another, it leads back to a itself
+pub record UndoneExactly (setting : Setting) (s : Statement) (f : Names) (a b b' : State) (cost : ℕ) : Type 0 where
+  pub undone : Undone setting s f a b b' cost
+  pub exact : b' ≡ b → ((name : ℕ) → f.there name ≡ name) → undone.back ≡ a
+
+pub cell_alike : (f : Names) (c : Cell) → ((name : ℕ) → f.there name ≡ name) → cell_for f c ≡ c
+cell_alike f (Slot i) alike = refl
+cell_alike f (Part name i) alike = ap (λ n. Part n i) (alike name)
+
+pub value_alike : (f : Names) (v : Value) → ((name : ℕ) → f.there name ≡ name) → renamed f.there v ≡ v
+value_alike f (Word w) alike = refl
+value_alike f Nil alike = refl
+value_alike f (Name n) alike = ap (λ m. Name m) (alike n)
 
 -- the same of a block
 pub record BlockUndone (setting : Setting) (body : Statements) (f : Names) (a b b' : State) (cost : ℕ) : Type 0 where
@@ -143,7 +157,7 @@ module _ (setting : Setting) (G : Ground setting) where
       → index_nodes target + (nodes value + (read_cost (own_element target)
       (index_elements target ++ elements value) + 0)) ≡ c
       → (f : Names) (b' : State) → Sees setting.limits.heap f b b'
-      → Undone setting (Update at op target value) f a b b' c
+      → UndoneExactly setting (Update at op target value) f a b b' c
   update_undone C at op target value a cell v b c facts is clean cost f b' sees =
       let word = updated op (number_of (read a cell)) (number_of v) in
       let cell' = cell_for f cell in
@@ -177,27 +191,34 @@ module _ (setting : Setting) (G : Ground setting) where
       (share_seen setting.limits.heap f b b' sees setting.program (own_element target)
       (index_elements target ++ elements value) ∙ subst S is (facts.apart_stays word)) in
       record {
-        back = back;
-        names = f;
-        does = record {
-          by = λ m h.
-              done_then (found setting.program target b') _ cell' back (index_nodes target) (nodes value + (spent + 0))
-              c finds
-              (done_then (evaluated setting.program value b') _ (renamed f.there v) back (nodes value) (spent + 0)
-              (nodes value + (spent + 0)) values
-              (done_then (kept_apart setting.program (own_element target) (index_elements target ++ elements value) b')
-              _ tt back spent 0 (spent + 0) unshared (ap (λ k. Done (written b' cell' (Word k)) 0) again) refl)
-              refl) cost;
+        undone = record {
+          back = back;
+          names = f;
+          does = record {
+            by = λ m h.
+                done_then (found setting.program target b') _ cell' back (index_nodes target)
+                (nodes value + (spent + 0))
+                c finds
+                (done_then (evaluated setting.program value b') _ (renamed f.there v) back (nodes value) (spent + 0)
+                (nodes value + (spent + 0)) values
+                (done_then (kept_apart setting.program (own_element target) (index_elements target ++ elements value)
+                b')
+                _ tt back spent 0 (spent + 0) unshared (ap (λ k. Done (written b' cell' (Word k)) 0) again) refl)
+                refl) cost;
+          };
+          sees = subst R same (written_seen setting.limits.heap f b b' sees cell (Word facts.old));
+          same = λ name o p h k. refl;
         };
-        sees = subst R same (written_seen setting.limits.heap f b b' sees cell (Word facts.old));
-        same = λ name o p h k. refl;
+        exact = λ here alike.
+            ap (λ (s : State). written s cell' (Word facts.old)) here
+            ∙ ap (λ (d : Cell). written b d (Word facts.old)) (cell_alike f cell alike) ∙ same;
       }
 
-  pub undo_update : (n : ℕ) (C : G.Context) (at : ℕ) (op : UpdateOp) (target : Lvalue) (value : Expression)
+  pub update_exactly : (n : ℕ) (C : G.Context) (at : ℕ) (op : UpdateOp) (target : Lvalue) (value : Expression)
       (a b : State) (c : ℕ) → G.Typed C (Then (Update at op target value) End) → G.Good C a → G.Good C b
       → statement setting n (exec setting n) (Update at op target value) a ≡ Done b c → (f : Names) (b' : State)
-      → Sees setting.limits.heap f b b' → Undone setting (Update at op target value) f a b b' c
-  undo_update n C at op target value a b c typed good good_b e f b' sees =
+      → Sees setting.limits.heap f b b' → UndoneExactly setting (Update at op target value) f a b b' c
+  update_exactly n C at op target value a b c typed good good_b e f b' sees =
       let last : Cell → Value → Unit {0} → Run State = λ cell v u. give
       (written a cell (Word (updated op (number_of (read a cell)) (number_of v)))) in
       let check : Cell → Value → Run State = λ cell v. kept_apart setting.program (own_element target)
@@ -218,11 +239,19 @@ module _ (setting : Setting) (G : Ground setting) where
       (let i = place.1 in let j = val.1 in let l = unshared.1 in let k = done_cost w b 0 three.after three.second in
       let s = one.sum in let t = two.sum in let x = three.sum in omega arith) f b' sees
 
+  pub undo_update : (n : ℕ) (C : G.Context) (at : ℕ) (op : UpdateOp) (target : Lvalue) (value : Expression)
+      (a b : State) (c : ℕ) → G.Typed C (Then (Update at op target value) End) → G.Good C a → G.Good C b
+      → statement setting n (exec setting n) (Update at op target value) a ≡ Done b c → (f : Names) (b' : State)
+      → Sees setting.limits.heap f b b' → Undone setting (Update at op target value) f a b b' c
+  undo_update n C at op target value a b c typed good good_b e f b' sees =
+      (update_exactly n C at op target value a b c typed good good_b e f b' sees).undone
+
   swap_undone : (at : ℕ) (left right : Lvalue) (a : State) (x y : Cell) (b : State) (c : ℕ)
       → SwapFacts setting.program a left right x y → swapped a x y ≡ b → CleanIn setting.program b (Swap at left right)
       → index_nodes left + (index_nodes right + (read_cost (own_element left ++ own_element right)
       (index_elements left ++ index_elements right) + 0)) ≡ c
-      → (f : Names) (b' : State) → Sees setting.limits.heap f b b' → Undone setting (Swap at left right) f a b b' c
+      → (f : Names) (b' : State) → Sees setting.limits.heap f b b'
+      → UndoneExactly setting (Swap at left right) f a b b' c
   swap_undone at left right a x y b c facts is clean cost f b' sees =
       let x' = cell_for f x in
       let y' = cell_for f y in
@@ -249,28 +278,41 @@ module _ (setting : Setting) (G : Ground setting) where
       ∙ ap (λ v. written (written b' x' (renamed f.there (read b y))) y' v)
       (read_seen setting.limits.heap f b b' sees x) in
       record {
-        back = back;
-        names = f;
-        does = record {
-          by = λ m h.
-              done_then (found setting.program left b') _ x' back (index_nodes left) (index_nodes right + (spent + 0)) c
-              lefts
-              (done_then (found setting.program right b') _ y' back (index_nodes right) (spent + 0)
-              (index_nodes right + (spent + 0)) rights
-              (done_then (kept_apart setting.program (own_element left ++ own_element right)
-              (index_elements left ++ index_elements right) b') _ tt back spent 0 (spent + 0) unshared
-              (ap (λ s. Done s 0) swaps) refl) refl) cost;
+        undone = record {
+          back = back;
+          names = f;
+          does = record {
+            by = λ m h.
+                done_then (found setting.program left b') _ x' back (index_nodes left) (index_nodes right + (spent + 0))
+                c
+                lefts
+                (done_then (found setting.program right b') _ y' back (index_nodes right) (spent + 0)
+                (index_nodes right + (spent + 0)) rights
+                (done_then (kept_apart setting.program (own_element left ++ own_element right)
+                (index_elements left ++ index_elements right) b') _ tt back spent 0 (spent + 0) unshared
+                (ap (λ s. Done s 0) swaps) refl) refl) cost;
+          };
+          sees = subst R same (written_seen setting.limits.heap f (written b x (read b y))
+              (written b' x' (renamed f.there (read b y))) once y (read b x));
+          same = λ name o p h k. refl;
         };
-        sees = subst R same (written_seen setting.limits.heap f (written b x (read b y))
-            (written b' x' (renamed f.there (read b y))) once y (read b x));
-        same = λ name o p h k. refl;
+        exact = λ here alike.
+            ap (λ (s : State). written (written s x' (renamed f.there (read b y))) y' (renamed f.there (read b x))) here
+            ∙ ap (λ (d : Cell). written (written b d (renamed f.there (read b y))) y' (renamed f.there (read b x)))
+            (cell_alike f x alike)
+            ∙ ap (λ (d : Cell). written (written b x (renamed f.there (read b y))) d (renamed f.there (read b x)))
+            (cell_alike f y alike)
+            ∙ ap (λ (v : Value). written (written b x v) y (renamed f.there (read b x)))
+            (value_alike f (read b y) alike)
+            ∙ ap (λ (v : Value). written (written b x (read b y)) y v) (value_alike f (read b x) alike)
+            ∙ same;
       }
 
-  pub undo_swap : (n : ℕ) (C : G.Context) (at : ℕ) (left right : Lvalue) (a b : State) (c : ℕ)
+  pub swap_exactly : (n : ℕ) (C : G.Context) (at : ℕ) (left right : Lvalue) (a b : State) (c : ℕ)
       → G.Typed C (Then (Swap at left right) End) → G.Good C a → G.Good C b
       → statement setting n (exec setting n) (Swap at left right) a ≡ Done b c → (f : Names) (b' : State)
-      → Sees setting.limits.heap f b b' → Undone setting (Swap at left right) f a b b' c
-  undo_swap n C at left right a b c typed good good_b e f b' sees =
+      → Sees setting.limits.heap f b b' → UndoneExactly setting (Swap at left right) f a b b' c
+  swap_exactly n C at left right a b c typed good good_b e f b' sees =
       let last : Cell → Cell → Unit {0} → Run State = λ x y u. give (swapped a x y) in
       let check : Cell → Cell → Run State = λ x y. kept_apart setting.program (own_element left ++ own_element right)
       (index_elements left ++ index_elements right) a >>= last x y in
@@ -288,3 +330,10 @@ module _ (setting : Setting) (G : Ground setting) where
       (done_result w b 0 three.after three.second) (G.clean C (Swap at left right) b typed good_b)
       (let i = place.1 in let j = other.1 in let l = unshared.1 in let k = done_cost w b 0 three.after three.second in
       let s = one.sum in let t = two.sum in let x = three.sum in omega arith) f b' sees
+
+  pub undo_swap : (n : ℕ) (C : G.Context) (at : ℕ) (left right : Lvalue) (a b : State) (c : ℕ)
+      → G.Typed C (Then (Swap at left right) End) → G.Good C a → G.Good C b
+      → statement setting n (exec setting n) (Swap at left right) a ≡ Done b c → (f : Names) (b' : State)
+      → Sees setting.limits.heap f b b' → Undone setting (Swap at left right) f a b b' c
+  undo_swap n C at left right a b c typed good good_b e f b' sees =
+      (swap_exactly n C at left right a b c typed good good_b e f b' sees).undone

@@ -3,6 +3,7 @@ use Rattle.std.proofs.Common.{◌≡◌, ℕ, zero, suc, ◌+◌, ◌-◌, refl,
 use Rattle.std.proofs.Common.{List, [], ◌∷◌, ◌++◌, length, map, Option, Some, None, option_map, unwrap_or, nat_eq}
 use Rattle.std.proofs.Common.{nat_lt, cond, if◌then◌else◌, eqb-true, eq-eqb, ne_eqb, position, codes, arith}
 use Rattle.std.proofs.lemmas.Bool.{eqb-false}
+use Rattle.std.proofs.lemmas.List.{map-append}
 use Rattle.std.specs.List.{list_any, position_or_len}
 use Rattle.std.specs.Fmt.{decimal}
 use Rattle.rpp_tree.specs.declared.tree.Var.{Var}
@@ -35,7 +36,7 @@ none_without ((k, o) ∷ store) n m e = by (none_without store n m) (nat_eq k m)
     by again false f true = ap (λ t. if t then Some o else object_named store m) (sym f) ∙ e
     by again false f false = rw f (again (ap (λ t. if t then Some o else object_named store m) (sym f) ∙ e))
 
-named_without_same : (store : Store) (n : ℕ) → IsUnique store → object_named (without store n) n ≡ None
+pub named_without_same : (store : Store) (n : ℕ) → IsUnique store → object_named (without store n) n ≡ None
 named_without_same [] n u = refl
 named_without_same ((k, o) ∷ store) n u = by (named_without_same store n u.1) (nat_eq k n) refl
   where
@@ -44,7 +45,7 @@ named_without_same ((k, o) ∷ store) n u = by (named_without_same store n u.1) 
     by again true f = let P : ℕ → Type 0 = λ x. object_named store x ≡ None in subst P (eqb-true k n f) u.0
     by again false f = rw f again
 
-unique_without : (store : Store) (n : ℕ) → IsUnique store → IsUnique (without store n)
+pub unique_without : (store : Store) (n : ℕ) → IsUnique store → IsUnique (without store n)
 unique_without [] n u = tt
 unique_without ((k, o) ∷ store) n u = by (unique_without store n u.1) (nat_eq k n)
   where
@@ -56,10 +57,6 @@ unique_without ((k, o) ∷ store) n u = by (unique_without store n u.1) (nat_eq 
 pub names_once : (bound : ℕ) (store : Store) → Descending bound store → IsUnique store
 names_once bound [] d = tt
 names_once bound ((n, o) ∷ store) d = (none_above n store n d.1 (omega arith), names_once n store d.1)
-
-map_joined : {A B : Type 0} (f : A → B) (xs ys : List A) → map f (xs ++ ys) ≡ map f xs ++ map f ys
-map_joined f [] ys = refl
-map_joined f (x ∷ xs) ys = ap (λ l. f x ∷ l) (map_joined f xs ys)
 
 length_without : (store : Store) (n : ℕ) (o : Object) → object_named store n ≡ Some o
     → length store ≡ suc (length (without store n))
@@ -200,8 +197,8 @@ module _ (f back : ℕ → ℕ) (there_and_back : (n : ℕ) → back (f n) ≡ n
         walked steps second (map f met ++ more) (map f pending ++ more)) (object_alike n)
         ∙ ap (λ more. walked steps second (map f met ++ more) (map f pending ++ more))
         (met_alike met (object_at first n).cells)
-        ∙ ap (λ l. walked steps second l (map f pending ++ map f new)) (sym (map_joined f met new))
-        ∙ ap (λ l. walked steps second (map f (met ++ new)) l) (sym (map_joined f pending new))
+        ∙ ap (λ l. walked steps second l (map f pending ++ map f new)) (sym (map-append f met new))
+        ∙ ap (λ l. walked steps second (map f (met ++ new)) l) (sym (map-append f pending new))
         ∙ walk_alike steps (met ++ new) (pending ++ new)
 
     lines_alike : (program : Source) (names rest : List ℕ)

@@ -1,31 +1,23 @@
 -- Blocks through the requests of a run.
-use Rattle.std.proofs.Common.{◌≡◌, ◌≢◌, ◌∙◌, sym, ap, refl, ℕ, ◌+◌, ◌^◌, ◌<◌, ◌≤◌, Bool, true, false, List, [], ◌∷◌}
-use Rattle.std.proofs.Common.{◌++◌, map, length, Option, Some, None, arith}
+use Rattle.std.proofs.Common.{◌≡◌, ◌≢◌, ◌∙◌, sym, ap, refl, ℕ, ◌+◌, ◌<◌, Bool, true, false, List, [], ◌∷◌}
+use Rattle.std.proofs.Common.{◌++◌, map, length, Option, Some, None}
 use Rattle.std.proofs.lemmas.Bool.{eqb-true}
 use Rattle.std.specs.Prelude.{nat_eq, is_none, is_some, if◌then◌else◌}
 use Rattle.std.specs.Option.{option_map}
-use Rattle.code_conventions.specs.declared.memory.TheConstants.{HEADER_WORDS}
 use Rattle.buddy_book.specs.Book.{Book, take, give}
 use Rattle.buddy_book.specs.Place.{Taken, Given, Log, Placing, block_of, without_name, with_block, after_request, place}
 use Rattle.buddy_book.specs.Shown.{Shown, TakenBlocks, order_in, with_taken, without_taken}
 use Rattle.buddy_book.proofs.Table.{order_in-with}
 use Rattle.buddy_book.proofs.Orders.{take_took, give_gave}
 use Rattle.buddy_book.proofs.Kept.{none_taken, take_kept, given_back, give_kept}
-use Rattle.buddy_book.proofs.Requests.{order_least, order_room, order_in-with_other, order_in-without_other}
+use Rattle.buddy_book.proofs.Requests.{order_in-with_other, order_in-without_other}
 use Rattle.buddy_book.proofs.Requests.{block_of_other}
 use Rattle.roopl_semantics.specs.Store.{Head, Object, Store, main_name, without}
 use Rattle.roopl_semantics.specs.Execution.{Setting, order_of_cells}
 use Rattle.roopl_semantics.specs.Laws.{block_in}
+use Rattle.roopl_semantics.proofs.Orders.{order_from_one}
 use Rattle.meaning_sound.specs.Sound.{head_of, head_named, is_live, cell_kinds, Descending, entry_name, IsPlaced}
 use Rattle.meaning_sound.proofs.Stores.{other_number, differs, here, there, without_other, without_here}
-
--- ---- orders begin at 1
-
-pub order_from_one : (cells : ℕ) → 1 ≤ order_of_cells cells
-order_from_one cells = order_least 31 1 (HEADER_WORDS + cells)
-
-pub has_room : (cells : ℕ) → order_of_cells cells ≤ 20 → HEADER_WORDS + cells ≤ 2 ^ order_of_cells cells
-has_room cells h = order_room 31 1 (HEADER_WORDS + cells) (omega arith)
 
 -- ---- names
 

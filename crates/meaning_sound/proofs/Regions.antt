@@ -12,10 +12,10 @@ use Rattle.buddy_book.proofs.Kept.{cover-additive, given_back}
 use Rattle.buddy_book.proofs.Orders.{pow_pos}
 use Rattle.roopl_semantics.specs.Store.{Head, Object, Store, main_name}
 use Rattle.roopl_semantics.specs.Execution.{Setting, order_of_cells}
+use Rattle.roopl_semantics.proofs.Orders.{has_room}
 use Rattle.meaning_sound.specs.Sound.{head_of, head_named, is_live, cell_kinds, Descending, entry_name, IsPlaced}
 use Rattle.meaning_sound.proofs.Stores.{other_number, same_number, here, there}
 use Rattle.buddy_book.proofs.Requests.{order_in-without_other}
-use Rattle.meaning_sound.proofs.Placing.{has_room}
 
 -- ---- two taken blocks
 

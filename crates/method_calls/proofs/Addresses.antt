@@ -5,6 +5,7 @@ use Rattle.rpp_words.specs.declared.input.TheConstants.{FRAME_WORDS}
 use Rattle.code_conventions.specs.declared.memory.TheConstants.{HEADER_WORDS}
 use Rattle.rpp_words.specs.Words.{sum_of, difference_of, negated}
 use Rattle.pisa_isa.specs.Machine.{Memory}
+use Rattle.code_conventions.specs.declared.registers.TheConstants.{CONTENT, FRAME, MOVED, OBJECT}
 use Rattle.paired_code.specs.Machine.{Image}
 use Rattle.paired_code.specs.Pieces.{Done, Will}
 use Rattle.paired_code.specs.Rows.{line}
@@ -48,46 +49,46 @@ module _ (im : Image) (o f b c g : ℕ) (cs : List ℕ) where
   pub will_reach : (sp : Spot) → address o f sp < 2 ^ 32
       → Will im (line (reach_row sp)) false (mk 0 o f 0 b c g 0 cs) (λ out. out ≡ Done (at_spot o f sp b c g cs) 1)
   will_reach (Field i) h =
-      will_row im false (addi 3 (HEADER_WORDS + i) ∷ []) 1 _ _ (next refl (omega arith)
+      will_row im false (addi OBJECT (HEADER_WORDS + i) ∷ []) 1 _ _ (next refl (omega arith)
       (ap (λ v. Done (mk 0 v f 0 b c g 0 cs) 1) (sum_is o (HEADER_WORDS + i) (o + (HEADER_WORDS + i)) refl h)) here)
   will_reach (Frame j) h =
-      will_row im false (addi 4 j ∷ []) 1 _ _ (next refl (omega arith)
+      will_row im false (addi FRAME j ∷ []) 1 _ _ (next refl (omega arith)
       (ap (λ v. Done (mk 0 o v 0 b c g 0 cs) 1) (sum_is f j (f + j) refl h)) here)
 
   pub will_leave : (sp : Spot) → address o f sp < 2 ^ 32
       → Will im (line (reach_row sp)) true (at_spot o f sp b c g cs) (λ out. out ≡ Done (mk 0 o f 0 b c g 0 cs) 1)
   will_leave (Field i) h =
-      will_row im true (addi 3 (HEADER_WORDS + i) ∷ []) 1 _ _ (next refl (omega arith)
+      will_row im true (addi OBJECT (HEADER_WORDS + i) ∷ []) 1 _ _ (next refl (omega arith)
       (ap (λ v. Done (mk 0 v f 0 b c g 0 cs) 1) (less_is (o + (HEADER_WORDS + i)) (HEADER_WORDS + i) o refl h)) here)
   will_leave (Frame j) h =
-      will_row im true (addi 4 j ∷ []) 1 _ _ (next refl (omega arith)
+      will_row im true (addi FRAME j ∷ []) 1 _ _ (next refl (omega arith)
       (ap (λ v. Done (mk 0 o v 0 b c g 0 cs) 1) (less_is (f + j) j f refl h)) here)
 
   -- MOVED changes places with the word of the spot
   pub swaps_moved : (d : Bool) (sp : Spot) → address o f sp < length cs
-      → Will im (line (exch 8 (base_of sp) ∷ [])) d (at_spot o f sp b c g cs) (λ out. out ≡ Done
+      → Will im (line (exch MOVED (base_of sp) ∷ [])) d (at_spot o f sp b c g cs) (λ out. out ≡ Done
       (at_spot o f sp b (slice_index cs (address o f sp)) g (slice_set cs (address o f sp) c)) 1)
-  swaps_moved false (Field i) h = will_row im false (exch 8 3 ∷ []) 1 _ _ (next refl (omega arith)
-      (exchanges false 8 3 (at_spot o f (Field i) b c g cs) h) here)
-  swaps_moved false (Frame j) h = will_row im false (exch 8 4 ∷ []) 1 _ _ (next refl (omega arith)
-      (exchanges false 8 4 (at_spot o f (Frame j) b c g cs) h) here)
-  swaps_moved true (Field i) h = will_row im true (exch 8 3 ∷ []) 1 _ _ (next refl (omega arith)
-      (exchanges true 8 3 (at_spot o f (Field i) b c g cs) h) here)
-  swaps_moved true (Frame j) h = will_row im true (exch 8 4 ∷ []) 1 _ _ (next refl (omega arith)
-      (exchanges true 8 4 (at_spot o f (Frame j) b c g cs) h) here)
+  swaps_moved false (Field i) h = will_row im false (exch MOVED OBJECT ∷ []) 1 _ _ (next refl (omega arith)
+      (exchanges false MOVED OBJECT (at_spot o f (Field i) b c g cs) h) here)
+  swaps_moved false (Frame j) h = will_row im false (exch MOVED FRAME ∷ []) 1 _ _ (next refl (omega arith)
+      (exchanges false MOVED FRAME (at_spot o f (Frame j) b c g cs) h) here)
+  swaps_moved true (Field i) h = will_row im true (exch MOVED OBJECT ∷ []) 1 _ _ (next refl (omega arith)
+      (exchanges true MOVED OBJECT (at_spot o f (Field i) b c g cs) h) here)
+  swaps_moved true (Frame j) h = will_row im true (exch MOVED FRAME ∷ []) 1 _ _ (next refl (omega arith)
+      (exchanges true MOVED FRAME (at_spot o f (Frame j) b c g cs) h) here)
 
   -- and so does CONTENT
   pub swaps_content : (d : Bool) (sp : Spot) → address o f sp < length cs
-      → Will im (line (exch 6 (base_of sp) ∷ [])) d (at_spot o f sp b c g cs) (λ out. out ≡ Done
+      → Will im (line (exch CONTENT (base_of sp) ∷ [])) d (at_spot o f sp b c g cs) (λ out. out ≡ Done
       (at_spot o f sp (slice_index cs (address o f sp)) c g (slice_set cs (address o f sp) b)) 1)
-  swaps_content false (Field i) h = will_row im false (exch 6 3 ∷ []) 1 _ _ (next refl (omega arith)
-      (exchanges false 6 3 (at_spot o f (Field i) b c g cs) h) here)
-  swaps_content false (Frame j) h = will_row im false (exch 6 4 ∷ []) 1 _ _ (next refl (omega arith)
-      (exchanges false 6 4 (at_spot o f (Frame j) b c g cs) h) here)
-  swaps_content true (Field i) h = will_row im true (exch 6 3 ∷ []) 1 _ _ (next refl (omega arith)
-      (exchanges true 6 3 (at_spot o f (Field i) b c g cs) h) here)
-  swaps_content true (Frame j) h = will_row im true (exch 6 4 ∷ []) 1 _ _ (next refl (omega arith)
-      (exchanges true 6 4 (at_spot o f (Frame j) b c g cs) h) here)
+  swaps_content false (Field i) h = will_row im false (exch CONTENT OBJECT ∷ []) 1 _ _ (next refl (omega arith)
+      (exchanges false CONTENT OBJECT (at_spot o f (Field i) b c g cs) h) here)
+  swaps_content false (Frame j) h = will_row im false (exch CONTENT FRAME ∷ []) 1 _ _ (next refl (omega arith)
+      (exchanges false CONTENT FRAME (at_spot o f (Frame j) b c g cs) h) here)
+  swaps_content true (Field i) h = will_row im true (exch CONTENT OBJECT ∷ []) 1 _ _ (next refl (omega arith)
+      (exchanges true CONTENT OBJECT (at_spot o f (Field i) b c g cs) h) here)
+  swaps_content true (Frame j) h = will_row im true (exch CONTENT FRAME ∷ []) 1 _ _ (next refl (omega arith)
+      (exchanges true CONTENT FRAME (at_spot o f (Frame j) b c g cs) h) here)
 
 -- ---- a word of the frame above
 

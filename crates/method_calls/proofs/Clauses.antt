@@ -14,6 +14,8 @@ use Rattle.paired_code.specs.Does.{Meets}
 use Rattle.paired_code.specs.Rows.{line}
 use Rattle.paired_code.proofs.Mirrored.{length_mirror}
 use Rattle.pisa_isa.specs.Loaded.{loaded}
+use Rattle.code_conventions.specs.declared.faults.TheConstants.{DELOCAL}
+use Rattle.code_conventions.specs.declared.registers.TheConstants.{FRAME, VALUE}
 use Rattle.roopl_semantics.specs.Execution.{exec}
 use Rattle.roopl_semantics.specs.Source.{starting, main_body}
 use Rattle.roopl_semantics.specs.Layout.{layout}
@@ -54,15 +56,16 @@ moves_same spot (x ∷ args) = ap (λ z. z ++ move_code (spot x) (length args)) 
 own_same : (spot : Ident → Spot) (back : Bool) (slot : ℕ) (args : List Ident)
     → call_code spot back slot args ≡ own_cells back slot (map spot args)
 unfolding last_cells own_cells
-own_same spot back slot args = ap (λ z. around (depth_code ++ (z ++ line (addi 4 FRAME_WORDS ∷ fetch_row slot)))
-    (enter_at_cells 12 back)) (moves_same spot args)
+own_same spot back slot args = ap (λ z. around (depth_code ++ (z ++ line (addi FRAME FRAME_WORDS ∷ fetch_row slot)))
+    (enter_at_cells VALUE back)) (moves_same spot args)
 
 on_same : (spot : Ident → Spot) (back : Bool) (x : Ident) (slot : ℕ) (args : List Ident)
-    → call_on_code spot back x slot args ≡ around (front_on_of (spot x) slot (map spot args)) (enter_at_cells 12 back)
+    → call_on_code spot back x slot args ≡ around (front_on_of (spot x) slot (map spot args))
+    (enter_at_cells VALUE back)
 unfolding last_cells behind_of checked_of front_on_of
 on_same spot back x slot args = ap (λ z. around (nil_code (spot x)
-    ++ (depth_code ++ (z ++ (take_code (spot x) ++ (onto_code ++ line (addi 4 FRAME_WORDS ∷ fetch_row slot))))))
-    (enter_at_cells 12 back)) (moves_same spot args)
+    ++ (depth_code ++ (z ++ (take_code (spot x) ++ (onto_code ++ line (addi FRAME FRAME_WORDS ∷ fetch_row slot))))))
+    (enter_at_cells VALUE back)) (moves_same spot args)
 
 -- ---- laws
 
@@ -100,7 +103,7 @@ own_clause back slot spots = record {
 }
 
 pub on_clause : (back : Bool) (spot : Spot) (slot : ℕ) (spots : List Spot)
-    → CallOnCode back spot slot spots (around (front_on_of spot slot spots) (enter_at_cells 12 back))
+    → CallOnCode back spot slot spots (around (front_on_of spot slot spots) (enter_at_cells VALUE back))
 on_clause back sp slot spots = record {
   law = λ place routine s at x name args f g is slot_is vars spot_is spots_are apart.
       let w = world_of place in
@@ -111,9 +114,9 @@ on_clause back sp slot spots = record {
       (λ u. variables_are w knows f s u args vars) apart in
       subst (λ z. StmtLaw w s (Call at back (Some (Whole x)) name args) z)
       (on_same spot back x (on.slot_on s x name) args ∙ ap
-      (λ k. around (front_on_of (spot x) k (map spot args)) (enter_at_cells 12 back)) slot_is
-      ∙ ap (λ k. around (front_on_of k slot (map spot args)) (enter_at_cells 12 back)) spot_is
-      ∙ ap (λ k. around (front_on_of sp slot k) (enter_at_cells 12 back)) spots_are) law;
+      (λ k. around (front_on_of (spot x) k (map spot args)) (enter_at_cells VALUE back)) slot_is
+      ∙ ap (λ k. around (front_on_of k slot (map spot args)) (enter_at_cells VALUE back)) spot_is
+      ∙ ap (λ k. around (front_on_of sp slot k) (enter_at_cells VALUE back)) spots_are) law;
 }
 
 pub method_clause : (p : List Symbol) → MethodCode p (method_code p)
@@ -180,7 +183,7 @@ own_length back slot spots =
     (length-append depth_code (moves_of spots ++ last_cells slot))
     (length-append (moves_of spots) (last_cells slot) ∙ ap (λ n. length (moves_of spots) + n) (last_length slot))
     (moves_length spots)
-    (around_length front (enter_at_cells 12 back))
+    (around_length front (enter_at_cells VALUE back))
 
 behind_length : (spot : Spot) (slot : ℕ) → length (behind_of spot slot) ≡ 21
 unfolding last_cells behind_of
@@ -215,11 +218,11 @@ sum_on : (k n1 n4 : ℕ) → n1 ≡ 11 + (11 * k + 34) → n4 ≡ 2 * n1 + 7 →
 sum_on k n1 n4 a d = omega arith
 
 pub on_length : (back : Bool) (spot : Spot) (slot : ℕ) (spots : List Spot)
-    → length (around (front_on_of spot slot spots) (enter_at_cells 12 back)) ≡ 22 * length spots + 97
+    → length (around (front_on_of spot slot spots) (enter_at_cells VALUE back)) ≡ 22 * length spots + 97
 on_length back spot slot spots =
     sum_on (length spots) (length (front_on_of spot slot spots))
-    (length (around (front_on_of spot slot spots) (enter_at_cells 12 back))) (front_length spot slot spots)
-    (around_length (front_on_of spot slot spots) (enter_at_cells 12 back))
+    (length (around (front_on_of spot slot spots) (enter_at_cells VALUE back))) (front_length spot slot spots)
+    (around_length (front_on_of spot slot spots) (enter_at_cells VALUE back))
 
 sum_method : (p n : ℕ) → n ≡ 2 * 4 + p → n ≡ p + 8
 sum_method p n h = omega arith
@@ -238,7 +241,7 @@ open_length : (word : ℕ) (v : List Symbol) → length (local_open word v) ≡ 
 open_length word v =
     let store = store_code word in
     sum_open (length v) (length (local_open word v)) (length (v ++ store))
-    (length-append (check_cells 12 3) (v ++ store)) (length-append v store)
+    (length-append (check_cells VALUE DELOCAL) (v ++ store)) (length-append v store)
 
 sum_local : (v p x n1 n2 n3 n4 n5 : ℕ) → n5 ≡ n1 + n2 → n2 ≡ p + n3 → n3 ≡ n4 → n1 ≡ v + 8 → n4 ≡ x + 8
     → n5 ≡ v + p + x + 16

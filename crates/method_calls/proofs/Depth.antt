@@ -12,6 +12,11 @@ use Rattle.rpp_words.specs.Words.{sum_of, negated, is_less, signed}
 use Rattle.pisa_isa.specs.Table.{word_of}
 use Rattle.pisa_isa.specs.declared.cell.Cell.{Cell}
 use Rattle.pisa_isa.specs.Machine.{Memory}
+use Rattle.pisa_isa.specs.declared.fixed.TheConstants.{END_CELL}
+use Rattle.code_conventions.specs.declared.memory.TheConstants.{PLACE_WORD, TABLE_HEADER}
+use Rattle.code_conventions.specs.declared.faults.TheConstants.{TOO_DEEP}
+use Rattle.code_conventions.specs.declared.registers.TheConstants.{ADDRESS, CONTENT, FLAG, FRAME, LINK, MOVED, OBJECT}
+use Rattle.code_conventions.specs.declared.registers.TheConstants.{VALUE}
 use Rattle.paired_code.specs.Machine.{Image}
 use Rattle.paired_code.specs.Layout.{check_cells}
 use Rattle.paired_code.specs.Pieces.{Done, Trapped, Will, after}
@@ -57,17 +62,18 @@ above_zero v p h = below 0 v p h
 
 -- ---- the depth
 
-module _ (im : Image) (ob fr : ℕ) (cs : List ℕ) (inside : 4 < length cs) (small : slice_index cs 4 < 2 ^ 31)
-    (fits : fr + FRAME_WORDS ≤ slice_index cs 4) where
+module _ (im : Image) (ob fr : ℕ) (cs : List ℕ) (inside : END_CELL < length cs)
+    (small : slice_index cs END_CELL < 2 ^ 31)
+    (fits : fr + FRAME_WORDS ≤ slice_index cs END_CELL) where
   abbrev end : ℕ
-  end = slice_index cs 4
+  end = slice_index cs END_CELL
 
   -- the last frame that fits begins before it
   abbrev last : ℕ
   last = end - FRAME_WORDS
 
   abbrev gone : List ℕ
-  gone = slice_set cs 4 0
+  gone = slice_set cs END_CELL 0
 
   abbrev depth_mem : ℕ → ℕ → ℕ → List ℕ → Memory
   depth_mem a b g l = mk 0 ob fr a b 0 g 0 l
@@ -75,50 +81,51 @@ module _ (im : Image) (ob fr : ℕ) (cs : List ℕ) (inside : 4 < length cs) (sm
   last_is : end ≡ last + FRAME_WORDS
   last_is = omega (arith, fits)
 
-  finds_end : Will im (line end_row) false (depth_mem 0 0 0 cs) (λ o. o ≡ Done (depth_mem 4 last 0 gone) 3)
+  finds_end : Will im (line end_row) false (depth_mem 0 0 0 cs) (λ o. o ≡ Done (depth_mem END_CELL last 0 gone) 3)
   finds_end =
       will_row im false end_row 3 _ _
       (next refl (omega arith) refl
-      (next refl (omega arith) (exchanges false 6 5 (depth_mem 4 0 0 cs) inside)
-      (next refl (omega arith) (ap (λ v. Done (depth_mem 4 v 0 gone) 1)
+      (next refl (omega arith) (exchanges false CONTENT ADDRESS (depth_mem END_CELL 0 0 cs) inside)
+      (next refl (omega arith) (ap (λ v. Done (depth_mem END_CELL v 0 gone) 1)
       (less_is end FRAME_WORDS last last_is (omega (arith, small)))) here)))
 
-  leaves_end : Will im (line end_row) true (depth_mem 4 last 0 gone) (λ o. o ≡ Done (depth_mem 0 0 0 cs) 3)
+  leaves_end : Will im (line end_row) true (depth_mem END_CELL last 0 gone) (λ o. o ≡ Done (depth_mem 0 0 0 cs) 3)
   leaves_end =
-      let l1 : 4 < length gone = omega (arith, length-set cs 4 0, inside) in
-      will_row im true (addi 6 (negated FRAME_WORDS) ∷ exch 6 5 ∷ addi 5 4 ∷ []) 3 _ _
-      (next refl (omega arith) (ap (λ v. Done (depth_mem 4 v 0 gone) 1)
+      let l1 : END_CELL < length gone = omega (arith, length-set cs END_CELL 0, inside) in
+      will_row im true (addi CONTENT (negated FRAME_WORDS) ∷ exch CONTENT ADDRESS ∷ addi ADDRESS END_CELL ∷ []) 3 _ _
+      (next refl (omega arith) (ap (λ v. Done (depth_mem END_CELL v 0 gone) 1)
       (sum_is last FRAME_WORDS end (omega (arith, last_is)) (omega (arith, small))))
-      (next refl (omega arith) (exchanges true 6 5 (depth_mem 4 end 0 gone) l1
-      ∙ ap (λ v. Done (depth_mem 4 v 0 (slice_set gone 4 end)) 1) (emptied cs 4 inside)
-      ∙ ap (λ l. Done (depth_mem 4 0 0 l) 1) (filled cs 4))
+      (next refl (omega arith) (exchanges true CONTENT ADDRESS (depth_mem END_CELL end 0 gone) l1
+      ∙ ap (λ v. Done (depth_mem END_CELL v 0 (slice_set gone END_CELL end)) 1) (emptied cs END_CELL inside)
+      ∙ ap (λ l. Done (depth_mem END_CELL 0 0 l) 1) (filled cs END_CELL))
       (next refl (omega arith) refl here)))
 
   -- what the two cells leave in the flag
   flags : (t : Bool) (x y : ℕ) → is_less fr last ≡ t → bit_xor 0 (word_of t) ≡ x → bit_xor x 1 ≡ y
-      → Will im (line fits_row) false (depth_mem 4 last 0 gone) (λ o. o ≡ Done (depth_mem 4 last y gone) 2)
+      → Will im (line fits_row) false (depth_mem END_CELL last 0 gone)
+      (λ o. o ≡ Done (depth_mem END_CELL last y gone) 2)
   flags t x y e ex ey =
       will_row im false fits_row 2 _ _
-      (next refl (omega arith) (ap (λ b. Done (depth_mem 4 last (bit_xor 0 (word_of b)) gone) 1) e
-      ∙ ap (λ v. Done (depth_mem 4 last v gone) 1) ex)
-      (next refl (omega arith) (ap (λ v. Done (depth_mem 4 last v gone) 1) ey) here))
+      (next refl (omega arith) (ap (λ b. Done (depth_mem END_CELL last (bit_xor 0 (word_of b)) gone) 1) e
+      ∙ ap (λ v. Done (depth_mem END_CELL last v gone) 1) ex)
+      (next refl (omega arith) (ap (λ v. Done (depth_mem END_CELL last v gone) 1) ey) here))
 
   unflags : is_less fr last ≡ true
-      → Will im (line fits_row) true (depth_mem 4 last 0 gone) (λ o. o ≡ Done (depth_mem 4 last 0 gone) 2)
+      → Will im (line fits_row) true (depth_mem END_CELL last 0 gone) (λ o. o ≡ Done (depth_mem END_CELL last 0 gone) 2)
   unflags e =
-      will_row im true (xori 11 1 ∷ sltx 11 4 6 ∷ []) 2 _ _
+      will_row im true (xori FLAG 1 ∷ sltx FLAG FRAME CONTENT ∷ []) 2 _ _
       (next refl (omega arith) refl
-      (next refl (omega arith) (ap (λ b. Done (depth_mem 4 last (bit_xor 1 (word_of b)) gone) 1) e) here))
+      (next refl (omega arith) (ap (λ b. Done (depth_mem END_CELL last (bit_xor 1 (word_of b)) gone) 1) e) here))
 
   -- the flag is 0 behind the test, and before it where it is run back
-  passes : (d : Bool) → is_less fr last ≡ true → Will im (line fits_row ++ check_cells 11 14) d
-      (depth_mem 4 last 0 gone) (λ o. o ≡ Done (depth_mem 4 last 0 gone) 6)
+  passes : (d : Bool) → is_less fr last ≡ true → Will im (line fits_row ++ check_cells FLAG TOO_DEEP) d
+      (depth_mem END_CELL last 0 gone) (λ o. o ≡ Done (depth_mem END_CELL last 0 gone) 6)
   passes false e =
-      will_two im (line fits_row) (check_cells 11 14) _ _ 2 _ (flags true 1 0 e refl refl)
-      (will_of im _ false _ _ _ (runs_check_zero im false 11 14 (depth_mem 4 last 0 gone) refl) refl)
+      will_two im (line fits_row) (check_cells FLAG TOO_DEEP) _ _ 2 _ (flags true 1 0 e refl refl)
+      (will_of im _ false _ _ _ (runs_check_zero im false FLAG TOO_DEEP (depth_mem END_CELL last 0 gone) refl) refl)
   passes true e =
-      will_two_back im (line fits_row) (check_cells 11 14) _ _ 4 _
-      (will_of im _ true _ _ _ (runs_check_zero im true 11 14 (depth_mem 4 last 0 gone) refl) refl)
+      will_two_back im (line fits_row) (check_cells FLAG TOO_DEEP) _ _ 4 _
+      (will_of im _ true _ _ _ (runs_check_zero im true FLAG TOO_DEEP (depth_mem END_CELL last 0 gone) refl) refl)
       (will_more im _ true _ _ _ (λ o q. ap (after 4) q) (unflags e))
 
   -- where one more call may be open, nothing happens
@@ -126,29 +133,32 @@ module _ (im : Image) (ob fr : ℕ) (cs : List ℕ) (inside : 4 < length cs) (sm
       (λ o. o ≡ Done (depth_mem 0 0 0 cs) 12)
   depth_passes d h =
       let t : is_less fr last ≡ true = below fr last (omega (arith, last_is)) (omega (arith, small)) in
-      will_in im d (line end_row) (line fits_row ++ check_cells 11 14) _ _ _ _ 3 6 3 finds_end (passes d t) leaves_end
+      will_in im d (line end_row) (line fits_row ++ check_cells FLAG TOO_DEEP) _ _ _ _ 3 6 3 finds_end (passes d t)
+      leaves_end
 
   -- else it traps
   pub depth_traps : fr + FRAME_WORDS ≡ end → Will im depth_code false (depth_mem 0 0 0 cs)
       (λ o. (k : ℕ) × (k ≤ 9) × (o ≡ Trapped 14 k))
   depth_traps h =
       let t : is_less fr last ≡ false = not_below fr last (omega (arith, last_is)) (omega (arith, small)) in
-      let c = runs_check_other im false 11 14 (depth_mem 4 last 1 gone) (λ e. let q : 1 ≡ 0 = e in omega arith) in
-      will_in_trap im false (line end_row) (line fits_row ++ check_cells 11 14) _ _ 3 14 6 finds_end
-      (will_two im (line fits_row) (check_cells 11 14) _ _ 2 _ (flags false 0 1 t refl refl)
+      let c = runs_check_other im false FLAG TOO_DEEP (depth_mem END_CELL last 1 gone)
+      (λ e. let q : 1 ≡ 0 = e in omega arith) in
+      will_in_trap im false (line end_row) (line fits_row ++ check_cells FLAG TOO_DEEP) _ _ 3 14 6 finds_end
+      (will_two im (line fits_row) (check_cells FLAG TOO_DEEP) _ _ 2 _ (flags false 0 1 t refl refl)
       (will_of im _ false _ _ _ c.2 (2 + c.0, (let l = c.1 in omega arith), refl)))
 
 -- ---- the place of a method
 
 module _ (im : Image) (ob fr slot place : ℕ) (cs : List ℕ) (inside : ob < length cs)
     (small : slice_index cs ob < 2 ^ 23) (slot_small : slot < 2 ^ 20)
-    (entry_in : slice_index cs ob + (1 + slot) < length cs) (apart : slice_index cs ob + (1 + slot) ≢ ob)
-    (entry : slice_index cs (slice_index cs ob + (1 + slot)) ≡ place) (place_small : place < 2 ^ 32) where
+    (entry_in : slice_index cs ob + (TABLE_HEADER + slot) < length cs)
+    (apart : slice_index cs ob + (TABLE_HEADER + slot) ≢ ob)
+    (entry : slice_index cs (slice_index cs ob + (TABLE_HEADER + slot)) ≡ place) (place_small : place < 2 ^ 32) where
   abbrev table : ℕ
   table = slice_index cs ob
 
   abbrev at_entry : ℕ
-  at_entry = slice_index cs ob + (1 + slot)
+  at_entry = slice_index cs ob + (TABLE_HEADER + slot)
 
   abbrev fetch_mem : ℕ → ℕ → ℕ → List ℕ → Memory
   fetch_mem b c p l = mk 0 ob fr 0 b c 0 p l
@@ -172,16 +182,16 @@ module _ (im : Image) (ob fr slot place : ℕ) (cs : List ℕ) (inside : ob < le
   same_entry = get_or-set_other cs ob at_entry 0 0 apart ∙ entry
 
   -- the table's address goes out, and the place is copied there
-  table_back : (d : Bool) (p : ℕ) → package.Rattle.paired_code.specs.Laws.outcome_of d (exch 8 3)
+  table_back : (d : Bool) (p : ℕ) → package.Rattle.paired_code.specs.Laws.outcome_of d (exch MOVED OBJECT)
       (fetch_mem 0 table p no_table) ≡ Done (fetch_mem 0 0 p cs) 1
-  table_back d p = exchanges d 8 3 (fetch_mem 0 table p no_table) out_in
+  table_back d p = exchanges d MOVED OBJECT (fetch_mem 0 table p no_table) out_in
       ∙ ap (λ v. Done (fetch_mem 0 v p (slice_set no_table ob table)) 1) (emptied cs ob inside)
       ∙ ap (λ l. Done (fetch_mem 0 0 p l) 1) (filled cs ob)
 
-  entry_back : (d : Bool) (p : ℕ) → package.Rattle.paired_code.specs.Laws.outcome_of d (exch 6 8)
+  entry_back : (d : Bool) (p : ℕ) → package.Rattle.paired_code.specs.Laws.outcome_of d (exch CONTENT MOVED)
       (fetch_mem place at_entry p no_entry) ≡ Done (fetch_mem 0 at_entry p no_table) 1
   entry_back d p =
-      exchanges d 6 8 (fetch_mem place at_entry p no_entry) entry_out
+      exchanges d CONTENT MOVED (fetch_mem place at_entry p no_entry) entry_out
       ∙ ap (λ v. Done (fetch_mem v at_entry p (slice_set no_entry at_entry place)) 1)
       (emptied no_table at_entry entry_there)
       ∙ ap (λ v. Done (fetch_mem 0 at_entry p (slice_set no_entry at_entry v)) 1) (sym same_entry)
@@ -189,34 +199,36 @@ module _ (im : Image) (ob fr slot place : ℕ) (cs : List ℕ) (inside : ob < le
 
   fetches : Ran false (fetch_row slot) 7 (fetch_mem 0 0 0 cs) (fetch_mem 0 0 place cs)
   fetches =
-      next refl (omega arith) (exchanges false 8 3 (fetch_mem 0 0 0 cs) inside)
+      next refl (omega arith) (exchanges false MOVED OBJECT (fetch_mem 0 0 0 cs) inside)
       (next refl (omega (arith, slot_small)) (ap (λ v. Done (fetch_mem 0 v 0 no_table) 1)
-      (sum_is table (1 + slot) at_entry refl (omega (arith, small, slot_small))))
-      (next refl (omega arith) (exchanges false 6 8 (fetch_mem 0 at_entry 0 no_table) entry_there
+      (sum_is table (TABLE_HEADER + slot) at_entry refl (omega (arith, small, slot_small))))
+      (next refl (omega arith) (exchanges false CONTENT MOVED (fetch_mem 0 at_entry 0 no_table) entry_there
       ∙ ap (λ v. Done (fetch_mem v at_entry 0 no_entry) 1) same_entry)
       (next refl (omega arith) (ap (λ v. Done (fetch_mem place at_entry v no_entry) 1)
       (sum_is 0 place place (omega arith) (omega (arith, place_small))))
       (next refl (omega arith) (entry_back false place)
       (next refl (omega arith) (ap (λ v. Done (fetch_mem 0 v place no_table) 1)
-      (less_is at_entry (1 + slot) table refl (omega (arith, small, slot_small))))
+      (less_is at_entry (TABLE_HEADER + slot) table refl (omega (arith, small, slot_small))))
       (next refl (omega arith) (table_back false place) here))))))
 
   abbrev pub fetch_back : List Cell
   fetch_back =
-      exch 8 3 ∷ addi 8 (negated (1 + slot)) ∷ exch 6 8 ∷ add 12 6 ∷ exch 6 8 ∷ addi 8 (1 + slot) ∷ exch 8 3 ∷ []
+      exch MOVED OBJECT ∷ addi MOVED (negated (TABLE_HEADER + slot)) ∷ exch CONTENT MOVED ∷ add VALUE CONTENT
+      ∷ exch CONTENT MOVED ∷ addi MOVED (TABLE_HEADER + slot) ∷ exch MOVED OBJECT ∷ []
 
   unfetches : Ran true fetch_back 7 (fetch_mem 0 0 place cs) (fetch_mem 0 0 0 cs)
   unfetches =
-      next refl (omega arith) (exchanges true 8 3 (fetch_mem 0 0 place cs) inside)
+      next refl (omega arith) (exchanges true MOVED OBJECT (fetch_mem 0 0 place cs) inside)
       (next refl (omega arith) (ap (λ v. Done (fetch_mem 0 v place no_table) 1)
-      (more_is table (1 + slot) at_entry refl (omega (arith, slot_small)) (omega (arith, small, slot_small))))
-      (next refl (omega arith) (exchanges true 6 8 (fetch_mem 0 at_entry place no_table) entry_there
+      (more_is table (TABLE_HEADER + slot) at_entry refl (omega (arith, slot_small))
+      (omega (arith, small, slot_small))))
+      (next refl (omega arith) (exchanges true CONTENT MOVED (fetch_mem 0 at_entry place no_table) entry_there
       ∙ ap (λ v. Done (fetch_mem v at_entry place no_entry) 1) same_entry)
       (next refl (omega arith) (ap (λ v. Done (fetch_mem place at_entry v no_entry) 1)
       (difference_is place place 0 (omega arith) (omega (arith, place_small))))
       (next refl (omega arith) (entry_back true 0)
       (next refl (omega (arith, slot_small)) (ap (λ v. Done (fetch_mem 0 v 0 no_table) 1)
-      (less_is at_entry (1 + slot) table refl (omega (arith, small, slot_small))))
+      (less_is at_entry (TABLE_HEADER + slot) table refl (omega (arith, small, slot_small))))
       (next refl (omega arith) (table_back true 0) here))))))
 
   pub will_fetch : Will im (line (fetch_row slot)) false (fetch_mem 0 0 0 cs)
@@ -229,36 +241,40 @@ module _ (im : Image) (ob fr slot place : ℕ) (cs : List ℕ) (inside : ob < le
 
 -- ---- what a body puts by
 
-module _ (im : Image) (ob fr link place : ℕ) (cs : List ℕ) (inside : fr + 2 < length cs) (small : fr < 2 ^ 23) where
-  pub will_save : slice_index cs fr ≡ 0 → slice_index cs (fr + 2) ≡ 0
-      → Will im (line save_row) false (mk link ob fr 0 0 0 0 place cs)
-      (λ o. o ≡ Done (mk 0 ob fr 0 0 0 0 0 (slice_set (slice_set cs fr link) (fr + 2) place)) 4)
-  will_save z z2 =
-      let cs1 = slice_set cs fr link in
-      let e : slice_index cs1 (fr + 2) ≡ 0 = get_or-set_other cs fr (fr + 2) link 0 (λ q. omega arith) ∙ z2 in
-      will_row im false save_row 4 _ _
-      (next refl (omega arith) (exchanges false 2 4 (mk link ob fr 0 0 0 0 place cs) (omega arith)
-      ∙ ap (λ v. Done (mk v ob fr 0 0 0 0 place cs1) 1) z)
-      (next refl (omega arith) (ap (λ v. Done (mk 0 ob v 0 0 0 0 place cs1) 1)
-      (sum_is fr 2 (fr + 2) refl (omega arith)))
-      (next refl (omega arith) (exchanges false 12 4 (mk 0 ob (fr + 2) 0 0 0 0 place cs1)
-      (omega (arith, length-set cs fr link)) ∙ ap (λ v. Done
-      (mk 0 ob (fr + 2) 0 0 0 0 v (slice_set cs1 (fr + 2) place)) 1) e)
-      (next refl (omega arith) (ap (λ v. Done (mk 0 ob v 0 0 0 0 0 (slice_set cs1 (fr + 2) place)) 1)
-      (less_is (fr + 2) 2 fr refl (omega arith))) here))))
+module _ (im : Image) (ob fr link place : ℕ) (cs : List ℕ) (inside : fr + PLACE_WORD < length cs) (small : fr < 2 ^ 23)
+  where
+    pub will_save : slice_index cs fr ≡ 0 → slice_index cs (fr + PLACE_WORD) ≡ 0
+        → Will im (line save_row) false (mk link ob fr 0 0 0 0 place cs)
+        (λ o. o ≡ Done (mk 0 ob fr 0 0 0 0 0 (slice_set (slice_set cs fr link) (fr + PLACE_WORD) place)) 4)
+    will_save z z2 =
+        let cs1 = slice_set cs fr link in
+        let e : slice_index cs1 (fr + PLACE_WORD) ≡ 0 = get_or-set_other cs fr (fr + PLACE_WORD) link 0 (λ q. omega arith)
+        ∙ z2 in
+        will_row im false save_row 4 _ _
+        (next refl (omega arith) (exchanges false LINK FRAME (mk link ob fr 0 0 0 0 place cs) (omega arith)
+        ∙ ap (λ v. Done (mk v ob fr 0 0 0 0 place cs1) 1) z)
+        (next refl (omega arith) (ap (λ v. Done (mk 0 ob v 0 0 0 0 place cs1) 1)
+        (sum_is fr PLACE_WORD (fr + PLACE_WORD) refl (omega arith)))
+        (next refl (omega arith) (exchanges false VALUE FRAME (mk 0 ob (fr + PLACE_WORD) 0 0 0 0 place cs1)
+        (omega (arith, length-set cs fr link)) ∙ ap (λ v. Done
+        (mk 0 ob (fr + PLACE_WORD) 0 0 0 0 v (slice_set cs1 (fr + PLACE_WORD) place)) 1) e)
+        (next refl (omega arith) (ap (λ v. Done (mk 0 ob v 0 0 0 0 0 (slice_set cs1 (fr + PLACE_WORD) place)) 1)
+        (less_is (fr + PLACE_WORD) PLACE_WORD fr refl (omega arith))) here))))
 
-  pub will_restore : slice_index cs fr ≡ link → slice_index cs (fr + 2) ≡ place
-      → Will im (line save_row) true (mk 0 ob fr 0 0 0 0 0 cs)
-      (λ o. o ≡ Done (mk link ob fr 0 0 0 0 place (slice_set (slice_set cs (fr + 2) 0) fr 0)) 4)
-  will_restore z z2 =
-      let cs1 = slice_set cs (fr + 2) 0 in
-      let e : slice_index cs1 fr ≡ link = get_or-set_other cs (fr + 2) fr 0 0 (λ q. omega arith) ∙ z in
-      will_row im true (addi 4 (negated 2) ∷ exch 12 4 ∷ addi 4 2 ∷ exch 2 4 ∷ []) 4 _ _
-      (next refl (omega arith) (ap (λ v. Done (mk 0 ob v 0 0 0 0 0 cs) 1) (sum_is fr 2 (fr + 2) refl (omega arith)))
-      (next refl (omega arith) (exchanges true 12 4 (mk 0 ob (fr + 2) 0 0 0 0 0 cs) inside
-      ∙ ap (λ v. Done (mk 0 ob (fr + 2) 0 0 0 0 v cs1) 1) z2)
-      (next refl (omega arith) (ap (λ v. Done (mk 0 ob v 0 0 0 0 place cs1) 1)
-      (less_is (fr + 2) 2 fr refl (omega arith)))
-      (next refl (omega arith) (exchanges true 2 4 (mk 0 ob fr 0 0 0 0 place cs1)
-      (omega (arith, length-set cs (fr + 2) 0)) ∙ ap (λ v. Done (mk v ob fr 0 0 0 0 place (slice_set cs1 fr 0))
-      1) e) here))))
+    pub will_restore : slice_index cs fr ≡ link → slice_index cs (fr + PLACE_WORD) ≡ place
+        → Will im (line save_row) true (mk 0 ob fr 0 0 0 0 0 cs)
+        (λ o. o ≡ Done (mk link ob fr 0 0 0 0 place (slice_set (slice_set cs (fr + PLACE_WORD) 0) fr 0)) 4)
+    will_restore z z2 =
+        let cs1 = slice_set cs (fr + PLACE_WORD) 0 in
+        let e : slice_index cs1 fr ≡ link = get_or-set_other cs (fr + PLACE_WORD) fr 0 0 (λ q. omega arith) ∙ z in
+        will_row im true (addi FRAME (negated PLACE_WORD) ∷ exch VALUE FRAME ∷ addi FRAME PLACE_WORD ∷ exch LINK FRAME
+        ∷ []) 4 _ _
+        (next refl (omega arith) (ap (λ v. Done (mk 0 ob v 0 0 0 0 0 cs) 1)
+        (sum_is fr PLACE_WORD (fr + PLACE_WORD) refl (omega arith)))
+        (next refl (omega arith) (exchanges true VALUE FRAME (mk 0 ob (fr + PLACE_WORD) 0 0 0 0 0 cs) inside
+        ∙ ap (λ v. Done (mk 0 ob (fr + PLACE_WORD) 0 0 0 0 v cs1) 1) z2)
+        (next refl (omega arith) (ap (λ v. Done (mk 0 ob v 0 0 0 0 place cs1) 1)
+        (less_is (fr + PLACE_WORD) PLACE_WORD fr refl (omega arith)))
+        (next refl (omega arith) (exchanges true LINK FRAME (mk 0 ob fr 0 0 0 0 place cs1)
+        (omega (arith, length-set cs (fr + PLACE_WORD) 0)) ∙ ap (λ v. Done (mk v ob fr 0 0 0 0 place (slice_set cs1 fr 0))
+        1) e) here))))

@@ -8,6 +8,8 @@ use Rattle.rpp_tree.specs.Tree.{Expression, Null, Statement, Statements, Local, 
 use Rattle.rpp_tree.specs.Tree.{Item, Object as AnObject, End, Then, joined}
 use Rattle.stmt_inverter.specs.Inverse.{inverse, inverse_statement}
 use Rattle.pisa_isa.specs.Machine.{Memory}
+use Rattle.code_conventions.specs.declared.faults.TheConstants.{DELOCAL}
+use Rattle.code_conventions.specs.declared.registers.TheConstants.{FRAME, VALUE}
 use Rattle.paired_code.specs.declared.part.Symbol.{Symbol}
 use Rattle.paired_code.specs.Machine.{Image}
 use Rattle.paired_code.specs.Layout.{check_cells, mirror_cells}
@@ -40,22 +42,22 @@ use Rattle.method_calls.proofs.Exchanges.{exchanges}
 
 module _ (im : Image) (ob fr j : ℕ) (cs : List ℕ) (inside : fr + j < length cs) (small : fr + j < 2 ^ 32) where
   swaps : (d : Bool) (x y : ℕ) → slice_index cs (fr + j) ≡ y
-      → Will im (line (exch 12 4 ∷ [])) d (mk 0 ob (fr + j) 0 0 0 0 x cs)
+      → Will im (line (exch VALUE FRAME ∷ [])) d (mk 0 ob (fr + j) 0 0 0 0 x cs)
       (λ o. o ≡ Done (mk 0 ob (fr + j) 0 0 0 0 y (slice_set cs (fr + j) x)) 1)
   swaps false x y e =
-      will_row im false (exch 12 4 ∷ []) 1 _ _ (next refl (omega arith)
-      (exchanges false 12 4 (mk 0 ob (fr + j) 0 0 0 0 x cs) inside
+      will_row im false (exch VALUE FRAME ∷ []) 1 _ _ (next refl (omega arith)
+      (exchanges false VALUE FRAME (mk 0 ob (fr + j) 0 0 0 0 x cs) inside
       ∙ ap (λ v. Done (mk 0 ob (fr + j) 0 0 0 0 v (slice_set cs (fr + j) x)) 1) e) here)
   swaps true x y e =
-      will_row im true (exch 12 4 ∷ []) 1 _ _ (next refl (omega arith)
-      (exchanges true 12 4 (mk 0 ob (fr + j) 0 0 0 0 x cs) inside
+      will_row im true (exch VALUE FRAME ∷ []) 1 _ _ (next refl (omega arith)
+      (exchanges true VALUE FRAME (mk 0 ob (fr + j) 0 0 0 0 x cs) inside
       ∙ ap (λ v. Done (mk 0 ob (fr + j) 0 0 0 0 v (slice_set cs (fr + j) x)) 1) e) here)
 
   pub stores : (d : Bool) (x y : ℕ) → slice_index cs (fr + j) ≡ y
       → Will im (store_code j) d (mk 0 ob fr 0 0 0 0 x cs)
       (λ o. o ≡ Done (mk 0 ob fr 0 0 0 0 y (slice_set cs (fr + j) x)) 3)
   stores d x y e =
-      will_in im d (line (reach_row (Frame j))) (line (exch 12 4 ∷ [])) _ _ _ _ 1 1 1
+      will_in im d (line (reach_row (Frame j))) (line (exch VALUE FRAME ∷ [])) _ _ _ _ 1 1 1
       (will_find_word im ob fr x cs j small) (swaps d x y e)
       (will_leave_word im ob fr y (slice_set cs (fr + j) x) j small)
 
@@ -103,7 +105,7 @@ module _ (w : World) (IsInit : Scope → Var → Expression → Type 0) (f : Loc
       (f.free_word s u st cs var e h.open_frame is))))) in
       subst (λ z. Will w.im (local_open j p) false z (Late 4
       (Meets (Open w (with_var s var) u) w.rates n 53 (appears st)))) (sym (as_known m _ h.regs_are))
-      (will_two w.im (check_cells 12 3) (p ++ store_code j) _ (mk 0 ob fr 0 0 0 0 0 cs) 4 _
+      (will_two w.im (check_cells VALUE DELOCAL) (p ++ store_code j) _ (mk 0 ob fr 0 0 0 0 0 cs) 4 _
       (will_of w.im _ false _ _ _ (runs_check_zero w.im false 12 3 (mk 0 ob fr 0 0 0 0 0 cs) refl) refl)
       (will_more w.im (p ++ store_code j) false _ _ _ (λ o q. late q)
       (subst (λ z. Will w.im (p ++ z) false (mk 0 ob fr 0 0 0 0 0 cs)
@@ -125,7 +127,7 @@ module _ (w : World) (IsInit : Scope → Var → Expression → Type 0) (f : Loc
   last_check : (n : ℕ) (st : State) (cs : List ℕ) (v : Value) (c : ℕ) → w.opens (with_var s var) u [] st cs
       → told (evaluated w.setting.program e (closed st)) ≡ Fine v c → (m1 : Memory)
       → m1 ≡ holding w u (bit_xor (w.word_of u st (read st (Slot 0))) (w.word_of u (closed st) v)) (gone cs)
-      → (b : Bool) → same_value (read st (Slot 0)) v ≡ b → Will w.im (check_cells 12 3) true m1
+      → (b : Bool) → same_value (read st (Slot 0)) v ≡ b → Will w.im (check_cells VALUE DELOCAL) true m1
       (Meets (Open w s u) w.rates n 4 (checked st v))
   last_check n st cs v c h said m1 i true same =
       let z = f.same_words s u st cs var e v c h is said same in
@@ -134,7 +136,8 @@ module _ (w : World) (IsInit : Scope → Var → Expression → Type 0) (f : Loc
       record { regs_are = refl; open_frame = f.closes s u st cs var e v c h is said same } in
       let told_is : checked st v ≡ Fine (closed st) 0 = ap
       (λ b. told (fault_if delocal_fault (not b) >>= λ z. give (closed st))) same in
-      subst (λ z. Will w.im (check_cells 12 3) true z (Meets (Open w s u) w.rates n 4 (checked st v))) (sym known)
+      subst (λ z. Will w.im (check_cells VALUE DELOCAL) true z (Meets (Open w s u) w.rates n 4 (checked st v)))
+      (sym known)
       (will_of w.im _ true _ _ _ (runs_check_zero w.im true 12 3 (mk 0 ob fr 0 0 0 0 0 (gone cs)) refl)
       (meets_told _ _ (sym told_is) (fine end (omega arith) (omega arith))))
   last_check n st cs v c h said m1 i false same =
@@ -143,7 +146,7 @@ module _ (w : World) (IsInit : Scope → Var → Expression → Type 0) (f : Loc
       let told_is : checked st v ≡ Fault 3 0 = ap (λ b. told (fault_if delocal_fault (not b) >>= λ z. give (closed st)))
       same in
       let k = runs_check_other w.im true 12 3 (mk 0 ob fr 0 0 0 0 x (gone cs)) nz in
-      subst (λ z. Will w.im (check_cells 12 3) true z (Meets (Open w s u) w.rates n 4 (checked st v))) (sym i)
+      subst (λ z. Will w.im (check_cells VALUE DELOCAL) true z (Meets (Open w s u) w.rates n 4 (checked st v))) (sym i)
       (will_of w.im _ true _ _ _ k.2 (meets_told _ _ (sym told_is) (faults (let q = k.1 in omega arith))))
 
   pub closes_var : (n : ℕ) (st : State) (m : Memory) → Open w (with_var s var) u st m
@@ -153,25 +156,25 @@ module _ (w : World) (IsInit : Scope → Var → Expression → Type 0) (f : Loc
       let x = w.word_of u st (read st (Slot 0)) in
       let cs1 = gone cs in
       let t = told (evaluated w.setting.program e (closed st)) in
-      let rest : Will w.im (in_order true (p ∷ check_cells 12 3 ∷ [])) true (mk 0 ob fr 0 0 0 0 x cs1)
+      let rest : Will w.im (in_order true (p ∷ check_cells VALUE DELOCAL ∷ [])) true (mk 0 ob fr 0 0 0 0 x cs1)
       (Meets (Open w s u) w.rates n (50 + 4) (told_then t (λ c v. checked st v))) =
       meets_then w.im true (λ v m1. m1 ≡ holding w u (bit_xor x (w.word_of u (closed st) v)) cs1) (Open w s u) w.rates n
-      50 4 p (check_cells 12 3 ∷ []) (mk 0 ob fr 0 0 0 0 x cs1) t (λ c v. checked st v)
+      50 4 p (check_cells VALUE DELOCAL ∷ []) (mk 0 ob fr 0 0 0 0 x cs1) t (λ c v. checked st v)
       (will_more w.im p true _ _ _ (λ o q. meets_rate (omega (arith, thousand)) q)
       (hp n true u x (closed st) cs1 (f.undeclares s u st cs var e h.open_frame is))) (λ c v m1 said i.
       last_check (n - c) st cs v c h.open_frame said m1 i (same_value (read st (Slot 0)) v) refl) in
       let said : goes_away st ≡ told_then t (λ c v. checked st v) =
       ap (λ r. told_then (told r) (λ c v. checked st v)) (f.not_named s u st cs var e h.open_frame is) in
-      let all : Will w.im ((check_cells 12 3 ++ p) ++ store_code j) true (mk 0 ob fr 0 0 0 0 0 cs)
+      let all : Will w.im ((check_cells VALUE DELOCAL ++ p) ++ store_code j) true (mk 0 ob fr 0 0 0 0 0 cs)
       (Meets (Open w s u) w.rates n 57 (goes_away st)) =
-      will_two_back w.im (check_cells 12 3 ++ p) (store_code j) _ (mk 0 ob fr 0 0 0 0 x cs1) 3 _
+      will_two_back w.im (check_cells VALUE DELOCAL ++ p) (store_code j) _ (mk 0 ob fr 0 0 0 0 x cs1) 3 _
       (stores w.im ob fr j cs (f.var_in s u st cs var e h.open_frame is)
       (near [] (with_var s var) st cs h.open_frame) true 0 x (f.var_word s u st cs var e h.open_frame is))
       (will_more w.im _ true _ _ _ (λ o q. meets_told _ _ (sym said) (meets_later 3 q)) rest) in
       subst (λ z. Will w.im (local_open j p) true z (Meets (Open w s u) w.rates n 57 (goes_away st)))
       (sym (as_known m _ h.regs_are))
       (subst (λ z. Will w.im z true (mk 0 ob fr 0 0 0 0 0 cs) (Meets (Open w s u) w.rates n 57 (goes_away st)))
-      (append_assoc (check_cells 12 3) p (store_code j)) all)
+      (append_assoc (check_cells VALUE DELOCAL) p (store_code j)) all)
 
 -- ---- the whole
 

@@ -5,6 +5,8 @@ use Rattle.std.specs.Prelude.{pos}
 use Rattle.rpp_words.specs.declared.input.FieldWord.{FieldWord}
 use Rattle.pisa_isa.specs.Loaded.{loaded}
 use Rattle.pisa_isa.specs.Machine.{Memory, fetch}
+use Rattle.code_conventions.specs.declared.memory.TheConstants.{MAIN_OBJECT}
+use Rattle.code_conventions.specs.declared.registers.TheConstants.{LINK}
 use Rattle.code_conventions.specs.Cells.{bra}
 use Rattle.paired_code.specs.Cells.{swapbr}
 use Rattle.paired_code.specs.declared.part.Symbol.{Symbol}
@@ -54,12 +56,13 @@ module _ (im : Image) (r top : ℕ) (body : List Symbol) (t : Routine im r top b
   ne : p ≢ top + 1
   ne = apart im false (between p (top + 1)) p (top + 1) caller swap
 
-  go_in : (m : Memory) → reg m 2 ≡ 0 → Path im code_line a b 2 0 (at code_line false p m) 1
-      (at code_line false (top + 1 + 1) (with_reg m 2 (between p (top + 1))))
+  go_in : (m : Memory) → reg m LINK ≡ 0 → Path im code_line a b 2 0 (at code_line false p m) 1
+      (at code_line false (top + 1 + 1) (with_reg m LINK (between p (top + 1))))
   go_in m z = enter_path im r top body t code_line false false a b p p lo hi (on_line p) caller ne hp false refl m z
 
-  go_out : (m : Memory) → reg m 2 ≡ between (top + 1) p → Path im code_line a b 2 1 (at code_line false (top + 1) m) 0
-      (at code_line false (p + 1) (with_reg m 2 0))
+  go_out : (m : Memory) → reg m LINK ≡ between (top + 1) p
+      → Path im code_line a b 2 1 (at code_line false (top + 1) m) 0
+      (at code_line false (p + 1) (with_reg m LINK 0))
   go_out m z = leave_path im r top body t code_line false false a b p p lo hi (on_line p) caller ne hp false refl m z
 
 -- ---- the main piece
@@ -108,28 +111,30 @@ module _ (w : World) (knows : Known w) (f : FrameFacts w knows) (statics : List 
     word = between (top + 1) p
 
     abbrev first : Memory
-    first = mk word 40 frame 0 0 0 0 0 cells
+    first = mk word MAIN_OBJECT frame 0 0 0 0 0 cells
 
     -- the rows, the call, NEG
-    front_way : Way w.im code_line false i last 6 i (mk 0 0 0 0 0 0 0 0 cells) p (mk 0 40 frame 0 0 0 0 0 cells)
+    front_way : Way w.im code_line false i last 6 i (mk 0 0 0 0 0 0 0 0 cells) p
+        (mk 0 MAIN_OBJECT frame 0 0 0 0 0 cells)
     front_way = way_wider i last (omega arith) (omega arith)
-        (way_of w.im (line main_row) (mk 0 0 0 0 0 0 0 0 cells) (mk 0 40 frame 0 0 0 0 0 cells) 6 i
+        (way_of w.im (line main_row) (mk 0 0 0 0 0 0 0 0 cells) (mk 0 MAIN_OBJECT frame 0 0 0 0 0 cells) 6 i
         (sets_out w.im frame cells (mf.base_in _ _ mf.starts) (mf.base_is _ _ mf.starts) mf.frame_small)
         (omega (arith, short))
         (front w.im code_line i (line main_row) (Enter number false ∷ mirror_cells (line main_row)) stands))
 
-    call_path : Path w.im code_line i last 2 0 (at code_line false p (mk 0 40 frame 0 0 0 0 0 cells)) 1
-        (at code_line false (top + 1 + 1) (mk (between p (top + 1)) 40 frame 0 0 0 0 0 cells))
+    call_path : Path w.im code_line i last 2 0 (at code_line false p (mk 0 MAIN_OBJECT frame 0 0 0 0 0 cells)) 1
+        (at code_line false (top + 1 + 1) (mk (between p (top + 1)) MAIN_OBJECT frame 0 0 0 0 0 cells))
     call_path = go_in w.im number top body routine i last p (omega arith) (omega arith) p_small (behind.0, tt)
-        (mk 0 40 frame 0 0 0 0 0 cells) refl
+        (mk 0 MAIN_OBJECT frame 0 0 0 0 0 cells) refl
 
     negated_way : Way w.im code_line false top (top + 1 + 1 + 1 + length body + 1) 1 (top + 1 + 1)
-        (mk (between p (top + 1)) 40 frame 0 0 0 0 0 cells) (top + 1 + 1 + 1) first
+        (mk (between p (top + 1)) MAIN_OBJECT frame 0 0 0 0 0 cells) (top + 1 + 1 + 1) first
     negated_way =
         let e = neg_between p (top + 1) (λ h. differ (sym h)) p_small top_small in
         subst (λ v. Way w.im code_line false top (top + 1 + 1 + 1 + length body + 1) 1 (top + 1 + 1)
-        (mk (between p (top + 1)) 40 frame 0 0 0 0 0 cells) (top + 1 + 1 + 1) (mk v 40 frame 0 0 0 0 0 cells)) e
-        (negates w.im number top body routine false (mk (between p (top + 1)) 40 frame 0 0 0 0 0 cells))
+        (mk (between p (top + 1)) MAIN_OBJECT frame 0 0 0 0 0 cells) (top + 1 + 1 + 1)
+        (mk v MAIN_OBJECT frame 0 0 0 0 0 cells)) e
+        (negates w.im number top body routine false (mk (between p (top + 1)) MAIN_OBJECT frame 0 0 0 0 0 cells))
 
     goes_in : Path w.im code_line i last 9 0 (at code_line false i (main_start w statics input)) 1
         (at code_line false (body_start w mf.main) first)
@@ -141,21 +146,22 @@ module _ (w : World) (knows : Known w) (f : FrameFacts w knows) (statics : List 
         → Way w.im code_line false i last (9 + k + 10) i (main_start w statics input) last
         (mk 0 0 0 0 0 0 0 0 (layout w.setting.program w.setting.limits statics st.store st.log))
     goes_out st m k h along =
-        let known : m ≡ mk word 40 frame 0 0 0 0 0 m.cells = as_known m _
+        let known : m ≡ mk word MAIN_OBJECT frame 0 0 0 0 0 m.cells = as_known m _
         (h.regs_are ∙ ap (λ o. (mk word o frame 0 0 0 0 0 m.cells).regs) mf.object_is) in
-        let home : Way w.im code_line false i last 6 (p + 1) (mk 0 40 frame 0 0 0 0 0 m.cells) last
+        let home : Way w.im code_line false i last 6 (p + 1) (mk 0 MAIN_OBJECT frame 0 0 0 0 0 m.cells) last
         (mk 0 0 0 0 0 0 0 0 m.cells) = from_to refl refl (let c : p + 1 + 6 ≡ last = omega arith in c)
         (way_wider i last (omega arith) (omega arith)
-        (way_of w.im (mirror_cells (line main_row)) (mk 0 40 frame 0 0 0 0 0 m.cells) (mk 0 0 0 0 0 0 0 0 m.cells) 6
-        (p + 1) (will_mirror w.im (line main_row) false (mk 0 40 frame 0 0 0 0 0 m.cells) _
+        (way_of w.im (mirror_cells (line main_row)) (mk 0 MAIN_OBJECT frame 0 0 0 0 0 m.cells)
+        (mk 0 0 0 0 0 0 0 0 m.cells) 6
+        (p + 1) (will_mirror w.im (line main_row) false (mk 0 MAIN_OBJECT frame 0 0 0 0 0 m.cells) _
         (comes_home w.im frame m.cells (mf.base_in st m.cells h.open_frame) (mf.base_is st m.cells h.open_frame)
         mf.frame_small)) (omega (arith, short)) behind.1)) in
         let out : Path w.im code_line i last 2 1 (at code_line false (top + 1) m) 0
-        (at code_line false (p + 1) (mk 0 40 frame 0 0 0 0 0 m.cells)) =
+        (at code_line false (p + 1) (mk 0 MAIN_OBJECT frame 0 0 0 0 0 m.cells)) =
         subst (λ z. Path w.im code_line i last 2 1 (at code_line false (top + 1) m) 0
-        (at code_line false (p + 1) (with_reg z 2 0))) known
+        (at code_line false (p + 1) (with_reg z LINK 0))) known
         (go_out w.im number top body routine i last p (omega arith) (omega arith) p_small (behind.0, tt) m
-        (ap (λ z. reg z 2) known)) in
+        (ap (λ z. reg z LINK) known)) in
         let inside = and_then (way_wider top (top + 1 + 1 + 1 + length body + 1) (omega arith) (omega arith) along)
         (ends_jump w.im number top body routine false m) in
         let all : Way w.im code_line false i last (9 + (k + 2 + (2 + 6))) i (main_start w statics input) last

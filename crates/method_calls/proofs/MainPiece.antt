@@ -9,6 +9,9 @@ use Rattle.rpp_words.specs.declared.input.Limits.{Limits}
 use Rattle.rpp_tree.specs.Tree.{Source}
 use Rattle.pisa_isa.specs.Loaded.{loaded}
 use Rattle.pisa_isa.specs.Machine.{Memory}
+use Rattle.pisa_isa.specs.declared.fixed.TheConstants.{STACK_CELL}
+use Rattle.code_conventions.specs.declared.memory.TheConstants.{MAIN_OBJECT}
+use Rattle.code_conventions.specs.declared.registers.TheConstants.{ADDRESS, CONTENT, FRAME, LINK, OBJECT}
 use Rattle.paired_code.specs.declared.part.Symbol.TheVariants.{Enter}
 use Rattle.paired_code.specs.Machine.{Image, reg, with_reg}
 use Rattle.paired_code.specs.Pieces.{Outcome, Done, Will}
@@ -33,41 +36,47 @@ use Rattle.method_calls.proofs.Exchanges.{exchanges}
 use Rattle.method_calls.proofs.Addresses.{mk, sum_is, difference_is}
 use Rattle.method_calls.proofs.Depth.{filled, emptied}
 
-module _ (im : Image) (fr : ℕ) (cs : List ℕ) (inside : 3 < length cs) (base : slice_index cs 3 ≡ fr)
+module _ (im : Image) (fr : ℕ) (cs : List ℕ) (inside : STACK_CELL < length cs) (base : slice_index cs STACK_CELL ≡ fr)
     (small : fr < 2 ^ 23) where
   abbrev gone : List ℕ
-  gone = slice_set cs 3 0
+  gone = slice_set cs STACK_CELL 0
 
-  still_in : 3 < length gone
-  still_in = omega (arith, length-set cs 3 0, inside)
+  still_in : STACK_CELL < length gone
+  still_in = omega (arith, length-set cs STACK_CELL 0, inside)
 
-  refills : (d : Bool) (o f : ℕ) → outcome_of d (exch 6 5) (mk 0 o f 3 fr 0 0 0 gone) ≡ Done (mk 0 o f 3 0 0 0 0 cs) 1
+  refills : (d : Bool) (o f : ℕ) → outcome_of d (exch CONTENT ADDRESS) (mk 0 o f STACK_CELL fr 0 0 0 gone)
+      ≡ Done (mk 0 o f STACK_CELL 0 0 0 0 cs) 1
   refills d o f =
-      exchanges d 6 5 (mk 0 o f 3 fr 0 0 0 gone) still_in ∙ ap (λ v. Done (mk 0 o f 3 v 0 0 0 (slice_set gone 3 fr)) 1)
-      (emptied cs 3 inside) ∙ ap (λ v. Done (mk 0 o f 3 0 0 0 0 (slice_set gone 3 v)) 1) (sym base)
-      ∙ ap (λ l. Done (mk 0 o f 3 0 0 0 0 l) 1) (filled cs 3)
+      exchanges d CONTENT ADDRESS (mk 0 o f STACK_CELL fr 0 0 0 gone) still_in
+      ∙ ap (λ v. Done (mk 0 o f STACK_CELL v 0 0 0 (slice_set gone STACK_CELL fr)) 1)
+      (emptied cs STACK_CELL inside) ∙ ap (λ v. Done (mk 0 o f STACK_CELL 0 0 0 0 (slice_set gone STACK_CELL v)) 1)
+      (sym base)
+      ∙ ap (λ l. Done (mk 0 o f STACK_CELL 0 0 0 0 l) 1) (filled cs STACK_CELL)
 
-  pub sets_out : Will im (line main_row) false (mk 0 0 0 0 0 0 0 0 cs) (λ o. o ≡ Done (mk 0 40 fr 0 0 0 0 0 cs) 6)
+  pub sets_out : Will im (line main_row) false (mk 0 0 0 0 0 0 0 0 cs)
+      (λ o. o ≡ Done (mk 0 MAIN_OBJECT fr 0 0 0 0 0 cs) 6)
   sets_out =
       will_row im false main_row 6 _ _
       (next refl (omega arith) refl
       (next refl (omega arith) refl
-      (next refl (omega arith) (exchanges false 6 5 (mk 0 40 0 3 0 0 0 0 cs) inside
-      ∙ ap (λ v. Done (mk 0 40 0 3 v 0 0 0 gone) 1) base)
-      (next refl (omega arith) (ap (λ v. Done (mk 0 40 v 3 fr 0 0 0 gone) 1)
+      (next refl (omega arith) (exchanges false CONTENT ADDRESS (mk 0 MAIN_OBJECT 0 STACK_CELL 0 0 0 0 cs) inside
+      ∙ ap (λ v. Done (mk 0 MAIN_OBJECT 0 STACK_CELL v 0 0 0 gone) 1) base)
+      (next refl (omega arith) (ap (λ v. Done (mk 0 MAIN_OBJECT v STACK_CELL fr 0 0 0 gone) 1)
       (sum_is 0 fr fr (omega arith) (omega (arith, small))))
-      (next refl (omega arith) (refills false 40 fr)
+      (next refl (omega arith) (refills false MAIN_OBJECT fr)
       (next refl (omega arith) refl here))))))
 
-  pub comes_home : Will im (line main_row) true (mk 0 40 fr 0 0 0 0 0 cs) (λ o. o ≡ Done (mk 0 0 0 0 0 0 0 0 cs) 6)
+  pub comes_home : Will im (line main_row) true (mk 0 MAIN_OBJECT fr 0 0 0 0 0 cs)
+      (λ o. o ≡ Done (mk 0 0 0 0 0 0 0 0 cs) 6)
   comes_home =
-      will_row im true (addi 5 (negated 3) ∷ exch 6 5 ∷ add 4 6 ∷ exch 6 5 ∷ addi 5 3 ∷ addi 3 40 ∷ []) 6 _ _
+      will_row im true (addi ADDRESS (negated STACK_CELL) ∷ exch CONTENT ADDRESS ∷ add FRAME CONTENT
+      ∷ exch CONTENT ADDRESS ∷ addi ADDRESS STACK_CELL ∷ addi OBJECT MAIN_OBJECT ∷ []) 6 _ _
       (next refl (omega arith) refl
-      (next refl (omega arith) (exchanges true 6 5 (mk 0 40 fr 3 0 0 0 0 cs) inside
-      ∙ ap (λ v. Done (mk 0 40 fr 3 v 0 0 0 gone) 1) base)
-      (next refl (omega arith) (ap (λ v. Done (mk 0 40 v 3 fr 0 0 0 gone) 1)
+      (next refl (omega arith) (exchanges true CONTENT ADDRESS (mk 0 MAIN_OBJECT fr STACK_CELL 0 0 0 0 cs) inside
+      ∙ ap (λ v. Done (mk 0 MAIN_OBJECT fr STACK_CELL v 0 0 0 gone) 1) base)
+      (next refl (omega arith) (ap (λ v. Done (mk 0 MAIN_OBJECT v STACK_CELL fr 0 0 0 gone) 1)
       (difference_is fr fr 0 (omega arith) (omega (arith, small))))
-      (next refl (omega arith) (refills true 40 0)
+      (next refl (omega arith) (refills true MAIN_OBJECT 0)
       (next refl (omega arith) refl
       (next refl (omega arith) refl here))))))
 
@@ -84,7 +93,7 @@ module _ (w : World) (knows : Known w) (f : FrameFacts w knows) (statics : List 
 
   -- in main's call, $2 is 0
   record InMain (st : State) (m : Memory) : Type 0 where
-    regs_are : m.regs ≡ registers 0 40 (w.frame_of mf.first) 0 0 0 0 0
+    regs_are : m.regs ≡ registers 0 MAIN_OBJECT (w.frame_of mf.first) 0 0 0 0 0
     open_frame : w.opens (w.routines.scope mf.main) mf.first [] st m.cells
 
   returned : {n : ℕ} {t : Told State} {o : Outcome} (link : ℕ)
@@ -92,9 +101,9 @@ module _ (w : World) (knows : Known w) (f : FrameFacts w knows) (statics : List 
       → Returns link false (Meets InMain w.rates n 50 t) o
   returned link (fine {a = a} {m = m} {c = c} {k = k} r l x) =
       let known = as_known m _ (r.regs_are ∙ ap (λ o. registers link o (w.frame_of mf.first) 0 0 0 0 0) mf.object_is) in (
-        ap (λ z. reg z 2) known,
+        ap (λ z. reg z LINK) known,
         fine (record {
-          regs_are = ap (λ z. (with_reg z 2 0).regs) known;
+          regs_are = ap (λ z. (with_reg z LINK 0).regs) known;
           open_frame = r.open_frame;
         }) (grow w.rates.counts k c l) (omega arith),
       )
@@ -123,20 +132,23 @@ module _ (w : World) (knows : Known w) (f : FrameFacts w knows) (statics : List 
       let t = told (exec w.setting n (main_body program) (starting program input)) in
       let owed = all_owe w laws (suc n) n (omega arith) mf.main mf.is_routine in
       let inner : (link : ℕ) → 0 < link → link < 2 ^ 32 → Will w.im (w.routines.body mf.main) false
-      (with_reg (mk 0 40 fr 0 0 0 0 0 loaded_cells) 2 link) (Returns link false (Meets InMain w.rates n 50 t)) =
+      (with_reg (mk 0 MAIN_OBJECT fr 0 0 0 0 0 loaded_cells) 2 link) (Returns link false (Meets InMain w.rates n 50 t))
+      =
       λ link pos lw.
-      let inside : Entered w s mf.first link 0 (starting program input) (mk link 40 fr 0 0 0 0 0 loaded_cells) =
+      let inside : Entered w s mf.first link 0 (starting program input) (mk link MAIN_OBJECT fr 0 0 0 0 0 loaded_cells)
+      =
       record { regs_are = ap (λ o. registers link o fr 0 0 0 0 0) (sym mf.object_is); open_frame = mf.starts } in
       will_more w.im (w.routines.body mf.main) false _ _ _
       (λ o q. returned link (meets_told _ _ (ap (λ b. told (exec w.setting n b (starting program input)))
       mf.is_main) q)) ((owed false mf.first link 0 mf.fresh pos lw (omega arith)).does
-      (starting program input) (mk link 40 fr 0 0 0 0 0 loaded_cells) inside) in
-      let mid : Will w.im (Enter (w.routines.number mf.main) false ∷ []) false (mk 0 40 fr 0 0 0 0 0 loaded_cells)
+      (starting program input) (mk link MAIN_OBJECT fr 0 0 0 0 0 loaded_cells) inside) in
+      let mid : Will w.im (Enter (w.routines.number mf.main) false ∷ []) false
+      (mk 0 MAIN_OBJECT fr 0 0 0 0 0 loaded_cells)
       (Meets InMain w.rates n 50 t) =
       will_enter w.im (w.routines.number mf.main) (w.routines.top mf.main) (w.routines.body mf.main) false false
-      (mk 0 40 fr 0 0 0 0 0 loaded_cells) _ stands f.image.tidy.short (omega arith) refl inner in
+      (mk 0 MAIN_OBJECT fr 0 0 0 0 0 loaded_cells) _ stands f.image.tidy.short (omega arith) refl inner in
       let all = wraps w.im false (line main_row) (Enter (w.routines.number mf.main) false ∷ []) start
-      (mk 0 40 fr 0 0 0 0 0 loaded_cells) InMain Ended w.rates n 50 6 6 t (λ a. Fine a 0)
+      (mk 0 MAIN_OBJECT fr 0 0 0 0 0 loaded_cells) InMain Ended w.rates n 50 6 6 t (λ a. Fine a 0)
       (sets_out w.im fr loaded_cells (mf.base_in _ _ mf.starts) (mf.base_is _ _ mf.starts) mf.frame_small) mid
       (λ a m2 c e i.
       let known = as_known m2 _ i.regs_are in

@@ -3,6 +3,7 @@ use Rattle.std.proofs.Common.{◌≡◌, ℕ, ◌+◌, ◌-◌, ◌^◌, ◌<◌
 use Rattle.std.specs.Prelude.{slice_set}
 use Rattle.rpp_tree.specs.Tree.{Procedure}
 use Rattle.pisa_isa.specs.Machine.{Memory}
+use Rattle.code_conventions.specs.declared.memory.TheConstants.{PLACE_WORD}
 use Rattle.paired_code.specs.declared.part.Symbol.{Symbol}
 use Rattle.paired_code.specs.Pieces.{Will}
 use Rattle.paired_code.specs.Does.{Fine, told_then, Meets, fine}
@@ -32,7 +33,7 @@ module _ (w : World) (knows : Known w) (f : FrameFacts w knows) (s : Scope) (met
       let u2 = knows.put u link place in
       let free = f.puts.saves s u st cs h.open_frame fresh in
       let small = (f.steady s u [] st cs h.open_frame).frame_small in
-      let cs1 = slice_set (slice_set cs fr link) (fr + 2) place in
+      let cs1 = slice_set (slice_set cs fr link) (fr + PLACE_WORD) place in
       let inner : Open w s u2 st (mk 0 ob fr 0 0 0 0 0 cs1) = record {
         regs_are = ap (λ o. registers 0 o fr 0 0 0 0 0) (sym (f.puts.put_object u link place))
             ∙ ap (λ r. registers 0 (w.object_of u2) r 0 0 0 0 0) (sym (f.puts.put_frame u link place));
@@ -49,7 +50,7 @@ module _ (w : World) (knows : Known w) (f : FrameFacts w knows) (s : Scope) (met
       let known : m2 ≡ mk 0 ob fr 0 0 0 0 0 cs2 = as_known m2 _
       (r.regs_are ∙ ap (λ o. registers 0 o (w.frame_of u2) 0 0 0 0 0) (f.puts.put_object u link place)
       ∙ ap (λ k. registers 0 ob k 0 0 0 0 0) (f.puts.put_frame u link place)) in
-      let cs3 = slice_set (slice_set cs2 (fr + 2) 0) fr 0 in
+      let cs3 = slice_set (slice_set cs2 (fr + PLACE_WORD) 0) fr 0 in
       let end : Entered w s u link place a (mk link ob fr 0 0 0 0 place cs3) =
       record { regs_are = refl; open_frame = f.puts.put_back s u a cs2 link place r.open_frame fresh } in
       subst (λ z. Will w.im (line save_row) true z (Meets (Entered w s u link place) w.rates (n - c) 4 (Fine a 0)))

@@ -9,6 +9,8 @@ use Rattle.rpp_tree.specs.declared.tree.Ident.{Ident}
 use Rattle.rpp_tree.specs.Tree.{Call, Whole, Procedure}
 use Rattle.class_table.specs.Classes.{method_named}
 use Rattle.pisa_isa.specs.Machine.{Memory}
+use Rattle.pisa_isa.specs.declared.fixed.TheConstants.{END_CELL}
+use Rattle.code_conventions.specs.declared.registers.TheConstants.{FRAME, VALUE}
 use Rattle.paired_code.specs.declared.part.Symbol.{Symbol}
 use Rattle.paired_code.specs.Layout.{xor, enter_at_cells}
 use Rattle.paired_code.specs.Pieces.{Outcome, Done, Trapped, Will, after}
@@ -240,7 +242,7 @@ module _ (w : World) (knows : Known w) (f : FrameFacts w knows) (on : Receivers 
   low = spot_in w knows f s u sp (f.near s x (g.words.is_variable s x name args is)) object_small frame_small
 
   end_fits : (st : State) (cs : List ℕ) → w.opens s u [] st cs → (b : Bool) → is_full ≡ b
-      → fr + FRAME_WORDS ≤ slice_index cs 4
+      → fr + FRAME_WORDS ≤ slice_index cs END_CELL
   end_fits st cs h true e = let t = (f.has_end s u st cs h).at_end e in omega arith
   end_fits st cs h false e = let t = (f.has_end s u st cs h).room e in omega arith
 
@@ -315,9 +317,9 @@ module _ (w : World) (knows : Known w) (f : FrameFacts w knows) (on : Receivers 
         ∙ goes.empty in
         let onto = turns_to w.im ob fr word gone (let l = goes.words.up_in in omega (arith, length-set cs1 at 0))
         (omega (arith, object_small)) frame_small (omega (arith, rw_small)) empty in
-        let raise : Will w.im (line (addi 4 FRAME_WORDS ∷ [])) false (mk 0 word fr 0 0 0 0 0 in_cells)
+        let raise : Will w.im (line (addi FRAME FRAME_WORDS ∷ [])) false (mk 0 word fr 0 0 0 0 0 in_cells)
         (λ o. o ≡ Done (mk 0 word (fr + FRAME_WORDS) 0 0 0 0 0 in_cells) 1) =
-        will_row w.im false (addi 4 FRAME_WORDS ∷ []) 1 _ _ (next refl (omega arith)
+        will_row w.im false (addi FRAME FRAME_WORDS ∷ []) 1 _ _ (next refl (omega arith)
         (ap (λ v. Done (mk 0 word v 0 0 0 0 0 in_cells) 1)
         (let z : package.Rattle.rpp_words.specs.Words.sum_of fr FRAME_WORDS
         ≡ fr + FRAME_WORDS = (let t = frame_small in omega arith) in z)) here) in
@@ -328,7 +330,7 @@ module _ (w : World) (knows : Known w) (f : FrameFacts w knows) (on : Receivers 
         (will_two w.im (moves_code (knows.spot s) args) _ _ _ (10 * length args) _ moved.goes
         (will_two w.im (take_code sp) _ _ _ 7 _ take
         (will_two w.im onto_code _ _ _ 5 _ onto
-        (will_two w.im (line (addi 4 FRAME_WORDS ∷ [])) (line (fetch_row slot)) _ _ 1 _ raise
+        (will_two w.im (line (addi FRAME FRAME_WORDS ∷ [])) (line (fetch_row slot)) _ _ 1 _ raise
         (will_more w.im (line (fetch_row slot)) false _ _ _
         (λ o q. ap (λ o. after 10 (after 12 (after (10 * length args) (after 7 (after 5 (after 1 o)))))) q)
         (fetched in_cells has_place)))))))
@@ -349,7 +351,7 @@ module _ (w : World) (knows : Known w) (f : FrameFacts w knows) (on : Receivers 
       receiver : read a c ≡ Name n_of
 
     abbrev last_row : List Symbol
-    last_row = line (addi 4 FRAME_WORDS ∷ fetch_row slot)
+    last_row = line (addi FRAME FRAME_WORDS ∷ fetch_row slot)
 
     abbrev out_cells : List ℕ → List ℕ
     out_cells cs2 = slice_set cs2 up 0
@@ -375,13 +377,13 @@ module _ (w : World) (knows : Known w) (f : FrameFacts w knows) (on : Receivers 
       lowered =
           let word = w.object_of deep in
           let p = (g.calls.tells s u caller end cs2 x name args n_of o is suits).has_place in
-          let down : Will w.im (line (addi 4 FRAME_WORDS ∷ [])) true (mk 0 word (fr + FRAME_WORDS) 0 0 0 0 0 cs2)
+          let down : Will w.im (line (addi FRAME FRAME_WORDS ∷ [])) true (mk 0 word (fr + FRAME_WORDS) 0 0 0 0 0 cs2)
           (λ q. q ≡ Done (mk 0 word fr 0 0 0 0 0 cs2) 1) =
-          will_row w.im true (addi 4 FRAME_WORDS ∷ []) 1 _ _ (next refl (omega arith)
+          will_row w.im true (addi FRAME FRAME_WORDS ∷ []) 1 _ _ (next refl (omega arith)
           (ap (λ v. Done (mk 0 word v 0 0 0 0 0 cs2) 1) (less_is (fr + FRAME_WORDS) FRAME_WORDS fr refl
           (let t = frame_small in omega arith))) here) in
           let both : Will w.im last_row true m0 (λ q. q ≡ Done (mk 0 word fr 0 0 0 0 0 cs2) 8) =
-          will_two_back w.im (line (addi 4 FRAME_WORDS ∷ [])) (line (fetch_row slot)) _ _ 7 _ (unfetched cs2 p)
+          will_two_back w.im (line (addi FRAME FRAME_WORDS ∷ [])) (line (fetch_row slot)) _ _ 7 _ (unfetched cs2 p)
           (will_more w.im _ true _ _ _ (λ o q. ap (after 7) q) down) in
           will_two_back w.im onto_code last_row m0 (mk 0 word fr 0 0 0 0 0 cs2) 8 _ both
           (will_more w.im _ true _ _ _ (λ o q. ap (after 8) q)
@@ -480,12 +482,12 @@ module _ (w : World) (knows : Known w) (f : FrameFacts w knows) (on : Receivers 
         let nf = (g.calls.next s u caller n_of).above in
         let body = enters_body w (w.routines.scope r) deep place r n (f.image.placed r known_routine) f.image.tidy refl
         (owes n (omega arith) r known_routine) (g.calls.next s u caller n_of).fresh kind d callee in_cells entered in
-        let mid : Will w.im (enter_at_cells 12 kind) d (mk 0 (w.object_of deep) (fr + FRAME_WORDS) 0 0 0 0 place
+        let mid : Will w.im (enter_at_cells VALUE kind) d (mk 0 (w.object_of deep) (fr + FRAME_WORDS) 0 0 0 0 place
         in_cells)
         (Meets (InCall w (w.routines.scope r) deep place) w.rates n 55 t) =
-        subst (λ y. Will w.im (enter_at_cells 12 kind) d (mk 0 (w.object_of deep) y 0 0 0 0 place in_cells)
+        subst (λ y. Will w.im (enter_at_cells VALUE kind) d (mk 0 (w.object_of deep) y 0 0 0 0 place in_cells)
         (Meets (InCall w (w.routines.scope r) deep place) w.rates n 55 t)) nf body in
-        wraps_spent w.im d (front_on_code (knows.spot s) x slot args) (enter_at_cells 12 kind) _ _
+        wraps_spent w.im d (front_on_code (knows.spot s) x slot args) (enter_at_cells VALUE kind) _ _
         (InCall w (w.routines.scope r) deep place) (Open w s u) w.rates n 55 (20 + 10 * length args + 12 + 10)
         (10 + (12 + (10 * length args + (7 + (5 + 8))))) (1 + length args) 0 t moves_home
         f.image.counts (omega arith) (enough w.rates.steps (length args) f.image.thousand few) front_in mid
@@ -506,10 +508,10 @@ module _ (w : World) (knows : Known w) (f : FrameFacts w knows) (on : Receivers 
       (Meets (Open w s u) w.rates (suc n) 0 (Fault code (1 + length args)))
   early n code kind d t =
       let Q : Outcome → Type 0 = Meets (Open w s u) w.rates (suc n) 0 (Fault code (1 + length args)) in
-      let W : Memory → ℕ → Type 0 = λ m1 k1. Will w.im (enter_at_cells 12 kind) d m1
+      let W : Memory → ℕ → Type 0 = λ m1 k1. Will w.im (enter_at_cells VALUE kind) d m1
       (Next (λ m2 k2. Will w.im (front_on_code (knows.spot s) x slot args) true m2 (λ o. Q (after k1 (after k2 o))))
       (λ o. Q (after k1 o))) in
-      will_around w.im d (front_on_code (knows.spot s) x slot args) (enter_at_cells 12 kind) _ Q
+      will_around w.im d (front_on_code (knows.spot s) x slot args) (enter_at_cells VALUE kind) _ Q
       (will_more w.im _ false _ _ _ (λ o q. subst (Next W Q) (sym q.2)
       (faults (few_steps w.rates.steps (length args) q.0 f.image.thousand q.1))) t)
     where

@@ -7,6 +7,8 @@ use Rattle.rpp_tree.specs.declared.tree.Ident.{Ident}
 use Rattle.rpp_tree.specs.Tree.{Call, Procedure}
 use Rattle.class_table.specs.Classes.{method_named}
 use Rattle.pisa_isa.specs.Machine.{Memory}
+use Rattle.pisa_isa.specs.declared.fixed.TheConstants.{END_CELL}
+use Rattle.code_conventions.specs.declared.registers.TheConstants.{FRAME, LINK, VALUE}
 use Rattle.paired_code.specs.Machine.{reg, with_reg}
 use Rattle.paired_code.specs.Layout.{xor, Routine, Tidy, enter_at_cells}
 use Rattle.paired_code.specs.Pieces.{Outcome, Done, Trapped, Will, after}
@@ -45,9 +47,9 @@ module _ (w : World) (s : Scope) (u : w.Under) (place : ℕ) where
       → Returns_at 12 place link (Meets InCall w.rates n 55 t) o
   returns link (fine {a = a} {m = m} {c = c} {k = k} r l x) =
       let known = as_known m _ r.regs_are in (
-        ap (λ z. reg z 2) known,
-        ap (λ z. reg z 12) known,
-        λ e lo hi. fine (record { regs_are = ap (λ z. (with_reg z 2 0).regs) known; open_frame = r.open_frame })
+        ap (λ z. reg z LINK) known,
+        ap (λ z. reg z VALUE) known,
+        λ e lo hi. fine (record { regs_are = ap (λ z. (with_reg z LINK 0).regs) known; open_frame = r.open_frame })
             (grow w.rates.counts k e c l) (omega arith),
       )
     where
@@ -63,7 +65,7 @@ module _ (w : World) (s : Scope) (u : w.Under) (place : ℕ) where
       (tidy : Tidy w.im) (place_is : place ≡ w.routines.top r + 1)
       (owed : RunsBody w s (w.routines.method r) (w.routines.body r) n) (fresh : w.IsFresh u) where
     pub enters_body : (kind d : Bool) (st : State) (cs : List ℕ) → w.opens s u [] st cs
-        → Will w.im (enter_at_cells 12 kind) d (mk 0 (w.object_of u) (w.frame_of u) 0 0 0 0 place cs)
+        → Will w.im (enter_at_cells VALUE kind) d (mk 0 (w.object_of u) (w.frame_of u) 0 0 0 0 place cs)
         (Meets InCall w.rates n 55 (told (exec w.setting n (in_direction (xor kind d) (w.routines.method r).body) st)))
     enters_body kind d st cs h =
         let m = mk 0 (w.object_of u) (w.frame_of u) 0 0 0 0 place cs in
@@ -71,11 +73,11 @@ module _ (w : World) (s : Scope) (u : w.Under) (place : ℕ) where
         (told (exec w.setting n (in_direction (xor kind d) (w.routines.method r).body) st)) in
         will_enter_at w.im (w.routines.number r) (w.routines.top r) (w.routines.body r) 12 kind d m Q tidy stands
         (λ e. omega arith) (omega arith) refl place_is (λ link pos lw.
-        let inside : Entered w s u link place st (with_reg m 2 link) = record { regs_are = refl; open_frame = h } in
+        let inside : Entered w s u link place st (with_reg m LINK link) = record { regs_are = refl; open_frame = h } in
         will_more w.im (w.routines.body r) (xor kind d) _ _ _
         (λ o q. subst (λ z. Returns_at 12 z link Q o) place_is (returns link q))
         ((owed (xor kind d) u link place fresh pos lw (let q = stands.small in omega (arith, q, place_is))).does st
-        (with_reg m 2 link) inside))
+        (with_reg m LINK link) inside))
 
 -- ---- what the source says of it
 
@@ -206,7 +208,7 @@ module _ (w : World) (knows : Known w) (f : FrameFacts w knows) (s : Scope) (nam
 
   -- an open frame leaves room behind it, or ends the stack
   end_fits : (st : State) (cs : List ℕ) → w.opens s u [] st cs → (b : Bool) → is_full ≡ b
-      → fr + FRAME_WORDS ≤ slice_index cs 4
+      → fr + FRAME_WORDS ≤ slice_index cs END_CELL
   end_fits st cs h true e = let t = (f.has_end s u st cs h).at_end e in omega arith
   end_fits st cs h false e = let t = (f.has_end s u st cs h).room e in omega arith
 
@@ -234,20 +236,21 @@ module _ (w : World) (knows : Known w) (f : FrameFacts w knows) (s : Scope) (nam
     front_in =
         let e = f.has_end s u st cs h in
         let p = has_place in
-        let up : Will w.im (line (addi 4 FRAME_WORDS ∷ [])) false (mk 0 ob fr 0 0 0 0 0 moved.cells)
+        let up : Will w.im (line (addi FRAME FRAME_WORDS ∷ [])) false (mk 0 ob fr 0 0 0 0 0 moved.cells)
         (λ o. o ≡ Done (mk 0 ob (fr + FRAME_WORDS) 0 0 0 0 0 moved.cells) 1) =
-        will_row w.im false (addi 4 FRAME_WORDS ∷ []) 1 _ _ (next refl (omega arith)
+        will_row w.im false (addi FRAME FRAME_WORDS ∷ []) 1 _ _ (next refl (omega arith)
         (ap (λ v. Done (mk 0 ob v 0 0 0 0 0 moved.cells) 1)
         (let z : package.Rattle.rpp_words.specs.Words.sum_of fr FRAME_WORDS
         ≡ fr + FRAME_WORDS = (let t = frame_small in omega arith) in z)) here) in
         let fetched = will_fetch w.im ob (fr + FRAME_WORDS) slot place moved.cells p.object_in p.small
         (f.calls.slot_small s name args is) p.entry_in p.apart p.entry place_small in
-        will_two w.im depth_code (moves_code (knows.spot s) args ++ line (addi 4 FRAME_WORDS ∷ fetch_row slot)) _ _ 12 _
+        will_two w.im depth_code (moves_code (knows.spot s) args ++ line (addi FRAME FRAME_WORDS ∷ fetch_row slot)) _ _
+        12 _
         (depth_passes w.im ob fr cs e.cell_in e.small (end_fits st cs h false room) false (e.room room))
-        (will_two w.im (moves_code (knows.spot s) args) (line (addi 4 FRAME_WORDS ∷ fetch_row slot)) _ _
+        (will_two w.im (moves_code (knows.spot s) args) (line (addi FRAME FRAME_WORDS ∷ fetch_row slot)) _ _
         (10 * length args) _
         moved.goes
-        (will_two w.im (line (addi 4 FRAME_WORDS ∷ [])) (line (fetch_row slot)) _ _ 1 _ up
+        (will_two w.im (line (addi FRAME FRAME_WORDS ∷ [])) (line (fetch_row slot)) _ _ 1 _ up
         (will_more w.im (line (fetch_row slot)) false _ _ _
         (λ o q. ap (λ o. after 12 (after (10 * length args) (after 1 o))) q) fetched)))
 
@@ -265,26 +268,27 @@ module _ (w : World) (knows : Known w) (f : FrameFacts w knows) (s : Scope) (nam
         let left = f.calls.leaves s u caller end cs2 name args (pairs args vals) moved.cells moved.up g is in
         let unfetched = will_unfetch w.im ob (fr + FRAME_WORDS) slot place cs2 p.object_in p.small
         (f.calls.slot_small s name args is) p.entry_in p.apart p.entry place_small in
-        let down : Will w.im (line (addi 4 FRAME_WORDS ∷ [])) true (mk 0 ob (fr + FRAME_WORDS) 0 0 0 0 0 cs2)
+        let down : Will w.im (line (addi FRAME FRAME_WORDS ∷ [])) true (mk 0 ob (fr + FRAME_WORDS) 0 0 0 0 0 cs2)
         (λ o. o ≡ Done (mk 0 ob fr 0 0 0 0 0 cs2) 1) =
-        will_row w.im true (addi 4 FRAME_WORDS ∷ []) 1 _ _ (next refl (omega arith)
+        will_row w.im true (addi FRAME FRAME_WORDS ∷ []) 1 _ _ (next refl (omega arith)
         (ap (λ v. Done (mk 0 ob v 0 0 0 0 0 cs2) 1) (less_is (fr + FRAME_WORDS) FRAME_WORDS fr refl
         (let t = frame_small in omega arith))) here) in
-        let both : Will w.im (line (addi 4 FRAME_WORDS ∷ fetch_row slot)) true
+        let both : Will w.im (line (addi FRAME FRAME_WORDS ∷ fetch_row slot)) true
         (mk 0 ob (fr + FRAME_WORDS) 0 0 0 0 place cs2)
         (λ o. o ≡ Done (mk 0 ob fr 0 0 0 0 0 cs2) 8) =
-        will_two_back w.im (line (addi 4 FRAME_WORDS ∷ [])) (line (fetch_row slot)) _ _ 7 _ unfetched
+        will_two_back w.im (line (addi FRAME FRAME_WORDS ∷ [])) (line (fetch_row slot)) _ _ 7 _ unfetched
         (will_more w.im _ true _ _ _ (λ o q. ap (after 7) q) down) in
         let values = map (λ binding. binding.value) end.frame in
         let home = record caller { store = end.store; log = end.log } in
-        let inner : Will w.im (moves_code (knows.spot s) args ++ line (addi 4 FRAME_WORDS ∷ fetch_row slot)) true
+        let inner : Will w.im (moves_code (knows.spot s) args ++ line (addi FRAME FRAME_WORDS ∷ fetch_row slot)) true
         (mk 0 ob (fr + FRAME_WORDS) 0 0 0 0 place cs2) (Meets (Open w s u) w.rates n (8 + 10 * length args)
         (moves_home end)) =
-        will_two_back w.im (moves_code (knows.spot s) args) (line (addi 4 FRAME_WORDS ∷ fetch_row slot)) _ _ 8 _ both
+        will_two_back w.im (moves_code (knows.spot s) args) (line (addi FRAME FRAME_WORDS ∷ fetch_row slot)) _ _ 8 _
+        both
         (will_more w.im _ true _ _ _ (λ o q. meets_later 8 q)
         (all_back w knows f s u n args vars values home cs2 tells.as_many few left)) in
         let all = then_quiet w.im true (Open w s u) (Open w s u) w.rates n 12 (8 + 10 * length args)
-        (moves_code (knows.spot s) args ++ line (addi 4 FRAME_WORDS ∷ fetch_row slot)) depth_code
+        (moves_code (knows.spot s) args ++ line (addi FRAME FRAME_WORDS ∷ fetch_row slot)) depth_code
         (mk 0 ob (fr + FRAME_WORDS) 0 0 0 0 place cs2) (moves_home end) inner (λ a m i. checked a m i) in
         will_more w.im (front_code (knows.spot s) slot args) true _ _ _
         (λ o q. meets_slack (8 + (10 * length args + 12)) (omega arith) q) all
@@ -310,13 +314,13 @@ module _ (w : World) (knows : Known w) (f : FrameFacts w knows) (s : Scope) (nam
         let nf = (f.calls.next s u caller).above in
         let body = enters_body w (w.routines.scope r) deep place r n (f.image.placed r known_routine) f.image.tidy refl
         (owes n (omega arith) r known_routine) (f.calls.next s u caller).fresh kind d callee moved.cells entered in
-        let mid : Will w.im (enter_at_cells 12 kind) d (mk 0 ob (fr + FRAME_WORDS) 0 0 0 0 place moved.cells)
+        let mid : Will w.im (enter_at_cells VALUE kind) d (mk 0 ob (fr + FRAME_WORDS) 0 0 0 0 place moved.cells)
         (Meets (InCall w (w.routines.scope r) deep place) w.rates n 55 t) =
-        subst (λ x. Will w.im (enter_at_cells 12 kind) d (mk 0 x (fr + FRAME_WORDS) 0 0 0 0 place moved.cells)
+        subst (λ x. Will w.im (enter_at_cells VALUE kind) d (mk 0 x (fr + FRAME_WORDS) 0 0 0 0 place moved.cells)
         (Meets (InCall w (w.routines.scope r) deep place) w.rates n 55 t)) so
-        (subst (λ x. Will w.im (enter_at_cells 12 kind) d (mk 0 (w.object_of deep) x 0 0 0 0 place moved.cells)
+        (subst (λ x. Will w.im (enter_at_cells VALUE kind) d (mk 0 (w.object_of deep) x 0 0 0 0 place moved.cells)
         (Meets (InCall w (w.routines.scope r) deep place) w.rates n 55 t)) nf body) in
-        wraps_spent w.im d (front_code (knows.spot s) slot args) (enter_at_cells 12 kind) _ _
+        wraps_spent w.im d (front_code (knows.spot s) slot args) (enter_at_cells VALUE kind) _ _
         (InCall w (w.routines.scope r) deep place) (Open w s u) w.rates n 55 (8 + (10 * length args + 12))
         (12 + (10 * length args + 8)) (1 + length args) 0 t moves_home
         f.image.counts (omega arith) (enough w.rates.steps (length args) f.image.thousand few) front_in mid
@@ -337,19 +341,19 @@ module _ (w : World) (knows : Known w) (f : FrameFacts w knows) (s : Scope) (nam
   refused n kind d e =
       let he = f.has_end s u st cs h in
       let Q : Outcome → Type 0 = Meets (Open w s u) w.rates (suc n) 0 (Fault 14 (1 + length args)) in
-      let W : Memory → ℕ → Type 0 = λ m1 k1. Will w.im (enter_at_cells 12 kind) d m1
+      let W : Memory → ℕ → Type 0 = λ m1 k1. Will w.im (enter_at_cells VALUE kind) d m1
       (Next (λ m2 k2. Will w.im (front_code (knows.spot s) slot args) true m2 (λ o. Q (after k1 (after k2 o))))
       (λ o. Q (after k1 o))) in
       let trap : (o : Outcome) → (k : ℕ) × (k ≤ 9) × (o ≡ Trapped 14 k)
       → Next W Q o = λ o t. subst (Next W Q) (sym t.2) (faults
       (few_steps w.rates.steps (length args) t.0 f.image.thousand t.1)) in
       let first : Will w.im (front_code (knows.spot s) slot args) false (mk 0 ob fr 0 0 0 0 0 cs) (Next W Q) =
-      will_seq w.im depth_code (moves_code (knows.spot s) args ++ line (addi 4 FRAME_WORDS ∷ fetch_row slot)) _
+      will_seq w.im depth_code (moves_code (knows.spot s) args ++ line (addi FRAME FRAME_WORDS ∷ fetch_row slot)) _
       (Next W Q)
       (will_more w.im depth_code false _ _ _ (λ o t. subst (Next _ (Next W Q)) (sym t.2)
       (trap (Trapped 14 t.0) (t.0, t.1, refl))) (depth_traps w.im ob fr cs he.cell_in he.small
       (end_fits st cs h true e) (he.at_end e))) in
-      will_around w.im d (front_code (knows.spot s) slot args) (enter_at_cells 12 kind) _ Q first
+      will_around w.im d (front_code (knows.spot s) slot args) (enter_at_cells VALUE kind) _ Q first
     where
       few_steps : (steps k j : ℕ) → steps ≡ 1000 → j ≤ 9 → j ≤ steps * (1 + k) + 0
       few_steps steps k j e l = let z : steps * (1 + k) ≡ 1000 * (1 + k) = ap (λ x. x * (1 + k)) e in omega (arith, z)

@@ -7,6 +7,8 @@ use Rattle.rpp_words.specs.declared.input.TheConstants.{FRAME_WORDS}
 use Rattle.rpp_words.specs.Words.{is_less}
 use Rattle.pisa_isa.specs.Machine.{Memory}
 use Rattle.pisa_isa.specs.Table.{word_of}
+use Rattle.code_conventions.specs.declared.faults.TheConstants.{NIL, TOUCHED}
+use Rattle.code_conventions.specs.declared.registers.TheConstants.{CONTENT, FLAG, FRAME, MOVED, NOUGHT, OBJECT}
 use Rattle.paired_code.specs.Machine.{Image}
 use Rattle.paired_code.specs.Layout.{check_cells}
 use Rattle.paired_code.specs.Pieces.{Done, Trapped, Will, after}
@@ -49,13 +51,13 @@ module _ (im : Image) (ob fr : ℕ) (sp : Spot) (cs : List ℕ) (inside : addres
   module _ (small : word < 2 ^ 31) where
     peeks : Will im (line (peek_row sp)) false (mk 0 ob fr 0 0 0 0 0 cs) (λ o. o ≡ Done (on_spot word 0 0 gone) 2)
     peeks =
-        will_two im (line (reach_row sp)) (line (exch 6 (base_of sp) ∷ [])) _ (on_spot 0 0 0 cs) 1 _
+        will_two im (line (reach_row sp)) (line (exch CONTENT (base_of sp) ∷ [])) _ (on_spot 0 0 0 cs) 1 _
         (will_reach im ob fr 0 0 0 cs sp low)
         (will_more im _ false _ _ _ (λ o q. ap (after 1) q) (swaps_content im ob fr 0 0 0 cs false sp inside))
 
     unpeeks : Will im (line (peek_row sp)) true (on_spot word 0 0 gone) (λ o. o ≡ Done (mk 0 ob fr 0 0 0 0 0 cs) 2)
     unpeeks =
-        will_two_back im (line (reach_row sp)) (line (exch 6 (base_of sp) ∷ [])) _ (on_spot 0 0 0 cs) 1 _
+        will_two_back im (line (reach_row sp)) (line (exch CONTENT (base_of sp) ∷ [])) _ (on_spot 0 0 0 cs) 1 _
         (will_more im _ true _ _ _ (λ o q. q ∙ ap (λ v. Done (on_spot v 0 0 (slice_set gone at word)) 1)
         (emptied cs at inside) ∙ ap (λ l. Done (on_spot 0 0 0 l) 1) (filled cs at))
         (swaps_content im ob fr word 0 0 gone true sp still_in))
@@ -73,65 +75,69 @@ module _ (im : Image) (ob fr : ℕ) (sp : Spot) (cs : List ℕ) (inside : addres
     unflags : is_less 0 word ≡ true
         → Will im (line nil_row) true (on_spot word 0 0 gone) (λ o. o ≡ Done (on_spot word 0 0 gone) 2)
     unflags e =
-        will_row im true (xori 11 1 ∷ sltx 11 7 6 ∷ []) 2 _ _
+        will_row im true (xori FLAG 1 ∷ sltx FLAG NOUGHT CONTENT ∷ []) 2 _ _
         (next refl (omega arith) refl
         (next refl (omega arith) (ap (λ b. Done (on_spot word 0 (bit_xor 1 (word_of b)) gone) 1) e) here))
 
     -- the flag is 0 behind the test, and before it where it is run back
-    passes : (d : Bool) → is_less 0 word ≡ true → Will im (line nil_row ++ check_cells 11 5) d
+    passes : (d : Bool) → is_less 0 word ≡ true → Will im (line nil_row ++ check_cells FLAG NIL) d
         (on_spot word 0 0 gone) (λ o. o ≡ Done (on_spot word 0 0 gone) 6)
     passes false e =
-        will_two im (line nil_row) (check_cells 11 5) _ _ 2 _ (flags true 1 0 e refl refl)
-        (will_of im _ false _ _ _ (runs_check_zero im false 11 5 (on_spot word 0 0 gone) refl) refl)
+        will_two im (line nil_row) (check_cells FLAG NIL) _ _ 2 _ (flags true 1 0 e refl refl)
+        (will_of im _ false _ _ _ (runs_check_zero im false FLAG NIL (on_spot word 0 0 gone) refl) refl)
     passes true e =
-        will_two_back im (line nil_row) (check_cells 11 5) _ _ 4 _
-        (will_of im _ true _ _ _ (runs_check_zero im true 11 5 (on_spot word 0 0 gone) refl) refl)
+        will_two_back im (line nil_row) (check_cells FLAG NIL) _ _ 4 _
+        (will_of im _ true _ _ _ (runs_check_zero im true FLAG NIL (on_spot word 0 0 gone) refl) refl)
         (will_more im _ true _ _ _ (λ o q. ap (after 4) q) (unflags e))
 
     pub nil_passes : (d : Bool) → 0 < word → Will im (nil_code sp) d (mk 0 ob fr 0 0 0 0 0 cs)
         (λ o. o ≡ Done (mk 0 ob fr 0 0 0 0 0 cs) 10)
     nil_passes d pos =
-        will_in im d (line (peek_row sp)) (line nil_row ++ check_cells 11 5) _ _ _ _ 2 6 2 peeks
+        will_in im d (line (peek_row sp)) (line nil_row ++ check_cells FLAG NIL) _ _ _ _ 2 6 2 peeks
         (passes d (above_zero word pos small)) unpeeks
 
     pub nil_traps : word ≡ 0 → Will im (nil_code sp) false (mk 0 ob fr 0 0 0 0 0 cs)
         (λ o. (k : ℕ) × (k ≤ 8) × (o ≡ Trapped 5 k))
     nil_traps z =
         let t : is_less 0 word ≡ false = ap (is_less 0) z in
-        let c = runs_check_other im false 11 5 (on_spot word 0 1 gone) (λ e. let q : 1 ≡ 0 = e in omega arith) in
-        will_in_trap im false (line (peek_row sp)) (line nil_row ++ check_cells 11 5) _ _ 2 5 6 peeks
-        (will_two im (line nil_row) (check_cells 11 5) _ _ 2 _ (flags false 0 1 t refl refl)
+        let c = runs_check_other im false FLAG NIL (on_spot word 0 1 gone) (λ e. let q : 1 ≡ 0 = e in omega arith) in
+        will_in_trap im false (line (peek_row sp)) (line nil_row ++ check_cells FLAG NIL) _ _ 2 5 6 peeks
+        (will_two im (line nil_row) (check_cells FLAG NIL) _ _ 2 _ (flags false 0 1 t refl refl)
         (will_of im _ false _ _ _ c.2 (2 + c.0, (let l = c.1 in omega arith), refl)))
 
   -- ---- a word that leaves its cell
 
   pub takes : Will im (take_code sp) false (mk 0 ob fr 0 0 0 0 0 cs) (λ o. o ≡ Done (mk 0 ob fr 0 0 word 0 0 gone) 7)
   takes =
-      will_in im false (line (reach_row sp)) (check_cells 8 15 ++ line (exch 8 (base_of sp) ∷ [])) _ _ _ _ 1 5 1
+      will_in im false (line (reach_row sp)) (check_cells MOVED TOUCHED ++ line (exch MOVED (base_of sp) ∷ [])) _ _ _ _
+      1 5 1
       (will_reach im ob fr 0 0 0 cs sp low)
-      (will_two im (check_cells 8 15) (line (exch 8 (base_of sp) ∷ [])) _ _ 4 _
-      (will_of im _ false _ _ _ (runs_check_zero im false 8 15 (on_spot 0 0 0 cs) refl) refl)
+      (will_two im (check_cells MOVED TOUCHED) (line (exch MOVED (base_of sp) ∷ [])) _ _ 4 _
+      (will_of im _ false _ _ _ (runs_check_zero im false MOVED TOUCHED (on_spot 0 0 0 cs) refl) refl)
       (will_more im _ false _ _ _ (λ o q. ap (after 4) q) (swaps_moved im ob fr 0 0 0 cs false sp inside)))
       (will_leave im ob fr 0 word 0 gone sp low)
 
   pub gives_back : (x : ℕ) → word ≡ 0 → Will im (take_code sp) true (mk 0 ob fr 0 0 x 0 0 cs)
       (λ o. o ≡ Done (mk 0 ob fr 0 0 0 0 0 (slice_set cs at x)) 7)
   gives_back x z =
-      will_in im true (line (reach_row sp)) (check_cells 8 15 ++ line (exch 8 (base_of sp) ∷ [])) _ _ _ _ 1 5 1
+      will_in im true (line (reach_row sp)) (check_cells MOVED TOUCHED ++ line (exch MOVED (base_of sp) ∷ [])) _ _ _ _ 1
+      5 1
       (will_reach im ob fr 0 x 0 cs sp low)
-      (will_two_back im (check_cells 8 15) (line (exch 8 (base_of sp) ∷ [])) _ (on_spot 0 0 0 (slice_set cs at x)) 1 _
+      (will_two_back im (check_cells MOVED TOUCHED) (line (exch MOVED (base_of sp) ∷ [])) _
+      (on_spot 0 0 0 (slice_set cs at x)) 1 _
       (will_more im _ true _ _ _ (λ o q. q ∙ ap (λ v. Done (on_spot 0 v 0 (slice_set cs at x)) 1) z)
       (swaps_moved im ob fr 0 x 0 cs true sp inside))
-      (will_of im _ true _ _ _ (runs_check_zero im true 8 15 (on_spot 0 0 0 (slice_set cs at x)) refl) refl))
+      (will_of im _ true _ _ _ (runs_check_zero im true MOVED TOUCHED (on_spot 0 0 0 (slice_set cs at x)) refl) refl))
       (will_leave im ob fr 0 0 0 (slice_set cs at x) sp low)
 
   pub finds_touched : (x : ℕ) → word ≢ 0 → Will im (take_code sp) true (mk 0 ob fr 0 0 x 0 0 cs)
       (λ o. (k : ℕ) × (k ≤ 6) × (o ≡ Trapped 15 k))
   finds_touched x nz =
-      let c = runs_check_other im true 8 15 (on_spot 0 word 0 (slice_set cs at x)) nz in
-      will_in_trap im true (line (reach_row sp)) (check_cells 8 15 ++ line (exch 8 (base_of sp) ∷ [])) _ _ 1 15 5
+      let c = runs_check_other im true MOVED TOUCHED (on_spot 0 word 0 (slice_set cs at x)) nz in
+      will_in_trap im true (line (reach_row sp)) (check_cells MOVED TOUCHED ++ line (exch MOVED (base_of sp) ∷ [])) _ _
+      1 15 5
       (will_reach im ob fr 0 x 0 cs sp low)
-      (will_two_back im (check_cells 8 15) (line (exch 8 (base_of sp) ∷ [])) _
+      (will_two_back im (check_cells MOVED TOUCHED) (line (exch MOVED (base_of sp) ∷ [])) _
       (on_spot 0 word 0 (slice_set cs at x)) 1 _ (swaps_moved im ob fr 0 x 0 cs true sp inside)
       (will_of im _ true _ _ _ c.2 (1 + c.0, (let h = c.1 in omega arith), refl)))
 
@@ -143,22 +149,22 @@ module _ (im : Image) (ob fr w : ℕ) (cs : List ℕ) (inside : fr + (FRAME_WORD
   above = fr + (FRAME_WORDS + w)
 
   swaps_above : (d : Bool) (x y : ℕ) → slice_index cs above ≡ y
-      → Will im (line (exch 8 4 ∷ [])) d (mk 0 ob above 0 0 x 0 0 cs)
+      → Will im (line (exch MOVED FRAME ∷ [])) d (mk 0 ob above 0 0 x 0 0 cs)
       (λ o. o ≡ Done (mk 0 ob above 0 0 y 0 0 (slice_set cs above x)) 1)
   swaps_above false x y e =
-      will_row im false (exch 8 4 ∷ []) 1 _ _ (next refl (omega arith)
-      (exchanges false 8 4 (mk 0 ob above 0 0 x 0 0 cs) inside
+      will_row im false (exch MOVED FRAME ∷ []) 1 _ _ (next refl (omega arith)
+      (exchanges false MOVED FRAME (mk 0 ob above 0 0 x 0 0 cs) inside
       ∙ ap (λ v. Done (mk 0 ob above 0 0 v 0 0 (slice_set cs above x)) 1) e) here)
   swaps_above true x y e =
-      will_row im true (exch 8 4 ∷ []) 1 _ _ (next refl (omega arith)
-      (exchanges true 8 4 (mk 0 ob above 0 0 x 0 0 cs) inside
+      will_row im true (exch MOVED FRAME ∷ []) 1 _ _ (next refl (omega arith)
+      (exchanges true MOVED FRAME (mk 0 ob above 0 0 x 0 0 cs) inside
       ∙ ap (λ v. Done (mk 0 ob above 0 0 v 0 0 (slice_set cs above x)) 1) e) here)
 
   pub puts : (d : Bool) (x y : ℕ) → slice_index cs above ≡ y
       → Will im (put_code w) d (mk 0 ob fr 0 0 x 0 0 cs)
       (λ o. o ≡ Done (mk 0 ob fr 0 0 y 0 0 (slice_set cs above x)) 3)
   puts d x y e =
-      will_in im d (line (above_row w)) (line (exch 8 4 ∷ [])) _ _ _ _ 1 1 1
+      will_in im d (line (above_row w)) (line (exch MOVED FRAME ∷ [])) _ _ _ _ 1 1 1
       (will_raise im ob fr x cs w low) (swaps_above d x y e) (will_lower im ob fr y (slice_set cs above x) w low)
 
 -- ---- OBJECT
@@ -176,15 +182,17 @@ module _ (im : Image) (ob fr recv : ℕ) (cs : List ℕ) (inside : fr + (FRAME_W
       (λ o. o ≡ Done (mk 0 recv fr 0 0 0 0 0 (slice_set cs up ob)) 5)
   turns_to z =
       let cs1 = slice_set cs up ob in
-      will_two im (around (line (above_row 1)) (line (exch 3 4 ∷ []))) (line (add 3 8 ∷ sub 8 3 ∷ [])) _
+      will_two im (around (line (above_row 1)) (line (exch OBJECT FRAME ∷ [])))
+      (line (add OBJECT MOVED ∷ sub MOVED OBJECT ∷ [])) _
       (mk 0 0 fr 0 0 recv 0 0 cs1) 3 _
-      (will_in im false (line (above_row 1)) (line (exch 3 4 ∷ [])) _ _ _ _ 1 1 1
+      (will_in im false (line (above_row 1)) (line (exch OBJECT FRAME ∷ [])) _ _ _ _ 1 1 1
       (will_raise im ob fr recv cs 1 up_low)
-      (will_row im false (exch 3 4 ∷ []) 1 _ _ (next refl (omega arith)
-      (exchanges false 3 4 (mk 0 ob up 0 0 recv 0 0 cs) inside
+      (will_row im false (exch OBJECT FRAME ∷ []) 1 _ _ (next refl (omega arith)
+      (exchanges false OBJECT FRAME (mk 0 ob up 0 0 recv 0 0 cs) inside
       ∙ ap (λ v. Done (mk 0 v up 0 0 recv 0 0 cs1) 1) z) here))
       (will_lower im 0 fr recv cs1 1 up_low))
-      (will_more im _ false _ _ _ (λ o q. ap (after 3) q) (will_row im false (add 3 8 ∷ sub 8 3 ∷ []) 2 _ _
+      (will_more im _ false _ _ _ (λ o q. ap (after 3) q) (will_row im false (add OBJECT MOVED ∷ sub MOVED OBJECT ∷ [])
+      2 _ _
       (next refl (omega arith) (ap (λ v. Done (mk 0 v fr 0 0 recv 0 0 cs1) 1) (sum_is 0 recv recv (omega arith) small))
       (next refl (omega arith) (ap (λ v. Done (mk 0 recv fr 0 0 v 0 0 cs1) 1)
       (difference_is recv recv 0 (omega arith) small)) here))))
@@ -193,15 +201,17 @@ module _ (im : Image) (ob fr recv : ℕ) (cs : List ℕ) (inside : fr + (FRAME_W
       (λ o. o ≡ Done (mk 0 ob fr 0 0 recv 0 0 (slice_set cs up 0)) 5)
   turns_from z =
       let cs1 = slice_set cs up 0 in
-      will_two_back im (around (line (above_row 1)) (line (exch 3 4 ∷ []))) (line (add 3 8 ∷ sub 8 3 ∷ [])) _
+      will_two_back im (around (line (above_row 1)) (line (exch OBJECT FRAME ∷ [])))
+      (line (add OBJECT MOVED ∷ sub MOVED OBJECT ∷ [])) _
       (mk 0 0 fr 0 0 recv 0 0 cs) 2 _
-      (will_row im true (sub 8 3 ∷ add 3 8 ∷ []) 2 _ _
+      (will_row im true (sub MOVED OBJECT ∷ add OBJECT MOVED ∷ []) 2 _ _
       (next refl (omega arith) (ap (λ v. Done (mk 0 recv fr 0 0 v 0 0 cs) 1) (sum_is 0 recv recv (omega arith) small))
       (next refl (omega arith) (ap (λ v. Done (mk 0 v fr 0 0 recv 0 0 cs) 1)
       (difference_is recv recv 0 (omega arith) small)) here)))
-      (will_more im _ true _ _ _ (λ o q. ap (after 2) q) (will_in im true (line (above_row 1)) (line (exch 3 4 ∷ [])) _
+      (will_more im _ true _ _ _ (λ o q. ap (after 2) q) (will_in im true (line (above_row 1))
+      (line (exch OBJECT FRAME ∷ [])) _
       _ _ _ 1 1 1 (will_raise im 0 fr recv cs 1 up_low)
-      (will_row im true (exch 3 4 ∷ []) 1 _ _ (next refl (omega arith)
-      (exchanges true 3 4 (mk 0 0 up 0 0 recv 0 0 cs) inside
+      (will_row im true (exch OBJECT FRAME ∷ []) 1 _ _ (next refl (omega arith)
+      (exchanges true OBJECT FRAME (mk 0 0 up 0 0 recv 0 0 cs) inside
       ∙ ap (λ v. Done (mk 0 v up 0 0 recv 0 0 cs1) 1) z) here))
       (will_lower im ob fr recv cs1 1 up_low)))

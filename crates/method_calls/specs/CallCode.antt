@@ -6,6 +6,7 @@ use Rattle.refine_form.specs.declared.spot.Spot.{Spot}
 use Rattle.refine_form.specs.declared.spot.Spot.TheVariants.{Field, Frame}
 use Rattle.rpp_tree.specs.declared.tree.Ident.{Ident}
 use Rattle.pisa_isa.specs.declared.cell.Cell.{Cell}
+use Rattle.pisa_isa.specs.declared.fixed.TheConstants.{STACK_CELL, END_CELL}
 use Rattle.code_conventions.specs.Cells.{add, sub, exch, addi, xori, sltx}
 use Rattle.code_conventions.specs.declared.faults.TheConstants.{DELOCAL, NIL, TOO_DEEP, TOUCHED}
 use Rattle.code_conventions.specs.declared.memory.TheConstants.{FIRST_VARIABLE, HEADER_WORDS}
@@ -61,17 +62,10 @@ abbrev pub moves_code : (Ident → Spot) → List Ident → List Symbol
 moves_code spot [] = []
 moves_code spot (name ∷ names) = moves_code spot names ++ move_code (spot name) (length names)
 
--- the cell with the end of the stack, and the one with its base
-abbrev pub end_cell : ℕ
-end_cell = 4
-
-abbrev pub base_cell : ℕ
-base_cell = 3
-
 -- CONTENT gets the end of the stack, a frame less
 abbrev pub end_row : List Cell
 end_row =
-    addi ADDRESS end_cell ∷ exch CONTENT ADDRESS ∷ addi CONTENT (negated FRAME_WORDS) ∷ []
+    addi ADDRESS END_CELL ∷ exch CONTENT ADDRESS ∷ addi CONTENT (negated FRAME_WORDS) ∷ []
 
 -- the flag is 1 where the frame above would end behind the stack, and 0 behind a check that passes
 abbrev pub fits_row : List Cell
@@ -110,8 +104,8 @@ method_code body = around (line save_row) body
 -- OBJECT gets the address of the main object, and FRAME the stack's base
 abbrev pub main_row : List Cell
 main_row =
-    addi OBJECT MAIN_OBJECT ∷ addi ADDRESS base_cell ∷ exch CONTENT ADDRESS ∷ add FRAME CONTENT
-    ∷ exch CONTENT ADDRESS ∷ addi ADDRESS (negated base_cell) ∷ []
+    addi OBJECT MAIN_OBJECT ∷ addi ADDRESS STACK_CELL ∷ exch CONTENT ADDRESS ∷ add FRAME CONTENT
+    ∷ exch CONTENT ADDRESS ∷ addi ADDRESS (negated STACK_CELL) ∷ []
 
 -- the main piece runs the routine of `main`
 abbrev pub main_code : ℕ → List Symbol

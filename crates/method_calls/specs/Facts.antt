@@ -14,12 +14,13 @@ use Rattle.roopl_semantics.specs.Value.{Cell, Slot, cell_named, own_class, read,
 use Rattle.roopl_semantics.specs.Execution.{bound, opened, closed, class_of}
 use Rattle.rpp_words.specs.declared.input.FieldWord.{FieldWord}
 use Rattle.pisa_isa.specs.Loaded.{loaded}
+use Rattle.pisa_isa.specs.declared.fixed.TheConstants.{STACK_CELL, END_CELL}
 use Rattle.code_conventions.specs.declared.memory.TheConstants.{HEADER_WORDS, MAIN_OBJECT}
 use Rattle.code_conventions.specs.declared.memory.TheConstants.{OBJECT_WORD, PLACE_WORD, TABLE_HEADER}
 use Rattle.roopl_semantics.specs.Source.{starting, main_body}
 use Rattle.roopl_semantics.specs.Layout.{layout}
 use Rattle.refine_form.specs.Form.{World, Scope, Moved, pairs, with_var, told}
-use Rattle.method_calls.specs.CallCode.{first_word, base_cell, end_cell}
+use Rattle.method_calls.specs.CallCode.{first_word}
 use Rattle.refine_form.specs.declared.spot.Spot.{Spot}
 use Rattle.refine_form.specs.declared.spot.Spot.TheVariants.{Field, Frame}
 
@@ -58,10 +59,10 @@ pub record MovesBack (cells : List ℕ) (at up : ℕ) (free : Bool) (After : Lis
 
 -- the end of the stack stands in its cell: it tells whether one more call may be open
 pub record HasEnd (cells : List ℕ) (frame : ℕ) (full : Bool) : Type 0 where
-  pub cell_in : end_cell < length cells
-  pub small : slice_index cells end_cell < 2 ^ 31
-  pub at_end : full ≡ true → frame + FRAME_WORDS ≡ slice_index cells end_cell
-  pub room : full ≡ false → frame + FRAME_WORDS < slice_index cells end_cell
+  pub cell_in : END_CELL < length cells
+  pub small : slice_index cells END_CELL < 2 ^ 31
+  pub at_end : full ≡ true → frame + FRAME_WORDS ≡ slice_index cells END_CELL
+  pub room : full ≡ false → frame + FRAME_WORDS < slice_index cells END_CELL
 
 -- the table of an object's class, and the place that stands in a slot: not in the object's own first
 -- word, which is 0 while the place is read
@@ -320,9 +321,9 @@ pub record MainFacts (w : World) (statics : List ℕ) (input : List FieldWord) :
   pub starts : w.opens (w.routines.scope main) first [] (starting w.setting.program input)
       (loaded statics w.setting.limits input)
   pub base_in : (st : State) (cells : List ℕ) → w.opens (w.routines.scope main) first [] st cells
-      → base_cell < length cells
+      → STACK_CELL < length cells
   pub base_is : (st : State) (cells : List ℕ) → w.opens (w.routines.scope main) first [] st cells
-      → slice_index cells base_cell ≡ w.frame_of first
+      → slice_index cells STACK_CELL ≡ w.frame_of first
   pub ends : (st : State) (cells : List ℕ) → w.opens (w.routines.scope main) first [] st cells
       → cells ≡ layout w.setting.program w.setting.limits statics st.store st.log
 

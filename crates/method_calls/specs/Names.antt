@@ -16,12 +16,12 @@ use Rattle.buddy_book.specs.Place.{place}
 use Rattle.roopl_semantics.specs.Store.{State, object_at, class_of_head}
 use Rattle.roopl_semantics.specs.Layout.{no_placing}
 use Rattle.meaning_sound.specs.Plain.{HasWords}
-use Rattle.refine_frame.specs.Open.{put_by as put_size, most_variables}
 use Rattle.refine_form.specs.Form.{Scope}
 use Rattle.refine_form.specs.Frames.{Caller, Under, cell_in, address_of}
 use Rattle.refine_form.specs.Stands.{shape_of, spot_in}
 use Rattle.refine_form.specs.Worlds.{Place, world_of}
 use Rattle.method_calls.specs.Facts.{IsNear, Known, Receivers}
+use Rattle.code_conventions.specs.declared.memory.TheConstants.{MOST_VARIABLES, FIRST_VARIABLE}
 
 -- ---- variables, methods, receivers
 
@@ -104,7 +104,7 @@ deeper s u st = record {
   self = u.self;
   class = u.class;
   object = u.object;
-  put_by = replicate put_size 0;
+  put_by = replicate FIRST_VARIABLE 0;
 }
 
 -- while a call on the object of a name is open: the caller's object is put by in word 1
@@ -163,5 +163,5 @@ pub record NilInit (program : Source) (var : Var) (e : Expression) : Type 0 wher
   pub null : IsNull e
 
 pub record IsInit (program : Source) (s : Scope) (var : Var) (e : Expression) : Type 0 where
-  pub few : length s.vars < most_variables
+  pub few : length s.vars < MOST_VARIABLES
   pub value : IntInit program s var e ⊎ NilInit program var e

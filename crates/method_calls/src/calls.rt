@@ -23,15 +23,10 @@ use code_conventions::memory::{
 };
 use code_conventions::registers::{ADDRESS, CONTENT, FLAG, FRAME, LINK, MOVED, OBJECT, VALUE};
 use paired_code::{Piece, check_zero, empty, enter, enter_at, mirror, plain, seq};
-use pisa_isa::Cell;
+use pisa_isa::{Cell, END_CELL, STACK_CELL};
 use refine_form::{Spot, around};
 use rpp_words::{FRAME_WORDS, NoMemory};
 use std::alloc::Global;
-
-// The cell with the end of the stack, and the one with its base.
-const END_CELL: u32 = 4;
-
-const BASE_CELL: u32 = 3;
 
 // A piece and one instruction more.
 pub(crate) fn then(alloc: Global, piece: Piece, cell: Cell) -> Result<Piece, NoMemory>
@@ -210,12 +205,12 @@ fn main_front(alloc: Global) -> Result<Piece, NoMemory>
     let open = then(
         alloc,
         plain(alloc, addi(OBJECT, MAIN_OBJECT))?,
-        addi(ADDRESS, BASE_CELL),
+        addi(ADDRESS, STACK_CELL),
     )?;
     let open = then(alloc, open, exch(CONTENT, ADDRESS))?;
     let open = then(alloc, open, add(FRAME, CONTENT))?;
     let open = then(alloc, open, exch(CONTENT, ADDRESS))?;
-    then(alloc, open, addi(ADDRESS, negated(BASE_CELL)))
+    then(alloc, open, addi(ADDRESS, negated(STACK_CELL)))
 }
 
 #[tactic(auto, unfolding(crate::specs::CallCode::main_cells))]

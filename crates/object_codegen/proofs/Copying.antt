@@ -9,8 +9,9 @@ use Rattle.pisa_isa.specs.Machine.{Memory}
 use Rattle.rpp_words.proofs.Laws.{xor-twice}
 use Rattle.rpp_words.specs.Words.{is_less}
 use Rattle.pisa_isa.specs.Table.{word_of}
+use Rattle.code_conventions.specs.declared.registers.TheConstants.{FIRST_WORD, OTHER_PLACE, OUTCOME, PLACE}
 use Rattle.roopl_semantics.specs.Operators.{truth_word}
-use Rattle.expr_uncompute.specs.Code.{outcome, place, other_place, first_word, addi, xori, sltx}
+use Rattle.expr_uncompute.specs.Code.{addi, xori, sltx}
 use Rattle.expr_uncompute.specs.Number.{Bases}
 use Rattle.expr_uncompute.proofs.Comparing.{equal}
 use Rattle.expr_uncompute.proofs.Goes.{Goes, Traps, goes_cons, goes_seq, goes_around, goes_mirror, goes_xor, goes_set}
@@ -37,18 +38,18 @@ module _ (b : Bases) (f : ℕ → ℕ) (p q : ℕ) where
   same_goes zs x h k e e' =
       let both = goes_seq (load_goes b f (keeping 0 p q) (by_place b f (keeping 0 p q)) zs x 0 x h e (xor_zero_l x))
       (load_goes b f (keeping 0 p q) (by_other b f (keeping 0 p q)) zs x x 0 k e' (xor_self x)) in
-      goes_around both (goes_check first_word 10 _ refl) both
+      goes_around both (goes_check FIRST_WORD 10 _ refl) both
 
   pub same_traps : (zs : List ℕ) (x y : ℕ) → p < length zs → q < length zs → slice_index zs p ≡ x → slice_index zs q ≡ y
       → x ≢ y → Traps same_words 10 10 (here 0 0 0 zs)
   same_traps zs x y h k e e' n =
       let both = goes_seq (load_goes b f (keeping 0 p q) (by_place b f (keeping 0 p q)) zs x 0 x h e (xor_zero_l x))
       (load_goes b f (keeping 0 p q) (by_other b f (keeping 0 p q)) zs y x (bit_xor x y) k e' refl) in
-      traps_mid both (traps_check first_word 10 _ (λ z. n (sym (xor-twice x y) ∙ ap (λ w. bit_xor w y) z
+      traps_mid both (traps_check FIRST_WORD 10 _ (λ z. n (sym (xor-twice x y) ∙ ap (λ w. bit_xor w y) z
       ∙ xor_zero_l y)))
 
   two_row : (zs : List ℕ) (t : Bool) → p < 2 ^ 32 → q < 2 ^ 32 → nat_eq p q ≡ t
-      → Goes (sltx outcome place other_place ∷ sltx outcome other_place place ∷ xori outcome 1 ∷ []) 3 (here 0 0 0 zs)
+      → Goes (sltx OUTCOME PLACE OTHER_PLACE ∷ sltx OUTCOME OTHER_PLACE PLACE ∷ xori OUTCOME 1 ∷ []) 3 (here 0 0 0 zs)
       (here (truth_word t) 0 0 zs)
   two_row zs t h k e =
       let put : ℕ → Memory = λ z. here z 0 0 zs in
@@ -60,12 +61,12 @@ module _ (b : Bases) (f : ℕ → ℕ) (p q : ℕ) where
   pub two_goes : (zs : List ℕ) → p < 2 ^ 32 → q < 2 ^ 32 → p ≢ q → Goes two_places 10 (here 0 0 0 zs) (here 0 0 0 zs)
   two_goes zs h k n =
       let t : nat_eq p q ≡ false = grind (arith, nat_tests) in
-      goes_around (two_row zs false h k t) (goes_check outcome 10 _ refl) (two_row zs false h k t)
+      goes_around (two_row zs false h k t) (goes_check OUTCOME 10 _ refl) (two_row zs false h k t)
 
   pub two_traps : (zs : List ℕ) → p < 2 ^ 32 → q < 2 ^ 32 → p ≡ q → Traps two_places 7 10 (here 0 0 0 zs)
   two_traps zs h k e =
       let t : nat_eq p q ≡ true = grind (arith, nat_tests) in
-      traps_mid (two_row zs true h k t) (traps_check outcome 10 _ one_is_not)
+      traps_mid (two_row zs true h k t) (traps_check OUTCOME 10 _ one_is_not)
 
   pub copy_checks_go : (low x c : ℕ) (zs : List ℕ) → Copies low p q x c zs
       → Goes copy_checks 16 (here 0 0 0 zs) (here 0 0 0 zs)
@@ -118,7 +119,7 @@ module _ (b : Bases) (f : ℕ → ℕ) (p q : ℕ) where
   count_goes : (x c : ℕ) (zs : List ℕ) → x + 1 < length zs → length zs ≤ 2 ^ 31 → slice_index zs (x + 1) ≡ c
       → c + 1 < 2 ^ 32 → Goes count_cells 5 (here 0 0 x zs) (here 0 0 x (slice_set zs (x + 1) (c + 1)))
   count_goes x c zs h k e l =
-      let up : (zs : List ℕ) → Goes (addi first_word 1 ∷ []) 1 (here 0 0 x zs) (here 0 0 (x + 1) zs) =
+      let up : (zs : List ℕ) → Goes (addi FIRST_WORD 1 ∷ []) 1 (here 0 0 x zs) (here 0 0 (x + 1) zs) =
       λ zs. goes_addi _ (λ z. here 0 0 z zs) x 1 (omega arith) refl (omega arith) (λ z. refl) (λ z. refl) in
       goes_around (up zs) (changed b f (keeping 0 p q) (by_first b f (keeping 0 p q) (x + 1)) zs c (c + 1) h e
       (goes_addi _ (λ z. here 0 z (x + 1) (slice_set zs (x + 1) 0)) c 1 l refl (omega arith) (λ z. refl)

@@ -8,9 +8,11 @@ use Rattle.rpp_words.specs.Words.{is_less, sum_of}
 use Rattle.rpp_words.proofs.Laws.{xor-twice}
 use Rattle.pisa_isa.specs.Table.{word_of}
 use Rattle.pisa_isa.specs.Machine.{Memory}
+use Rattle.code_conventions.specs.declared.registers.TheConstants.{AMOUNT, CONTENT, FIRST_WORD, NOUGHT, OUTCOME, PLACE}
+use Rattle.code_conventions.specs.declared.registers.TheConstants.{RIGHT_TRUTH}
 use Rattle.paired_code.specs.Layout.{mirror_cells}
 use Rattle.roopl_semantics.specs.Operators.{truth_word}
-use Rattle.expr_uncompute.specs.Code.{content, outcome, nought, amount, place, right_truth, first_word, exch, addi}
+use Rattle.expr_uncompute.specs.Code.{exch, addi}
 use Rattle.expr_uncompute.specs.Code.{xori, sltx}
 use Rattle.expr_uncompute.specs.Number.{Bases}
 use Rattle.expr_uncompute.proofs.Comparing.{not_less, above, not_above}
@@ -37,12 +39,12 @@ module _ (b : Bases) (f : ℕ → ℕ) (v p x : ℕ) (shape : Shape) (zs : List 
   abbrev here : (o c w : ℕ) → List ℕ → Memory
   here o c w ys = at b f (keeping v p 0) o c w ys
 
-  load : Goes (load_cells place) 3 (here 0 0 0 zs) (here 0 0 x zs)
+  load : Goes (load_cells PLACE) 3 (here 0 0 0 zs) (here 0 0 x zs)
   load = load_goes b f (keeping v p 0) (by_place b f (keeping v p 0)) zs x 0 x p_in source (xor_zero_l x)
 
   -- ---- 5
 
-  some_row : (t : Bool) → is_less 0 x ≡ t → Goes (sltx outcome nought first_word ∷ xori outcome 1 ∷ []) 2
+  some_row : (t : Bool) → is_less 0 x ≡ t → Goes (sltx OUTCOME NOUGHT FIRST_WORD ∷ xori OUTCOME 1 ∷ []) 2
       (here 0 0 x zs) (here (truth_word (not t)) 0 x zs)
   some_row t l =
       let put : ℕ → Memory = λ z. here z 0 x zs in
@@ -52,23 +54,23 @@ module _ (b : Bases) (f : ℕ → ℕ) (v p x : ℕ) (shape : Shape) (zs : List 
 
   pub delete_nil : x ≡ 0 → Traps (delete_checks shape) 9 5 (here 0 0 0 zs)
   delete_nil e = traps_mid load (traps_first (same_mark shape ++ (single ++ zeros_cells shape))
-      (traps_mid (some_row false (ap (is_less 0) e ∙ not_above)) (traps_check outcome 5 _ one_is_not)))
+      (traps_mid (some_row false (ap (is_less 0) e ∙ not_above)) (traps_check OUTCOME 5 _ one_is_not)))
 
   module _ (small : x < 2 ^ 31) (some : x ≢ 0) where
     some_passes : Goes some_reference 8 (here 0 0 x zs) (here 0 0 x zs)
-    some_passes = goes_around (some_row true (above x small some)) (goes_check outcome 5 _ refl)
+    some_passes = goes_around (some_row true (above x small some)) (goes_check OUTCOME 5 _ refl)
         (some_row true (above x small some))
 
     -- ---- 11 and 12
 
     marks : (s : Shape) → IsShape s → (ys : List ℕ) (y w : ℕ) → bit_xor y (mark_of v s) ≡ w
-        → Goes (mark_cell amount s ∷ []) 1 (here 0 y x ys) (here 0 w x ys)
+        → Goes (mark_cell AMOUNT s ∷ []) 1 (here 0 y x ys) (here 0 w x ys)
     marks (Fixed table fields) h ys y w e = goes_xor_to _ (λ z. here 0 z x ys) y table w e refl h.0 (λ z. refl)
         (λ z. refl)
     marks Lengthy h ys y w e = goes_xor_to _ (λ z. here 0 z x ys) y v w e refl (omega arith) (λ z. refl) (λ z. refl)
 
     mark_row : (y w : ℕ) → x < length zs → slice_index zs x ≡ y → bit_xor y (mark_of v shape) ≡ w
-        → Goes (exch content first_word ∷ mark_cell amount shape ∷ []) 2 (here 0 0 x zs) (here 0 w x (slice_set zs x 0))
+        → Goes (exch CONTENT FIRST_WORD ∷ mark_cell AMOUNT shape ∷ []) 2 (here 0 0 x zs) (here 0 w x (slice_set zs x 0))
     mark_row y w h e k = goes_cons (opened b f (keeping v p 0) (by_first b f (keeping v p 0) x) zs y h e)
         (marks shape is_shape (slice_set zs x 0) y w k)
 
@@ -76,19 +78,19 @@ module _ (b : Bases) (f : ℕ → ℕ) (v p x : ℕ) (shape : Shape) (zs : List 
         → Goes (same_mark shape) 8 (here 0 0 x zs) (here 0 0 x zs)
     mark_passes h e =
         let row = mark_row (mark_of v shape) 0 h e (xor_self (mark_of v shape)) in
-        goes_around row (goes_check content (mark_fault shape) _ refl) row
+        goes_around row (goes_check CONTENT (mark_fault shape) _ refl) row
 
     pub delete_other : x < length zs → slice_index zs x ≢ mark_of v shape
         → Traps (delete_checks shape) 17 (mark_fault shape) (here 0 0 0 zs)
     delete_other h n =
         traps_mid load (traps_then some_passes (traps_first (single ++ zeros_cells shape)
         (traps_mid (mark_row (slice_index zs x) _ h refl refl)
-        (traps_check content (mark_fault shape) _ (xor_other (slice_index zs x) (mark_of v shape) n)))))
+        (traps_check CONTENT (mark_fault shape) _ (xor_other (slice_index zs x) (mark_of v shape) n)))))
 
     -- ---- 6
 
     single_row : (y w : ℕ) → x + 1 < length zs → slice_index zs (x + 1) ≡ y → bit_xor y 1 ≡ w
-        → Goes (addi first_word 1 ∷ exch content first_word ∷ xori content 1 ∷ []) 3 (here 0 0 x zs)
+        → Goes (addi FIRST_WORD 1 ∷ exch CONTENT FIRST_WORD ∷ xori CONTENT 1 ∷ []) 3 (here 0 0 x zs)
         (here 0 w (x + 1) (slice_set zs (x + 1) 0))
     single_row y w h e k =
         goes_cons (goes_addi _ (λ z. here 0 0 z zs) x 1 (omega arith) refl (omega arith) (λ z. refl) (λ z. refl))
@@ -97,14 +99,14 @@ module _ (b : Bases) (f : ℕ → ℕ) (v p x : ℕ) (shape : Shape) (zs : List 
         (λ z. refl)))
 
     single_passes : x + 1 < length zs → slice_index zs (x + 1) ≡ 1 → Goes single 10 (here 0 0 x zs) (here 0 0 x zs)
-    single_passes h e = let row = single_row 1 0 h e (xor_self 1) in goes_around row (goes_check content 6 _ refl) row
+    single_passes h e = let row = single_row 1 0 h e (xor_self 1) in goes_around row (goes_check CONTENT 6 _ refl) row
 
     pub delete_shared : x + 1 < length zs → slice_index zs x ≡ mark_of v shape → slice_index zs (x + 1) ≢ 1
         → Traps (delete_checks shape) 26 6 (here 0 0 0 zs)
     delete_shared h e n =
         traps_mid load (traps_then some_passes (traps_then (mark_passes (omega arith) e)
         (traps_first (zeros_cells shape) (traps_mid (single_row (slice_index zs (x + 1)) _ h refl refl)
-        (traps_check content 6 _ (xor_other (slice_index zs (x + 1)) 1 n))))))
+        (traps_check CONTENT 6 _ (xor_other (slice_index zs (x + 1)) 1 n))))))
 
     -- ---- 7
 
@@ -115,7 +117,7 @@ module _ (b : Bases) (f : ℕ → ℕ) (v p x : ℕ) (shape : Shape) (zs : List 
       walked l r o w = mem b f (record (keeping v p 0) { left = l; right = r; outcome = o; content = 0; first = w }) zs
 
       grows : (s : Shape) → IsShape s → size_of v s ≡ n → (l : ℕ)
-          → Goes (grow_cell right_truth s ∷ []) 1 (walked l (x + HEADER_WORDS) 0 (x + HEADER_WORDS))
+          → Goes (grow_cell RIGHT_TRUTH s ∷ []) 1 (walked l (x + HEADER_WORDS) 0 (x + HEADER_WORDS))
           (walked l (x + HEADER_WORDS + n) 0 (x + HEADER_WORDS))
       grows (Fixed table fields) h e l = goes_to refl refl
           (ap (λ z. walked l (x + HEADER_WORDS + z) 0 (x + HEADER_WORDS)) e)
@@ -130,7 +132,7 @@ module _ (b : Bases) (f : ℕ → ℕ) (v p x : ℕ) (shape : Shape) (zs : List 
           (omega arith) (λ z. refl) (λ z. refl))
 
       steps_on : (s : Shape) → IsShape s → size_of v s ≡ n → (l r : ℕ)
-          → Goes (grow_cell first_word s ∷ []) 1 (walked l r 0 (x + HEADER_WORDS)) (walked l r 0 (x + HEADER_WORDS + n))
+          → Goes (grow_cell FIRST_WORD s ∷ []) 1 (walked l r 0 (x + HEADER_WORDS)) (walked l r 0 (x + HEADER_WORDS + n))
       steps_on (Fixed table fields) h e l r = goes_to refl refl (ap (λ z. walked l r 0 (x + HEADER_WORDS + z)) e)
           (goes_addi _ (λ z. walked l r 0 z) (x + HEADER_WORDS) fields (let k = e in omega arith) refl h.1 (λ z. refl)
           (λ z. refl))
@@ -151,7 +153,7 @@ module _ (b : Bases) (f : ℕ → ℕ) (v p x : ℕ) (shape : Shape) (zs : List 
           (omega arith) (λ z. refl) (λ z. refl))
           (grows shape is_shape n_is (x + HEADER_WORDS))))
 
-      flag_goes : (w : ℕ) → Goes (xori outcome 1 ∷ []) 1 (walked (x + HEADER_WORDS) (x + HEADER_WORDS + n) 0 w)
+      flag_goes : (w : ℕ) → Goes (xori OUTCOME 1 ∷ []) 1 (walked (x + HEADER_WORDS) (x + HEADER_WORDS + n) 0 w)
           (walked (x + HEADER_WORDS) (x + HEADER_WORDS + n) 1 w)
       flag_goes w = goes_set _ (λ z. walked (x + HEADER_WORDS) (x + HEADER_WORDS + n) z w) 1 refl (omega arith)
           (λ z. refl) (λ z. refl)
@@ -180,7 +182,7 @@ module _ (b : Bases) (f : ℕ → ℕ) (v p x : ℕ) (shape : Shape) (zs : List 
       delete_full j e c lo hi nz =
           traps_more (omega arith) (traps_mid load (traps_then some_passes
           (traps_then (mark_passes (omega arith) e) (traps_then (single_passes (omega arith) c)
-          (traps_mid ends_go (traps_first (mirror_cells (grow_cell first_word shape ∷ []))
+          (traps_mid ends_go (traps_first (mirror_cells (grow_cell FIRST_WORD shape ∷ []))
           (traps_mid (flag_goes (x + HEADER_WORDS)) (walk_traps b f v p (x + HEADER_WORDS) (x + HEADER_WORDS + n) zs
           (omega arith) ends within j
           n refl lo hi nz))))))))

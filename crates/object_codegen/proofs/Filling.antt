@@ -6,6 +6,7 @@ use Rattle.std.specs.Int.Bits.{xor_zero_l}
 use Rattle.std.proofs.lemmas.List.{get_or-set_other}
 use Rattle.rpp_words.proofs.Laws.{xor-twice}
 use Rattle.pisa_isa.specs.Machine.{Memory}
+use Rattle.code_conventions.specs.declared.registers.TheConstants.{AT_LENGTH}
 use Rattle.paired_code.specs.declared.part.Symbol.{Symbol}
 use Rattle.paired_code.specs.declared.part.Symbol.TheVariants.{Enter}
 use Rattle.paired_code.specs.Machine.{Image}
@@ -18,7 +19,7 @@ use Rattle.expr_uncompute.proofs.Goes.{goes_exch, goes_addi}
 use Rattle.expr_uncompute.proofs.Scratch.{keeping, mem}
 use Rattle.object_codegen.specs.declared.shape.Shape.{Shape}
 use Rattle.object_codegen.specs.declared.shape.Shape.TheVariants.{Fixed, Lengthy}
-use Rattle.object_codegen.specs.Code.{mark_cell, mark_of, block, at_length, move_cells, fill_cells, new_alter}
+use Rattle.object_codegen.specs.Code.{mark_cell, mark_of, block, move_cells, fill_cells, new_alter}
 use Rattle.object_codegen.specs.News
 use Rattle.object_codegen.specs.News.{filled, IsShape, move_steps, left_length, moved_length}
 use Rattle.object_codegen.proofs.Leading.{Leads, goes_leads, leads_seq, leads_around, falls_first, goes_falls}
@@ -72,7 +73,7 @@ module _ (b : Bases) (p v : ℕ) where
     abbrev filling : (c k : ℕ) → List ℕ → Memory
     filling c k ys = room b c 0 0 o k p (moved_length v shape) (left_length v shape) 0 ys
 
-    fill_mark : (s : Shape) → IsShape s → Goes (mark_cell at_length s ∷ []) 1
+    fill_mark : (s : Shape) → IsShape s → Goes (mark_cell AT_LENGTH s ∷ []) 1
         (room b 0 0 0 o x p (moved_length v s) (left_length v s) 0 zt)
         (room b (mark_of v s) 0 0 o x p (moved_length v s) (left_length v s) 0 zt)
     fill_mark (Fixed table fields) h = goes_set _ (λ z. room b z 0 0 o x p 0 v 0 zt) table refl h.0 (λ z. refl)

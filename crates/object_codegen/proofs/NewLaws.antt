@@ -7,13 +7,14 @@ use Rattle.code_conventions.specs.declared.memory.TheConstants.{HEADER_WORDS}
 use Rattle.rpp_words.specs.Words.{is_less}
 use Rattle.pisa_isa.specs.Table.{word_of}
 use Rattle.pisa_isa.specs.Machine.{Memory}
+use Rattle.code_conventions.specs.declared.registers.TheConstants.{AMOUNT, NOUGHT, OUTCOME}
 use Rattle.paired_code.specs.declared.part.Symbol.{Symbol}
 use Rattle.paired_code.specs.declared.part.Symbol.TheVariants.{Enter}
 use Rattle.paired_code.specs.Machine.{Image}
 use Rattle.paired_code.specs.Layout.{mirror_cells}
 use Rattle.paired_code.specs.Pieces.{Will}
 use Rattle.roopl_semantics.specs.Operators.{truth_word}
-use Rattle.expr_uncompute.specs.Code.{nought, amount, outcome, sltx, xori}
+use Rattle.expr_uncompute.specs.Code.{sltx, xori}
 use Rattle.expr_uncompute.specs.Number.{Bases}
 use Rattle.expr_uncompute.specs.Found.{TrapsWithin}
 use Rattle.expr_uncompute.proofs.Comparing.{not_less, above}
@@ -41,7 +42,7 @@ module _ (b : Bases) (p v : ℕ) where
   found zs = mem b nothing_else (keeping v p 0) zs
 
   positive_row : (zs : List ℕ) (t : Bool) → is_less 0 v ≡ t
-      → Goes (sltx outcome nought amount ∷ xori outcome 1 ∷ []) 2 (found zs)
+      → Goes (sltx OUTCOME NOUGHT AMOUNT ∷ xori OUTCOME 1 ∷ []) 2 (found zs)
       (at b nothing_else (keeping v p 0) (truth_word (not t)) 0 0 zs)
   positive_row zs t l =
       let put : ℕ → Memory = λ z. at b nothing_else (keeping v p 0) z 0 0 zs in
@@ -56,7 +57,7 @@ module _ (b : Bases) (p v : ℕ) where
   checks_pass Lengthy zs l h e =
       let t : is_less 0 v ≡ true = above v l.0 l.1 in
       goes_seq (nil_goes b nothing_else (keeping v p 0) (by_place b nothing_else (keeping v p 0) 0) 4 zs h e)
-      (goes_around (positive_row zs true t) (goes_check outcome 13 _ refl) (positive_row zs true t))
+      (goes_around (positive_row zs true t) (goes_check OUTCOME 13 _ refl) (positive_row zs true t))
 
   pub checks_not_nil : (shape : Shape) (zs : List ℕ) → p < length zs → slice_index zs p ≢ 0
       → Traps (new_checks shape) 5 4 (found zs)
@@ -69,7 +70,7 @@ module _ (b : Bases) (p v : ℕ) where
       → Traps (new_checks Lengthy) 12 13 (found zs)
   checks_length zs t h e = traps_then (nil_goes b nothing_else (keeping v p 0)
       (by_place b nothing_else (keeping v p 0) 0) 4 zs h e)
-      (traps_mid (positive_row zs false t) (traps_check outcome 13 _ one_is_not))
+      (traps_mid (positive_row zs false t) (traps_check OUTCOME 13 _ one_is_not))
 
   -- a block of zeros for so many cells
   pub record Room (x n : ℕ) (zs : List ℕ) : Type 0 where

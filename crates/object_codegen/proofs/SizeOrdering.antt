@@ -1,6 +1,6 @@
 -- The order of a block for an array is put into its register, where the allocator is about to be called.
 use Rattle.std.proofs.Common.{◌≡◌, ◌≢◌, ℕ, zero, suc, ◌+◌, ◌^◌, ◌≤◌, ◌<◌, ◌⊎◌, inl, inr, true, false, nat_le, List, []}
-use Rattle.std.proofs.Common.{◌∷◌, refl, sym, ap, subst, arith, le_antisymm, if◌then◌else◌, eq-or-lt_of_le}
+use Rattle.std.proofs.Common.{◌∷◌, refl, sym, ap, subst, arith, le_antisymm, if◌then◌else◌, eq-or-lt_of_le, ◌-◌}
 use Rattle.std.specs.Prelude.{slice_index}
 use Rattle.std.proofs.lemmas.Bool.Decides.{leb_tells}
 use Rattle.code_conventions.specs.declared.memory.TheConstants.{HEADER_WORDS}
@@ -65,8 +65,8 @@ pub ordering : (b : Bases) (p v : ℕ) (ys : List ℕ) → v < 2 ^ 31 → v ≢ 
     → Goes order_cells 43 (calling b 0 0 p v Lengthy ys) (calling b (order_for (HEADER_WORDS + v)) 0 p v Lengthy ys)
 ordering b p v ys h n =
     let one : 1 ≤ v = positive v n in
-    let e : 1 + log_of (v + 1) ≡ order_for (HEADER_WORDS + v) =
-    sym (only_order (HEADER_WORDS + v) (1 + log_of (v + 1)) (omega (arith, h))
+    let e : 1 + log_of (v + (HEADER_WORDS - 1)) ≡ order_for (HEADER_WORDS + v) =
+    sym (only_order (HEADER_WORDS + v) (1 + log_of (v + (HEADER_WORDS - 1))) (omega (arith, h))
     (size_order v one h)) in
     goes_to refl refl (ap (λ o. calling b o 0 p v Lengthy ys) e) (order_goes (others b p) ys v one h)
   where

@@ -1,6 +1,6 @@
 -- What the cells that find the order of a length do to the registers, there and back.
 use Rattle.std.proofs.Common.{◌≡◌, ℕ, ◌+◌, ◌*◌, ◌^◌, ◌%◌, ◌/◌, ◌<◌, ◌≤◌, Bool, true, false, List, [], ◌∷◌, refl, sym}
-use Rattle.std.proofs.Common.{ap, ◌∙◌, subst, arith}
+use Rattle.std.proofs.Common.{ap, ◌∙◌, subst, arith, ◌-◌}
 use Rattle.std.specs.Prelude.{nat_lt, bit_xor, bit_and, if◌then◌else◌}
 use Rattle.std.proofs.lemmas.Bool.Decides.{nat_tests}
 use Rattle.std.proofs.lemmas.Int.{ints}
@@ -11,10 +11,12 @@ use Rattle.std.specs.Int.Bits.{xor_self}
 use Rattle.pisa_isa.specs.Machine.{Memory}
 use Rattle.rpp_words.specs.Words.{shifted_right, turned_left, turned_right, is_less, sum_of}
 use Rattle.pisa_isa.specs.Table.{word_of}
+use Rattle.code_conventions.specs.declared.memory.TheConstants.{HEADER_WORDS}
+use Rattle.code_conventions.specs.declared.registers.TheConstants.{NOUGHT, AT_LENGTH as size}
 use Rattle.expr_uncompute.proofs.Goes.{Goes, goes_cons, goes_seq, goes_around, goes_to, goes_mirror, goes_set}
 use Rattle.expr_uncompute.proofs.Goes.{goes_xor_to, goes_addi, goes_add, goes_cell}
-use Rattle.expr_uncompute.specs.Code.{add, addi, sltx, nought}
-use Rattle.object_codegen.specs.Code.{srlvx, andix, turn_left, shifted as start, one_bit as end, at_length as size}
+use Rattle.expr_uncompute.specs.Code.{add, addi, sltx}
+use Rattle.object_codegen.specs.Code.{srlvx, andix, turn_left, shifted as start, one_bit as end}
 use Rattle.object_codegen.specs.Code.{order, order_bit, order_cells as order_of_size}
 use Rattle.object_codegen.proofs.SizeOrders.{has_bit, with_bit, log_of, bit_small}
 
@@ -54,7 +56,7 @@ module _ (g : ℕ → ℕ) (cells : List ℕ) where
         (λ z. refl) (λ z. refl))
         (goes_set _ (λ z. sizing x (r + 2 ^ k) z s) v refl (omega arith) (λ z. refl) (λ z. refl))
 
-    tests : (t : Bool) → has_bit x r k ≡ t → Goes (sltx end nought start ∷ []) 1 (sizing x (r + 2 ^ k) v 0)
+    tests : (t : Bool) → has_bit x r k ≡ t → Goes (sltx end NOUGHT start ∷ []) 1 (sizing x (r + 2 ^ k) v 0)
         (sizing x (r + 2 ^ k) v (word_of t))
     tests t e = goes_to refl refl (ap (λ z. sizing x (r + 2 ^ k) v (word_of z)) (less_zero v few ∙ e))
         (goes_set _ (λ z. sizing x (r + 2 ^ k) v z) (word_of (is_less 0 v)) refl (omega arith) (λ z. refl) (λ z. refl))
@@ -187,9 +189,9 @@ module _ (g : ℕ → ℕ) (cells : List ℕ) where
 
   -- the order of a length, in its register
   pub order_goes : (n : ℕ) → 1 ≤ n → n < 2 ^ 31 → Goes order_of_size 43 (sizing n 0 0 0)
-      (sizing n (1 + log_of (n + 1)) 0 0)
+      (sizing n (1 + log_of (n + (HEADER_WORDS - 1))) 0 0)
   order_goes n h l =
-      let x = n + 1 in
+      let x = n + (HEADER_WORDS - 1) in
       let a = with_bit x 0 4 in
       let b = with_bit x a 3 in
       let c = with_bit x b 2 in
@@ -206,9 +208,11 @@ module _ (g : ℕ → ℕ) (cells : List ℕ) where
       let mc : c % 4 ≡ 0 = next_2 (has_bit x b 2) b mb in
       let md : d % 2 ≡ 0 = next_1 (has_bit x c 1) c mc in
       let swapped : e + 1 ≡ 1 + e = omega arith in
-      let size_up : Goes (addi size 1 ∷ []) 1 (sizing n (1 + e) 0 0) (sizing x (1 + e) 0 0) =
-      goes_addi _ (λ z. sizing z (1 + e) 0 0) n 1 (omega (arith, l)) refl (omega arith) (λ z. refl) (λ z. refl) in
-      goes_cons (goes_addi _ (λ z. sizing z 0 0 0) n 1 (omega (arith, l)) refl (omega arith) (λ z. refl) (λ z. refl))
+      let size_up : Goes (addi size (HEADER_WORDS - 1) ∷ []) 1 (sizing n (1 + e) 0 0) (sizing x (1 + e) 0 0) =
+      goes_addi _ (λ z. sizing z (1 + e) 0 0) n (HEADER_WORDS - 1) (omega (arith, l)) refl (omega arith) (λ z. refl)
+      (λ z. refl) in
+      goes_cons (goes_addi _ (λ z. sizing z 0 0 0) n (HEADER_WORDS - 1) (omega (arith, l)) refl (omega arith)
+      (λ z. refl) (λ z. refl))
       (goes_seq (bit_goes 4 bit_4 x 0 (omega arith) (few_left x 16 big (omega arith) (omega arith)) (has_not 0 4 refl)
       (has_now 0 4 refl))
       (goes_seq (bit_goes 3 bit_3 x a (omega (arith, la)) (few_left x (a + 8) big (omega arith) (omega (arith, la)))

@@ -6,8 +6,10 @@ use Rattle.std.proofs.lemmas.List.{get_or-set_same, set-set}
 use Rattle.pisa_isa.specs.Machine.{Memory}
 use Rattle.rpp_words.specs.Words.{is_less}
 use Rattle.pisa_isa.specs.Table.{word_of}
+use Rattle.code_conventions.specs.declared.registers.TheConstants.{CONTENT, FIRST_WORD, NOUGHT, OTHER_PLACE, OUTCOME}
+use Rattle.code_conventions.specs.declared.registers.TheConstants.{PLACE}
 use Rattle.roopl_semantics.specs.Operators.{truth_word}
-use Rattle.expr_uncompute.specs.Code.{content, outcome, nought, place, other_place, first_word, xor, exch, addi, xori}
+use Rattle.expr_uncompute.specs.Code.{xor, exch, addi, xori}
 use Rattle.expr_uncompute.specs.Code.{sltx}
 use Rattle.expr_uncompute.specs.Number.{Bases}
 use Rattle.expr_uncompute.proofs.Comparing.{not_less, above, not_above}
@@ -26,22 +28,22 @@ module _ (b : Bases) (f : ℕ → ℕ) (s : Scratch) where
 
   -- the register r has the address a, whatever the flag and the word are
   pub record Points (r a w : ℕ) : Type 0 where
-    pub opens : (o x : ℕ) (zs : List ℕ) → a < length zs → Goes (exch content r ∷ []) 1 (at o x w zs)
+    pub opens : (o x : ℕ) (zs : List ℕ) → a < length zs → Goes (exch CONTENT r ∷ []) 1 (at o x w zs)
         (at o (slice_index zs a) w (slice_set zs a x))
 
-  pub by_place : (w : ℕ) → Points place s.place w
+  pub by_place : (w : ℕ) → Points PLACE s.place w
   by_place w = record {
     opens = λ o x zs h. goes_exch _ (λ z zs. at o z w zs) s.place x zs h refl (omega arith)
         (λ z zs. refl) (λ z zs. refl);
   }
 
-  pub by_other : (w : ℕ) → Points other_place s.other w
+  pub by_other : (w : ℕ) → Points OTHER_PLACE s.other w
   by_other w = record {
     opens = λ o x zs h. goes_exch _ (λ z zs. at o z w zs) s.other x zs h refl (omega arith)
         (λ z zs. refl) (λ z zs. refl);
   }
 
-  pub by_first : (w : ℕ) → Points first_word w w
+  pub by_first : (w : ℕ) → Points FIRST_WORD w w
   by_first w = record {
     opens = λ o x zs h. goes_exch _ (λ z zs. at o z w zs) w x zs h refl (omega arith) (λ z zs. refl)
         (λ z zs. refl);
@@ -49,14 +51,14 @@ module _ (b : Bases) (f : ℕ → ℕ) (s : Scratch) where
 
   -- a word is open: x stands in the register, and 0 in its cell
   pub opened : {r a w : ℕ} → Points r a w → (zs : List ℕ) (x : ℕ) → a < length zs → slice_index zs a ≡ x
-      → Goes (exch content r ∷ []) 1 (at 0 0 w zs) (at 0 x w (slice_set zs a 0))
+      → Goes (exch CONTENT r ∷ []) 1 (at 0 0 w zs) (at 0 x w (slice_set zs a 0))
   opened {a = a} {w = w} p zs x h e = goes_to refl refl (ap (λ z. at 0 z w (slice_set zs a 0)) e) (p.opens 0 0 zs h)
 
   -- a word changed
   pub changed : {r a w k : ℕ} {mid : List Rattle.paired_code.specs.declared.part.Symbol.Symbol} → Points r a w
       → (zs : List ℕ) (x y : ℕ) → a < length zs → slice_index zs a ≡ x
       → Goes mid k (at 0 x w (slice_set zs a 0)) (at 0 y w (slice_set zs a 0))
-      → Goes (Rattle.expr_uncompute.specs.Code.around (exch content r ∷ []) mid) (1 + (k + 1)) (at 0 0 w zs)
+      → Goes (Rattle.expr_uncompute.specs.Code.around (exch CONTENT r ∷ []) mid) (1 + (k + 1)) (at 0 0 w zs)
       (at 0 0 w (slice_set zs a y))
   changed {a = a} {w = w} p zs x y h e g =
       let h' : a < length (slice_set zs a y) = rw (length-set zs a y) h in
@@ -67,19 +69,19 @@ module _ (b : Bases) (f : ℕ → ℕ) (s : Scratch) where
 
   pub nil_goes : {r a w : ℕ} → Points r a w → (code : ℕ) (zs : List ℕ) → a < length zs → slice_index zs a ≡ 0
       → Goes (nil_place r code) 6 (at 0 0 w zs) (at 0 0 w zs)
-  nil_goes {a = a} {w = w} p code zs h e = goes_around (opened p zs 0 h e) (goes_check content code _ refl)
+  nil_goes {a = a} {w = w} p code zs h e = goes_around (opened p zs 0 h e) (goes_check CONTENT code _ refl)
       (opened p zs 0 h e)
 
   pub nil_traps : {r a w : ℕ} → Points r a w → (code : ℕ) (zs : List ℕ) → a < length zs → slice_index zs a ≢ 0
       → Traps (nil_place r code) 5 code (at 0 0 w zs)
   nil_traps {a = a} {w = w} p code zs h n = traps_mid (opened p zs (slice_index zs a) h refl)
-      (traps_check content code _ n)
+      (traps_check CONTENT code _ n)
 
   -- ---- not nil, or the fault
 
   some_row : {r a w : ℕ} → Points r a w → (zs : List ℕ) (x : ℕ) (t : Bool) → a < length zs → slice_index zs a ≡ x
       → is_less 0 x ≡ t
-      → Goes (exch content r ∷ sltx outcome nought content ∷ xori outcome 1 ∷ []) 3 (at 0 0 w zs)
+      → Goes (exch CONTENT r ∷ sltx OUTCOME NOUGHT CONTENT ∷ xori OUTCOME 1 ∷ []) 3 (at 0 0 w zs)
       (at (truth_word (not t)) x w (slice_set zs a 0))
   some_row {a = a} {w = w} p zs x t h e l =
       let put : ℕ → Memory = λ z. at z x w (slice_set zs a 0) in
@@ -89,12 +91,12 @@ module _ (b : Bases) (f : ℕ → ℕ) (s : Scratch) where
 
   pub some_goes : {r a w : ℕ} → Points r a w → (code : ℕ) (zs : List ℕ) (x : ℕ) → a < length zs → slice_index zs a ≡ x
       → x < 2 ^ 31 → x ≢ 0 → Goes (some_place r code) 10 (at 0 0 w zs) (at 0 0 w zs)
-  some_goes p code zs x h e l n = goes_around (some_row p zs x true h e (above x l n)) (goes_check outcome code _ refl)
+  some_goes p code zs x h e l n = goes_around (some_row p zs x true h e (above x l n)) (goes_check OUTCOME code _ refl)
       (some_row p zs x true h e (above x l n))
 
   pub some_traps : {r a w : ℕ} → Points r a w → (code : ℕ) (zs : List ℕ) → a < length zs → slice_index zs a ≡ 0
       → Traps (some_place r code) 7 code (at 0 0 w zs)
-  some_traps p code zs h e = traps_mid (some_row p zs 0 false h e not_above) (traps_check outcome code _ one_is_not)
+  some_traps p code zs h e = traps_mid (some_row p zs 0 false h e not_above) (traps_check OUTCOME code _ one_is_not)
 
   -- ---- a word xored into the reference
 

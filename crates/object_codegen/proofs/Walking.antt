@@ -8,11 +8,12 @@ use Rattle.std.proofs.lemmas.Int.{ints}
 use Rattle.rpp_words.specs.Words.{is_less}
 use Rattle.pisa_isa.specs.Table.{word_of}
 use Rattle.pisa_isa.specs.Machine.{Memory}
+use Rattle.code_conventions.specs.declared.registers.TheConstants.{FIRST_WORD}
 use Rattle.paired_code.specs.Machine.{Image}
 use Rattle.paired_code.specs.Pieces.{Done, Trapped, Runs}
 use Rattle.paired_code.specs.Laws.{Rounds, leaves, ends_in_tail, again}
 use Rattle.paired_code.proofs.MoreLaws.{while_law}
-use Rattle.expr_uncompute.specs.Code.{first_word, addi}
+use Rattle.expr_uncompute.specs.Code.{addi}
 use Rattle.expr_uncompute.specs.Number.{Bases}
 use Rattle.expr_uncompute.proofs.Goes.{Goes, Traps, goes_cons, goes_seq, goes_xor_to, goes_addi, traps_first}
 use Rattle.expr_uncompute.proofs.Scratch.{Scratch, keeping, mem}
@@ -183,7 +184,7 @@ module _ (b : Bases) (f : ℕ → ℕ) (v p st en : ℕ) (zs : List ℕ) (order 
       here : slice_index zs w ≢ 0 → (k : ℕ) × (k ≤ 15 * suc r)
           × Rounds im 10 walk_head walk_tail false (walking o w) (Trapped 7 k)
       here n =
-          let t = (traps_first (addi first_word 1 ∷ []) (nil_traps b f kept (by_first b f kept w) 7 zs (omega arith)
+          let t = (traps_first (addi FIRST_WORD 1 ∷ []) (nil_traps b f kept (by_first b f kept w) 7 zs (omega arith)
           n)).ahead im in
           let l = t.1 in
           (6 + t.0, omega arith, ends_in_tail head refl t.2 tt)

@@ -1,74 +1,76 @@
 -- The cells of `copy` and `uncopy`, `new` and `delete`: one piece for both directions.
-use Rattle.std.specs.Prelude.{ℕ, ◌^◌, false, List, [], ◌∷◌, ◌++◌}
+use Rattle.std.specs.Prelude.{ℕ, ◌-◌, ◌^◌, false, List, [], ◌∷◌, ◌++◌}
 use Rattle.rpp_words.specs.Words.{negated}
 use Rattle.pisa_isa.specs.declared.cell.Op.TheVariants.{Rl, Srlvx, Andix}
 use Rattle.code_conventions.specs.declared.faults.TheConstants.{NOT_NIL, NIL, COUNT, NOT_EMPTY}
 use Rattle.code_conventions.specs.declared.faults.TheConstants.{NOT_SAME, CLASS_DIFFERS}
 use Rattle.code_conventions.specs.declared.faults.TheConstants.{LENGTH_DIFFERS, LENGTH}
 use Rattle.code_conventions.specs.declared.memory.TheConstants.{COUNT_WORD, HEADER_WORDS}
-use Rattle.code_conventions.specs.declared.registers.TheConstants.{VALUE, BLOCK}
+use Rattle.code_conventions.specs.declared.registers.TheConstants.{VALUE, BLOCK, AMOUNT, CONTENT}
+use Rattle.code_conventions.specs.declared.registers.TheConstants.{FIRST_WORD, LEFT_TRUTH, NOUGHT}
+use Rattle.code_conventions.specs.declared.registers.TheConstants.{OTHER_PLACE, OUTCOME, PLACE}
+use Rattle.code_conventions.specs.declared.registers.TheConstants.{RIGHT_TRUTH, AT_LENGTH, AT_PLACE}
 use Rattle.paired_code.specs.declared.part.Symbol.{Symbol}
 use Rattle.paired_code.specs.declared.part.Symbol.TheVariants.{Own, Enter}
 use Rattle.paired_code.specs.Layout.{mirror_cells, check_cells, loop_cells}
 use Rattle.object_codegen.specs.declared.shape.Shape.{Shape}
 use Rattle.object_codegen.specs.declared.shape.Shape.TheVariants.{Fixed, Lengthy}
-use Rattle.expr_uncompute.specs.Code.{content, outcome, nought, left_truth, right_truth, amount}
-use Rattle.expr_uncompute.specs.Code.{place, other_place, first_word, with_word, three, xor, add}
+use Rattle.expr_uncompute.specs.Code.{with_word, three, xor, add}
 use Rattle.expr_uncompute.specs.Code.{exch, addi, xori, sltx, around}
 
 -- ---- checks of a place
 
 -- the word at the address in r is nil, or the fault
 abbrev pub nil_place : (r code : ℕ) → List Symbol
-nil_place r code = around (exch content r ∷ []) (check_cells content code)
+nil_place r code = around (exch CONTENT r ∷ []) (check_cells CONTENT code)
 
 -- it is not nil, or the fault
 abbrev pub some_place : (r code : ℕ) → List Symbol
-some_place r code = around (exch content r ∷ sltx outcome nought content ∷ xori outcome 1 ∷ [])
-    (check_cells outcome code)
+some_place r code = around (exch CONTENT r ∷ sltx OUTCOME NOUGHT CONTENT ∷ xori OUTCOME 1 ∷ [])
+    (check_cells OUTCOME code)
 
 -- ---- copies
 
--- the word at the address in r xored into `first_word`
+-- the word at the address in r xored into `FIRST_WORD`
 abbrev pub load_cells : ℕ → List Symbol
-load_cells r = around (exch content r ∷ []) (xor first_word content ∷ [])
+load_cells r = around (exch CONTENT r ∷ []) (xor FIRST_WORD CONTENT ∷ [])
 
 -- the words at the two places are the same, and the places are two
 abbrev pub same_words : List Symbol
-same_words = around (load_cells place ++ load_cells other_place) (check_cells first_word NOT_SAME)
+same_words = around (load_cells PLACE ++ load_cells OTHER_PLACE) (check_cells FIRST_WORD NOT_SAME)
 
 abbrev pub two_places : List Symbol
-two_places = around (sltx outcome place other_place ∷ sltx outcome other_place place
-    ∷ xori outcome 1 ∷ []) (check_cells outcome NOT_SAME)
+two_places = around (sltx OUTCOME PLACE OTHER_PLACE ∷ sltx OUTCOME OTHER_PLACE PLACE
+    ∷ xori OUTCOME 1 ∷ []) (check_cells OUTCOME NOT_SAME)
 
 -- what is tried before a copy, and before its inverse
 abbrev pub copy_checks : List Symbol
-copy_checks = some_place place NIL ++ nil_place other_place NOT_NIL
+copy_checks = some_place PLACE NIL ++ nil_place OTHER_PLACE NOT_NIL
 
 abbrev pub uncopy_checks : List Symbol
-uncopy_checks = some_place place NIL ++ (same_words ++ two_places)
+uncopy_checks = some_place PLACE NIL ++ (same_words ++ two_places)
 
 -- the reference xored into the second place
 abbrev pub refer_cells : List Symbol
-refer_cells = around (exch content other_place ∷ []) (xor content first_word ∷ [])
+refer_cells = around (exch CONTENT OTHER_PLACE ∷ []) (xor CONTENT FIRST_WORD ∷ [])
 
 -- one more variable has it
 abbrev pub count_cells : List Symbol
-count_cells = around (addi first_word COUNT_WORD ∷ [])
-    (around (exch content first_word ∷ []) (addi content 1 ∷ []))
+count_cells = around (addi FIRST_WORD COUNT_WORD ∷ [])
+    (around (exch CONTENT FIRST_WORD ∷ []) (addi CONTENT 1 ∷ []))
 
 abbrev pub copy_alter : List Symbol
-copy_alter = around (load_cells place) (refer_cells ++ count_cells)
+copy_alter = around (load_cells PLACE) (refer_cells ++ count_cells)
 
 abbrev pub copy_mid : List Symbol
 copy_mid = copy_checks ++ (copy_alter ++ mirror_cells uncopy_checks)
 
 -- ---- objects and arrays
 
--- the first word of its block, xored into `content`; a length stands in register r
+-- the first word of its block, xored into `CONTENT`; a length stands in register r
 abbrev pub mark_cell : ℕ → Shape → Symbol
-mark_cell r (Fixed table fields) = xori content table
-mark_cell r Lengthy = xor content r
+mark_cell r (Fixed table fields) = xori CONTENT table
+mark_cell r Lengthy = xor CONTENT r
 
 abbrev pub mark_fault : Shape → ℕ
 mark_fault (Fixed table fields) = CLASS_DIFFERS
@@ -77,57 +79,57 @@ mark_fault Lengthy = LENGTH_DIFFERS
 -- the number of its cells added to register d
 abbrev pub grow_cell : ℕ → Shape → Symbol
 grow_cell d (Fixed table fields) = addi d fields
-grow_cell d Lengthy = add d amount
+grow_cell d Lengthy = add d AMOUNT
 
 -- the reference is not nil
 abbrev pub some_reference : List Symbol
-some_reference = around (sltx outcome nought first_word ∷ xori outcome 1 ∷ [])
-    (check_cells outcome NIL)
+some_reference = around (sltx OUTCOME NOUGHT FIRST_WORD ∷ xori OUTCOME 1 ∷ [])
+    (check_cells OUTCOME NIL)
 
 -- the first word of the block is what it is to be
 abbrev pub same_mark : Shape → List Symbol
-same_mark shape = around (exch content first_word ∷ mark_cell amount shape ∷ [])
-    (check_cells content (mark_fault shape))
+same_mark shape = around (exch CONTENT FIRST_WORD ∷ mark_cell AMOUNT shape ∷ [])
+    (check_cells CONTENT (mark_fault shape))
 
 -- one variable has it
 abbrev pub single : List Symbol
-single = around (addi first_word COUNT_WORD ∷ exch content first_word ∷ xori content 1 ∷ [])
-    (check_cells content COUNT)
+single = around (addi FIRST_WORD COUNT_WORD ∷ exch CONTENT FIRST_WORD ∷ xori CONTENT 1 ∷ [])
+    (check_cells CONTENT COUNT)
 
 -- the flag turns where the word is past the first one, and where it is before the end
 abbrev pub walk_head : List Symbol
-walk_head = sltx outcome left_truth first_word ∷ sltx outcome first_word right_truth ∷ []
+walk_head = sltx OUTCOME LEFT_TRUTH FIRST_WORD ∷ sltx OUTCOME FIRST_WORD RIGHT_TRUTH ∷ []
 
 abbrev pub walk_tail : List Symbol
-walk_tail = nil_place first_word NOT_EMPTY ++ addi first_word 1 ∷ []
+walk_tail = nil_place FIRST_WORD NOT_EMPTY ++ addi FIRST_WORD 1 ∷ []
 
 abbrev pub walk_cells : List Symbol
-walk_cells = loop_cells outcome walk_head walk_tail
+walk_cells = loop_cells OUTCOME walk_head walk_tail
 
 -- where the cells begin and end
 abbrev pub ends_cells : Shape → List Symbol
 ends_cells shape =
-    addi first_word HEADER_WORDS ∷ xor left_truth first_word ∷ xor right_truth first_word
-    ∷ grow_cell right_truth shape ∷ []
+    addi FIRST_WORD HEADER_WORDS ∷ xor LEFT_TRUTH FIRST_WORD ∷ xor RIGHT_TRUTH FIRST_WORD
+    ∷ grow_cell RIGHT_TRUTH shape ∷ []
 
 -- all cells are 0
 abbrev pub zeros_cells : Shape → List Symbol
 zeros_cells shape = around (ends_cells shape)
-    (around (xori outcome 1 ∷ []) walk_cells ++ mirror_cells (grow_cell first_word shape ∷ []))
+    (around (xori OUTCOME 1 ∷ []) walk_cells ++ mirror_cells (grow_cell FIRST_WORD shape ∷ []))
 
 -- what is tried before a delete
 abbrev pub delete_checks : Shape → List Symbol
-delete_checks shape = around (load_cells place)
+delete_checks shape = around (load_cells PLACE)
     (some_reference ++ (same_mark shape ++ (single ++ zeros_cells shape)))
 
 -- the length is above 0
 abbrev pub positive : List Symbol
-positive = around (sltx outcome nought amount ∷ xori outcome 1 ∷ []) (check_cells outcome LENGTH)
+positive = around (sltx OUTCOME NOUGHT AMOUNT ∷ xori OUTCOME 1 ∷ []) (check_cells OUTCOME LENGTH)
 
 -- what is tried before a new
 abbrev pub new_checks : Shape → List Symbol
-new_checks (Fixed table fields) = nil_place place NOT_NIL
-new_checks Lengthy = nil_place place NOT_NIL ++ positive
+new_checks (Fixed table fields) = nil_place PLACE NOT_NIL
+new_checks Lengthy = nil_place PLACE NOT_NIL ++ positive
 
 -- the first word of a block, and the number of its cells, where a length is v
 abbrev pub mark_of : ℕ → Shape → ℕ
@@ -147,24 +149,18 @@ order = VALUE
 abbrev pub block : ℕ
 block = BLOCK
 
-abbrev pub at_place : ℕ
-at_place = 14
-
-abbrev pub at_length : ℕ
-at_length = 15
-
 -- the place and the length leave the registers that the allocator uses
 abbrev pub move_cells : Shape → List Symbol
-move_cells (Fixed table fields) = xor at_place place ∷ xor place at_place ∷ []
-move_cells Lengthy = xor at_place place ∷ xor place at_place ∷ xor at_length amount
-    ∷ xor amount at_length ∷ []
+move_cells (Fixed table fields) = xor AT_PLACE PLACE ∷ xor PLACE AT_PLACE ∷ []
+move_cells Lengthy = xor AT_PLACE PLACE ∷ xor PLACE AT_PLACE ∷ xor AT_LENGTH AMOUNT
+    ∷ xor AMOUNT AT_LENGTH ∷ []
 
 -- the block gets its first word and its count, and the place its address
 abbrev pub fill_cells : Shape → List Symbol
 fill_cells shape =
-    mark_cell at_length shape ∷ exch content block
-    ∷ (around (addi block COUNT_WORD ∷ []) (xori content 1 ∷ exch content block ∷ [])
-    ++ exch block at_place ∷ [])
+    mark_cell AT_LENGTH shape ∷ exch CONTENT block
+    ∷ (around (addi block COUNT_WORD ∷ []) (xori CONTENT 1 ∷ exch CONTENT block ∷ [])
+    ++ exch block AT_PLACE ∷ [])
 
 -- the allocator is routine 0
 abbrev pub new_alter : Shape → List Symbol → List Symbol
@@ -179,10 +175,10 @@ new_mid shape orders = new_checks shape ++ (new_alter shape orders
 
 -- the length shifted right, and one bit of the order
 abbrev pub shifted : ℕ
-shifted = left_truth
+shifted = LEFT_TRUTH
 
 abbrev pub one_bit : ℕ
-one_bit = right_truth
+one_bit = RIGHT_TRUTH
 
 abbrev pub turn_left : (d n : ℕ) → Symbol
 turn_left d n = with_word Rl d n
@@ -196,13 +192,14 @@ andix d s w = Own (record { op = Andix; a = d; b = s; c = 0; imm = w })
 -- bit k of the order: whether the length is not below 2 to the order with this bit
 abbrev pub order_bit : (k : ℕ) → List Symbol
 order_bit k =
-    around (addi order (2 ^ k) ∷ srlvx shifted at_length order ∷ [])
-    (sltx one_bit nought shifted ∷ [])
+    around (addi order (2 ^ k) ∷ srlvx shifted AT_LENGTH order ∷ [])
+    (sltx one_bit NOUGHT shifted ∷ [])
     ++ turn_left one_bit k ∷ add order one_bit ∷ andix one_bit order (2 ^ k) ∷ []
 
--- 1 and the logarithm of the length's successor, bit by bit
+-- 1 and the logarithm of the block's last word's number, bit by bit
 abbrev pub order_cells : List Symbol
 order_cells =
-    addi at_length 1 ∷ (order_bit 4
+    addi AT_LENGTH (HEADER_WORDS - 1) ∷ (order_bit 4
     ++ (order_bit 3 ++ (order_bit 2
-    ++ (order_bit 1 ++ (order_bit 0 ++ addi order 1 ∷ addi at_length (negated 1) ∷ [])))))
+    ++ (order_bit 1 ++ (order_bit 0
+    ++ addi order 1 ∷ addi AT_LENGTH (negated (HEADER_WORDS - 1)) ∷ [])))))

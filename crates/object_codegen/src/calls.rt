@@ -1,7 +1,7 @@
 // The code of objects and arrays, by what it does.
 ghost use Rattle.std.specs.Prelude.{◌≡◌, ◌≤◌, ◌+◌, ◌*◌, [], ◌++◌, length, IfOk};
 ghost use Rattle.buddy_book.specs.Book.{order_for};
-ghost use Rattle.roopl_semantics.specs.Layout.{table_at};
+ghost use Rattle.roopl_semantics.specs.Layout.{table_at as address_of};
 ghost use Rattle.rpp_tree.specs.Tree.{index_nodes};
 ghost use Rattle.rpp_tree.specs.Views.{expression_of, lvalue_of, creation_of, source_of};
 ghost use Rattle.roopl_semantics.specs.Elements.{index_elements, own_element, read_cost};
@@ -17,11 +17,12 @@ use crate::copies::copy_middle;
 use crate::news::new_middle;
 use crate::orders::{fixed_order, order_code};
 use crate::shape::Shape;
-use crate::tables::{class_number, field_count, order_of, table_of};
+use crate::tables::{class_number, field_count, order_of};
 use expr_uncompute::{Scope, place_and_value_around, place_around, places_around};
 use paired_code::Piece;
 use rpp_tree::tree::{Expr, Ident, Made, Place};
 use rpp_words::NoMemory;
+use static_layout::table_at;
 use std::alloc::Global;
 
 /// A copy of the reference in the place `source` into the place `target`, which is nil: the count
@@ -115,7 +116,7 @@ pub fn class_code(
     requires room { words_of_place (lvalue_of place.now) ≤ 1000 }
     ensures law { IfOk result (λ p.
         ObjectLaw (spot_of (known_in scope.now)) (free_of (known_in scope.now))
-        (table_at (source_of scope.now.program) (class_of (source_of scope.now.program) class.now))
+        (address_of (source_of scope.now.program) (class_of (source_of scope.now.program) class.now))
         (fields_of (source_of scope.now.program) class.now)
         (order_for (HEADER_WORDS + fields_of (source_of scope.now.program) class.now))
         (lvalue_of place.now) p.cells) }
@@ -126,7 +127,7 @@ pub fn class_code(
     let checked = scope.checked();
     let number = class_number(checked, &class.text);
     let fields = field_count(checked, number);
-    let table = table_of(checked, number);
+    let table = table_at(checked, number);
     object_code(alloc, table, fields, order_of(fields), place, scope)
 }
 

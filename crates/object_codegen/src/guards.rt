@@ -4,13 +4,13 @@ ghost use Rattle.paired_code.specs.Code.{unmarked};
 ghost use Rattle.object_codegen.specs.Code.{nil_place as nil_cells, some_place as some_cells, load_cells};
 
 use crate::cells::{enclosed, exch, sltx, xor, xori};
-use code_conventions::registers::{CONTENT, NOUGHT, OUTCOME};
+use code_conventions::registers::{CONTENT, FIRST_WORD, NOUGHT, OUTCOME};
 use paired_code::{Piece, check_zero, seq};
 use rpp_words::NoMemory;
 use std::alloc::Global;
 
 /// The address of an object or array.
-pub const REFERENCE: u8 = 22;
+pub const REFERENCE: u8 = FIRST_WORD;
 
 /// The word at the address in the register is nil, or the fault.
 pub fn nil_place(alloc: Global, at: u8, code: u32) -> Result<Piece, NoMemory>

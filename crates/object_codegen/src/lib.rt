@@ -16,4 +16,3 @@ mod tables;
 
 pub use calls::{array_code, class_code, copy_code, new_code, object_code};
 pub use shape::Shape;
-pub use tables::table_at;

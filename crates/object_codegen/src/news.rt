@@ -7,23 +7,21 @@ ghost use Rattle.object_codegen.specs.Code.{mark_cell, mark_fault as fault_of_ma
 
 use crate::cells::{add, addi, enclosed, exch, sltx, xor, xori};
 use crate::guards::{REFERENCE, load, nil_place};
-use crate::orders::AT_LENGTH;
 use crate::shape::Shape;
 use code_conventions::faults::{
     CLASS_DIFFERS, COUNT, LENGTH, LENGTH_DIFFERS, NIL, NOT_EMPTY, NOT_NIL,
 };
 use code_conventions::memory::{COUNT_WORD, HEADER_WORDS};
-use code_conventions::registers::{BLOCK, CONTENT, NOUGHT, OUTCOME};
-use expr_uncompute::{AMOUNT, PLACE};
+use code_conventions::registers::{
+    AMOUNT, AT_LENGTH, AT_PLACE, BLOCK, CONTENT, LEFT_TRUTH, NOUGHT, OUTCOME, PLACE, RIGHT_TRUTH,
+};
 use paired_code::{Piece, check_zero, enter, mirror, seq, turn_while};
 use rpp_words::NoMemory;
 use std::alloc::Global;
 
-const START: u8 = 8;
+const START: u8 = LEFT_TRUTH;
 
-const END: u8 = 9;
-
-const AT_PLACE: u8 = 14;
+const END: u8 = RIGHT_TRUTH;
 
 fn mark(alloc: Global, length: u8, shape: Shape) -> Result<Piece, NoMemory>
     requires register { length < 32 }

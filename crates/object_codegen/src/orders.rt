@@ -1,24 +1,22 @@
 // The order of an array's block, from its length.
-ghost use Rattle.std.specs.Prelude.{◌≡◌, ◌<◌, ◌≤◌, ◌^◌, [], ◌∷◌, ◌++◌, IfOk};
+ghost use Rattle.std.specs.Prelude.{◌≡◌, ◌<◌, ◌≤◌, ◌-◌, ◌^◌, [], ◌∷◌, ◌++◌, IfOk};
 ghost use Rattle.rpp_words.specs.Words.{negated};
 ghost use Rattle.paired_code.specs.Code.{unmarked};
 ghost use Rattle.expr_uncompute.specs.Code.{addi as addi_cell, xori as xori_cell, sltx as sltx_cell, add as add_cell, around};
 ghost use Rattle.object_codegen.specs.Code.{turn_left, srlvx as srlvx_cell, andix as andix_cell, order_bit as bit_cells, order_cells};
 
 use crate::cells::{add, addi, andix, enclosed, rl, sltx, srlvx, xori};
-use code_conventions::registers::{NOUGHT, VALUE};
+use code_conventions::memory::HEADER_WORDS;
+use code_conventions::registers::{AT_LENGTH, LEFT_TRUTH, NOUGHT, RIGHT_TRUTH, VALUE};
 use paired_code::{Piece, seq};
-use rpp_words::NoMemory;
+use rpp_words::{NoMemory, wrap_sub};
 use std::alloc::Global;
 
-const SHIFTED: u8 = 8;
+const SHIFTED: u8 = LEFT_TRUTH;
 
-const ONE_BIT: u8 = 9;
+const ONE_BIT: u8 = RIGHT_TRUTH;
 
 const ORDER: u8 = VALUE;
-
-/// The length of an array, out of the allocator's way.
-pub const AT_LENGTH: u8 = 15;
 
 // Whether the length is not below 2 to the order with this bit.
 fn tried(alloc: Global, bit: u32) -> Result<Piece, NoMemory>
@@ -77,10 +75,10 @@ fn bits(alloc: Global, last: Piece) -> Result<Piece, NoMemory>
 
 fn one_more(alloc: Global) -> Result<Piece, NoMemory>
     ensures { IfOk result (λ p.
-        p ≡ unmarked (addi_cell ORDER 1 ∷ addi_cell AT_LENGTH (negated 1) ∷ [])) }
+        p ≡ unmarked (addi_cell ORDER 1 ∷ addi_cell AT_LENGTH (negated (HEADER_WORDS - 1)) ∷ [])) }
 {
     let more = addi(alloc, ORDER, 1)?;
-    let back = addi(alloc, AT_LENGTH, 4294967295)?;
+    let back = addi(alloc, AT_LENGTH, wrap_sub(0, HEADER_WORDS - 1))?;
     seq(more, back)
 }
 
@@ -88,10 +86,10 @@ fn one_more(alloc: Global) -> Result<Piece, NoMemory>
 pub fn order_code(alloc: Global) -> Result<Piece, NoMemory>
     ensures { IfOk result (λ p. p ≡ unmarked order_cells) }
 {
-    let successor = addi(alloc, AT_LENGTH, 1)?;
+    let last_word = addi(alloc, AT_LENGTH, HEADER_WORDS - 1)?;
     let last = one_more(alloc)?;
     let rest = bits(alloc, last)?;
-    seq(successor, rest)
+    seq(last_word, rest)
 }
 
 /// An order that is known, in its register.

@@ -4,6 +4,7 @@ use Rattle.std.specs.Prelude.{slice_set}
 use Rattle.rpp_words.specs.declared.input.FieldWord.{FieldWord}
 use Rattle.rpp_words.specs.declared.input.Limits.{Limits}
 use Rattle.rpp_words.specs.declared.input.TheConstants.{FIXED_CELLS, FRAME_WORDS, HEADER_WORDS}
+use Rattle.pisa_isa.specs.declared.fixed.TheConstants.{LIST_HEADS}
 use Rattle.pisa_isa.specs.Machine.{State}
 use Rattle.pisa_isa.specs.Image.{Segments}
 use Rattle.pisa_isa.specs.Runs.{started, zero_registers}
@@ -16,12 +17,16 @@ statics_at = FIXED_CELLS
 abbrev pub heap_base : (heap statics : ℕ) → ℕ
 heap_base heap statics = (statics_at + statics + 2 ^ heap - 1) / 2 ^ heap * 2 ^ heap
 
--- the fixed cells: the order, the heap base, the stack base, the stack end, and the heads of the
--- free lists from order 1 on
+-- the fixed cells: the order in ORDER_CELL, the addresses of the heap, of the stack and of what is
+-- behind it in HEAP_CELL, STACK_CELL and END_CELL, and the heads of the free lists from order 1 on
 abbrev pub fixed_cells : (heap deep base : ℕ) → List ℕ → List ℕ
 fixed_cells heap deep base heads =
     0 ∷ heap ∷ base ∷ (base + 2 ^ heap) ∷ (base + 2 ^ heap + FRAME_WORDS * deep) ∷ 0 ∷ 0 ∷ 0 ∷ 0
     ∷ (heads ++ replicate (31 - length heads) 0)
+
+-- the cell of the head of the free list of an order
+abbrev pub head_cell : ℕ → ℕ
+head_cell order = LIST_HEADS + order
 
 -- the heads of an empty heap: the whole heap is the one free block
 abbrev pub empty_heads : (heap base : ℕ) → List ℕ

@@ -5,12 +5,14 @@
 #![tactic(auto)]
 
 mod cell;
+mod fixed;
 mod image;
 mod laws;
 mod machine;
 mod notes;
 
 pub use cell::{Cell, Op, ROWS};
+pub use fixed::{END_CELL, HEAP_CELL, LIST_HEADS, ORDER_CELL, STACK_CELL};
 pub use image::{Image, MOST_CELLS, MOST_STATICS, SealError};
 pub use laws::{
     back_undoes_next, back_undoes_steps, flipped_image_is_image, flipped_notes_fit,

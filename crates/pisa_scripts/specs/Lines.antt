@@ -3,6 +3,7 @@ use Rattle.std.specs.Prelude.{ℕ, ◌+◌, ◌-◌, ◌*◌, ◌^◌, Bool, fal
 use Rattle.std.specs.Prelude.{if◌then◌else◌, List, [], ◌∷◌, ◌++◌, length, Option, Some, None}
 use Rattle.std.specs.List.{list_all, slice_split}
 use Rattle.std.specs.Char.{is_ascii_digit}
+use Rattle.pisa_scripts.specs.declared.numbers.TheConstants.{MOST_DIGITS}
 
 -- the number that digits write behind others, if they are digits
 abbrev pub digits_after : ℕ → List ℕ → Option ℕ
@@ -17,9 +18,10 @@ at_most most (Some n) = if nat_le n most then Some n else None
 abbrev pub number_up_to : (most : ℕ) → List ℕ → Option ℕ
 number_up_to most word = if nat_eq (length word) 0 then None else at_most most (digits_after 0 word)
 
--- the number that 1 to 18 digits write
+-- the number that one digit or more write, and at most MOST_DIGITS
 abbrev pub short_number : List ℕ → Option ℕ
-short_number word = if nat_le (length word) 18 then number_up_to (10 ^ 18 - 1) word else None
+short_number word = if nat_le (length word) MOST_DIGITS then number_up_to (10 ^ MOST_DIGITS - 1) word
+    else None
 
 -- only spaces and tabs
 abbrev pub is_blank : List ℕ → Bool

@@ -8,7 +8,7 @@ mod numbers;
 mod stops;
 mod words;
 
-pub use lines::{is_blank, pieces, without_returns};
+pub use lines::{MOST_SCRIPT, is_blank, pieces, without_returns};
 pub use numbers::{number_up_to, short_number};
 pub use stops::add_stop;
 pub use words::{add_cell, add_registers, direction};

@@ -4,6 +4,9 @@ ghost use Rattle.pisa_scripts.specs.Lines.{pieces as pieces_of, is_blank as is_b
 
 use std::alloc::{AllocError, Global};
 
+/// The most bytes of a script.
+pub const MOST_SCRIPT: usize = 65_536;
+
 /// Whether there are only spaces and tabs.
 pub fn is_blank(line: &[u8]) -> bool
     ensures { result ≡ is_blank_line line.now }

@@ -2,7 +2,7 @@
 ghost use Rattle.std.specs.Prelude.{◌≡◌, ◌<◌, ◌≤◌, ◌^◌, IfSome};
 ghost use Rattle.pisa_scripts.specs.Lines.{number_up_to as number_of, short_number as short_number_of};
 
-/// The most digits of a number of moves, or of a place.
+/// The most digits of a number.
 const MOST_DIGITS: usize = 18;
 
 /// The number that one digit or more write, if it is at most so much.

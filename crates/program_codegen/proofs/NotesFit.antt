@@ -66,7 +66,7 @@ length-field_names cell (var ∷ vars) = by (is_int_type var.kind) (length-field
 abbrev name_in : (cell : ℕ) → Var → FieldName
 name_in cell var = record { cell = cell; text = var.name.text }
 
-each_name : (statics left cell : ℕ) (vars : List Var) → 40 ≤ cell → cell + length vars ≤ 40 + statics
+each_name : (statics left cell : ℕ) (vars : List Var) → FIXED_CELLS ≤ cell → cell + length vars ≤ FIXED_CELLS + statics
     → sum_by (field_count length) vars ≤ left → sum_by (field_count no_name) vars ≤ 0
     → names_fit statics left (field_names cell vars) ≡ true
 each_name statics left cell [] low within few named = refl
@@ -86,7 +86,7 @@ each_name statics left cell (var ∷ vars) low within few named =
         (is_name var.name.text)
         (and_from (nat_le FIXED_CELLS cell && nat_lt (cell - FIXED_CELLS) statics) (nat_le (length var.name.text) left)
         (and_from (nat_le FIXED_CELLS cell) (nat_lt (cell - FIXED_CELLS) statics) (at_most FIXED_CELLS cell low)
-        (let h : cell - 40 < statics = omega arith in grind (arith, nat_tests)))
+        (let h : cell - FIXED_CELLS < statics = omega arith in grind (arith, nat_tests)))
         (at_most (length var.name.text) left (omega (arith, sizes))))
         (is_one (is_name var.name.text) (omega (arith, names)))
 

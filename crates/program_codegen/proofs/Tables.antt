@@ -13,7 +13,6 @@ use Rattle.class_table.specs.First.{each_below}
 use Rattle.class_table.specs.Classes.{class_slots}
 use Rattle.class_table.specs.Members.{Slots, class_at}
 use Rattle.class_table.specs.Overrides.{run_at}
-use Rattle.class_table.specs.Rules.{name_of}
 use Rattle.class_table.specs.Table.{table_of, slots_in}
 use Rattle.class_table.proofs.InheritedSlots.{class_there}
 use Rattle.class_table.proofs.Numbers.{length-each_below, each_below-get, class-known}
@@ -45,12 +44,13 @@ pub zeros-read : (places : List ℕ) (n : ℕ) → map (static_word places) (rep
 zeros-read places zero = refl
 zeros-read places (suc n) = ap (λ ws. 0 ∷ ws) (zeros-read places n)
 
+pub words-read : (places words : List ℕ) → map (static_word places) (map Word words) ≡ words
+words-read places [] = refl
+words-read places (word ∷ words) = ap (λ ws. word ∷ ws) (words-read places words)
+
 pub slots_read : (program : Source) (class : ℕ) → class < length program.classes
     → slots_in (table_of program) class ≡ class_slots program class
 slots_read program class inside = (table_reads program class inside).slots
-
-pub many_classes : (program : Source) → length (table_of program).names ≡ length program.classes
-many_classes program = length-map program.classes name_of
 
 -- the word of one slot more
 slot_more : (f : MethodId → ℕ) (slots : Slots) (k : ℕ) → k < length slots
@@ -115,16 +115,20 @@ module _ (places : List ℕ) (program : Source) where
   abbrev pub read : List StaticWord → List ℕ
   read words = map (static_word places) words
 
-  -- the main object, and then the tables
-  pub statics_read : (at count : ℕ) (w0 w1 w2 w3 w4 : List StaticWord) (ts : List ℕ) → w0 ≡ [] → w1 ≡ w0 ++ Word at ∷ []
-      → w2 ≡ w1 ++ Word 1 ∷ []
-      → w3 ≡ w2 ++ replicate count (Word 0) → read w4 ≡ read w3 ++ ts → read w4 ≡ at ∷ 1 ∷ (replicate count 0 ++ ts)
-  statics_read at count w0 w1 w2 w3 w4 ts e0 e1 e2 e3 e4 =
-      let all : w3 ≡ Word at ∷ Word 1 ∷ replicate count (Word 0) =
-      e3 ∙ ap (λ w. w ++ replicate count (Word 0)) (e2 ∙ ap (λ w. w ++ Word 1 ∷ [])
-      (e1 ∙ ap (λ w. w ++ Word at ∷ []) e0))
+  -- the main object with these words in front of its fields, and then the tables
+  pub statics_read : (front : List ℕ) (count : ℕ) (w0 w1 w2 w3 : List StaticWord) (ts : List ℕ) → w0 ≡ []
+      → w1 ≡ w0 ++ map Word front → w2 ≡ w1 ++ replicate count (Word 0) → read w3 ≡ read w2 ++ ts
+      → read w3 ≡ front ++ replicate count 0 ++ ts
+  statics_read front count w0 w1 w2 w3 ts e0 e1 e2 e3 =
+      let all : w2 ≡ map Word front ++ replicate count (Word 0) =
+      e2 ∙ ap (λ w. w ++ replicate count (Word 0)) (e1 ∙ ap (λ w. w ++ map Word front) e0)
       in
-      e4 ∙ ap (λ w. read w ++ ts) all ∙ ap (λ zs. (at ∷ 1 ∷ zs) ++ ts) (zeros-read places count)
+      let known : read w2 ≡ front ++ replicate count 0 =
+      ap read all ∙ map-append (static_word places) (map Word front) (replicate count (Word 0))
+      ∙ ap (λ xs. xs ++ read (replicate count (Word 0))) (words-read places front)
+      ∙ ap (λ zs. front ++ zs) (zeros-read places count)
+      in
+      e3 ∙ ap (λ w. w ++ ts) known
 
   -- the routine of a slot
   pub slot_pushed : (class slot : ℕ) (before words after : List StaticWord) (number : ℕ)

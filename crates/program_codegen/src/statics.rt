@@ -11,9 +11,10 @@ ghost use Rattle.program_codegen.specs.declared.numbers.TheConstants.{FIRST_METH
 
 use crate::numbers::routine_number;
 use class_table::Checked;
-use object_codegen::table_at;
+use code_conventions::memory::header;
 use paired_code::StaticWord;
 use rpp_words::NoMemory;
+use static_layout::table_at;
 use std::alloc::{AllocError, Global};
 
 /// The static cells of a program, wherever its routines stand: the main object, and the table of
@@ -30,11 +31,20 @@ pub fn statics(
     let class = checked.table().main().class;
     let fields = checked.table().fields(class).len() as u32;
     let mut words = Vec::new(alloc);
-    words.push(StaticWord::Word(table_at(checked, fields, class)))?;
-    words.push(StaticWord::Word(1))?;
+    add_words(&mut words, &header(table_at(checked, class), 1))?;
     add_zeros(&mut words, fields)?;
     add_tables(&mut words, checked, firsts)?;
     Ok(words)
+}
+
+// Words that are known.
+fn add_words(words: &mut Vec<StaticWord>, known: &[u32]) -> Result<(), AllocError>
+    ensures { OnOk result (words.new.items ≡ words.old.items ++ map Word known.now) }
+{
+    for word in known {
+        words.push(StaticWord::Word(*word))?;
+    }
+    Ok(())
 }
 
 // So many zeros.

@@ -1,7 +1,10 @@
 -- The table of an object's class, in the memory of an open frame.
-use Rattle.std.proofs.Common.{◌≡◌, ◌≢◌, ℕ, zero, suc, ◌+◌, ◌<◌, ◌≤◌, Bool, true, false, List, length, Some, sym, ap, ◌∙◌}
+use Rattle.std.proofs.Common.{◌≡◌, ◌≢◌, ℕ, zero, suc, ◌+◌, ◌<◌, ◌≤◌, Bool, true, false, List, length, Some, sym, ap}
+use Rattle.std.proofs.Common.{◌∙◌}
 use Rattle.std.proofs.Common.{subst, arith}
 use Rattle.std.specs.Prelude.{nat_eq, if◌then◌else◌, slice_index, is_some}
+use Rattle.code_conventions.specs.declared.memory.TheConstants.{MAIN_OBJECT, FIRST_FIELD, TABLE_HEADER}
+use Rattle.rpp_words.specs.declared.input.TheConstants.{FIXED_CELLS}
 use Rattle.class_table.specs.declared.kind.Kind.TheVariants as kind
 use Rattle.class_table.specs.Classes.{class_slots}
 use Rattle.rpp_tree.specs.Tree.{Source}
@@ -10,6 +13,7 @@ use Rattle.roopl_semantics.specs.Store.{OfClass, State, main_name, object_at}
 use Rattle.roopl_semantics.specs.Layout.{HasStatics, table_at, head_word}
 use Rattle.roopl_semantics.specs.Execution.{Setting}
 use Rattle.pisa_isa.specs.Image.{Segments}
+use Rattle.pisa_isa.specs.declared.image.TheConstants.{MOST_STATICS}
 use Rattle.class_table.specs.Inheritance.{is_or_inherits}
 use Rattle.meaning_sound.specs.Sound.{named_fits, head_of}
 use Rattle.meaning_sound.proofs.Stores.{live_object}
@@ -27,17 +31,17 @@ use Rattle.refine_calls.proofs.FramePlaces.{all_small, object_low}
 use Rattle.refine_calls.proofs.Bridge.{reads_of}
 
 -- the tables stand behind the main object
-table_high : (program : Source) (class : ℕ) → 42 ≤ table_at program class
+table_high : (program : Source) (class : ℕ) → FIRST_FIELD ≤ table_at program class
 table_high program zero = omega arith
 table_high program (suc class) = let h = table_high program class in omega (arith, h)
 
 -- no object begins there: the main object stands before them, any other one in the heap
-no_object : (is_main : Bool) (base block entry : ℕ) → 40 < entry → entry < base
-    → entry ≢ (if is_main then 40 else base + block)
-no_object true base block entry h g e = let q : entry ≡ 40 = e in omega (arith, h, q)
+no_object : (is_main : Bool) (base block entry : ℕ) → MAIN_OBJECT < entry → entry < base
+    → entry ≢ (if is_main then MAIN_OBJECT else base + block)
+no_object true base block entry h g e = let q : entry ≡ MAIN_OBJECT = e in omega (arith, h, q)
 no_object false base block entry h g e = let q : entry ≡ base + block = e in omega (arith, g, q)
 
-module _ (setting : Setting) (statics : List ℕ) (few : length statics ≤ 262144) (image : Segments)
+module _ (setting : Setting) (statics : List ℕ) (few : length statics ≤ MOST_STATICS) (image : Segments)
     (has : HasStatics setting.program image) (same : statics ≡ image.statics) where
   -- the object's class is the scope's or inherits from it
   pub class_above : (s : Scope) (u : Under) (moved : List Moved) (st : State) → Kept setting statics s u moved st
@@ -56,10 +60,11 @@ module _ (setting : Setting) (statics : List ℕ) (few : length statics ≤ 2621
       let all = frame_long setting statics s u moved st cells (reads_of h) in
       let object = object_low setting statics few s u moved st cells h in
       let small = all_small setting statics few h.keeps.grounded.limits in
-      let b : 40 + length statics ≤ base setting statics = base_above x in
+      let b : FIXED_CELLS + length statics ≤ base setting statics = base_above x in
       let low_table = table_low setting.program image has u.class slot own_in low in
-      let table : table_at setting.program u.class + 1 + slot < 40 + length statics =
-      subst (λ z. table_at setting.program u.class + 1 + slot < 40 + length z) (sym same) low_table in
+      let table : table_at setting.program u.class + TABLE_HEADER + slot < FIXED_CELLS + length statics =
+      subst (λ z. table_at setting.program u.class + TABLE_HEADER + slot < FIXED_CELLS + length z) (sym same) low_table
+      in
       let shown : cells ≡ Rattle.refine_frame.specs.Open.memory x at st.store words = h.frame.cells_are
       ∙ sym (same_memory setting statics at st.store words fits) in
       let live = live_object st.store u.self (ap is_some h.keeps.own_is) in
@@ -77,12 +82,13 @@ module _ (setting : Setting) (statics : List ℕ) (few : length statics ≤ 2621
       let object_word : slice_index cells u.object ≡ table_at setting.program u.class =
       ap (slice_index cells) (sym h.frame.stands.1) ∙ ap (λ c. slice_index c (address_of setting statics at u.self))
       shown ∙ word in
-      let at_entry : table_at setting.program u.class + 1 + slot ≡ table_at setting.program u.class + (1 + slot) =
+      let at_entry : table_at setting.program u.class + TABLE_HEADER + slot
+      ≡ table_at setting.program u.class + (TABLE_HEADER + slot) =
       omega arith in
       let entry_word : slice_index (Rattle.refine_frame.specs.Open.memory x at st.store words)
-      (table_at setting.program u.class + 1 + slot) ≡ slice_index (places_of has.places u.class) slot =
+      (table_at setting.program u.class + TABLE_HEADER + slot) ≡ slice_index (places_of has.places u.class) slot =
       subst (λ (a : Placing). slice_index (Rattle.refine_frame.specs.Open.memory x a st.store words)
-      (table_at setting.program u.class + 1 + slot) ≡ slice_index (places_of has.places u.class) slot)
+      (table_at setting.program u.class + TABLE_HEADER + slot) ≡ slice_index (places_of has.places u.class) slot)
       (same_at setting statics s u moved st cells (reads_of h))
       (read_table x (extra u moved) (shape_of setting.program s) s.class st
       (typed setting statics s u moved st cells (reads_of h)) h.keeps.grounded image has same words u.class slot
@@ -92,8 +98,11 @@ module _ (setting : Setting) (statics : List ℕ) (few : length statics ≤ 2621
         small = omega (arith, object_word, small, b, table);
         entry_in = omega (arith, object_word, all, b, table);
         apart = λ e. no_object (nat_eq u.self main_name) (base setting statics) (block_of at.blocks u.self)
-            (table_at setting.program u.class + (1 + slot)) (omega (arith, table_high setting.program u.class))
-            (omega (arith, b, table)) (ap (λ z. z + (1 + slot)) (sym object_word) ∙ e ∙ sym h.frame.stands.1);
-        entry = ap (λ z. slice_index cells (z + (1 + slot))) object_word ∙ ap (slice_index cells) (sym at_entry)
-            ∙ ap (λ c. slice_index c (table_at setting.program u.class + 1 + slot)) shown ∙ entry_word;
+            (table_at setting.program u.class + (TABLE_HEADER + slot))
+            (omega (arith, table_high setting.program u.class))
+            (omega (arith, b, table)) (ap (λ z. z + (TABLE_HEADER + slot)) (sym object_word) ∙ e
+            ∙ sym h.frame.stands.1);
+        entry = ap (λ z. slice_index cells (z + (TABLE_HEADER + slot))) object_word
+            ∙ ap (slice_index cells) (sym at_entry)
+            ∙ ap (λ c. slice_index c (table_at setting.program u.class + TABLE_HEADER + slot)) shown ∙ entry_word;
       }

@@ -5,7 +5,7 @@ use Rattle.std.proofs.lemmas.List.{length-map}
 use Rattle.std.specs.Prelude.{slice_index, slice_set, position}
 use Rattle.std.specs.Option.{unwrap_or, option_map, option_or}
 use Rattle.std.specs.Str.{bytes_eq}
-use Rattle.rpp_words.specs.declared.input.TheConstants.{FRAME_WORDS}
+use Rattle.rpp_words.specs.declared.input.TheConstants.{FRAME_WORDS, FIXED_CELLS}
 use Rattle.code_conventions.specs.declared.memory.TheConstants.{FIRST_VARIABLE, HEADER_WORDS}
 use Rattle.rpp_tree.specs.declared.tree.Ident.{Ident}
 use Rattle.rpp_tree.specs.declared.tree.Var.{Var}
@@ -218,7 +218,7 @@ module _ (setting : Setting) (statics : List ℕ) (classes : KnowsClasses settin
       ∙ frame_read setting statics s u (x ∷ moved) st cells (reads_of h) c var.kind has in
       let high : slice_index cells up1 ≡ value_word setting statics at v = ap (slice_index cells) (sym up_same)
       ∙ up_value setting statics s u v vs st cells h.frame long in
-      let pos : 0 < base setting statics = (let q : 40 + length statics ≤ base setting statics
+      let pos : 0 < base setting statics = (let q : FIXED_CELLS + length statics ≤ base setting statics
       = Rattle.refine_frame.proofs.Memory.base_above (Rattle.refine_form.specs.Stands.setup setting statics) in
       omega (arith, q)) in
       let untouched : is_zero (read st c) ≡ true → slice_index cells P ≡ 0 = λ e. got

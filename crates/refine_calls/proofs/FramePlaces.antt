@@ -2,13 +2,14 @@
 use Rattle.std.proofs.Common.{◌≡◌, ℕ, ◌+◌, ◌*◌, ◌^◌, ◌<◌, ◌≤◌, Bool, true, false, List, [], ◌∷◌, length, refl, sym}
 use Rattle.std.proofs.Common.{subst, arith}
 use Rattle.std.specs.Prelude.{replicate, nat_eq, slice_index, slice_set, not, nat_lt, if◌then◌else◌}
-use Rattle.rpp_words.specs.declared.input.TheConstants.{FRAME_WORDS}
-use Rattle.code_conventions.specs.declared.memory.TheConstants.{HEADER_WORDS}
+use Rattle.rpp_words.specs.declared.input.TheConstants.{FRAME_WORDS, FIXED_CELLS}
+use Rattle.code_conventions.specs.declared.memory.TheConstants.{HEADER_WORDS, OBJECT_WORD, PLACE_WORD}
 use Rattle.buddy_book.specs.Place.{Placing, block_of}
 use Rattle.roopl_semantics.specs.Store.{OfClass, State, main_name}
 use Rattle.rpp_words.specs.Limits.{IsLimits}
 use Rattle.roopl_semantics.specs.Execution.{Setting}
 use Rattle.pisa_isa.specs.Loaded.{statics_at}
+use Rattle.pisa_isa.specs.declared.image.TheConstants.{MOST_STATICS}
 use Rattle.meaning_sound.proofs.Stores.{differs}
 use Rattle.meaning_sound.proofs.Regions.{region_inside}
 use Rattle.refine_frame.proofs.Memory.{base_above}
@@ -25,7 +26,7 @@ use Rattle.refine_calls.proofs.FactsMoves.{set_apart}
 use Rattle.refine_form.specs.Worlds.{IsFresh}
 use Rattle.refine_calls.proofs.Bridge.{reads_of}
 
-module _ (setting : Setting) (statics : List ℕ) (few : length statics ≤ 262144) where
+module _ (setting : Setting) (statics : List ℕ) (few : length statics ≤ MOST_STATICS) where
   pub all_small : IsLimits setting.limits → stack_base setting statics + FRAME_WORDS * setting.limits.deep ≤ 2 ^ 23
   all_small l = cells_small (setup setting statics) l few
 
@@ -43,7 +44,7 @@ module _ (setting : Setting) (statics : List ℕ) (few : length statics ≤ 2621
       where
         by : (b : Bool) → nat_eq u.self main_name ≡ b → (if b then statics_at else base setting statics + block_of
             h.keeps.placed.at.blocks u.self) + HEADER_WORDS ≤ stack_base setting statics
-        by true e = let q : 40 + length statics ≤ base setting statics = base_above (setup setting statics) in
+        by true e = let q : FIXED_CELLS + length statics ≤ base setting statics = base_above (setup setting statics) in
             let r : 2 ≤ length statics = (let z = h.keeps.grounded.room in omega (arith, z)) in omega (arith, q, r)
         by false e = let r = region_inside setting st.store st.log h.keeps.placed u.self (OfClass u.class)
             h.keeps.own_is (differs u.self main_name e) in omega (arith, r)
@@ -101,7 +102,7 @@ module _ (setting : Setting) (statics : List ℕ) (few : length statics ≤ 2621
   }
 
   words_inside : (s : Scope) (u : Under) (st : State) (cells : List ℕ) (h : Stands setting statics s u [] st cells)
-      → frame_address setting statics u + 2 < length cells
+      → frame_address setting statics u + PLACE_WORD < length cells
   words_inside s u st cells h = let l = frame_long setting statics s u [] st cells (reads_of h) in let d =
       h.frame.depth_is in let i = h.frame.in_depth in omega (arith, l, d, i)
 
@@ -109,22 +110,26 @@ module _ (setting : Setting) (statics : List ℕ) (few : length statics ≤ 2621
       → HasWords cells (frame_address setting statics u) 0 0
   saves s u st cells h f = record {
     words_in = words_inside s u st cells h;
-    link_word = link_word setting statics s u [] st cells h.frame 0 (slice_index u.put_by 1) 0 (replicate 13 0) f.is
+    link_word = link_word setting statics s u [] st cells h.frame 0 (slice_index u.put_by OBJECT_WORD) 0
+        (replicate 13 0) f.is
         (before_long setting statics s u [] st cells (reads_of h));
-    place_word = place_word setting statics s u [] st cells h.frame 0 (slice_index u.put_by 1) 0 (replicate 13 0) f.is
+    place_word = place_word setting statics s u [] st cells h.frame 0 (slice_index u.put_by OBJECT_WORD) 0
+        (replicate 13 0) f.is
         (before_long setting statics s u [] st cells (reads_of h));
   }
 
   pub puts : (s : Scope) (u : Under) (st : State) (cells : List ℕ) (link place : ℕ)
       → Stands setting statics s u [] st cells → IsFresh u → link < 2 ^ 32 → place < 2 ^ 32
       → Stands setting statics s (put u link place) [] st (slice_set
-      (slice_set cells (frame_address setting statics u) link) (frame_address setting statics u + 2) place)
+      (slice_set cells (frame_address setting statics u) link) (frame_address setting statics u + PLACE_WORD) place)
   puts s u st cells link place h f lw pw = record {
-    frame = put_opens setting statics s u [] st cells h.frame 0 (slice_index u.put_by 1) 0 (replicate 13 0) f.is
+    frame = put_opens setting statics s u [] st cells h.frame 0 (slice_index u.put_by OBJECT_WORD) 0 (replicate 13 0)
+        f.is
         (before_long setting statics s u [] st cells (reads_of h)) link place;
     keeps = kept_put s u st link place h.keeps;
     counts = h.counts;
-    words = set_words (slice_set cells (frame_address setting statics u) link) (frame_address setting statics u + 2)
+    words = set_words (slice_set cells (frame_address setting statics u) link)
+        (frame_address setting statics u + PLACE_WORD)
         place (set_words cells (frame_address setting statics u) link h.words lw) pw;
   }
 
@@ -133,30 +138,36 @@ module _ (setting : Setting) (statics : List ℕ) (few : length statics ≤ 2621
       → HasWords cells (frame_address setting statics u) link place
   put_words s u st cells link place h = record {
     words_in = words_inside s (put u link place) st cells h;
-    link_word = link_word setting statics s (put u link place) [] st cells h.frame link (slice_index u.put_by 1) place
+    link_word = link_word setting statics s (put u link place) [] st cells h.frame link
+        (slice_index u.put_by OBJECT_WORD) place
         (replicate 13 0) refl (before_long setting statics s (put u link place) [] st cells (reads_of h));
-    place_word = place_word setting statics s (put u link place) [] st cells h.frame link (slice_index u.put_by 1) place
+    place_word = place_word setting statics s (put u link place) [] st cells h.frame link
+        (slice_index u.put_by OBJECT_WORD) place
         (replicate 13 0) refl (before_long setting statics s (put u link place) [] st cells (reads_of h));
   }
 
   pub puts_back : (s : Scope) (u : Under) (st : State) (cells : List ℕ) (link place : ℕ)
       → Stands setting statics s (put u link place) [] st cells → IsFresh u
-      → Stands setting statics s u [] st (slice_set (slice_set cells (frame_address setting statics u + 2) 0)
+      → Stands setting statics s u [] st (slice_set (slice_set cells (frame_address setting statics u + PLACE_WORD) 0)
       (frame_address setting statics u) 0)
   puts_back s u st cells link place h f =
       let F = frame_address setting statics u in
-      let o : OpenFrame setting statics s (record u { put_by = 0 ∷ slice_index u.put_by 1 ∷ 0 ∷ replicate 13 0 }) [] st
-      (slice_set (slice_set cells F 0) (F + 2) 0) =
-      put_opens setting statics s (put u link place) [] st cells h.frame link (slice_index u.put_by 1) place
+      let o : OpenFrame setting statics s (record u {
+        put_by = 0 ∷ slice_index u.put_by OBJECT_WORD ∷ 0
+            ∷ replicate 13 0;
+      }) [] st
+      (slice_set (slice_set cells F 0) (F + PLACE_WORD) 0) =
+      put_opens setting statics s (put u link place) [] st cells h.frame link (slice_index u.put_by OBJECT_WORD) place
       (replicate 13 0) refl (before_long setting statics s (put u link place) [] st cells (reads_of h)) 0 0 in
-      let c : slice_set (slice_set cells F 0) (F + 2) 0 ≡ slice_set (slice_set cells (F + 2) 0) F 0 =
-      set_apart cells F (F + 2) 0 0 (λ e. omega (arith, e)) in
+      let c : slice_set (slice_set cells F 0) (F + PLACE_WORD) 0 ≡ slice_set (slice_set cells (F + PLACE_WORD) 0) F 0 =
+      set_apart cells F (F + PLACE_WORD) 0 0 (λ e. omega (arith, e)) in
       record {
         frame = subst (OpenFrame setting statics s u [] st) c
             (subst (λ p. OpenFrame setting statics s (record u { put_by = p }) [] st
-            (slice_set (slice_set cells F 0) (F + 2) 0)) (sym f.is) o);
+            (slice_set (slice_set cells F 0) (F + PLACE_WORD) 0)) (sym f.is) o);
         keeps = kept_unput s u st link place h.keeps;
         counts = h.counts;
-        words = set_words (slice_set cells (F + 2) 0) F 0 (set_words cells (F + 2) 0 h.words (omega arith))
+        words = set_words (slice_set cells (F + PLACE_WORD) 0) F 0
+            (set_words cells (F + PLACE_WORD) 0 h.words (omega arith))
             (omega arith);
       }

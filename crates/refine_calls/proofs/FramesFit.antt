@@ -6,7 +6,7 @@ use Rattle.std.specs.Prelude.{position, slice_index, slice_set}
 use Rattle.std.specs.Str.{bytes_eq}
 use Rattle.std.proofs.lemmas.List.{length-replicate, replicate-append-replicate}
 use Rattle.std.specs.Option.{unwrap_or}
-use Rattle.code_conventions.specs.declared.memory.TheConstants.{FIRST_VARIABLE, MOST_VARIABLES}
+use Rattle.code_conventions.specs.declared.memory.TheConstants.{FIRST_VARIABLE, MOST_VARIABLES, OBJECT_WORD, PLACE_WORD}
 use Rattle.rpp_words.specs.declared.input.TheConstants.{FRAME_WORDS}
 use Rattle.rpp_tree.specs.declared.tree.Ident.{Ident}
 use Rattle.rpp_tree.specs.declared.tree.Var.{Var}
@@ -21,6 +21,7 @@ use Rattle.method_calls.specs.Names.{caller_of, deeper}
 use Rattle.refine_form.specs.Frames.{Caller, Under, values_of, value_words, filled_to, frame_words, callers_words}
 use Rattle.refine_form.specs.Frames.{above_words, stack_words, memory, StandsAt, CallersStand, cell_at, cell_in}
 use Rattle.refine_form.specs.Frames.{OpenFrame}
+use Rattle.pisa_isa.specs.declared.fixed.TheConstants.{STACK_CELL, END_CELL}
 
 -- ---- zeros behind
 
@@ -240,19 +241,19 @@ module _ (setting : Setting) (statics : List ℕ) where
   frame_at u = Rattle.refine_form.specs.Frames.stack_base setting statics + FRAME_WORDS * length u.callers
 
   stack_base_cell : (at : Placing) (store : Rattle.roopl_semantics.specs.Store.Store) (stack : List ℕ)
-      → slice_index (memory setting statics at store stack) 3
+      → slice_index (memory setting statics at store stack) STACK_CELL
       ≡ Rattle.refine_form.specs.Frames.stack_base setting statics
   stack_base_cell at store stack = refl
 
   stack_end_cell : (at : Placing) (store : Rattle.roopl_semantics.specs.Store.Store) (stack : List ℕ)
-      → slice_index (memory setting statics at store stack) 4
+      → slice_index (memory setting statics at store stack) END_CELL
       ≡ Rattle.refine_form.specs.Frames.stack_base setting statics + N
   stack_end_cell at store stack = refl
 
   pub base_is : (s : Scope) (u : Under) (vals : List Value) (st : State) (cells : List ℕ)
-      → OpenFrame setting statics s u vals st cells → length u.callers ≡ 0 → slice_index cells 3 ≡ frame_at u
+      → OpenFrame setting statics s u vals st cells → length u.callers ≡ 0 → slice_index cells STACK_CELL ≡ frame_at u
   base_is s u vals st cells h none =
-      ap (λ l. slice_index l 3) h.cells_are ∙ stack_base_cell h.at st.store
+      ap (λ l. slice_index l STACK_CELL) h.cells_are ∙ stack_base_cell h.at st.store
       (stack_words setting statics h.at u st.frame vals)
       ∙ (let z : Rattle.refine_form.specs.Frames.stack_base setting statics
       ≡ Rattle.refine_form.specs.Frames.stack_base setting statics + FRAME_WORDS * length u.callers = omega
@@ -264,13 +265,14 @@ module _ (setting : Setting) (statics : List ℕ) where
       → Rattle.method_calls.specs.Facts.HasEnd cells (frame_at u)
       (Rattle.std.specs.Prelude.not (Rattle.std.specs.Prelude.nat_lt (1 + length u.callers) setting.limits.deep))
   has_end s u st cells h small =
-      let e = ap (λ l. slice_index l 4) h.cells_are ∙ stack_end_cell h.at st.store
+      let e = ap (λ l. slice_index l END_CELL) h.cells_are ∙ stack_end_cell h.at st.store
       (stack_words setting statics h.at u st.frame []) in
       let d = h.depth_is in
       let i = h.in_depth in
       record {
-        cell_in = subst (λ l. 4 < length l) (sym h.cells_are)
-            (let p : 4 < length (memory setting statics h.at st.store (stack_words setting statics h.at u st.frame []))
+        cell_in = subst (λ l. END_CELL < length l) (sym h.cells_are)
+            (let p : END_CELL
+            < length (memory setting statics h.at st.store (stack_words setting statics h.at u st.frame []))
             = omega arith in p);
         small = omega (arith, e, small);
         at_end = λ full. let q = none_left (1 + length u.callers) setting.limits.deep full in omega (arith, e, d, i, q);
@@ -375,8 +377,8 @@ module _ (setting : Setting) (statics : List ℕ) where
         ∙ ap (λ k. Rattle.refine_form.specs.Frames.stack_base setting statics + k)
         (length_callers h.at st.store u.callers h.callers_stand)
 
-    place_two : length (under_it ++ (l ∷ o ∷ [])) ≡ frame_at u + 2
-    place_two = length-append under_it (l ∷ o ∷ []) ∙ ap (λ k. k + 2) place_is
+    place_two : length (under_it ++ (l ∷ o ∷ [])) ≡ frame_at u + PLACE_WORD
+    place_two = length-append under_it (l ∷ o ∷ []) ∙ ap (λ k. k + PLACE_WORD) place_is
 
     pub shown : cells ≡ under_it ++ (l ∷ o ∷ p ∷ over_it)
     shown = h.cells_are ∙ split h.at st.store u st.frame vals o more l p e
@@ -388,29 +390,29 @@ module _ (setting : Setting) (statics : List ℕ) where
     two_in : under_it ++ (l ∷ o ∷ p ∷ over_it) ≡ (under_it ++ (l ∷ o ∷ [])) ++ (p ∷ over_it)
     two_in = sym (append_assoc under_it (l ∷ o ∷ []) (p ∷ over_it))
 
-    pub place_word : slice_index cells (frame_at u + 2) ≡ p
-    place_word = ap (λ c. slice_index c (frame_at u + 2)) (shown ∙ two_in)
+    pub place_word : slice_index cells (frame_at u + PLACE_WORD) ≡ p
+    place_word = ap (λ c. slice_index c (frame_at u + PLACE_WORD)) (shown ∙ two_in)
         ∙ ap (slice_index ((under_it ++ (l ∷ o ∷ [])) ++ (p ∷ over_it))) (sym place_two)
         ∙ get_in (under_it ++ (l ∷ o ∷ [])) over_it p
 
-    pub place_one : length (under_it ++ (l ∷ [])) ≡ frame_at u + 1
-    place_one = length-append under_it (l ∷ []) ∙ ap (λ k. k + 1) place_is
+    pub place_one : length (under_it ++ (l ∷ [])) ≡ frame_at u + OBJECT_WORD
+    place_one = length-append under_it (l ∷ []) ∙ ap (λ k. k + OBJECT_WORD) place_is
 
     pub one_in : under_it ++ (l ∷ o ∷ p ∷ over_it) ≡ (under_it ++ (l ∷ [])) ++ (o ∷ p ∷ over_it)
     one_in = sym (append_assoc under_it (l ∷ []) (o ∷ p ∷ over_it))
 
-    pub object_word : slice_index cells (frame_at u + 1) ≡ o
+    pub object_word : slice_index cells (frame_at u + OBJECT_WORD) ≡ o
     object_word =
-        ap (λ c. slice_index c (frame_at u + 1)) (shown ∙ one_in)
+        ap (λ c. slice_index c (frame_at u + OBJECT_WORD)) (shown ∙ one_in)
         ∙ ap (slice_index ((under_it ++ (l ∷ [])) ++ (o ∷ p ∷ over_it))) (sym place_one)
         ∙ get_in (under_it ++ (l ∷ [])) (p ∷ over_it) o
 
     -- another object is put by
     abbrev pub put_object : (o' : ℕ) → OpenFrame setting statics s (record u { put_by = l ∷ o' ∷ p ∷ more }) vals st
-        (slice_set cells (frame_at u + 1) o')
+        (slice_set cells (frame_at u + OBJECT_WORD) o')
     put_object o' =
-        let both : slice_set cells (frame_at u + 1) o' ≡ under_it ++ (l ∷ o' ∷ p ∷ over_it) =
-        ap (λ c. slice_set c (frame_at u + 1) o') (shown ∙ one_in)
+        let both : slice_set cells (frame_at u + OBJECT_WORD) o' ≡ under_it ++ (l ∷ o' ∷ p ∷ over_it) =
+        ap (λ c. slice_set c (frame_at u + OBJECT_WORD) o') (shown ∙ one_in)
         ∙ ap (λ i. slice_set ((under_it ++ (l ∷ [])) ++ (o ∷ p ∷ over_it)) i o') (sym place_one)
         ∙ set_in (under_it ++ (l ∷ [])) (p ∷ over_it) o o'
         ∙ append_assoc under_it (l ∷ []) (o' ∷ p ∷ over_it) in
@@ -435,16 +437,17 @@ module _ (setting : Setting) (statics : List ℕ) where
 
     -- another link and another place are put by
     pub put_opens : (l' p' : ℕ) → OpenFrame setting statics s (record u { put_by = l' ∷ o ∷ p' ∷ more }) vals st
-        (slice_set (slice_set cells (frame_at u) l') (frame_at u + 2) p')
+        (slice_set (slice_set cells (frame_at u) l') (frame_at u + PLACE_WORD) p')
     put_opens l' p' =
         let first : slice_set cells (frame_at u) l' ≡ under_it ++ (l' ∷ o ∷ p ∷ over_it) =
         ap (λ c. slice_set c (frame_at u) l') shown ∙ ap (λ i. slice_set (under_it ++ (l ∷ o ∷ p ∷ over_it)) i l')
         (sym place_is) ∙ set_in under_it (o ∷ p ∷ over_it) l l' in
-        let long2 : length (under_it ++ (l' ∷ o ∷ [])) ≡ frame_at u + 2 = length-append under_it (l' ∷ o ∷ [])
-        ∙ ap (λ k. k + 2) place_is in
-        let both : slice_set (slice_set cells (frame_at u) l') (frame_at u + 2) p'
+        let long2 : length (under_it ++ (l' ∷ o ∷ [])) ≡ frame_at u + PLACE_WORD = length-append under_it (l' ∷ o ∷ [])
+        ∙ ap (λ k. k + PLACE_WORD) place_is in
+        let both : slice_set (slice_set cells (frame_at u) l') (frame_at u + PLACE_WORD) p'
         ≡ under_it ++ (l' ∷ o ∷ p' ∷ over_it) =
-        ap (λ c. slice_set c (frame_at u + 2) p') (first ∙ sym (append_assoc under_it (l' ∷ o ∷ []) (p ∷ over_it)))
+        ap (λ c. slice_set c (frame_at u + PLACE_WORD) p') (first
+        ∙ sym (append_assoc under_it (l' ∷ o ∷ []) (p ∷ over_it)))
         ∙ ap (λ i. slice_set ((under_it ++ (l' ∷ o ∷ [])) ++ (p ∷ over_it)) i p') (sym long2)
         ∙ set_in (under_it ++ (l' ∷ o ∷ [])) over_it p p'
         ∙ append_assoc under_it (l' ∷ o ∷ []) (p' ∷ over_it) in

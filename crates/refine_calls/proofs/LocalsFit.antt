@@ -7,6 +7,7 @@ use Rattle.std.specs.Prelude.{Ok, Err}
 use Rattle.std.specs.Int.Bits.{xor_self}
 use Rattle.std.specs.Option.{unwrap_or, option_map}
 use Rattle.std.specs.Str.{bytes_eq}
+use Rattle.rpp_words.specs.declared.input.TheConstants.{FIXED_CELLS}
 use Rattle.code_conventions.specs.declared.memory.TheConstants.{FIRST_VARIABLE, MOST_VARIABLES}
 use Rattle.class_table.specs.declared.kind.Kind.TheVariants as kind
 use Rattle.rpp_words.proofs.Laws.{xor-twice}
@@ -41,7 +42,6 @@ use Rattle.class_table.specs.Expressions.{is_int}
 use Rattle.buddy_book.specs.Place.{Placing}
 use Rattle.roopl_semantics.specs.Store.{Store}
 use Rattle.roopl_semantics.specs.Layout.{no_placing}
-use Rattle.refine_frame.specs.Open.{most_variables}
 use Rattle.refine_frame.proofs.Memory.{base_above}
 use Rattle.meaning_sound.proofs.Stores.{differs}
 use Rattle.meaning_sound.proofs.Values.{word_fits}
@@ -49,10 +49,10 @@ use Rattle.refine_form.specs.Stands.{Reads, setup}
 use Rattle.refine_form.specs.Frames.{base}
 use Rattle.refine_form.specs.Worlds.{Place, world_of}
 use Rattle.method_calls.specs.Names.{IsNull, NilInit, IsInit}
-use Rattle.refine_calls.specs.Laws.{most_statics}
 use Rattle.refine_calls.proofs.FactsFit.{known}
 use Rattle.refine_calls.proofs.SlotMoves.{new_free}
 use Rattle.refine_calls.proofs.Bridge.{reads_of}
+use Rattle.pisa_isa.specs.declared.image.TheConstants.{MOST_STATICS}
 
 -- ---- a variable that does not occur is not read
 
@@ -163,7 +163,7 @@ same_nil Nil r h = refl
 same_nil (Name n) r h = absurd (cc)
 same_nil (Word w) r h = absurd r
 
-module _ (place : Place) (accepted : IsAccepted place.setting.program) (few : length place.statics ≤ most_statics) where
+module _ (place : Place) (accepted : IsAccepted place.setting.program) (few : length place.statics ≤ MOST_STATICS) where
   abbrev setting : Setting
   setting = place.setting
 
@@ -231,7 +231,7 @@ module _ (place : Place) (accepted : IsAccepted place.setting.program) (few : le
   -- ---- a variable is declared
 
   pub declared : (s : Scope) (u : Under) (st : State) (cells : List ℕ) (var : Var) (v : Value)
-      → Stands setting statics s u [] st cells → length s.vars < most_variables → IsNew st var v
+      → Stands setting statics s u [] st cells → length s.vars < MOST_VARIABLES → IsNew st var v
       → Stands setting statics (with_var s var) u [] (opened var.name.text v st)
       (slice_set cells (word_place u s) (w.word_of u st v))
   declared s u st cells var v h few_here new =
@@ -459,7 +459,7 @@ module _ (place : Place) (accepted : IsAccepted place.setting.program) (few : le
         ∙ ap (λ z. bit_xor (w.word_of u st a) (w.word_of u (closed st) z)) q
 
     abbrev above_zero : 0 < base setting statics
-    above_zero = let q : 40 + length statics ≤ base setting statics = base_above (setup setting statics) in
+    above_zero = let q : FIXED_CELLS + length statics ≤ base setting statics = base_above (setup setting statics) in
         omega (arith, q)
 
     pub same_words : (e : Expression) → IsInit program s var e → (v : Value) (c : ℕ)

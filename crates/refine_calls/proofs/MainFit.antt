@@ -4,7 +4,7 @@ use Rattle.std.proofs.Common.{◌∷◌, ◌++◌, length, map, refl, sym, ap, �
 use Rattle.std.specs.Prelude.{replicate, slice_index, slice_set, nat_eq, if◌then◌else◌}
 use Rattle.std.specs.Option.{option_map}
 use Rattle.std.specs.List.{All}
-use Rattle.rpp_words.specs.declared.input.TheConstants.{FRAME_WORDS}
+use Rattle.rpp_words.specs.declared.input.TheConstants.{FRAME_WORDS, FIXED_CELLS}
 use Rattle.code_conventions.specs.declared.memory.TheConstants.{FIRST_VARIABLE, HEADER_WORDS}
 use Rattle.rpp_words.specs.Words.{IsWord}
 use Rattle.refine_frame.proofs.Tells.{cells_small}
@@ -16,6 +16,7 @@ use Rattle.rpp_tree.specs.Tree.{Source}
 use Rattle.buddy_book.specs.Book.{start}
 use Rattle.pisa_isa.specs.Image.{Segments}
 use Rattle.pisa_isa.specs.Loaded.{loaded, statics_at, heap_base, fixed_cells, empty_heads, with_words}
+use Rattle.pisa_isa.specs.declared.image.TheConstants.{MOST_STATICS}
 use Rattle.roopl_semantics.specs.Store.{Head, OfClass, Binding, main_name}
 use Rattle.rpp_words.specs.Limits.{IsLimits}
 use Rattle.roopl_semantics.specs.Source.{IsValid, main_body, main_object, starting}
@@ -41,7 +42,7 @@ use Rattle.refine_frame.proofs.Memory.{base_above}
 use Rattle.refine_form.specs.Frames.{base}
 use Rattle.refine_form.specs.Stands.{local_of, setup, HasElements}
 use Rattle.refine_form.specs.Worlds.{Place, world_of}
-use Rattle.refine_calls.specs.Laws.{most_statics, OpensMain}
+use Rattle.refine_calls.specs.Laws.{OpensMain}
 use Rattle.refine_calls.proofs.Bridge.{reads_of}
 
 -- ---- every cell of the loaded memory is a word
@@ -80,7 +81,8 @@ input_words (entry ∷ input) statics h g = input_words input (slice_set statics
           (h 0 entry (omega arith));
     })
 
-pub words : (statics : List ℕ) (limits : Limits) (input : List FieldWord) → IsLimits limits → length statics ≤ 262144
+pub words : (statics : List ℕ) (limits : Limits) (input : List FieldWord) → IsLimits limits
+    → length statics ≤ MOST_STATICS
     → All (λ (entry : FieldWord). IsWord entry.word) input → AllWords statics → AllWords (loaded statics limits input)
 words statics limits input inside few h g =
     let base = heap_base limits.heap (length statics) in
@@ -134,7 +136,7 @@ first_frame program = record {
 }
 
 module _ (program : Source) (limits : Limits) (image : Segments) (has : HasStatics program image)
-    (few : length image.statics ≤ 262144) (inside : IsLimits limits) (input : List FieldWord)
+    (few : length image.statics ≤ MOST_STATICS) (inside : IsLimits limits) (input : List FieldWord)
     (valid : IsValid program input) (statics_words : AllWords image.statics) where
   abbrev pub setting : Setting
   setting = record { program = program; limits = limits }
@@ -199,11 +201,11 @@ module _ (program : Source) (limits : Limits) (image : Segments) (has : HasStati
 
 module _ (place : Place) (image : Segments) (input : List FieldWord) (main : ℕ)
     (accepted : IsAccepted place.setting.program) (has : HasStatics place.setting.program image)
-    (same : place.statics ≡ image.statics) (few : length place.statics ≤ most_statics)
+    (same : place.statics ≡ image.statics) (few : length place.statics ≤ MOST_STATICS)
     (inside : IsLimits place.setting.limits) (valid : IsValid place.setting.program input)
     (statics_words : AllWords image.statics) where
-  few_of_image : length image.statics ≤ 262144
-  few_of_image = subst (λ z. length z ≤ 262144) same few
+  few_of_image : length image.statics ≤ MOST_STATICS
+  few_of_image = subst (λ z. length z ≤ MOST_STATICS) same few
 
   pub main_opens : main < place.routines.count → (place.routines.method main).body ≡ main_body place.setting.program
       → (place.routines.scope main).vars ≡ [] → (place.routines.scope main).class
@@ -224,7 +226,7 @@ module _ (place : Place) (image : Segments) (input : List FieldWord) (main : ℕ
           (place.routines.scope main) no_vars class_is (class_inside place.setting.program accepted));
       base_in = λ st cells h. (let l = frame_long place.setting place.statics (place.routines.scope main)
           (first_frame place.setting.program) [] st cells (reads_of h) in
-          let b : 40 + length place.statics ≤ base place.setting place.statics = base_above
+          let b : FIXED_CELLS + length place.statics ≤ base place.setting place.statics = base_above
           (setup place.setting place.statics) in omega (arith, l, b));
       base_is = λ st cells h. base_is place.setting place.statics (place.routines.scope main)
           (first_frame place.setting.program) [] st cells h.frame refl;

@@ -4,7 +4,8 @@ use Rattle.std.proofs.Common.{Option, Some, None, refl, sym, ap, ◌∙◌, subs
 use Rattle.std.proofs.lemmas.List.{length-map, length-set, get_or-set_other}
 use Rattle.std.specs.Prelude.{replicate, slice_index, slice_set, nat_eq, if◌then◌else◌}
 use Rattle.std.specs.Option.{unwrap_or, option_map}
-use Rattle.rpp_words.specs.declared.input.TheConstants.{FRAME_WORDS}
+use Rattle.code_conventions.specs.declared.memory.TheConstants.{OBJECT_WORD}
+use Rattle.rpp_words.specs.declared.input.TheConstants.{FRAME_WORDS, FIXED_CELLS}
 use Rattle.class_table.specs.declared.kind.Kind.TheVariants as kind
 use Rattle.rpp_tree.specs.declared.tree.Ident.{Ident}
 use Rattle.rpp_tree.specs.declared.tree.Var.{Var}
@@ -131,7 +132,7 @@ module _ (place : Place) (routine : ℕ → Ident → ℕ) (linked : IsLinked pl
     where
       by : (b : Bool) → 0 < (if b then statics_at else base setting statics + block_of h.frame.at.blocks u.self)
       by true = omega arith
-      by false = let q : 40 + length statics ≤ base setting statics = base_above (setup setting statics) in
+      by false = let q : FIXED_CELLS + length statics ≤ base setting statics = base_above (setup setting statics) in
           omega (arith, q)
 
   -- ---- the receiver's cell
@@ -299,7 +300,7 @@ module _ (place : Place) (routine : ℕ → Ident → ℕ) (linked : IsLinked pl
     at1 = address u.object (frame_address setting statics u) (spot_in program s x)
 
     abbrev up1 : ℕ
-    up1 = frame_address setting statics u + (FRAME_WORDS + 1)
+    up1 = frame_address setting statics u + (FRAME_WORDS + OBJECT_WORD)
 
     has1 : cell_kind program (shape_of program s) st.store c1 ≡ Some k1
     has1 = has s u moved1 st cells h x name args r
@@ -379,7 +380,7 @@ module _ (place : Place) (routine : ℕ → Ident → ℕ) (linked : IsLinked pl
     entered = enters setting statics s s1 u vals st1 cells1 written_frame params1 room1
 
     abbrev up_there : ℕ
-    up_there = frame_address setting statics (deeper s u st1) + 1
+    up_there = frame_address setting statics (deeper s u st1) + OBJECT_WORD
 
     up_same : up_there ≡ up1
     up_same = omega arith
@@ -515,7 +516,7 @@ module _ (place : Place) (routine : ℕ → Ident → ℕ) (linked : IsLinked pl
     at2 = address u.object (frame_address setting statics u) (spot_in program s x)
 
     abbrev up2 : ℕ
-    up2 = frame_address setting statics u + (FRAME_WORDS + 1)
+    up2 = frame_address setting statics u + (FRAME_WORDS + OBJECT_WORD)
 
     module _ (o : Stands setting statics s2 on2 [] end cells)
         (suits : is_or_inherits program (own_of st2 n) (class_named program s x) ≡ true) where
@@ -577,7 +578,7 @@ module _ (place : Place) (routine : ℕ → Ident → ℕ) (linked : IsLinked pl
           has0 x refl)
 
       abbrev up_end : ℕ
-      up_end = frame_address setting statics on2 + 1
+      up_end = frame_address setting statics on2 + OBJECT_WORD
 
       up_end_is : up_end ≡ up2
       up_end_is = omega arith
@@ -706,7 +707,8 @@ module _ (place : Place) (routine : ℕ → Ident → ℕ) (linked : IsLinked pl
         saved = ap (slice_index cells) (sym up_end_is) ∙ object_word setting statics s2 on2 [] end cells o.frame 0
             u.object 0 (replicate 13 0) refl long2;
         cell = record {
-          touched = λ e z. (let b : 40 + length statics ≤ base setting statics = base_above (setup setting statics) in
+          touched = λ e z. (let b : FIXED_CELLS + length statics ≤ base setting statics = base_above
+              (setup setting statics) in
               other_word setting statics reads_home.frame.at (read home2 c2) (omega (arith, b)) e
               (sym got2 ∙ sym unchanged2 ∙ z));
           untouched = λ e. unchanged2 ∙ got2 ∙ zero_word setting statics reads_home.frame.at (read home2 c2) e;
@@ -777,7 +779,7 @@ module _ (place : Place) (routine : ℕ → Ident → ℕ) (linked : IsLinked pl
   abbrev Comes : Scope → Under → State → List ℕ → Ident → List Ident → ℕ → State → Type 0
   Comes s u end cells x args n z =
       ComesBack cells (address u.object (frame_address setting statics u) (spot_in program s x))
-      (frame_address setting statics u + (FRAME_WORDS + 1)) u.object (deeper_on place s u z n).object
+      (frame_address setting statics u + (FRAME_WORDS + OBJECT_WORD)) u.object (deeper_on place s u z n).object
       (is_zero (read (record z { store = end.store; log = end.log }) (cell_in setting statics s u x)))
       (Stands setting statics s u (pairs args (map (λ (b : Binding). b.value) end.frame))
       (written (record z { store = end.store; log = end.log }) (cell_in setting statics s u x) (Name n)))
@@ -790,7 +792,7 @@ module _ (place : Place) (routine : ℕ → Ident → ℕ) (linked : IsLinked pl
       → (r : IsReceiver program s x name args) → is_or_inherits program (own_of st n) (class_named program s x)
       ≡ true
       → ComesBack cells (address u.object (frame_address setting statics u) (spot_in program s x))
-      (frame_address setting statics u + (FRAME_WORDS + 1)) u.object (deeper_on place s u st n).object
+      (frame_address setting statics u + (FRAME_WORDS + OBJECT_WORD)) u.object (deeper_on place s u st n).object
       (is_zero (read (record st { store = end.store; log = end.log }) (cell_in setting statics s u x)))
       (Stands setting statics s u (pairs args (map (λ (b : Binding). b.value) end.frame))
       (written (record st { store = end.store; log = end.log }) (cell_in setting statics s u x) (Name n)))

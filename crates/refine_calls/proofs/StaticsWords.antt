@@ -1,16 +1,19 @@
 -- The static cells of an image are words.
 use Rattle.std.proofs.Common.{◌≡◌, ℕ, zero, suc, ◌+◌, ◌<◌, ◌≤◌, ◌^◌, List, [], ◌∷◌, ◌++◌, length, sym, ap, ◌∙◌, subst}
-use Rattle.std.proofs.Common.{arith, length-append}
+use Rattle.std.proofs.Common.{arith, length-append, refl}
 use Rattle.std.proofs.lemmas.List.{length-replicate}
-use Rattle.std.specs.Prelude.{replicate}
+use Rattle.std.specs.Prelude.{replicate, slice_set}
 use Rattle.std.specs.List.{All}
-use Rattle.code_conventions.specs.declared.memory.TheConstants.{HEADER_WORDS}
+use Rattle.code_conventions.specs.declared.memory.TheConstants.{HEADER_WORDS, COUNT_WORD}
+use Rattle.code_conventions.specs.Header.{header}
 use Rattle.rpp_tree.specs.Tree.{Source}
 use Rattle.pisa_isa.specs.Image.{Segments}
+use Rattle.pisa_isa.specs.declared.image.TheConstants.{MOST_STATICS}
 use Rattle.class_table.specs.Classes.{main_of}
 use Rattle.roopl_semantics.specs.Source.{main_fields}
 use Rattle.roopl_semantics.specs.Layout.{HasStatics, table_at, main_statics, tables}
 use Rattle.refine_frame.proofs.TableWords.{table_place, table_offset}
+use Rattle.refine_calls.proofs.Bridge.{set_words}
 use Rattle.refine_calls.proofs.MainFit.{AllWords, words_append, words_cons, no_words, zero_words}
 
 places_words : (size : ℕ) (p : List ℕ) → All (λ (at : ℕ). at < size) p → size < 2 ^ 32 → AllWords p
@@ -38,8 +41,22 @@ offset_low number (p ∷ places) zero = omega arith
 offset_low number (p ∷ places) (suc class) = let r = offset_low (number + 1) places class in let a =
     length-append p (tables (number + 1) places) in omega (arith, r, a)
 
+-- a header's words are 0 but for its head and its count
+pub header_is : (head count : ℕ)
+    → header head count ≡ slice_set (slice_set (replicate HEADER_WORDS 0) 0 head) COUNT_WORD count
+header_is head count = refl
+
+header_words : (head count : ℕ) → head < 2 ^ 32 → count < 2 ^ 32 → AllWords (header head count)
+header_words head count h g =
+    let zeros = replicate HEADER_WORDS 0 in
+    subst AllWords (sym (header_is head count)) (record {
+      each = set_words (slice_set zeros 0 head) COUNT_WORD count
+          (set_words zeros 0 head (zero_words HEADER_WORDS).each h) g;
+    })
+
 pub statics_words : (program : Source) (image : Segments) (has : HasStatics program image)
-    → length image.statics ≤ 262144 → length image.code < 2 ^ 32 → (main_of program).class ≤ length program.classes
+    → length image.statics ≤ MOST_STATICS → length image.code < 2 ^ 32
+    → (main_of program).class ≤ length program.classes
     → AllWords image.statics
 statics_words program image has few short inside =
     let places = has.places in
@@ -53,7 +70,7 @@ statics_words program image has few short inside =
     let table = table_place program image has (main_of program).class inside in
     let main_word : table_at program (main_of program).class < 2 ^ 32 = omega (arith, table, low, total, front, few) in
     subst AllWords (sym has.words) (words_append main (tables 1 places)
-    (words_cons (table_at program (main_of program).class) (1 ∷ replicate (length (main_fields program)) 0) main_word
-    (words_cons 1 (replicate (length (main_fields program)) 0) (omega arith)
-    (zero_words (length (main_fields program)))))
+    (words_append (header (table_at program (main_of program).class) 1) (replicate (length (main_fields program)) 0)
+    (header_words (table_at program (main_of program).class) 1 main_word (omega arith))
+    (zero_words (length (main_fields program))))
     (tables_words (length image.code) 1 places has.in_code short (omega (arith, long, total, few))))

@@ -16,16 +16,13 @@ use Rattle.paired_code.specs.Machine.{Image}
 use Rattle.paired_code.specs.Layout.{Routine, Tidy}
 use Rattle.buddy_pisa.specs.Promise.{AllocatorLaw}
 use Rattle.pisa_isa.specs.Image.{Segments}
+use Rattle.pisa_isa.specs.declared.image.TheConstants.{MOST_STATICS}
 use Rattle.roopl_semantics.specs.Layout.{HasStatics}
 use Rattle.roopl_semantics.specs.Source.{IsValid, main_body}
 use Rattle.refine_form.specs.Form.{Routines}
 use Rattle.refine_form.specs.Worlds.{Place, world_of}
 use Rattle.method_calls.specs.Facts.{FrameFacts, ReceiverFacts, LocalFacts, MainFacts}
 use Rattle.method_calls.specs.Names.{known_of, receivers_of, IsInit}
-
--- the most static cells that an image of the compiler has
-abbrev pub most_statics : ℕ
-most_statics = 262144
 
 -- The routine of a method in a class runs the method that the class has for the name, in the scope
 -- of the class that the method is written in, and its place stands in the method's slot of the
@@ -56,7 +53,7 @@ pub record IsLinked (place : Place) (routine : ℕ → Ident → ℕ) : Type 0 w
   pub image : Segments
   pub has : HasStatics place.setting.program image
   pub statics_are : place.statics ≡ image.statics
-  pub few : length place.statics ≤ most_statics
+  pub few : length place.statics ≤ MOST_STATICS
   pub routes : (own class slot : ℕ) (name : Ident)
       → is_or_inherits place.setting.program own class ≡ true
       → class < length place.setting.program.classes
@@ -82,7 +79,7 @@ ReceiversAreOpen =
 -- and what blocks with a local variable take, of any type
 abbrev pub LocalsAreOpen : Type 0
 LocalsAreOpen =
-    (place : Place) → IsAccepted place.setting.program → length place.statics ≤ most_statics
+    (place : Place) → IsAccepted place.setting.program → length place.statics ≤ MOST_STATICS
     → LocalFacts (world_of place) (IsInit place.setting.program)
 
 -- the facts of `main` are those of this routine
@@ -97,7 +94,7 @@ MainIsOpen =
     (place : Place) (image : Segments) (input : List FieldWord) (main : ℕ)
     → IsAccepted place.setting.program → HasStatics place.setting.program image
     → place.statics ≡ image.statics
-    → length place.statics ≤ most_statics → length image.code < 2 ^ 32
+    → length place.statics ≤ MOST_STATICS → length image.code < 2 ^ 32
     → IsLimits place.setting.limits → IsValid place.setting.program input
     → main < place.routines.count → (place.routines.method main).body
     ≡ main_body place.setting.program

@@ -20,6 +20,7 @@ use Rattle.expr_uncompute.specs.Means.{shown, TellsArrays, TellsShares}
 use Rattle.refine_expressions.specs.Typing.{spot_in}
 use Rattle.refine_expressions.proofs.WordsRead.{named_has}
 use Rattle.refine_expressions.proofs.ExpressionsRead.{A, L, B, T, t0, shown_ref, element_parts, binary_parts}
+use Rattle.pisa_isa.specs.declared.image.TheConstants.{MOST_STATICS}
 
 no_int : (array k : Kind) → element_kind array ≡ Some k → is_int array ≡ false
 no_int kind.Int k e = absurd (cc)
@@ -28,7 +29,8 @@ no_int (kind.Class c) k e = refl
 no_int kind.IntArray k e = refl
 no_int (kind.ClassArray c) k e = refl
 
-module _ (setting : Setting) (statics : List ℕ) (few : length statics ≤ 262144) (classes : KnowsClasses setting.program)
+module _ (setting : Setting) (statics : List ℕ) (few : length statics ≤ MOST_STATICS)
+    (classes : KnowsClasses setting.program)
     (s : Scope) (u : Under) (st : State) (cells : List ℕ) (h : Reads setting statics s u [] st cells) where
   abbrev Ref : Value → Type 0
   Ref v = IsRef (setup setting statics) (extra u []) (shape_of setting.program s) s.class st

@@ -16,6 +16,7 @@ use Rattle.class_table.specs.Expressions.{place_type}
 use Rattle.class_table.proofs.PassedRules.{handed_on, both_true, int_kind, some_of}
 use Rattle.buddy_book.specs.Place.{block_of}
 use Rattle.pisa_isa.specs.Loaded.{statics_at}
+use Rattle.pisa_isa.specs.declared.image.TheConstants.{MOST_STATICS}
 use Rattle.roopl_semantics.specs.Store.{Value, Word, Nil, Name, State, main_name, object_at, number_of}
 use Rattle.roopl_semantics.specs.Value.{variable_value, value, cell_named}
 use Rattle.roopl_semantics.specs.Execution.{Setting}
@@ -40,7 +41,8 @@ use Rattle.refine_calls.proofs.FactsMoves.{same_means}
 use Rattle.refine_expressions.proofs.WordsRead.{bases, names_at, slots_at, typing, names_are, named_has, name_low}
 use Rattle.refine_expressions.proofs.WordsRead.{name_word, name_place, array_stands}
 
-module _ (setting : Setting) (statics : List ℕ) (few : length statics ≤ 262144) (classes : KnowsClasses setting.program)
+module _ (setting : Setting) (statics : List ℕ) (few : length statics ≤ MOST_STATICS)
+    (classes : KnowsClasses setting.program)
     (s : Scope) (u : Under) (st : State) (cells : List ℕ) (h : Reads setting statics s u [] st cells) where
   abbrev pub B : Bases
   B = bases setting statics classes s u st cells h

@@ -7,6 +7,7 @@ use Rattle.class_table.specs.declared.kind.Kind.{Kind}
 use Rattle.class_table.specs.Expressions.{place_type}
 use Rattle.buddy_book.specs.Place.{Placing}
 use Rattle.pisa_isa.specs.Machine.{Memory}
+use Rattle.pisa_isa.specs.declared.image.TheConstants.{MOST_STATICS}
 use Rattle.paired_code.specs.declared.part.Symbol.{Symbol}
 use Rattle.roopl_semantics.specs.Store.{Value, State, Word, main_name}
 use Rattle.roopl_semantics.specs.Value.{Cell, read, written, cell_of}
@@ -42,7 +43,7 @@ use Rattle.refine_expressions.proofs.FramesWritten.{same_names}
 use Rattle.refine_expressions.proofs.FramesWritten.{same_slots, same_place, same_placing}
 use Rattle.refine_expressions.proofs.SameReadings.{cells_of_place}
 
-module _ (p : Place) (few : length p.statics ≤ 262144) (classes : KnowsClasses p.setting.program) (s : Scope)
+module _ (p : Place) (few : length p.statics ≤ MOST_STATICS) (classes : KnowsClasses p.setting.program) (s : Scope)
     (u : Under) where
   abbrev P : Source
   P = p.setting.program
@@ -253,7 +254,7 @@ module _ (p : Place) (few : length p.statics ≤ 262144) (classes : KnowsClasses
     }
 
 -- the law of a swap
-pub swap_fits : (p : Place) → length p.statics ≤ 262144 → KnowsClasses p.setting.program
+pub swap_fits : (p : Place) → length p.statics ≤ MOST_STATICS → KnowsClasses p.setting.program
     → (s : Scope) (at : ℕ) (left right : Lvalue) → IsPassed p.setting.program s (Swap at left right)
     (place_words left + place_words right)
     → (q : List Symbol) → SwapLaw (spot_in p.setting.program s) (free_in p.setting.program s) left right q

@@ -6,6 +6,7 @@ use Rattle.rpp_tree.specs.declared.tree.UpdateOp.{UpdateOp}
 use Rattle.rpp_tree.specs.Tree.{Expression, Lvalue, Update, Source}
 use Rattle.class_table.specs.declared.kind.Kind.TheVariants as kind
 use Rattle.pisa_isa.specs.Machine.{Memory}
+use Rattle.pisa_isa.specs.declared.image.TheConstants.{MOST_STATICS}
 use Rattle.paired_code.specs.declared.part.Symbol.{Symbol}
 use Rattle.roopl_semantics.specs.Operators.{updated}
 use Rattle.roopl_semantics.specs.Store.{Value, Word, State, number_of}
@@ -40,7 +41,7 @@ use Rattle.refine_expressions.proofs.FramesWritten.{same_names}
 use Rattle.refine_expressions.proofs.FramesWritten.{same_slots}
 use Rattle.refine_expressions.proofs.SameReadings.{values_of_reads, cells_of_place}
 
-module _ (p : Place) (few : length p.statics ≤ 262144) (classes : KnowsClasses p.setting.program) (s : Scope)
+module _ (p : Place) (few : length p.statics ≤ MOST_STATICS) (classes : KnowsClasses p.setting.program) (s : Scope)
     (u : Under) (at : ℕ) (op : UpdateOp) (target : Lvalue) (e : Expression)
     (ok : IsPassed p.setting.program s (Update at op target e) (place_words target + words e)) where
   abbrev P : Source
@@ -180,7 +181,7 @@ module _ (p : Place) (few : length p.statics ≤ 262144) (classes : KnowsClasses
   }
 
 -- the law of an update
-pub update_fits : (p : Place) → length p.statics ≤ 262144 → KnowsClasses p.setting.program
+pub update_fits : (p : Place) → length p.statics ≤ MOST_STATICS → KnowsClasses p.setting.program
     → (s : Scope) (at : ℕ) (op : UpdateOp) (target : Lvalue) (e : Expression)
     → IsPassed p.setting.program s (Update at op target e) (place_words target + words e)
     → (q : List Symbol) → UpdateLaw (spot_in p.setting.program s) (free_in p.setting.program s) op target e q

@@ -13,6 +13,7 @@ use Rattle.class_table.proofs.PassedRules.{int_kind}
 use Rattle.buddy_book.specs.Place.{place, block_of}
 use Rattle.pisa_isa.specs.Loaded.{statics_at}
 use Rattle.pisa_isa.specs.Machine.{Memory}
+use Rattle.pisa_isa.specs.declared.image.TheConstants.{MOST_STATICS}
 use Rattle.paired_code.specs.declared.part.Symbol.{Symbol}
 use Rattle.paired_code.specs.Layout.{xor}
 use Rattle.paired_code.specs.Does.{Fine, Fault}
@@ -90,7 +91,7 @@ value_of_told : (c : ℕ) (r : Result Value ℕ) (v : Value) (n : ℕ) → told_
 value_of_told c (Ok w) v n e = ap (λ x. Ok x) (let z : w ≡ v = cc in z)
 value_of_told c (Err f) v n e = absurd (cc)
 
-module _ (p : Place) (few : length p.statics ≤ 262144) (classes : KnowsClasses p.setting.program) where
+module _ (p : Place) (few : length p.statics ≤ MOST_STATICS) (classes : KnowsClasses p.setting.program) where
   abbrev w : World
   w = world_of p
 

@@ -5,6 +5,7 @@ use Rattle.std.proofs.lemmas.List.{length-replicate}
 use Rattle.std.specs.Prelude.{slice_index, slice_get, position, if◌then◌else◌, Ok}
 use Rattle.std.specs.Option.{unwrap_or, option_map, option_or}
 use Rattle.std.specs.Str.{bytes_eq}
+use Rattle.rpp_words.specs.declared.input.TheConstants.{FIXED_CELLS}
 use Rattle.code_conventions.specs.declared.memory.TheConstants.{FIRST_VARIABLE, HEADER_WORDS}
 use Rattle.rpp_tree.specs.declared.tree.Ident.{Ident}
 use Rattle.class_table.specs.declared.kind.Kind.{Kind}
@@ -204,7 +205,7 @@ module _ (setting : Setting) (statics : List ℕ) (classes : KnowsClasses settin
       (h.keeps.objects n o live) ∙ ap (length {A = Kind}) is.kinds ∙ length-replicate is.count k in
       let head_read = read_head x (extra u []) shape s.class st t h.keeps.main_unheld h.keeps.grounded
       (stack_words setting statics at u st.frame []) n r.live in
-      let b : 40 + length statics ≤ base setting statics = base_above x in
+      let b : FIXED_CELLS + length statics ≤ base setting statics = base_above x in
       let region = region_inside setting st.store st.log h.keeps.placed n o.head head_is r.no_main in
       let where_is : names_at n ≡ base setting statics + block_of at.blocks n =
       names_are n ∙ ap (λ q. if q then statics_at else base setting statics + block_of at.blocks n)

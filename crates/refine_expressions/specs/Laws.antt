@@ -9,16 +9,16 @@ use Rattle.class_table.specs.Program.{IsAccepted}
 use Rattle.paired_code.specs.declared.part.Symbol.{Symbol}
 use Rattle.expr_uncompute.specs.Code.{words, place_words}
 use Rattle.expr_uncompute.specs.Promises as code
-use Rattle.refine_calls.specs.Laws.{most_statics}
 use Rattle.refine_form.specs.Form.{Scope, TestLaw, ValueLaw, StmtLaw}
 use Rattle.refine_form.specs.Worlds.{Place, world_of}
 use Rattle.code_conventions.specs.declared.registers.TheConstants.{FLAG, VALUE}
 use Rattle.refine_expressions.specs.Typing.{IsTyped, IsPassed, spot_in, free_in}
+use Rattle.pisa_isa.specs.declared.image.TheConstants.{MOST_STATICS}
 
 -- an accepted program, and not too many static cells
 pub record IsLaidOut (place : Place) : Type 0 where
   pub accepted : IsAccepted place.setting.program
-  pub few : length place.statics ≤ most_statics
+  pub few : length place.statics ≤ MOST_STATICS
 
 -- code that xors the truth of an int expression's number into the flag tests what the source says
 abbrev pub TestsAreTold : Type 0

@@ -8,12 +8,12 @@ use Rattle.class_table.specs.Expressions.{type_of}
 use Rattle.class_table.specs.Statements.{passed, check_statement}
 use Rattle.class_table.specs.Program.{setting_in}
 use Rattle.meaning_sound.specs.Plain.{HasWords, StatementHasWords}
-use Rattle.refine_frame.specs.Open.{frame_size}
 use Rattle.code_scope.specs.Visible.{Known, spot_of, free_of}
 use Rattle.expr_uncompute.specs.Code.{words}
 use Rattle.refine_form.specs.declared.spot.Spot.{Spot}
 use Rattle.refine_form.specs.Form.{Scope}
 use Rattle.refine_form.specs.Stands.{shape_of}
+use Rattle.rpp_words.specs.declared.input.TheConstants.{FRAME_WORDS}
 
 -- the variables of a scope, and the fields of its class
 abbrev pub known_of : Source → Scope → Known
@@ -28,7 +28,7 @@ free_in program s = free_of (known_of program s)
 
 -- so many words behind its variables are in the frame
 abbrev pub HasRoom : Source → Scope → ℕ → Type 0
-HasRoom program s n = free_in program s + n ≤ frame_size
+HasRoom program s n = free_in program s + n ≤ FRAME_WORDS
 
 -- the program's rules of types, in the scope's class
 abbrev pub typing_in : Source → Scope → Typing

@@ -8,12 +8,13 @@ use Rattle.class_table.specs.Classes.{class_fields}
 use Rattle.class_table.specs.Members.{field_of}
 use Rattle.buddy_book.specs.Place.{Placing, block_of, place}
 use Rattle.pisa_isa.specs.Loaded.{statics_at, heap_base, fixed_cells}
+use Rattle.code_conventions.specs.declared.memory.TheConstants.{MOST_VARIABLES, FIRST_VARIABLE}
+use Rattle.rpp_words.specs.declared.input.TheConstants.{FRAME_WORDS}
 use Rattle.roopl_semantics.specs.Store.{Value, Binding, Store, State, main_name, object_at}
 use Rattle.roopl_semantics.specs.Store.{class_of_head}
 use Rattle.roopl_semantics.specs.Value.{Cell, Slot, Part}
 use Rattle.roopl_semantics.specs.Layout.{word_of, first_address, static_words, heap_words}
 use Rattle.roopl_semantics.specs.Execution.{Setting}
-use Rattle.refine_frame.specs.Open.{frame_size, put_by as put_size, most_variables}
 use Rattle.refine_form.specs.Form.{Scope}
 
 -- as many values may move into the frame above as a method may have parameters
@@ -66,7 +67,7 @@ module _ (setting : Setting) (statics : List ℕ) where
 
   -- the words of a frame: what is put by, the variables, and zeros
   abbrev pub frame_words : Placing → List ℕ → List Value → List ℕ
-  frame_words at put_by vs = filled_to frame_size (put_by ++ value_words at vs)
+  frame_words at put_by vs = filled_to FRAME_WORDS (put_by ++ value_words at vs)
 
   -- the frames below, the outermost first
   abbrev pub callers_words : Placing → List Caller → List ℕ
@@ -77,7 +78,7 @@ module _ (setting : Setting) (statics : List ℕ) where
   -- the values that have moved into the frame above
   abbrev pub above_words : Placing → List Value → List ℕ
   above_words at [] = []
-  above_words at (v ∷ vs) = replicate put_size 0 ++ value_words at (v ∷ vs)
+  above_words at (v ∷ vs) = replicate FIRST_VARIABLE 0 ++ value_words at (v ∷ vs)
 
   abbrev pub stack_words : Placing → Under → List Binding → List Value → List ℕ
   stack_words at u frame vals = callers_words at u.callers
@@ -93,7 +94,7 @@ module _ (setting : Setting) (statics : List ℕ) where
 
   abbrev pub memory : Placing → Store → List ℕ → List ℕ
   memory at store stack = before_stack at store
-      ++ filled_to (frame_size * setting.limits.deep) stack
+      ++ filled_to (FRAME_WORDS * setting.limits.deep) stack
 
   -- the objects of open calls are there, of the same class and at the same address
   abbrev pub StandsAt : Placing → Store → (self class object : ℕ) → Type 0
@@ -103,8 +104,8 @@ module _ (setting : Setting) (statics : List ℕ) where
   abbrev pub CallersStand : Placing → Store → List Caller → Type 0
   CallersStand at store [] = Unit {0}
   CallersStand at store (c ∷ callers) =
-      StandsAt at store c.self c.class c.object × (length c.put_by ≡ put_size)
-      × (length c.frame ≤ most_variables) × CallersStand at store callers
+      StandsAt at store c.self c.class c.object × (length c.put_by ≡ FIRST_VARIABLE)
+      × (length c.frame ≤ MOST_VARIABLES) × CallersStand at store callers
 
   -- where a name stands in a scope, or else the field of the object
   abbrev pub cell_at : Under → Ident → Option ℕ → Cell
@@ -133,7 +134,7 @@ module _ (setting : Setting) (statics : List ℕ) where
     pub callers_stand : CallersStand at st.store u.callers
     pub depth_is : st.depth ≡ 1 + length u.callers
     pub in_depth : st.depth ≤ setting.limits.deep
-    pub put_long : length u.put_by ≡ put_size
-    pub few : length st.frame ≤ most_variables
+    pub put_long : length u.put_by ≡ FIRST_VARIABLE
+    pub few : length st.frame ≤ MOST_VARIABLES
     pub few_vals : length vals ≤ most_moved
     pub above_fits : AboveFits vals st.depth

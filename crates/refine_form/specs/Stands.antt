@@ -20,11 +20,12 @@ use Rattle.roopl_semantics.specs.Laws.{one_if_name, holders_among}
 use Rattle.meaning_sound.specs.Sound.{named_fits, head_named, count_named, is_live, fits, AllFit}
 use Rattle.meaning_sound.specs.Sound.{local_type, cell_kinds, value_of, held, Descending}
 use Rattle.meaning_sound.specs.Sound.{IsPlaced, cell_kind}
-use Rattle.refine_frame.specs.Open.{Setup, IsGrounded, put_by as put_size}
+use Rattle.refine_frame.specs.Open.{Setup, IsGrounded}
 use Rattle.refine_form.specs.Form.{Scope, Moved}
 use Rattle.refine_form.specs.Frames.{Caller, Under, cell_in, OpenFrame}
 use Rattle.refine_form.specs.declared.spot.Spot.{Spot}
 use Rattle.refine_form.specs.declared.spot.Spot.TheVariants.{Field, Frame}
+use Rattle.code_conventions.specs.declared.memory.TheConstants.{FIRST_VARIABLE}
 
 -- ---- what holds a name besides the store and the open frame
 
@@ -71,7 +72,7 @@ shape_of program s = map (local_of program) s.vars
 
 -- where a name stands
 abbrev pub spot_at : Source → Scope → Ident → Option ℕ → Spot
-spot_at program s name (Some i) = Frame (put_size + (length s.vars - 1 - i))
+spot_at program s name (Some i) = Frame (FIRST_VARIABLE + (length s.vars - 1 - i))
 spot_at program s name None = Field (unwrap_or (field_of (class_fields program s.class) name.text)
     0)
 

@@ -7,10 +7,10 @@ use Rattle.paired_code.specs.Machine.{Image}
 use Rattle.paired_code.specs.Does.{Rates}
 use Rattle.roopl_semantics.specs.Execution.{Setting}
 use Rattle.roopl_semantics.specs.Layout.{no_placing}
-use Rattle.refine_frame.specs.Open.{frame_size}
 use Rattle.refine_form.specs.Form.{World, Routines}
 use Rattle.refine_form.specs.Frames.{Under, stack_base, value_word}
 use Rattle.refine_form.specs.Stands.{Reads, Stands}
+use Rattle.rpp_words.specs.declared.input.TheConstants.{FRAME_WORDS}
 
 pub record Place : Type 0 where
   pub setting : Setting
@@ -35,7 +35,7 @@ world_of p = record {
   routines = p.routines;
   Under = Under;
   object_of = λ u. u.object;
-  frame_of = λ u. stack_base p.setting p.statics + frame_size * length u.callers;
+  frame_of = λ u. stack_base p.setting p.statics + FRAME_WORDS * length u.callers;
   IsFresh = IsFresh;
   opens = Stands p.setting p.statics;
   reads = λ s u st cells. Reads p.setting p.statics s u [] st cells;

@@ -14,8 +14,10 @@ use Rattle.roopl_semantics.specs.Layout.{HasStatics, main_statics, tables}
 use Rattle.pisa_isa.specs.Image.{Segments}
 use Rattle.pisa_isa.specs.Loaded.{statics_at, loaded}
 use Rattle.pisa_isa.specs.Machine.{State as Machine, reg}
+use Rattle.code_conventions.specs.declared.memory.TheConstants.{FIRST_VARIABLE}
+use Rattle.code_conventions.specs.declared.registers.TheConstants.{FRAME, OBJECT}
 use Rattle.meaning_sound.specs.Sound.{Stays}
-use Rattle.refine_frame.specs.Open.{Setup, stack_at, put_by, object_register, frame_register, Open, IsGrounded}
+use Rattle.refine_frame.specs.Open.{Setup, stack_at, Open, IsGrounded}
 use Rattle.roopl_semantics.proofs.Starting.{starts_loaded}
 use Rattle.refine_frame.proofs.Opens.{begun}
 
@@ -35,8 +37,9 @@ module _ (program : Source) (image : Segments) (limits : Limits) (input : List F
   }
 
   pub main_begins : (m : Machine) → m.cells ≡ loaded image.statics limits input → length m.regs ≡ 32
-      → reg m object_register ≡ statics_at → reg m frame_register ≡ stack_at setup
-      → Open setup (record { book = start limits.heap; blocks = [] }) (replicate put_by 0) (starting program input) m
+      → reg m OBJECT ≡ statics_at → reg m FRAME ≡ stack_at setup
+      → Open setup (record { book = start limits.heap; blocks = [] }) (replicate FIRST_VARIABLE 0)
+      (starting program input) m
   main_begins m cells regs object frame =
       begun setup (record { book = start limits.heap; blocks = [] }) (starting program input) m refl refl
       inside.deep_from refl (cells ∙ sym (starts_loaded program image limits input has inside valid)) regs object

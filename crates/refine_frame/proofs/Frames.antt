@@ -7,9 +7,12 @@ use Rattle.buddy_book.specs.Place.{Placing, block_of}
 use Rattle.roopl_semantics.specs.Store.{Binding, State}
 use Rattle.roopl_semantics.specs.Laws.{block_in, holders_among}
 use Rattle.pisa_isa.specs.Machine.{State as Machine, reg, with_reg}
+use Rattle.code_conventions.specs.declared.memory.TheConstants.{FIRST_VARIABLE, MOST_VARIABLES}
+use Rattle.code_conventions.specs.declared.registers.TheConstants.{FRAME, OBJECT}
+use Rattle.rpp_words.specs.declared.input.TheConstants.{FRAME_WORDS}
 use Rattle.meaning_sound.specs.Sound.{value_of, Stays, IsPlaced}
-use Rattle.refine_frame.specs.Open.{Setup, base_of, stack_at, address_of, memory, frame_words, frame_size, put_by}
-use Rattle.refine_frame.specs.Open.{most_variables, object_register, frame_register, Open}
+use Rattle.refine_frame.specs.Open.{Setup, base_of, stack_at, address_of, memory, frame_words}
+use Rattle.refine_frame.specs.Open.{Open}
 use Rattle.refine_frame.proofs.Memory.{zeros_end}
 use Rattle.refine_frame.proofs.Opens.{length_frame_words, frame_words_same}
 
@@ -33,13 +36,13 @@ frame_words_stay u extra st end p q stays f held = frame_words_same (base_of u) 
 -- the next frame is opened: this one is below
 pub frame_opened : (u : Setup) (at : Placing) (below : List ℕ) (st : State) (m : Machine) → Open u at below st m
     → st.depth < u.setting.limits.deep
-    → Open u at (below ++ frame_words (base_of u) at.blocks st.frame ++ replicate (frame_size - length st.frame) 0)
-    (record st { frame = []; depth = 1 + st.depth }) (with_reg m frame_register (reg m frame_register + frame_size))
+    → Open u at (below ++ frame_words (base_of u) at.blocks st.frame ++ replicate (FRAME_WORDS - length st.frame) 0)
+    (record st { frame = []; depth = 1 + st.depth }) (with_reg m FRAME (reg m FRAME + FRAME_WORDS))
 frame_opened u at below st m o deeper =
     let words = frame_words (base_of u) at.blocks st.frame in
     let stack = below ++ words in
-    let left = frame_size - length st.frame in
-    let w = reg m frame_register + frame_size in
+    let left = FRAME_WORDS - length st.frame in
+    let w = reg m FRAME + FRAME_WORDS in
     let few = o.few in
     let calls = o.open_calls in
     let level = o.level in
@@ -59,27 +62,28 @@ frame_opened u at below st m o deeper =
       open_calls = omega arith;
       in_depth = omega arith;
       few = omega arith;
-      registers = length-set m.regs frame_register w ∙ o.registers;
-      object_is = get_or-set_other m.regs frame_register object_register w 0 (λ e. omega arith) ∙ o.object_is;
-      frame_is = get_or-set_same m.regs frame_register w 0 (omega arith)
-          ∙ (let q : w ≡ stack_at u + frame_size * (1 + st.depth - 1) = omega arith in q);
+      registers = length-set m.regs FRAME w ∙ o.registers;
+      object_is = get_or-set_other m.regs FRAME OBJECT w 0 (λ e. omega arith) ∙ o.object_is;
+      frame_is = get_or-set_same m.regs FRAME w 0 (omega arith)
+          ∙ (let q : w ≡ stack_at u + FRAME_WORDS * (1 + st.depth - 1) = omega arith in q);
     }
 
 -- a frame is left: the frame below has its words again
 pub frame_left : (u : Setup) (at at' : Placing) (below : List ℕ) (st end : State) (m : Machine) → end.frame ≡ []
-    → end.depth ≡ 1 + st.depth → 1 ≤ st.depth → length st.frame ≤ most_variables
-    → length below ≡ frame_size * (st.depth - 1) + put_by
+    → end.depth ≡ 1 + st.depth → 1 ≤ st.depth → length st.frame ≤ MOST_VARIABLES
+    → length below ≡ FRAME_WORDS * (st.depth - 1) + FIRST_VARIABLE
     → frame_words (base_of u) at'.blocks st.frame ≡ frame_words (base_of u) at.blocks st.frame
-    → reg m object_register ≡ address_of u at'.blocks st.self
-    → Open u at' (below ++ frame_words (base_of u) at.blocks st.frame ++ replicate (frame_size - length st.frame) 0) end
+    → reg m OBJECT ≡ address_of u at'.blocks st.self
+    → Open u at' (below ++ frame_words (base_of u) at.blocks st.frame ++ replicate (FRAME_WORDS - length st.frame) 0)
+    end
     m
     → Open u at' below (record st { store = end.store; log = end.log })
-    (with_reg m frame_register (reg m frame_register - frame_size))
+    (with_reg m FRAME (reg m FRAME - FRAME_WORDS))
 frame_left u at at' below st end m none deeper calls few level kept object o =
     let words = frame_words (base_of u) at.blocks st.frame in
     let stack = below ++ words in
-    let left = frame_size - length st.frame in
-    let w = reg m frame_register - frame_size in
+    let left = FRAME_WORDS - length st.frame in
+    let w = reg m FRAME - FRAME_WORDS in
     let is = o.frame_is in
     let in_depth = o.in_depth in
     let count = o.registers in
@@ -92,8 +96,8 @@ frame_left u at at' below st end m none deeper calls few level kept object o =
       open_calls = calls;
       in_depth = omega arith;
       few = few;
-      registers = length-set m.regs frame_register w ∙ o.registers;
-      object_is = get_or-set_other m.regs frame_register object_register w 0 (λ e. omega arith) ∙ object;
-      frame_is = get_or-set_same m.regs frame_register w 0 (omega arith)
-          ∙ (let q : w ≡ stack_at u + frame_size * (st.depth - 1) = omega arith in q);
+      registers = length-set m.regs FRAME w ∙ o.registers;
+      object_is = get_or-set_other m.regs FRAME OBJECT w 0 (λ e. omega arith) ∙ object;
+      frame_is = get_or-set_same m.regs FRAME w 0 (omega arith)
+          ∙ (let q : w ≡ stack_at u + FRAME_WORDS * (st.depth - 1) = omega arith in q);
     }

@@ -1,8 +1,8 @@
 -- Reads and writes of objects and arrays in the heap's words.
 use Rattle.std.proofs.Common.{◌≡◌, ◌≢◌, ◌∙◌, sym, ap, refl, ℕ, zero, suc, ◌+◌, ◌<◌, ◌≤◌, ◌⊎◌, inl, inr, ⊎_elim, Bool}
-use Rattle.std.proofs.Common.{true, false, List, [], ◌∷◌, map, length, Some, arith}
+use Rattle.std.proofs.Common.{true, false, List, [], ◌∷◌, map, length, Some, arith, ◌++◌, ◌-◌}
 use Rattle.std.proofs.lemmas.Bool.{eqb-true}
-use Rattle.std.proofs.lemmas.List.{length-map, map-set, length-replicate}
+use Rattle.std.proofs.lemmas.List.{length-map, map-set, length-replicate, set-append_right, get_or-append-add}
 use Rattle.std.specs.Prelude.{nat_eq, slice_get, slice_index, slice_set, replicate, if◌then◌else◌}
 use Rattle.std.specs.Option.{unwrap_or, option_map}
 use Rattle.code_conventions.specs.declared.memory.TheConstants.{HEADER_WORDS}
@@ -20,6 +20,7 @@ use Rattle.meaning_sound.proofs.Lists.{all_length}
 use Rattle.meaning_sound.proofs.Stores.{differs, live_object, changed_here, changed_other}
 use Rattle.meaning_sound.proofs.Overlays.{length_overlaid, index_inside, index_outside, set_inside, set_outside}
 use Rattle.meaning_sound.proofs.Regions.{regions_apart, BlocksDescend, EntriesAre, has_entry}
+use Rattle.code_conventions.specs.Header.{header}
 
 -- ---- lengths
 
@@ -53,11 +54,15 @@ length_words program base blocks o = omega (arith, length-map o.cells (word_of b
 
 -- ---- a word of an object
 
-pub index_words : (x y : ℕ) (ws : List ℕ) (i : ℕ) → slice_index (x ∷ y ∷ ws) (HEADER_WORDS + i) ≡ slice_index ws i
-index_words x y ws i = let e : HEADER_WORDS + i ≡ suc (suc i) = omega arith in ap (slice_index (x ∷ y ∷ ws)) e
+pub index_words : (x y : ℕ) (ws : List ℕ) (i : ℕ) → slice_index (header x y ++ ws) (HEADER_WORDS + i) ≡ slice_index ws i
+index_words x y ws i = get_or-append-add (header x y) ws i 0
 
-set_words : (x y : ℕ) (ws : List ℕ) (i w : ℕ) → slice_set (x ∷ y ∷ ws) (HEADER_WORDS + i) w ≡ x ∷ y ∷ slice_set ws i w
-set_words x y ws i w = let e : HEADER_WORDS + i ≡ suc (suc i) = omega arith in ap (λ z. slice_set (x ∷ y ∷ ws) z w) e
+set_words : (x y : ℕ) (ws : List ℕ) (i w : ℕ)
+    → slice_set (header x y ++ ws) (HEADER_WORDS + i) w ≡ header x y ++ slice_set ws i w
+set_words x y ws i w =
+    let e : HEADER_WORDS + i - HEADER_WORDS ≡ i = omega arith in
+    set-append_right (header x y) ws HEADER_WORDS (HEADER_WORDS + i) w refl (omega arith)
+    ∙ ap (λ k. header x y ++ slice_set ws k w) e
 
 index_map : (f : Value → ℕ) (vs : List Value) (i : ℕ) → i < length vs
     → slice_index (map f vs) i ≡ f (unwrap_or (slice_get vs i) Nil)
@@ -80,7 +85,7 @@ pub set_object : (program : Source) (base : ℕ) (blocks : List (ℕ × ℕ)) (o
     ≡ object_words program base blocks (with_cell i v o)
 set_object program base blocks o i v =
     set_words (head_word program o.head) o.count (map (word_of base blocks) o.cells) i (word_of base blocks v)
-    ∙ ap (λ z. head_word program o.head ∷ o.count ∷ z) (sym (map-set (word_of base blocks) o.cells i v))
+    ∙ ap (λ z. header (head_word program o.head) o.count ++ z) (sym (map-set (word_of base blocks) o.cells i v))
 
 pub changed_object : (store : Store) (n : ℕ) (f : Object → Object) (o : Object) → object_named store n ≡ Some o
     → object_at (changed_at store n f) n ≡ f (object_at store n)

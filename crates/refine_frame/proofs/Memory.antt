@@ -7,7 +7,7 @@ use Rattle.std.proofs.lemmas.List.{get_or_append_left, get_or-append_right, set-
 use Rattle.std.proofs.lemmas.List.{length-map, length-replicate}
 use Rattle.std.specs.Prelude.{nat_eq, is_some, slice_get, slice_index, slice_set, replicate, if◌then◌else◌}
 use Rattle.std.specs.Option.{unwrap_or, option_map}
-use Rattle.rpp_words.specs.declared.input.TheConstants.{FIXED_CELLS}
+use Rattle.rpp_words.specs.declared.input.TheConstants.{FIXED_CELLS, FRAME_WORDS}
 use Rattle.code_conventions.specs.declared.memory.TheConstants.{HEADER_WORDS}
 use Rattle.rpp_tree.specs.Tree.{Source}
 use Rattle.class_table.specs.Scope.{Locals}
@@ -23,7 +23,7 @@ use Rattle.buddy_book.specs.Shown.{first_address}
 use Rattle.pisa_isa.specs.Loaded.{statics_at, fixed_cells}
 use Rattle.class_table.specs.Inheritance.{kind_of_var}
 use Rattle.meaning_sound.specs.Sound.{head_of, is_live, cell_kinds, Typed}
-use Rattle.refine_frame.specs.Open.{Setup, base_of, stack_at, address_of, memory, frame_size, IsGrounded}
+use Rattle.refine_frame.specs.Open.{Setup, base_of, stack_at, address_of, memory, IsGrounded}
 use Rattle.meaning_sound.proofs.Lists.{all_length}
 use Rattle.meaning_sound.proofs.Stores.{other_number, same_number, live_object, changed_other}
 use Rattle.meaning_sound.proofs.Overlays.{length_overlaid, index_inside, set_inside, zeros_padded, none_over_zeros}
@@ -142,7 +142,7 @@ module _ (u : Setup) (extra : ℕ → ℕ) (shape : Locals) (class : ℕ) (st : 
   heap = heap_words program size base st.store at
 
   abbrev pub stack_part : List ℕ → List ℕ
-  stack_part stack = overlaid (replicate (frame_size * u.setting.limits.deep) 0) 0 stack
+  stack_part stack = overlaid (replicate (FRAME_WORDS * u.setting.limits.deep) 0) 0 stack
 
   pub main_object_is : object_named st.store main_name ≡ Some (object_at st.store main_name)
   main_object_is = live_object st.store main_name (ap is_some g.main)
@@ -190,20 +190,20 @@ module _ (u : Setup) (extra : ℕ → ℕ) (shape : Locals) (class : ℕ) (st : 
 
   -- ---- reads
 
-  pub read_stack : (stack : List ℕ) (i : ℕ) → i < length stack → length stack ≤ frame_size * u.setting.limits.deep
+  pub read_stack : (stack : List ℕ) (i : ℕ) → i < length stack → length stack ≤ FRAME_WORDS * u.setting.limits.deep
       → slice_index (memory u at st.store stack) (stack_at u + i) ≡ slice_index stack i
   read_stack stack i h room =
       fifth fixed statics gap heap (stack_part stack) (stack_at u + i) i
       (let b = before_heap in let z = length_heap_is in omega arith)
-      ∙ index_inside (replicate (frame_size * u.setting.limits.deep) 0) 0 stack i i (omega arith) h
-      (omega (arith, length-replicate {A = ℕ} (frame_size * u.setting.limits.deep) 0))
+      ∙ index_inside (replicate (FRAME_WORDS * u.setting.limits.deep) 0) 0 stack i i (omega arith) h
+      (omega (arith, length-replicate {A = ℕ} (FRAME_WORDS * u.setting.limits.deep) 0))
 
   pub write_stack : (stack : List ℕ) (i w : ℕ) → i < length stack
       → slice_set (memory u at st.store stack) (stack_at u + i) w ≡ memory u at st.store (slice_set stack i w)
   write_stack stack i w h =
       set_fifth fixed statics gap heap (stack_part stack) (stack_at u + i) i w
       (let b = before_heap in let z = length_heap_is in omega arith)
-      ∙ ap (λ z. fixed ++ statics ++ gap ++ heap ++ z) (set_inside (replicate (frame_size * u.setting.limits.deep) 0) 0
+      ∙ ap (λ z. fixed ++ statics ++ gap ++ heap ++ z) (set_inside (replicate (FRAME_WORDS * u.setting.limits.deep) 0) 0
       stack i i w (omega arith) h)
 
   -- the address of a name that is live
@@ -378,7 +378,7 @@ module _ (u : Setup) (extra : ℕ → ℕ) (shape : Locals) (class : ℕ) (st : 
 
   -- the number of cells
   pub memory_length : (stack : List ℕ) → length (memory u at st.store stack)
-      ≡ stack_at u + frame_size * u.setting.limits.deep
+      ≡ stack_at u + FRAME_WORDS * u.setting.limits.deep
   memory_length stack =
       let b = before_heap in let z = length_heap_is in
       omega (
@@ -387,8 +387,8 @@ module _ (u : Setup) (extra : ℕ → ℕ) (shape : Locals) (class : ℕ) (st : 
         length-append (fixed ++ statics ++ gap) heap,
         length-append (fixed ++ statics) gap,
         length-append fixed statics,
-        length_overlaid (replicate (frame_size * u.setting.limits.deep) 0) 0 stack,
-        length-replicate {A = ℕ} (frame_size * u.setting.limits.deep) 0,
+        length_overlaid (replicate (FRAME_WORDS * u.setting.limits.deep) 0) 0 stack,
+        length-replicate {A = ℕ} (FRAME_WORDS * u.setting.limits.deep) 0,
       )
 
 -- zeros at the end of the stack are no words of it
@@ -399,7 +399,7 @@ zeros_end u at store stack n =
     (map (first_address (base_of u)) at.book) ++ static_words u.setting.program (base_of u) at.blocks u.statics
     store ++ replicate (base_of u - statics_at - length u.statics) 0
     ++ heap_words u.setting.program (2 ^ u.setting.limits.heap) (base_of u) store at in
-    ap (λ z. front ++ z) (zeros_padded (frame_size * u.setting.limits.deep) stack n)
+    ap (λ z. front ++ z) (zeros_padded (FRAME_WORDS * u.setting.limits.deep) stack n)
 
 -- with no words on the stack the memory is the layout
 pub memory_is_layout : (u : Setup) (at : Placing) (store : Store) (log : Log)
@@ -410,5 +410,5 @@ memory_is_layout u at store log placed =
     (map (first_address (base_of u)) at.book) ++ static_words u.setting.program (base_of u) at.blocks u.statics
     store ++ replicate (base_of u - statics_at - length u.statics) 0
     ++ heap_words u.setting.program (2 ^ u.setting.limits.heap) (base_of u) store at in
-    ap (λ z. front ++ z) (none_over_zeros (frame_size * u.setting.limits.deep))
+    ap (λ z. front ++ z) (none_over_zeros (FRAME_WORDS * u.setting.limits.deep))
     ∙ ap (λ o. placed_layout u.setting.program u.setting.limits u.statics store (unwrap_or o no_placing)) (sym placed)

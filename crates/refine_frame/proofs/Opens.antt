@@ -5,7 +5,7 @@ use Rattle.std.proofs.Common.{◌++◌, map, length, Some, arith, append_assoc, 
 use Rattle.std.proofs.lemmas.List.{get_or_append_left, get_or-append_right, set-append_left, set-append_right}
 use Rattle.std.proofs.lemmas.List.{length-replicate, length-set, length-map, set_at}
 use Rattle.std.specs.Prelude.{slice_get, slice_index, slice_set, replicate}
-use Rattle.code_conventions.specs.declared.memory.TheConstants.{HEADER_WORDS}
+use Rattle.code_conventions.specs.declared.memory.TheConstants.{HEADER_WORDS, FIRST_VARIABLE, MOST_VARIABLES}
 use Rattle.class_table.specs.declared.kind.Kind.{Kind}
 use Rattle.class_table.specs.Scope.{Locals}
 use Rattle.buddy_book.specs.Place.{Placing, block_of, place}
@@ -15,9 +15,11 @@ use Rattle.roopl_semantics.specs.Execution.{opened}
 use Rattle.roopl_semantics.specs.Layout.{word_of, layout}
 use Rattle.roopl_semantics.specs.Laws.{holders_among, one_if_name}
 use Rattle.pisa_isa.specs.Machine.{State as Machine, reg}
+use Rattle.code_conventions.specs.declared.registers.TheConstants.{FRAME, OBJECT}
+use Rattle.rpp_words.specs.declared.input.TheConstants.{FRAME_WORDS}
 use Rattle.meaning_sound.specs.Sound.{cell_kinds, value_of, local_type, cell_kind, Typed}
-use Rattle.refine_frame.specs.Open.{Setup, base_of, stack_at, address_of, memory, frame_words, cell_address, frame_size}
-use Rattle.refine_frame.specs.Open.{put_by, most_variables, object_register, frame_register, Open, IsGrounded}
+use Rattle.refine_frame.specs.Open.{Setup, base_of, stack_at, address_of, memory, frame_words, cell_address}
+use Rattle.refine_frame.specs.Open.{Open, IsGrounded}
 use Rattle.meaning_sound.proofs.Lists.{all_inside}
 use Rattle.meaning_sound.proofs.Stores.{live_named}
 use Rattle.meaning_sound.proofs.Cells.{part_of}
@@ -103,7 +105,7 @@ module _ (u : Setup) (extra : ℕ → ℕ) (shape : Locals) (class : ℕ) (st : 
   stack_length = omega (arith, length-append below words, length_frame_words base at.blocks st.frame)
 
   -- the stack's words lie within it
-  pub stack_room : length below + length st.frame + 448 ≤ frame_size * u.setting.limits.deep
+  pub stack_room : length below + length st.frame + 448 ≤ FRAME_WORDS * u.setting.limits.deep
   stack_room = let a = o.level in let b = o.in_depth in let c = o.open_calls in let d = o.few in omega arith
 
   -- ---- reads
@@ -193,7 +195,7 @@ module _ (u : Setup) (extra : ℕ → ℕ) (shape : Locals) (class : ℕ) (st : 
         frame_is = o.frame_is;
       }
 
-  pub cells_length : length m.cells ≡ stack_at u + frame_size * u.setting.limits.deep
+  pub cells_length : length m.cells ≡ stack_at u + FRAME_WORDS * u.setting.limits.deep
   cells_length = ap length o.cells ∙ memory_length u extra shape class st s g stack
 
   -- ---- the end of the stack
@@ -215,7 +217,7 @@ module _ (u : Setup) (extra : ℕ → ℕ) (shape : Locals) (class : ℕ) (st : 
       ∙ ap (slice_index (0 ∷ [])) back
 
   -- a variable appears
-  pub variable_opened : (name : List ℕ) (v : Value) → length st.frame < most_variables
+  pub variable_opened : (name : List ℕ) (v : Value) → length st.frame < MOST_VARIABLES
       → Open u at below (opened name v st) (with_cell m next_place (word_of base at.blocks v))
   variable_opened name v few =
       let w = word_of base at.blocks v in
@@ -296,21 +298,21 @@ variable_closed u extra shape class st name v s g below m o =
 pub begun : (u : Setup) (at : Placing) (st : State) (m : Machine) → st.frame ≡ [] → st.depth ≡ 1
     → 1 ≤ u.setting.limits.deep → place u.setting.limits.heap st.log ≡ Some at
     → m.cells ≡ layout u.setting.program u.setting.limits u.statics st.store st.log → length m.regs ≡ 32
-    → reg m object_register ≡ address_of u at.blocks st.self → reg m frame_register ≡ stack_at u
-    → Open u at (replicate put_by 0) st m
+    → reg m OBJECT ≡ address_of u at.blocks st.self → reg m FRAME ≡ stack_at u
+    → Open u at (replicate FIRST_VARIABLE 0) st m
 begun u at st m none one deep placed cells regs object frame = record {
   placed = placed;
   cells =
-      cells ∙ sym (memory_is_layout u at st.store st.log placed) ∙ sym (zeros_end u at st.store [] put_by)
-      ∙ ap (memory u at st.store) (sym (ap (λ f. replicate put_by 0 ++ frame_words (base_of u) at.blocks f) none
-      ∙ append-nil (replicate put_by 0)));
-  level = omega (arith, length-replicate {A = ℕ} put_by 0);
+      cells ∙ sym (memory_is_layout u at st.store st.log placed) ∙ sym (zeros_end u at st.store [] FIRST_VARIABLE)
+      ∙ ap (memory u at st.store) (sym (ap (λ f. replicate FIRST_VARIABLE 0 ++ frame_words (base_of u) at.blocks f) none
+      ∙ append-nil (replicate FIRST_VARIABLE 0)));
+  level = omega (arith, length-replicate {A = ℕ} FIRST_VARIABLE 0);
   open_calls = omega arith;
   in_depth = omega arith;
   few = omega (arith, ap length none);
   registers = regs;
   object_is = object;
-  frame_is = frame ∙ (let q : stack_at u ≡ stack_at u + frame_size * (st.depth - 1) = omega arith in q);
+  frame_is = frame ∙ (let q : stack_at u ≡ stack_at u + FRAME_WORDS * (st.depth - 1) = omega arith in q);
 }
 
 -- and with no variables and zeros put by the cells are the layout

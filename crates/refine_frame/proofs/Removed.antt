@@ -27,6 +27,7 @@ use Rattle.buddy_book.proofs.Requests.{block_of_other}
 use Rattle.meaning_sound.proofs.Overlays.{overlaid_is, laid, length_overlaid, index_inside, index_outside}
 use Rattle.meaning_sound.proofs.Regions.{regions_apart, BlocksDescend, EntriesAre, has_entry}
 use Rattle.refine_frame.proofs.Heaps.{length_words}
+use Rattle.code_conventions.specs.Header.{header}
 
 -- ---- overlays that do not meet
 
@@ -134,7 +135,7 @@ module _ (setting : Setting) (store : Store) (log : Rattle.buddy_book.specs.Plac
       ap (λ r. unwrap_or r no_object) (without_other store n m apart) in
       let inside = holders_inside n store m (object_at store m) (live_object store m live_m) in
       ap (object_words program base less) same
-      ∙ ap (λ z. head_word program (object_at store m).head ∷ (object_at store m).count ∷ z)
+      ∙ ap (λ z. header (head_word program (object_at store m).head) (object_at store m).count ++ z)
       (words_same base blocks n (object_at store m).cells (omega arith))
 
   live_head : (m : ℕ) → is_live store m ≡ true → head_named store m ≡ Some (object_at store m).head

@@ -1,7 +1,7 @@
 -- The laws in the form of their statements.
-use Rattle.refine_frame.specs.Open.{put_by}
 use Rattle.refine_frame.specs.Laws.{OpenCells, OpenLayout}
 use Rattle.refine_frame.proofs.Opens.{read_cell_is, write_cell_is, begun, ended}
+use Rattle.code_conventions.specs.declared.memory.TheConstants.{FIRST_VARIABLE}
 
 pub open_cells : OpenCells
 open_cells u extra shape class st s below m g o = record {
@@ -12,5 +12,5 @@ open_cells u extra shape class st s below m g o = record {
 pub open_layout : OpenLayout
 open_layout u at st m none one placed = record {
   begins = λ deep cells regs object frame. begun u at st m none one deep placed cells regs object frame;
-  ends = λ o. ended u at st m put_by none o;
+  ends = λ o. ended u at st m FIRST_VARIABLE none o;
 }

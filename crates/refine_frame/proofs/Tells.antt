@@ -20,8 +20,10 @@ use Rattle.rpp_words.specs.Limits.{IsLimits}
 use Rattle.roopl_semantics.specs.Layout.{word_of, head_word, object_words, with_book}
 use Rattle.roopl_semantics.specs.Laws.{one_if_name}
 use Rattle.pisa_isa.specs.Loaded.{statics_at}
+use Rattle.pisa_isa.specs.declared.image.TheConstants.{MOST_STATICS}
+use Rattle.rpp_words.specs.declared.input.TheConstants.{FRAME_WORDS}
 use Rattle.meaning_sound.specs.Sound.{head_of, is_live, fits, cell_kinds, cell_kind, held, Typed}
-use Rattle.refine_frame.specs.Open.{Setup, base_of, stack_at, address_of, memory, frame_size, IsGrounded}
+use Rattle.refine_frame.specs.Open.{Setup, base_of, stack_at, address_of, memory, IsGrounded}
 use Rattle.meaning_sound.proofs.Lists.{all_length}
 use Rattle.meaning_sound.proofs.Stores.{live_object, other_number, same_number, differs}
 use Rattle.meaning_sound.proofs.Cells.{read_fits, held_written}
@@ -42,8 +44,8 @@ rounded_below x s pos =
     omega arith
 
 -- with at most 262,144 static cells all addresses are far below the words' end
-pub cells_small : (u : Setup) → IsLimits u.setting.limits → length u.statics ≤ 262144
-    → stack_at u + frame_size * u.setting.limits.deep ≤ 2 ^ 23
+pub cells_small : (u : Setup) → IsLimits u.setting.limits → length u.statics ≤ MOST_STATICS
+    → stack_at u + FRAME_WORDS * u.setting.limits.deep ≤ 2 ^ 23
 cells_small u limits few =
     let r = rounded_below (statics_at + length u.statics) (2 ^ u.setting.limits.heap) (pow_pos u.setting.limits.heap) in
     let t = two_power u.setting.limits.heap limits.heap_to in

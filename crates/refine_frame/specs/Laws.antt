@@ -9,9 +9,11 @@ use Rattle.roopl_semantics.specs.Store.{Value, State}
 use Rattle.roopl_semantics.specs.Value.{Cell, read, written}
 use Rattle.roopl_semantics.specs.Layout.{word_of, layout}
 use Rattle.pisa_isa.specs.Machine.{State as Machine, reg}
+use Rattle.code_conventions.specs.declared.memory.TheConstants.{FIRST_VARIABLE}
+use Rattle.code_conventions.specs.declared.registers.TheConstants.{FRAME, OBJECT}
 use Rattle.meaning_sound.specs.Sound.{cell_kind, Typed}
-use Rattle.refine_frame.specs.Open.{Setup, base_of, stack_at, address_of, cell_address, put_by}
-use Rattle.refine_frame.specs.Open.{object_register, frame_register, IsGrounded, Open}
+use Rattle.refine_frame.specs.Open.{Setup, base_of, stack_at, address_of, cell_address}
+use Rattle.refine_frame.specs.Open.{IsGrounded, Open}
 
 -- with this word at an address
 abbrev pub with_word : Machine → ℕ → ℕ → Machine
@@ -43,9 +45,9 @@ pub record OpenIsLayout (u : Setup) (at : Placing) (st : State) (m : Machine) : 
   pub begins : 1 ≤ u.setting.limits.deep
       → m.cells ≡ layout u.setting.program u.setting.limits u.statics st.store st.log
       → length m.regs ≡ 32
-      → reg m object_register ≡ address_of u at.blocks st.self → reg m frame_register ≡ stack_at u
-      → Open u at (replicate put_by 0) st m
-  pub ends : Open u at (replicate put_by 0) st m
+      → reg m OBJECT ≡ address_of u at.blocks st.self → reg m FRAME ≡ stack_at u
+      → Open u at (replicate FIRST_VARIABLE 0) st m
+  pub ends : Open u at (replicate FIRST_VARIABLE 0) st m
       → m.cells ≡ layout u.setting.program u.setting.limits u.statics st.store st.log
 
 abbrev pub OpenLayout : Type 0

@@ -12,26 +12,10 @@ use Rattle.rpp_words.specs.Limits.{IsLimits}
 use Rattle.roopl_semantics.specs.Layout.{overlaid, word_of, laid}
 use Rattle.pisa_isa.specs.Loaded.{statics_at, heap_base}
 use Rattle.pisa_isa.specs.Machine.{State as Machine, reg}
+use Rattle.code_conventions.specs.declared.registers.TheConstants.{FRAME, OBJECT}
 use Rattle.code_conventions.specs.declared.memory.TheConstants.{HEADER_WORDS, FIRST_VARIABLE}
 use Rattle.code_conventions.specs.declared.memory.TheConstants.{MOST_VARIABLES}
 use Rattle.meaning_sound.specs.Sound.{head_named}
-
--- the registers of the present object and of the open frame
-abbrev pub object_register : ℕ
-object_register = 3
-
-abbrev pub frame_register : ℕ
-frame_register = 4
-
--- the words of a frame, of what is put by at its beginning, and the most variables
-abbrev pub frame_size : ℕ
-frame_size = FRAME_WORDS
-
-abbrev pub put_by : ℕ
-put_by = FIRST_VARIABLE
-
-abbrev pub most_variables : ℕ
-most_variables = MOST_VARIABLES
 
 -- what stays in a run: the program with its limits, and the static cells of its image
 pub record Setup : Type 0 where
@@ -53,7 +37,7 @@ address_of u blocks name = if nat_eq name main_name then statics_at else base_of
 abbrev pub memory : Setup → Placing → Store → List ℕ → List ℕ
 memory u at store stack =
     laid u.setting.program u.setting.limits u.statics store at
-    (overlaid (replicate (frame_size * u.setting.limits.deep) 0) 0 stack)
+    (overlaid (replicate (FRAME_WORDS * u.setting.limits.deep) 0) 0 stack)
 
 -- the words of the variables, the outermost first
 abbrev pub frame_words : ℕ → List (ℕ × ℕ) → List Binding → List ℕ
@@ -63,11 +47,11 @@ frame_words base blocks (b ∷ frame) = frame_words base blocks frame ++ word_of
 
 -- the word of the frame in which a variable stands
 abbrev pub variable_word : State → ℕ → ℕ
-variable_word st index = put_by + (length st.frame - 1 - index)
+variable_word st index = FIRST_VARIABLE + (length st.frame - 1 - index)
 
 -- the address of a cell
 abbrev pub cell_address : Setup → List (ℕ × ℕ) → State → Cell → ℕ
-cell_address u blocks st (Slot index) = stack_at u + frame_size * (st.depth - 1) + variable_word st
+cell_address u blocks st (Slot index) = stack_at u + FRAME_WORDS * (st.depth - 1) + variable_word st
     index
 cell_address u blocks st (Part name index) = address_of u blocks name + HEADER_WORDS + index
 
@@ -83,10 +67,10 @@ pub record Open (u : Setup) (at : Placing) (below : List ℕ) (st : State) (m : 
   where
     pub placed : place u.setting.limits.heap st.log ≡ Some at
     pub cells : m.cells ≡ memory u at st.store (below ++ frame_words (base_of u) at.blocks st.frame)
-    pub level : length below ≡ frame_size * (st.depth - 1) + put_by
+    pub level : length below ≡ FRAME_WORDS * (st.depth - 1) + FIRST_VARIABLE
     pub open_calls : 1 ≤ st.depth
     pub in_depth : st.depth ≤ u.setting.limits.deep
-    pub few : length st.frame ≤ most_variables
+    pub few : length st.frame ≤ MOST_VARIABLES
     pub registers : length m.regs ≡ 32
-    pub object_is : reg m object_register ≡ address_of u at.blocks st.self
-    pub frame_is : reg m frame_register ≡ stack_at u + frame_size * (st.depth - 1)
+    pub object_is : reg m OBJECT ≡ address_of u at.blocks st.self
+    pub frame_is : reg m FRAME ≡ stack_at u + FRAME_WORDS * (st.depth - 1)

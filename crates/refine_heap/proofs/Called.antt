@@ -3,6 +3,7 @@ use Rattle.std.proofs.Common.{◌≡◌, ◌∙◌, ℕ, ◌+◌, ◌-◌, ◌^�
 use Rattle.std.proofs.Common.{ap, subst, arith, get_or, replicate, Some, None}
 use Rattle.std.specs.List.{All}
 use Rattle.std.proofs.lemmas.List.{length-replicate, get_or-replicate}
+use Rattle.code_conventions.specs.declared.registers.TheConstants.{BLOCK}
 use Rattle.rpp_words.specs.Words.{IsWord}
 use Rattle.rpp_words.specs.declared.input.Limits.{Limits}
 use Rattle.rpp_tree.specs.Tree.{Source}
@@ -67,17 +68,17 @@ module _ (im : Image) (r top : ℕ) (body : List Symbol) (m : Memory) (program :
   law = calls_law im r top body m c.routine
 
   take_ends : (block : ℕ) (later : Book) → take placing.book k ≡ Some (block, later) → (o : Outcome)
-      → Took m book k block later o → LeavesIn (record (with_reg m 13 (base + block))
+      → Took m book k block later o → LeavesIn (record (with_reg m BLOCK (base + block))
       { cells = laid program limits statics store (record { book = later; blocks = placing.blocks }) stack }) h o
   take_ends block later t o (took cells steps some few held zero changes) =
       let is = taken_law program limits statics store placing taken stack k block later cells c.placed from t held zero
       (subst (λ z. ChangesList base h k placing.book z cells) c.cells changes) in
-      subst (λ z. LeavesIn (record (with_reg m 13 (base + block)) { cells = z }) h
-      (Done (record (with_reg m 13 (base + block)) { cells = cells }) steps)) is (leaves_in steps some few)
+      subst (λ z. LeavesIn (record (with_reg m BLOCK (base + block)) { cells = z }) h
+      (Done (record (with_reg m BLOCK (base + block)) { cells = cells }) steps)) is (leaves_in steps some few)
 
   laid_takes : (block : ℕ) (later : Book) → xor kind d ≡ false → Enters m k 0
       → take placing.book k ≡ Some (block, later) → Will im (Enter r kind ∷ []) d m
-      (LeavesIn (record (with_reg m 13 (base + block)) {
+      (LeavesIn (record (with_reg m BLOCK (base + block)) {
         cells = laid program limits statics store
             (record { book = later; blocks = placing.blocks }) stack;
       }) h)
@@ -130,7 +131,7 @@ module _ (im : Image) (r top : ℕ) (body : List Symbol) (m : Memory) (program :
   give_ends : (block : ℕ) → order_in taken block ≡ Some k
       → StandApart program (2 ^ h) base store placing.blocks placing.blocks (give placing.book k block) → (o : Outcome)
       → Gave m book k (give placing.book k (base + block - base)) o
-      → LeavesIn (record (with_reg m 13 0) {
+      → LeavesIn (record (with_reg m BLOCK 0) {
         cells = laid program limits statics store
             (record { book = give placing.book k block; blocks = placing.blocks }) stack;
       }) h o
@@ -142,12 +143,12 @@ module _ (im : Image) (r top : ℕ) (body : List Symbol) (m : Memory) (program :
       (subst (λ z. ChangesList base h k (give placing.book k z) m.cells cells) same changes) in
       let is = given_law program limits statics store placing taken stack k block cells c.placed from t apart held2
       changes2 in
-      subst (λ z. LeavesIn (record (with_reg m 13 0) { cells = z }) h
-      (Done (record (with_reg m 13 0) { cells = cells }) steps)) is (leaves_in steps some few)
+      subst (λ z. LeavesIn (record (with_reg m BLOCK 0) { cells = z }) h
+      (Done (record (with_reg m BLOCK 0) { cells = cells }) steps)) is (leaves_in steps some few)
 
   laid_gives : (block : ℕ) → xor kind d ≡ true → Enters m k (base + block) → order_in taken block ≡ Some k
       → StandApart program (2 ^ h) base store placing.blocks placing.blocks (give placing.book k block)
-      → Will im (Enter r kind ∷ []) d m (LeavesIn (record (with_reg m 13 0) {
+      → Will im (Enter r kind ∷ []) d m (LeavesIn (record (with_reg m BLOCK 0) {
         cells = laid program limits statics store (record
             { book = give placing.book k block; blocks = placing.blocks }) stack;
       }) h)

@@ -4,7 +4,7 @@ use Rattle.std.proofs.Common.{List, [], ◌∷◌, ◌++◌, length, refl, sym, 
 use Rattle.std.proofs.Common.{nat_eq, ltb-true, ltb-false, eqb-true, false-eqb}
 use Rattle.std.proofs.lemmas.List.{get_or_append_left, length-append, length-replicate, get_or-replicate, length-map}
 use Rattle.std.proofs.Math.Seq.{get_or-append_right}
-use Rattle.rpp_words.specs.declared.input.TheConstants.{FIXED_CELLS}
+use Rattle.rpp_words.specs.declared.input.TheConstants.{FIXED_CELLS, MOST_HEAP}
 use Rattle.rpp_words.specs.declared.input.Limits.{Limits}
 use Rattle.rpp_tree.specs.Tree.{Source}
 use Rattle.pisa_isa.specs.Loaded.{statics_at, heap_base, fixed_cells}
@@ -112,7 +112,8 @@ module _ (program : Source) (limits : Limits) (statics : List ℕ) (store : Stor
   abbrev Fits : Book → Type 0
   Fits book = StandApart program (2 ^ h) base store blocks blocks book
 
-  module _ (lists1 : length first ≡ h) (lists2 : length second ≡ h) (top : h ≤ 20) (count1 : Counted base (2 ^ h) first)
+  module _ (lists1 : length first ≡ h) (lists2 : length second ≡ h) (top : h ≤ MOST_HEAP)
+      (count1 : Counted base (2 ^ h) first)
       (count2 : Counted base (2 ^ h) second) (apart1 : Fits first) (apart2 : Fits second)
       (main : length (object_words program base blocks (object_at store main_name)) ≤ length statics) where
     abbrev words1 : List ℕ

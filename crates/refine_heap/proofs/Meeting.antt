@@ -1,5 +1,6 @@
 -- Calls of the allocator meet what the source says of a request.
 use Rattle.std.proofs.Common.{ℕ, ◌+◌, ◌*◌, ◌≤◌, arith, mul-le-mul_right}
+use Rattle.code_conventions.specs.declared.faults.TheConstants.{HEAP_FULL}
 use Rattle.pisa_isa.specs.Machine.{Memory}
 use Rattle.paired_code.specs.Pieces.{Outcome}
 use Rattle.paired_code.specs.Does.{Rates, Fine, Fault, Meets, fine, faults}
@@ -16,5 +17,5 @@ leaves_meets R b n h a after r hc hs o (leaves_in steps some few) =
 
 -- with the fault, at any cost that the steps are within
 pub traps_meets : {A : Type 0} (R : A → Memory → Type 0) (b : Rates) (n x c h : ℕ) → most_steps h + 7 ≤ b.steps * c + x
-    → (o : Outcome) → TrapsFull h o → Meets R b n x (Fault 8 c) o
+    → (o : Outcome) → TrapsFull h o → Meets R b n x (Fault HEAP_FULL c) o
 traps_meets R b n x c h within o (traps_full steps few) = faults (omega arith)

@@ -25,7 +25,7 @@ use Rattle.refine_heap.specs.Laid.{StandApart, LayoutLaw}
 use Rattle.refine_heap.proofs.Overlays.{overlaid_length, overlaid_before, overlaid_after, LinkedList, LinkedLists}
 use Rattle.refine_heap.proofs.Overlays.{FitList, FitLists, lists_agree, book_other, book_linked}
 use Rattle.std.proofs.lemmas.Nat.{pow_pos}
-use Rattle.rpp_words.specs.declared.input.TheConstants.{FIXED_CELLS}
+use Rattle.rpp_words.specs.declared.input.TheConstants.{FIXED_CELLS, MOST_HEAP}
 
 -- ---- the objects
 
@@ -194,7 +194,7 @@ counted h base book taken kept = record {
 }
 
 module _ (program : Source) (limits : Limits) (statics : List ℕ) (store : Store) (placing : Placing) (stack : List ℕ)
-    (lists : length placing.book ≡ limits.heap) (top : limits.heap ≤ 20)
+    (lists : length placing.book ≡ limits.heap) (top : limits.heap ≤ MOST_HEAP)
     (count : Counted (heap_base limits.heap (length statics)) (2 ^ limits.heap) placing.book)
     (apart : StandApart program (2 ^ limits.heap) (heap_base limits.heap (length statics)) store placing.blocks
     placing.blocks placing.book) (main_fits : length (object_words program (heap_base limits.heap (length statics))

@@ -2,6 +2,7 @@
 use Rattle.std.specs.Prelude.{◌≡◌, ◌<◌, ◌≤◌, ℕ, ◌+◌, Bool, true, false, List, [], ◌∷◌, length, Some}
 use Rattle.std.specs.Prelude.{None}
 use Rattle.std.specs.List.{All}
+use Rattle.code_conventions.specs.declared.faults.TheConstants.{HEAP_FULL}
 use Rattle.rpp_words.specs.Words.{IsWord}
 use Rattle.rpp_words.specs.declared.input.Limits.{Limits}
 use Rattle.rpp_tree.specs.Tree.{Source}
@@ -29,7 +30,7 @@ pub data LeavesIn (after : Memory) (h : ℕ) : Outcome → Type 0 where
 
 -- it traps for want of a block
 pub data TrapsFull (h : ℕ) : Outcome → Type 0 where
-  traps_full : (steps : ℕ) → steps ≤ most_steps h + 7 → TrapsFull h (Trapped 8 steps)
+  traps_full : (steps : ℕ) → steps ≤ most_steps h + 7 → TrapsFull h (Trapped HEAP_FULL steps)
 
 -- a call of a routine that is the allocator, from a memory that stands for a store
 pub record Calls (im : Image) (r top : ℕ) (body : List Symbol) (m : Memory)

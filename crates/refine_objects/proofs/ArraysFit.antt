@@ -18,6 +18,7 @@ use Rattle.class_table.specs.Expressions.{type_of, place_type, occurs}
 use Rattle.class_table.specs.Statements.{is_int_array, length_is_int}
 use Rattle.class_table.proofs.PassedRules.{handed_on, some_of, int_kind}
 use Rattle.pisa_isa.specs.Machine.{Memory}
+use Rattle.pisa_isa.specs.declared.image.TheConstants.{MOST_STATICS}
 use Rattle.paired_code.specs.declared.part.Symbol.{Symbol}
 use Rattle.paired_code.specs.Layout.{mirror_cells}
 use Rattle.buddy_pisa.specs.Promise.{most_steps}
@@ -78,7 +79,7 @@ module _ (p : Place) (routine : ℕ → Ident → ℕ) (linked : IsLinked p rout
   abbrev P : Source
   P = p.setting.program
 
-  few : length p.statics ≤ 262144
+  few : length p.statics ≤ MOST_STATICS
   few = linked.few
 
   abbrev classes : KnowsClasses p.setting.program

@@ -7,8 +7,8 @@ use Rattle.std.proofs.lemmas.List.{get_or-set_other}
 use Rattle.std.specs.Prelude.{nat_eq, nat_lt, nat_le, is_none, ◌||◌, ◌&&◌, slice_get, slice_index, slice_set}
 use Rattle.std.specs.Prelude.{if◌then◌else◌}
 use Rattle.std.specs.Option.{option_map, unwrap_or}
-use Rattle.rpp_words.specs.declared.input.TheConstants.{FRAME_WORDS}
-use Rattle.code_conventions.specs.declared.memory.TheConstants.{FIRST_VARIABLE, HEADER_WORDS}
+use Rattle.rpp_words.specs.declared.input.TheConstants.{FRAME_WORDS, FIXED_CELLS}
+use Rattle.code_conventions.specs.declared.memory.TheConstants.{FIRST_VARIABLE, HEADER_WORDS, COUNT_WORD}
 use Rattle.pisa_isa.specs.Machine.{Memory}
 use Rattle.rpp_tree.specs.declared.tree.Ident.{Ident}
 use Rattle.rpp_tree.specs.Tree.{Source}
@@ -24,11 +24,11 @@ use Rattle.roopl_semantics.specs.Value.{Cell, Part, read, written}
 use Rattle.roopl_semantics.specs.Layout.{no_placing, head_word}
 use Rattle.roopl_semantics.specs.Laws.{holders_among}
 use Rattle.roopl_semantics.specs.Execution.{order_of_cells, all_zero, freed}
+use Rattle.roopl_semantics.proofs.Orders.{order_from_one}
 use Rattle.meaning_sound.specs.Sound.{head_of, head_fits, is_live, cell_kinds, cell_kind, part_kind, AllFit, Typed}
 use Rattle.meaning_sound.proofs.Classes.{KnowsClasses}
 use Rattle.meaning_sound.proofs.Lists.{all_length}
 use Rattle.meaning_sound.proofs.Objects.{bigger, clash}
-use Rattle.meaning_sound.proofs.Placing.{order_from_one}
 use Rattle.meaning_sound.proofs.Regions.{region_inside}
 use Rattle.meaning_sound.proofs.Removal.{smaller}
 use Rattle.meaning_sound.proofs.Stores.{other_number, live_named, live_object}
@@ -255,7 +255,7 @@ module _ (p : Place) (routine : ℕ → Ident → ℕ) (linked : IsLinked p rout
           no_zero : (v : Value) → is_zero v ≡ false → value_word p.setting p.statics h.frame.at v ≡ 0 → ⊥
           no_zero (Word w) e q = clash (nat_eq w 0) (ap (λ x. nat_eq x 0) q) e
           no_zero Nil e q = cc
-          no_zero (Name n) e q = let b : 40 + length p.statics ≤ base p.setting p.statics =
+          no_zero (Name n) e q = let b : FIXED_CELLS + length p.statics ≤ base p.setting p.statics =
               base_above (setup p.setting p.statics) in omega (arith, b, q)
 
       pub stands_there : StandsThere p.setting Ad Sl Rel spot free u.object F p.im st m name
@@ -266,7 +266,7 @@ module _ (p : Place) (routine : ℕ → Ident → ℕ) (linked : IsLinked p rout
           record {
             inside = omega (arith, i, l);
             small = omega (arith, i, w);
-            count = ap (λ a. slice_index m.cells (a + 1)) (sym (address name))
+            count = ap (λ a. slice_index m.cells (a + COUNT_WORD)) (sym (address name))
                 ∙ count_word p.setting p.statics s u st m.cells rd name f;
             full = full;
           }
@@ -496,8 +496,8 @@ module _ (p : Place) (routine : ℕ → Ident → ℕ) (linked : IsLinked p rout
             has no_int n reads single zeros small))
 
         filled_long : (a x w : ℕ) (zs : List ℕ) → length (filled a x w zs) ≡ length zs
-        filled_long a x w zs = length-set (slice_set (slice_set zs x w) (x + 1) 1) a x
-            ∙ length-set (slice_set zs x w) (x + 1) 1 ∙ length-set zs x w
+        filled_long a x w zs = length-set (slice_set (slice_set zs x w) (x + COUNT_WORD) 1) a x
+            ∙ length-set (slice_set zs x w) (x + COUNT_WORD) 1 ∙ length-set zs x w
 
         given_long : length (gone.given p.setting p.statics s u st m.cells h cell k has no_int n reads single zeros)
             ≡ length m.cells
@@ -517,10 +517,10 @@ module _ (p : Place) (routine : ℕ → Ident → ℕ) (linked : IsLinked p rout
             reads single zeros) refl)
             ∙ get_or-set_other (slice_set (slice_set (gone.taken p.setting p.statics s u st m.cells h cell k has no_int
             n reads single zeros) (Ad st n) (gone.mark p.setting p.statics s u st m.cells h cell k has no_int
-            n reads single zeros)) (Ad st n + 1) 1) at a (Ad st n) 0 (λ e. omega (arith, e, i, l))
+            n reads single zeros)) (Ad st n + COUNT_WORD) 1) at a (Ad st n) 0 (λ e. omega (arith, e, i, l))
             ∙ get_or-set_other (slice_set (gone.taken p.setting p.statics s u st m.cells h cell k has no_int n reads
             single zeros) (Ad st n) (gone.mark p.setting p.statics s u st m.cells h cell k has no_int n reads
-            single zeros)) (Ad st n + 1) a 1 0 (λ e. omega (arith, e, w, l))
+            single zeros)) (Ad st n + COUNT_WORD) a 1 0 (λ e. omega (arith, e, w, l))
             ∙ get_or-set_other (gone.taken p.setting p.statics s u st m.cells h cell k has no_int n reads single zeros)
             (Ad st n) a (gone.mark p.setting p.statics s u st m.cells h cell k has no_int n reads single zeros) 0
             (λ e. omega (arith, e, w, l))

@@ -5,7 +5,7 @@ use Rattle.std.proofs.Common.{[], ◌∷◌, ◌++◌, map, length, Some, arith}
 use Rattle.std.proofs.lemmas.List.{length-map}
 use Rattle.std.specs.Prelude.{nat_eq, slice_index, if◌then◌else◌}
 use Rattle.std.specs.Option.{unwrap_or, option_map}
-use Rattle.code_conventions.specs.declared.memory.TheConstants.{HEADER_WORDS}
+use Rattle.code_conventions.specs.declared.memory.TheConstants.{HEADER_WORDS, OBJECT_WORD}
 use Rattle.buddy_book.specs.Place.{Log, Placing, count_taken}
 use Rattle.buddy_book.specs.Shown.{TakenBlocks, order_in, without_taken, size_of, taken_weight}
 use Rattle.buddy_book.proofs.Requests.{order_in-without_other}
@@ -26,6 +26,7 @@ use Rattle.refine_form.specs.Form.{Scope}
 use Rattle.refine_form.specs.Frames.{Caller, Under, CallersStand}
 use Rattle.refine_form.specs.Stands.{shape_of, extra, below_held, receiver_held, main_held, setup, Reads}
 use Rattle.refine_calls.proofs.Bridge.{typed}
+use Rattle.pisa_isa.specs.declared.image.TheConstants.{MOST_STATICS}
 
 -- ---- how often values hold a name
 
@@ -135,7 +136,7 @@ module _ (setting : Setting) (store : Store) (log : Log) (p : IsPlaced setting s
 
 module _ (setting : Setting) (statics : List ℕ) where
   receiver_most : (name self : ℕ) (put_by : List ℕ) → receiver_held name self put_by ≤ 1
-  receiver_most name self put_by = by (nat_eq (slice_index put_by 1) 0)
+  receiver_most name self put_by = by (nat_eq (slice_index put_by OBJECT_WORD) 0)
     where
       by : (b : Bool) → (if b then 0 else one_if_name name (Name self)) ≤ 1
       by true = omega arith
@@ -160,7 +161,7 @@ module _ (setting : Setting) (statics : List ℕ) where
       omega (arith, a, b, d, e, f)
 
   -- a name's holders are few
-  pub holders_few : (s : Scope) (u : Under) (st : State) (cells : List ℕ) → length statics ≤ 262144
+  pub holders_few : (s : Scope) (u : Under) (st : State) (cells : List ℕ) → length statics ≤ MOST_STATICS
       → Reads setting statics s u [] st cells → (name : ℕ) → held name st + extra u [] name < 2000000
   holders_few s u st cells few h name =
       let t = typed setting statics s u [] st cells h in

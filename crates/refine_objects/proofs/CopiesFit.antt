@@ -9,6 +9,7 @@ use Rattle.class_table.specs.Expressions.{is_int}
 use Rattle.class_table.specs.Statements.{passed, copy_rules}
 use Rattle.buddy_book.specs.Place.{Placing}
 use Rattle.pisa_isa.specs.Machine.{Memory}
+use Rattle.pisa_isa.specs.declared.image.TheConstants.{MOST_STATICS}
 use Rattle.paired_code.specs.declared.part.Symbol.{Symbol}
 use Rattle.paired_code.specs.Layout.{mirror_cells}
 use Rattle.roopl_semantics.specs.Store.{Value, Word, Nil, Name, State, object_at}
@@ -49,7 +50,7 @@ use Rattle.refine_objects.proofs.CountPlaces.{cells_apart, count_small, count_so
 use Rattle.refine_objects.proofs.CountsWritten.{copied_stands, uncopied_stands}
 use Rattle.meaning_inverse.proofs.Facts.{CopyTyped, copy_typed, PlacesCopied, places_copied}
 
-module _ (p : Place) (few : length p.statics ≤ 262144) (classes : KnowsClasses p.setting.program) (s : Scope)
+module _ (p : Place) (few : length p.statics ≤ MOST_STATICS) (classes : KnowsClasses p.setting.program) (s : Scope)
     (u : Under) (at : ℕ) (kind : VarType) (source target : Lvalue)
     (rules : copy_rules (typing_in p.setting.program s) (shape_of p.setting.program s) at kind source target ≡ passed)
     (source_words : PlaceHasWords source) (target_words : PlaceHasWords target)
@@ -314,7 +315,7 @@ module _ (p : Place) (few : length p.statics ≤ 262144) (classes : KnowsClasses
   }
 
 -- the law of a copy
-pub copy_fits : (p : Place) → length p.statics ≤ 262144 → KnowsClasses p.setting.program
+pub copy_fits : (p : Place) → length p.statics ≤ MOST_STATICS → KnowsClasses p.setting.program
     → (s : Scope) (at : ℕ) (kind : VarType) (source target : Lvalue)
     → IsPassed p.setting.program s (Copy at kind source target) (place_words source + place_words target)
     → (q : List Symbol) → CopyLaw (spot_in p.setting.program s) (free_in p.setting.program s) source target q
@@ -326,7 +327,7 @@ copy_fits p few classes s at kind source target ok q law n owes d u =
     kind (exec p.setting n)
 
 -- and of an uncopy
-pub uncopy_fits : (p : Place) → length p.statics ≤ 262144 → KnowsClasses p.setting.program
+pub uncopy_fits : (p : Place) → length p.statics ≤ MOST_STATICS → KnowsClasses p.setting.program
     → (s : Scope) (at : ℕ) (kind : VarType) (source target : Lvalue)
     → IsPassed p.setting.program s (Uncopy at kind source target) (place_words source + place_words target)
     → (q : List Symbol) → CopyLaw (spot_in p.setting.program s) (free_in p.setting.program s) source target q

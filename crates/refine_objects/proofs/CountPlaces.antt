@@ -10,6 +10,7 @@ use Rattle.code_conventions.specs.declared.memory.TheConstants.{FIRST_VARIABLE, 
 use Rattle.class_table.specs.declared.kind.Kind.{Kind}
 use Rattle.buddy_book.specs.Place.{Placing, block_of}
 use Rattle.pisa_isa.specs.Loaded.{statics_at}
+use Rattle.pisa_isa.specs.declared.image.TheConstants.{MOST_STATICS}
 use Rattle.roopl_semantics.specs.Store.{Word, Name, Object, State, main_name, object_at, no_object}
 use Rattle.roopl_semantics.specs.Value.{Cell, Slot, Part, read}
 use Rattle.roopl_semantics.specs.Laws.{one_if_name}
@@ -155,7 +156,8 @@ module _ (setting : Setting) (statics : List ℕ) (s : Scope) (u : Under) (st : 
       let b : one_if_name n (read st c) ≡ 1 = ap (one_if_name n) e ∙ one_name n in
       omega (arith, a, b)
 
-module _ (setting : Setting) (statics : List ℕ) (few : length statics ≤ 262144) (s : Scope) (u : Under) (st : State)
+module _ (setting : Setting) (statics : List ℕ) (few : length statics ≤ MOST_STATICS) (s : Scope) (u : Under)
+    (st : State)
     (cells : List ℕ) (h : Stands setting statics s u [] st cells) (n : ℕ)
     (r : IsRefers setting statics s u st cells (reads_of h) n) where
   count_is : (object_at st.store n).count ≡ held n st + extra u [] n

@@ -4,8 +4,8 @@ use Rattle.std.proofs.Common.{true, false, List, [], ◌∷◌, length, Some, No
 use Rattle.std.specs.Prelude.{nat_eq, is_some, slice_get, slice_index, slice_set, not}
 use Rattle.std.specs.Option.{option_map, unwrap_or}
 use Rattle.std.proofs.lemmas.List.{set-set, set-get_or, get_or-set_other, get_or-set_same}
-use Rattle.rpp_words.specs.declared.input.TheConstants.{FRAME_WORDS}
-use Rattle.code_conventions.specs.declared.memory.TheConstants.{FIRST_VARIABLE, HEADER_WORDS}
+use Rattle.rpp_words.specs.declared.input.TheConstants.{FRAME_WORDS, FIXED_CELLS}
+use Rattle.code_conventions.specs.declared.memory.TheConstants.{FIRST_VARIABLE, HEADER_WORDS, COUNT_WORD}
 use Rattle.class_table.specs.declared.kind.Kind.{Kind}
 use Rattle.class_table.specs.declared.kind.Kind.TheVariants as kind
 use Rattle.class_table.specs.Expressions.{is_int}
@@ -21,12 +21,12 @@ use Rattle.roopl_semantics.specs.Value.{Cell, Slot, Part, read, written}
 use Rattle.roopl_semantics.specs.Execution.{Setting, order_of_cells, all_zero, freed}
 use Rattle.roopl_semantics.specs.Laws.{one_if_name}
 use Rattle.roopl_semantics.specs.Layout.{head_word}
+use Rattle.roopl_semantics.proofs.Orders.{order_from_one}
 use Rattle.meaning_sound.specs.Sound.{head_of, head_named, part_kind, count_of, named_fits, fits, is_live, cell_kinds}
 use Rattle.meaning_sound.specs.Sound.{cell_kind, held, Sound, Keeps, IsPlaced, Typed}
 use Rattle.meaning_sound.proofs.Lists.{all_length}
 use Rattle.meaning_sound.proofs.Stores.{live_object, live_named, without_other}
 use Rattle.meaning_sound.proofs.Cells.{sound_of, read_fits, kind_stays}
-use Rattle.meaning_sound.proofs.Placing.{order_from_one}
 use Rattle.meaning_sound.proofs.Objects.{fit_live}
 use Rattle.meaning_sound.proofs.Removal.{one_name, apart_cell, object_stays, smaller, smaller_typed, freed_is}
 use Rattle.meaning_sound.proofs.Removal.{freed_keeps}
@@ -286,12 +286,13 @@ module _ (setting : Setting) (statics : List ℕ) (s : Scope) (u : Under) (st : 
       at_same = sym (same ∙ same_frame setting statics s u st cells (slice_set cells place_at 0) (reads_of h) cell Nil
           nil_reads)
 
-  nil_cells_are : slice_set cells place_at 0 ≡ slice_set (slice_set taken x mark) (x + 1) 1
+  nil_cells_are : slice_set cells place_at 0 ≡ slice_set (slice_set taken x mark) (x + COUNT_WORD) 1
   nil_cells_are =
       written_over setting statics s u cleared (slice_set cells place_at 0) nil_reads.keeps nil_reads.frame n live_now
       no_main unheld_now avoids (ap (λ (o : Object). o.count) object_same ∙ single)
       (ap (λ (o : Object). all_zero o.cells) object_same ∙ zeros)
-      ∙ ap (λ (o : Object). slice_set (slice_set taken x (head_word setting.program o.head)) (x + 1) 1) object_same
+      ∙ ap (λ (o : Object). slice_set (slice_set taken x (head_word setting.program o.head)) (x + COUNT_WORD) 1)
+      object_same
 
   -- the memory before is that of the freed state with the block taken and filled
   pub was : cells ≡ filled place_at x mark taken
@@ -339,18 +340,18 @@ module _ (setting : Setting) (statics : List ℕ) (s : Scope) (u : Under) (st : 
   -- ---- every cell is a word, and the frame is open again
 
   taken_words : (a : ℕ) → slice_index taken a < 2 ^ 32
-  taken_words a = by (nat_eq a x) refl (nat_eq a (x + 1)) refl
+  taken_words a = by (nat_eq a x) refl (nat_eq a (x + COUNT_WORD)) refl
     where
       zero_at : (i : ℕ) → i < HEADER_WORDS + length (object_at st.store n).cells → a ≡ x + i
           → slice_index taken a < 2 ^ 32
       zero_at i l e = subst (λ z. z < 2 ^ 32) (sym (ap (slice_index taken) e ∙ taken_zero i l)) (omega arith)
 
-      by : (b : Bool) → nat_eq a x ≡ b → (c : Bool) → nat_eq a (x + 1) ≡ c → slice_index taken a < 2 ^ 32
+      by : (b : Bool) → nat_eq a x ≡ b → (c : Bool) → nat_eq a (x + COUNT_WORD) ≡ c → slice_index taken a < 2 ^ 32
       by true e c g = zero_at 0 (omega arith) (let q = Rattle.std.proofs.lemmas.Bool.eqb-true a x e in omega (arith, q))
-      by false e true g = zero_at 1 (omega arith) (Rattle.std.proofs.lemmas.Bool.eqb-true a (x + 1) g)
+      by false e true g = zero_at 1 (omega arith) (Rattle.std.proofs.lemmas.Bool.eqb-true a (x + COUNT_WORD) g)
       by false e false g =
-          let first = get_or-set_other (slice_set taken x mark) (x + 1) a 1 0
-          (Rattle.meaning_sound.proofs.Stores.differs a (x + 1) g) in
+          let first = get_or-set_other (slice_set taken x mark) (x + COUNT_WORD) a 1 0
+          (Rattle.meaning_sound.proofs.Stores.differs a (x + COUNT_WORD) g) in
           let second = get_or-set_other taken x a mark 0 (Rattle.meaning_sound.proofs.Stores.differs a x e) in
           subst (λ z. z < 2 ^ 32) (ap (λ z. slice_index z a) nil_cells_are ∙ first ∙ second) (nil_reads.words a)
 
@@ -416,9 +417,10 @@ module _ (setting : Setting) (statics : List ℕ) (s : Scope) (u : Under) (st : 
     pub taken_nil : slice_index taken place_at ≡ 0
     taken_nil =
         let apart_x : place_at ≢ x = λ e. ⊎_elim (λ l. omega (arith, e, l)) (λ l. omega (arith, e, l)) out in
-        let apart_c : place_at ≢ x + 1 = λ e. ⊎_elim (λ l. omega (arith, e, l)) (λ l. omega (arith, e, l)) out in
+        let apart_c : place_at ≢ x + COUNT_WORD = λ e. ⊎_elim (λ l. omega (arith, e, l)) (λ l. omega (arith, e, l)) out
+        in
         sym (ap (λ z. slice_index z place_at) nil_cells_are
-        ∙ get_or-set_other (slice_set taken x mark) (x + 1) place_at 1 0 apart_c
+        ∙ get_or-set_other (slice_set taken x mark) (x + COUNT_WORD) place_at 1 0 apart_c
         ∙ get_or-set_other taken x place_at mark 0 apart_x)
         ∙ get_or-set_same cells place_at 0 0 (cell_inside setting statics s u [] st cells (reads_of h) cell k has)
 
@@ -486,7 +488,7 @@ module _ (setting : Setting) (statics : List ℕ) (s : Scope) (u : Under) (st : 
     pub takes : Takes low_word (length (object_at st.store n).cells) place_at x given taken
     takes =
         let i = x_inside in
-        let above_base : 40 + length statics ≤ base setting statics = base_above (setup setting statics) in
+        let above_base : FIXED_CELLS + length statics ≤ base setting statics = base_above (setup setting statics) in
         let T = nil_reads.keeps.placed.taken in
         let stack = stack_words setting statics after u cleared.frame [] in
         record {

@@ -22,8 +22,9 @@ use Rattle.refine_form.specs.Stands.{shape_of, extra, setup, HasElements, Stands
 use Rattle.refine_calls.proofs.Bridge.{typed, reads_of}
 use Rattle.refine_calls.proofs.FactsMoves.{same_means}
 use Rattle.object_codegen.proofs.Walking.{less_small}
+use Rattle.pisa_isa.specs.declared.image.TheConstants.{MOST_STATICS}
 
-module _ (setting : Setting) (statics : List ℕ) (few : length statics ≤ 262144) (s : Scope)
+module _ (setting : Setting) (statics : List ℕ) (few : length statics ≤ MOST_STATICS) (s : Scope)
     (inside : s.class < length setting.program.classes) (u : Under) (st : State) (cells : List ℕ)
     (h : Stands setting statics s u [] st cells) where
   pub sound : Sound setting (extra u []) (shape_of setting.program s) s.class st

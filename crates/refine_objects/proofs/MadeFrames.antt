@@ -14,6 +14,7 @@ use Rattle.roopl_semantics.specs.Run.{◌>>=◌, give, fault_if}
 use Rattle.roopl_semantics.specs.Execution.{Setting, new_object, order_of_cells, all_zero, heap_full_fault}
 use Rattle.roopl_semantics.specs.Laws.{holders_among}
 use Rattle.roopl_semantics.specs.Layout.{head_word}
+use Rattle.roopl_semantics.proofs.Orders.{order_from_one}
 use Rattle.meaning_sound.specs.Sound.{head_of, head_named, head_fits, named_fits, fits, is_live, cell_kinds}
 use Rattle.meaning_sound.specs.Sound.{cell_kind, AllFit, value_of, held, Sound, Keeps, IsPlaced, Typed}
 use Rattle.meaning_sound.proofs.Stores.{here, there, same_number, other_number, live_named}
@@ -29,8 +30,8 @@ use Rattle.refine_form.specs.Stands.{shape_of, extra, setup, HasElements, Caller
 use Rattle.refine_calls.proofs.Bridge.{typed, reads_of, same_at, set_words, before_long, as_many_vars}
 use Rattle.refine_calls.proofs.MovesFit.{frame_address, place_of, class_at, frame_read, cell_low}
 use Rattle.std.proofs.lemmas.List.{get_or-set_other}
-use Rattle.rpp_words.specs.declared.input.TheConstants.{FRAME_WORDS}
-use Rattle.code_conventions.specs.declared.memory.TheConstants.{FIRST_VARIABLE, HEADER_WORDS}
+use Rattle.rpp_words.specs.declared.input.TheConstants.{FRAME_WORDS, FIXED_CELLS}
+use Rattle.code_conventions.specs.declared.memory.TheConstants.{FIRST_VARIABLE, HEADER_WORDS, COUNT_WORD}
 use Rattle.refine_frame.proofs.Memory.{base_above}
 use Rattle.refine_expressions.proofs.CellsWritten.{reads_after}
 use Rattle.refine_objects.proofs.BookWords.{memory_small, memory_words, memory_above}
@@ -41,7 +42,6 @@ use Rattle.object_codegen.specs.News.{Takes, filled}
 use Rattle.buddy_book.specs.Shown.{with_taken, IsKept}
 use Rattle.buddy_book.proofs.Orders.{take_took}
 use Rattle.buddy_book.proofs.Kept.{take_kept}
-use Rattle.meaning_sound.proofs.Placing.{order_from_one}
 
 -- a name that is not live is in no frame
 avoids_dead : (setting : Setting) (statics : List ℕ) (store : Store) (n : ℕ) → is_live store n ≡ false
@@ -243,15 +243,17 @@ module _ (setting : Setting) (statics : List ℕ) (s : Scope) (u : Under) (st : 
       live_new
       no_main unheld_new
 
-  pub big_is : big_cells ≡ slice_set (slice_set taken x (head_word setting.program head)) (x + 1) 1
+  pub big_is : big_cells ≡ slice_set (slice_set taken x (head_word setting.program head)) (x + COUNT_WORD) 1
   big_is =
       written_over setting statics s u big big_cells big_keeps big_frame n live_new no_main unheld_new avoids
       (ap (λ (o : Object). o.count) object_is) (ap (λ (o : Object). all_zero o.cells) object_is ∙ zeros)
       ∙ ap (λ z. slice_set (slice_set z first_at (head_word setting.program (object_at big.store n).head))
-      (first_at + 1) 1) bare_is
-      ∙ ap (λ b. slice_set (slice_set taken b (head_word setting.program (object_at big.store n).head)) (b + 1) 1)
+      (first_at + COUNT_WORD) 1) bare_is
+      ∙ ap (λ b. slice_set (slice_set taken b (head_word setting.program (object_at big.store n).head)) (b + COUNT_WORD)
+      1)
       block_is
-      ∙ ap (λ (o : Object). slice_set (slice_set taken x (head_word setting.program o.head)) (x + 1) 1) object_is
+      ∙ ap (λ (o : Object). slice_set (slice_set taken x (head_word setting.program o.head)) (x + COUNT_WORD) 1)
+      object_is
 
   pub taken_zero : (i : ℕ) → i < HEADER_WORDS + length values → slice_index taken (x + i) ≡ 0
   taken_zero i l =
@@ -306,7 +308,7 @@ module _ (setting : Setting) (statics : List ℕ) (s : Scope) (u : Under) (st : 
     frame = big_frame;
     keeps = big_keeps;
     words = λ a. subst (λ z. slice_index z a < 2 ^ 32) (sym big_is)
-        (set_words (slice_set taken x (head_word setting.program head)) (x + 1) 1
+        (set_words (slice_set taken x (head_word setting.program head)) (x + COUNT_WORD) 1
         (set_words taken x (head_word setting.program head) taken_words mark_small) (omega arith) a);
   }
 
@@ -430,20 +432,21 @@ module _ (setting : Setting) (statics : List ℕ) (s : Scope) (u : Under) (st : 
   taken_nil =
       let out = made_outside in
       let apart : place_at ≢ x = λ e. ⊎_elim (λ l. omega (arith, e, l)) (λ l. omega (arith, e, l)) out in
-      let apart' : place_at ≢ x + 1 = λ e. ⊎_elim (λ l. omega (arith, e, l)) (λ l. omega (arith, e, l)) out in
+      let apart' : place_at ≢ x + COUNT_WORD = λ e. ⊎_elim (λ l. omega (arith, e, l)) (λ l. omega (arith, e, l)) out in
       let m = head_word setting.program head in
       let was : slice_index big_cells place_at ≡ 0 =
       ap (slice_index big_cells) (sym place_same) ∙ frame_read setting statics s u [] big big_cells big_reads cell k
       has_big
       ∙ ap (value_word setting statics at') (read_bigger setting (extra u []) (shape_of setting.program s) s.class st
       head values cell k t has ∙ empty) in
-      sym (ap (λ z. slice_index z place_at) big_is ∙ get_or-set_other (slice_set taken x m) (x + 1) place_at 1 0 apart'
+      sym (ap (λ z. slice_index z place_at) big_is ∙ get_or-set_other (slice_set taken x m) (x + COUNT_WORD) place_at 1
+      0 apart'
       ∙ get_or-set_other taken x place_at m 0 apart) ∙ was
 
   pub takes : Takes low_word (length values) place_at x cells taken
   takes =
       let i = x_inside in
-      let above_base : 40 + length statics ≤ base setting statics = base_above (setup setting statics) in
+      let above_base : FIXED_CELLS + length statics ≤ base setting statics = base_above (setup setting statics) in
       record {
         changes = record {
           count = (memory_small setting statics h.keeps.placed.at st.store took.book h.keeps.placed.taken

@@ -1,15 +1,16 @@
 -- The memory of a frame that holds an object of zeros which nothing names: that without it, with
 -- two words written in a block of zeros.
 use Rattle.std.proofs.Common.{◌≡◌, ◌≢◌, ◌∙◌, sym, ap, subst, refl, ℕ, ◌+◌, ◌-◌, ◌*◌, ◌<◌, ◌≤◌, ◌⊎◌, inl, inr, ⊎_elim}
-use Rattle.std.proofs.Common.{Bool, true, false, List, [], ◌∷◌, ◌++◌, map, length, Some, arith, append-nil}
+use Rattle.std.proofs.Common.{Bool, true, false, List, [], ◌++◌, map, length, Some, arith, append-nil}
 use Rattle.std.proofs.Common.{length-append}
 use Rattle.std.proofs.lemmas.Bool.{eqb-true}
 use Rattle.std.proofs.lemmas.List.{length-map, length-replicate}
 use Rattle.std.specs.Prelude.{nat_eq, slice_index, slice_set, replicate, if◌then◌else◌}
 use Rattle.pisa_isa.specs.Loaded.{statics_at}
+use Rattle.code_conventions.specs.Header.{header}
 use Rattle.std.specs.Option.{option_map}
-use Rattle.rpp_words.specs.declared.input.TheConstants.{FRAME_WORDS}
-use Rattle.code_conventions.specs.declared.memory.TheConstants.{HEADER_WORDS}
+use Rattle.rpp_words.specs.declared.input.TheConstants.{FRAME_WORDS, FIXED_CELLS}
+use Rattle.code_conventions.specs.declared.memory.TheConstants.{HEADER_WORDS, COUNT_WORD}
 use Rattle.class_table.specs.declared.kind.Kind.{Kind}
 use Rattle.rpp_tree.specs.Tree.{Source}
 use Rattle.buddy_book.specs.Place.{Placing, block_of, without_name}
@@ -90,7 +91,7 @@ module _ (setting : Setting) (statics : List ℕ) (s : Scope) (u : Under) (st : 
   block_inside = let r = region_inside setting st.store st.log k.placed n (object_at st.store n).head named no_main in
       omega (arith, r, sized)
 
-  pub block_above : 40 + length statics ≤ block
+  pub block_above : FIXED_CELLS + length statics ≤ block
   block_above = let b = base_above X in omega (arith, b)
 
   same_at : k.placed.at ≡ f.at
@@ -163,7 +164,7 @@ module _ (setting : Setting) (statics : List ℕ) (s : Scope) (u : Under) (st : 
 
     -- and its two first words are written
     pub written_over : (object_at st.store n).count ≡ 1 → all_zero (object_at st.store n).cells ≡ true
-        → cells ≡ slice_set (slice_set bare block mark) (block + 1) 1
+        → cells ≡ slice_set (slice_set bare block mark) (block + COUNT_WORD) 1
     written_over single empty =
         let ws = map (word_of (base setting statics) at.blocks) (object_at st.store n).cells in
         let few : length ws ≡ fields = length-map (object_at st.store n).cells
@@ -171,7 +172,7 @@ module _ (setting : Setting) (statics : List ℕ) (s : Scope) (u : Under) (st : 
         let l = cells_long in
         let i = block_inside in
         over
-        ∙ ap (λ c. Rattle.roopl_semantics.specs.Layout.overlaid bare block (mark ∷ c ∷ ws)) single
+        ∙ ap (λ c. Rattle.roopl_semantics.specs.Layout.overlaid bare block (header mark c ++ ws)) single
         ∙ filled_over bare ws block mark (omega (arith, l, i, few, bare_long))
         (zeros_words (base setting statics) at.blocks (object_at st.store n).cells empty)
         (λ j q. bare_zero j (omega (arith, q, few)))

@@ -5,6 +5,7 @@ use Rattle.std.proofs.lemmas.Bool.{eqb-true}
 use Rattle.std.proofs.lemmas.List.{length-map}
 use Rattle.std.specs.Prelude.{◌&&◌, Ok}
 use Rattle.std.specs.Option.{option_map, unwrap_or}
+use Rattle.rpp_tree.specs.declared.limits.TheConstants.{MOST_FIELDS}
 use Rattle.code_conventions.specs.declared.memory.TheConstants.{HEADER_WORDS}
 use Rattle.rpp_tree.specs.declared.tree.Ident.{Ident}
 use Rattle.rpp_tree.specs.declared.tree.Var.{Var}
@@ -21,6 +22,7 @@ use Rattle.class_table.specs.Table.{table_of}
 use Rattle.buddy_book.specs.Book.{order_for}
 use Rattle.buddy_pisa.specs.Promise.{most_steps}
 use Rattle.pisa_isa.specs.Machine.{Memory}
+use Rattle.pisa_isa.specs.declared.image.TheConstants.{MOST_STATICS}
 use Rattle.paired_code.specs.declared.part.Symbol.{Symbol}
 use Rattle.paired_code.specs.Layout.{mirror_cells}
 use Rattle.roopl_semantics.specs.Layout.{table_at, head_word}
@@ -65,7 +67,8 @@ use Rattle.object_codegen.proofs.MakeFacts.{made, fresh_cells, same_class, is_fu
 use Rattle.object_codegen.proofs.MakeFacts.{ObjectFacts, TakesBlock, GivesBlock}
 use Rattle.object_codegen.proofs.ObjectRows as rows
 use Rattle.refine_objects.proofs.CountPlaces.{refers}
-use Rattle.refine_objects.proofs.Tables.{fields_few, tables_apart, table_small}
+use Rattle.static_layout.proofs.Counted.{fields_few}
+use Rattle.refine_objects.proofs.Tables.{tables_apart, table_small}
 use Rattle.refine_objects.proofs.GoodFrames.{good, context}
 use Rattle.refine_objects.proofs.BlocksFit as blocks
 
@@ -127,14 +130,15 @@ module _ (p : Place) (routine : ℕ → Ident → ℕ) (linked : IsLinked p rout
     abbrev fields : ℕ
     fields = fields_of P class
 
-    pub few_fields : fields_of P class ≤ 64
+    pub few_fields : fields_of P class ≤ MOST_FIELDS
     few_fields = fields_few P linked.accepted (class_of P class) number_inside
 
     abbrev table : ℕ
     table = table_at P (class_of P class)
 
     table_word : table_at P (class_of P class) < 2 ^ 32
-    table_word = table_small P linked.image linked.has (subst (λ (l : List ℕ). length l ≤ 262144) linked.statics_are
+    table_word = table_small P linked.image linked.has (subst (λ (l : List ℕ). length l ≤ MOST_STATICS)
+        linked.statics_are
         linked.few) (class_of P class) (let i = number_inside in omega (arith, i))
 
     abbrev order : ℕ

@@ -11,17 +11,18 @@ use Rattle.roopl_semantics.specs.Execution.{Setting, new_object, order_of_cells,
 use Rattle.roopl_semantics.specs.Laws.{holders_among}
 use Rattle.roopl_semantics.specs.Layout.{head_word}
 use Rattle.meaning_sound.specs.Sound.{head_fits, cell_kinds, cell_kind, AllFit}
-use Rattle.refine_frame.specs.Open.{frame_size, put_by}
 use Rattle.refine_form.specs.Form.{Scope}
 use Rattle.refine_form.specs.Frames.{Under, stack_base}
 use Rattle.refine_form.specs.Stands.{shape_of, HasElements, Stands}
-use Rattle.refine_calls.specs.Laws.{most_statics}
 use Rattle.object_codegen.specs.News.{Takes, filled}
+use Rattle.rpp_words.specs.declared.input.TheConstants.{FRAME_WORDS}
+use Rattle.code_conventions.specs.declared.memory.TheConstants.{FIRST_VARIABLE}
+use Rattle.pisa_isa.specs.declared.image.TheConstants.{MOST_STATICS}
 
 -- the first word behind the variables of the open frame
 abbrev pub behind : Setting → List ℕ → Under → Scope → ℕ
 behind setting statics u s =
-    stack_base setting statics + frame_size * length u.callers + (put_by + length s.vars)
+    stack_base setting statics + FRAME_WORDS * length u.callers + (FIRST_VARIABLE + length s.vars)
 
 -- the requests with one for what has this head
 abbrev pub asked : Setting → Head → State → Log
@@ -51,7 +52,7 @@ pub record IsMade (setting : Setting) (statics : List ℕ) (s : Scope) (u : Unde
 -- so it is with each that has the type of a nil cell, where the heap has a block
 abbrev pub NewsAreOpen : Type 0
 NewsAreOpen =
-    (setting : Setting) (statics : List ℕ) → length statics ≤ most_statics
+    (setting : Setting) (statics : List ℕ) → length statics ≤ MOST_STATICS
     → (s : Scope) (u : Under) (st : State) (cells : List ℕ) → Stands setting statics s u [] st cells
     → (cell : Cell) (k : Kind) → cell_kind setting.program (shape_of setting.program s) st.store
     cell ≡ Some k
@@ -81,7 +82,7 @@ pub record IsGone (setting : Setting) (statics : List ℕ) (s : Scope) (u : Unde
 -- so it is with each of count 1 and of zeros that a cell names
 abbrev pub DeletesAreOpen : Type 0
 DeletesAreOpen =
-    (setting : Setting) (statics : List ℕ) → length statics ≤ most_statics
+    (setting : Setting) (statics : List ℕ) → length statics ≤ MOST_STATICS
     → (s : Scope) (u : Under) (st : State) (cells : List ℕ) → Stands setting statics s u [] st cells
     → (cell : Cell) (k : Kind) → cell_kind setting.program (shape_of setting.program s) st.store
     cell ≡ Some k

@@ -17,6 +17,7 @@ use Rattle.class_table.proofs.FoundMethods.{dispatched_method, own_range}
 use Rattle.class_table.proofs.Numbers.{each_below-get}
 use Rattle.meaning_sound.proofs.Starting.{main_there}
 use Rattle.pisa_isa.specs.Image.{Segments}
+use Rattle.pisa_isa.specs.declared.image.TheConstants.{MOST_STATICS}
 use Rattle.paired_code.specs.declared.part.Symbol.{Symbol}
 use Rattle.paired_code.specs.Machine.{Image}
 use Rattle.paired_code.specs.Layout.{Routine as RoutineAt}
@@ -27,7 +28,7 @@ use Rattle.roopl_semantics.specs.StandsFor.{StandsFor, Follows}
 use Rattle.refine_form.specs.Form.{Routines, AllMethods}
 use Rattle.refine_form.specs.Worlds.{Place, world_of}
 use Rattle.refine_form.proofs.Stated.{nothing_is_owed}
-use Rattle.refine_calls.specs.Laws.{most_statics, Route, IsLinked, OpensMain}
+use Rattle.refine_calls.specs.Laws.{Route, IsLinked, OpensMain}
 use Rattle.refine_calls.proofs.Stated.{frames_are_open, main_is_open}
 use Rattle.refine_program.specs.Methods.{Entry, entries, routine_of, routine_in, main_routine, method_place}
 use Rattle.refine_program.specs.Methods.{slot_places}
@@ -95,7 +96,7 @@ module _ (program : Source) (main allocator : List Symbol) (bodies : List (List 
   abbrev has : HasStatics program image
   has = has_statics program image before at (place_in image.code main all is.linked some) is.statics
 
-  few : length image.statics ≤ most_statics
+  few : length image.statics ≤ MOST_STATICS
   few = let f = statics_are_few program is.accepted before at in let e = ap (length {A = ℕ}) is.statics in
       omega (arith, f, e)
 

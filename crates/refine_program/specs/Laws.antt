@@ -2,11 +2,12 @@
 -- program,
 -- and is one for which the laws of pieces hold, with routines that owe nothing.
 use Rattle.std.specs.Prelude.{◌≡◌, ℕ, ◌+◌, ◌<◌, ◌≤◌, true, List, [], ◌∷◌, ◌++◌, length, slice_get}
-use Rattle.std.specs.Prelude.{Some}
+use Rattle.std.specs.Prelude.{Some, ◌*◌}
 use Rattle.std.specs.Option.{unwrap_or}
 use Rattle.rpp_words.specs.declared.input.Limits.{Limits}
 use Rattle.rpp_tree.specs.declared.tree.Ident.{Ident}
 use Rattle.rpp_tree.specs.Tree.{Procedure, Source}
+use Rattle.rpp_tree.specs.declared.limits.TheConstants.{MOST_CLASSES, MOST_FIELDS, MOST_METHODS}
 use Rattle.class_table.specs.declared.method.MethodId.{MethodId}
 use Rattle.class_table.specs.Members.{class_at}
 use Rattle.class_table.specs.Classes.{method_named}
@@ -14,6 +15,7 @@ use Rattle.class_table.specs.Table.{table_of, slot_in}
 use Rattle.class_table.specs.Inheritance.{is_or_inherits}
 use Rattle.class_table.specs.Program.{IsAccepted}
 use Rattle.pisa_isa.specs.Image.{Segments}
+use Rattle.code_conventions.specs.declared.memory.TheConstants.{HEADER_WORDS, TABLE_HEADER}
 use Rattle.paired_code.specs.declared.part.Symbol.{Symbol}
 use Rattle.paired_code.specs.Link.{places, first_top, Linked}
 use Rattle.roopl_semantics.specs.StandsFor.{StandsFor}
@@ -162,9 +164,9 @@ ProgramImagesHaveRoutines =
 
 -- ---- its static cells
 
--- the main object of 66 cells, and 256 tables of 257
+-- a main object of as many fields, and as many tables of as many slots, as there may be
 abbrev pub most_cells : ℕ
-most_cells = 65858
+most_cells = HEADER_WORDS + MOST_FIELDS + MOST_CLASSES * (TABLE_HEADER + MOST_METHODS)
 
 abbrev pub StaticsAreFew : Type 0
 StaticsAreFew =

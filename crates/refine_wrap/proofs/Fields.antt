@@ -1,29 +1,23 @@
 -- Where the layout of a store has the main object's fields.
-use Rattle.std.proofs.Common.{◌≡◌, ◌∙◌, sym, ap, ℕ, ◌+◌, ◌-◌, ◌*◌, ◌^◌, ◌<◌, ◌≤◌, arith, List, ◌∷◌, ◌++◌, length}
-use Rattle.std.proofs.Common.{length-append, get_or, drop, map, replicate, [], Some}
+use Rattle.std.proofs.Common.{◌≡◌, ◌∙◌, sym, ap, ℕ, ◌+◌, ◌-◌, ◌*◌, ◌^◌, ◌<◌, ◌≤◌, arith, List, ◌++◌, length}
+use Rattle.std.proofs.Common.{length-append, get_or, drop, map, replicate, Some}
 use Rattle.std.specs.Prelude.{slice_index}
 use Rattle.std.specs.Option.{unwrap_or}
-use Rattle.std.proofs.lemmas.List.{get_or_append_left, get_or-append-add, get_or-map, length-map, length-replicate}
+use Rattle.std.proofs.lemmas.List.{get_or_append_left, get_or-append-add, get_or-map, length-map}
 use Rattle.rpp_words.specs.declared.input.Limits.{Limits}
 use Rattle.rpp_words.specs.declared.input.TheConstants.{FIXED_CELLS, FRAME_WORDS}
 use Rattle.rpp_tree.specs.Tree.{Source}
 use Rattle.pisa_isa.specs.Loaded.{statics_at, heap_base, fixed_cells}
+use Rattle.pisa_isa.proofs.Loaded.{length-fixed_cells}
+use Rattle.code_conventions.specs.Header.{header}
 use Rattle.buddy_book.specs.Place.{Log, Placing, place}
 use Rattle.code_conventions.specs.declared.memory.TheConstants.{HEADER_WORDS}
 use Rattle.roopl_semantics.specs.Store.{Word, Store, Object, main_name, object_at}
 use Rattle.roopl_semantics.specs.Layout.{layout, no_placing, word_of, object_words, first_address, heap_words}
 use Rattle.refine_wrap.specs.Programs.{field_cell}
 
-length-fixed : (heap deep base : ℕ) (heads : List ℕ) → length heads ≤ 31
-    → length (fixed_cells heap deep base heads) ≡ FIXED_CELLS
-length-fixed heap deep base heads h = omega (
-  arith,
-  length-append heads (replicate (31 - length heads) 0),
-  length-replicate {A = ℕ} (31 - length heads) 0,
-)
-
-behind_header : (a b : ℕ) (xs : List ℕ) (k : ℕ) → get_or (a ∷ b ∷ xs) (HEADER_WORDS + k) 0 ≡ get_or xs k 0
-behind_header a b xs k = get_or-append-add (a ∷ b ∷ []) xs k 0
+behind_header : (a b : ℕ) (xs : List ℕ) (k : ℕ) → get_or (header a b ++ xs) (HEADER_WORDS + k) 0 ≡ get_or xs k 0
+behind_header a b xs k = get_or-append-add (header a b) xs k 0
 
 inside : (fixed main rest gap heap stack : List ℕ) (j : ℕ) → length fixed ≡ FIXED_CELLS → j < length main
     → get_or (fixed ++ (main ++ rest) ++ gap ++ heap ++ stack) (FIXED_CELLS + j) 0 ≡ get_or main j 0
@@ -63,7 +57,7 @@ field_at program limits statics store log at k w placed low h is =
     (drop (length main) statics) (replicate (base - statics_at - length statics) 0)
     (heap_words program (2 ^ limits.heap) base store placing) (replicate (FRAME_WORDS * limits.deep) 0)
     (HEADER_WORDS + k)
-    (length-fixed limits.heap limits.deep base (map (first_address base) placing.book) heads) within
+    (length-fixed_cells limits.heap limits.deep base (map (first_address base) placing.book) heads) within
     ∙ behind_header _ _ words k
     ∙ get_or-map (word_of base placing.blocks) object.cells k (Word 0) 0 h
     ∙ ap (word_of base placing.blocks) is

@@ -15,6 +15,7 @@ use Rattle.pisa_isa.specs.declared.image.TheConstants.{MOST_STATICS}
 use Rattle.pisa_isa.specs.Image.{Segments, IsImage}
 use Rattle.pisa_isa.specs.Loaded.{loaded, heap_base}
 use Rattle.pisa_isa.proofs.Loaded.{heap_base-ge, length-loaded}
+use Rattle.pisa_isa.specs.declared.fixed.TheConstants.{END_CELL}
 use Rattle.buddy_book.specs.Place.{Log}
 use Rattle.roopl_semantics.specs.Store.{Store}
 use Rattle.rpp_words.specs.Limits.{IsLimits}
@@ -25,21 +26,21 @@ use Rattle.bennett_wrap.specs.Wrapped.{HasRoom, Wrapped, FinishesWith, values_at
 use Rattle.refine_wrap.specs.Programs.{IsStatic, wrapped_run}
 use Rattle.refine_wrap.proofs.Bounds.{WrapsProgram}
 
--- the fifth cell of a list that has five
-fifth : (xs : List ℕ) (e : ℕ) → length xs ≡ suc (suc (suc (suc (suc (length (drop 5 xs)))))) → e ≡ get_or xs 4 e
-    → slice_get xs 4 ≡ Some e
-fifth xs e five is = slice_get_read xs (length xs) 4 e refl (omega arith) is
+-- the cell behind four others, END_CELL, of a list that has five
+fifth : (xs : List ℕ) (e : ℕ) → length xs ≡ suc (suc (suc (suc (suc (length (drop 5 xs)))))) → e ≡ get_or xs END_CELL e
+    → slice_get xs END_CELL ≡ Some e
+fifth xs e five is = slice_get_read xs (length xs) END_CELL e refl (omega arith) is
 
 base_le : (x k : ℕ) → (x + k - 1) / k * k ≤ x + k
 base_le x k = omega (arith, mul_comm ((x + k - 1) / k) k, div-add-mod (x + k - 1) k)
 
 loaded_fifth : (statics : List ℕ) (limits : Limits) (input : List FieldWord)
-    → slice_get (loaded statics limits input) 4
+    → slice_get (loaded statics limits input) END_CELL
     ≡ Some (heap_base limits.heap (length statics) + 2 ^ limits.heap + FRAME_WORDS * limits.deep)
 loaded_fifth statics limits input = fifth (loaded statics limits input) _ refl refl
 
 layout_fifth : (program : Source) (limits : Limits) (statics : List ℕ) (store : Store) (log : Log)
-    → slice_get (layout program limits statics store log) 4
+    → slice_get (layout program limits statics store log) END_CELL
     ≡ Some (heap_base limits.heap (length statics) + 2 ^ limits.heap + FRAME_WORDS * limits.deep)
 layout_fifth program limits statics store log = fifth (layout program limits statics store log) _ refl refl
 
@@ -88,7 +89,8 @@ wraps_program program image cells wrapped limits input i stands wraps few static
             narrow = follows.meets_ends_once m;
             finished = fin;
             registers = final.registers;
-            kept = ap (λ x. slice_get x 4) final.cells ∙ layout_fifth program limits image.statics end.store end.log
+            kept = ap (λ x. slice_get x END_CELL) final.cells
+                ∙ layout_fifth program limits image.statics end.store end.log
                 ∙ ap (λ x. Some x) (sym many);
           }) le in
           record {

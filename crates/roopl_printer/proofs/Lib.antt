@@ -1,5 +1,4 @@
 pub mod Gaps
-pub mod ShownStatements
 pub mod NamedTokens
 pub mod TokenBytes
 pub mod Cutting

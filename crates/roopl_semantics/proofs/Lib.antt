@@ -14,3 +14,4 @@ mod OperatorRows
 mod CheckRows
 mod CellRows
 pub mod MainPlace
+pub mod Orders

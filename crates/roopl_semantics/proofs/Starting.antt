@@ -5,11 +5,11 @@ use Rattle.std.proofs.Common.{replicate, refl, sym, ap, ◌∙◌, arith, true, 
 use Rattle.std.specs.Prelude.{slice_get, slice_set, IsTrue}
 use Rattle.std.specs.List.{All, slice_index_or}
 use Rattle.std.proofs.lemmas.List.{append_assoc, length-append, length-replicate, length-set, length-map, map-set}
-use Rattle.std.proofs.lemmas.List.{set-append_left, drop_at, take_all}
+use Rattle.std.proofs.lemmas.List.{set-append_left, drop_at, take_all, set-append_right}
 use Rattle.std.proofs.lemmas.List.Elements.{All-head, All-tail}
 use Rattle.std.proofs.lemmas.Nat.{pow_pos}
 use Rattle.rpp_words.specs.declared.input.TheConstants.{FRAME_WORDS}
-use Rattle.code_conventions.specs.declared.memory.TheConstants.{HEADER_WORDS}
+use Rattle.code_conventions.specs.declared.memory.TheConstants.{HEADER_WORDS, FIRST_FIELD}
 use Rattle.rpp_words.specs.declared.input.FieldWord.{FieldWord}
 use Rattle.rpp_words.specs.declared.input.Limits.{Limits}
 use Rattle.rpp_tree.specs.declared.tree.Var.{Var}
@@ -18,6 +18,7 @@ use Rattle.rpp_tree.specs.declared.tree.VarType.TheVariants as kind
 use Rattle.rpp_tree.specs.Tree.{Source}
 use Rattle.buddy_book.specs.Book.{start}
 use Rattle.pisa_isa.specs.Loaded.{statics_at, heap_base, fixed_cells, empty_heads, with_words, loaded}
+use Rattle.code_conventions.specs.Header.{header}
 use Rattle.roopl_semantics.specs.Store.{Value, Word, Nil, number_of, zero_value, zero_values}
 use Rattle.roopl_semantics.specs.Source.{main_fields, is_int_field, with_input, IsValid}
 use Rattle.class_table.specs.Classes.{main_of}
@@ -56,7 +57,7 @@ abbrev pub size : Shape → ℕ
 size shape = HEADER_WORDS + shape.fields + length shape.tables
 
 abbrev pub statics_of : Shape → List ℕ
-statics_of shape = (shape.table ∷ 1 ∷ replicate shape.fields 0) ++ shape.tables
+statics_of shape = header shape.table 1 ++ replicate shape.fields 0 ++ shape.tables
 
 -- where the heap begins
 abbrev pub base : Limits → Shape → ℕ
@@ -65,8 +66,8 @@ base limits shape = heap_base limits.heap (size shape)
 -- what stands before the words of the fields
 abbrev pub front : Limits → Shape → List ℕ
 front limits shape =
-    fixed_cells limits.heap limits.deep (base limits shape) (empty_heads limits.heap (base limits shape)) ++ shape.table
-    ∷ 1 ∷ []
+    fixed_cells limits.heap limits.deep (base limits shape) (empty_heads limits.heap (base limits shape))
+    ++ header shape.table 1
 
 -- and what stands behind them
 abbrev pub back : Limits → Shape → List ℕ
@@ -77,7 +78,7 @@ back limits shape =
 pub length-statics : (shape : Shape) → length (statics_of shape) ≡ size shape
 length-statics shape = omega (
   arith,
-  length-append {A = ℕ} (shape.table ∷ 1 ∷ replicate shape.fields 0) shape.tables,
+  length-append {A = ℕ} (header shape.table 1 ++ replicate shape.fields 0) shape.tables,
   length-replicate {A = ℕ} shape.fields 0,
 )
 
@@ -90,42 +91,44 @@ with_parts limits size heads statics heap =
     ++ heap
     ++ replicate (FRAME_WORDS * limits.deep) 0
 
-regrouped : (before words tabs room heap stack : List ℕ) (a b : ℕ)
-    → before ++ (a ∷ b ∷ (words ++ tabs)) ++ room ++ heap ++ stack
-    ≡ (before ++ a ∷ b ∷ []) ++ (words ++ (tabs ++ (room ++ heap ++ stack)))
-regrouped before words tabs room heap stack a b = simp append_assoc
+regrouped : (before head words tabs room heap stack : List ℕ)
+    → before ++ (head ++ (words ++ tabs)) ++ room ++ heap ++ stack
+    ≡ (before ++ head) ++ (words ++ (tabs ++ (room ++ heap ++ stack)))
+regrouped before head words tabs room heap stack = simp append_assoc
 
 of_parts : (limits : Limits) (shape : Shape) (words : List ℕ)
     → with_parts limits (size shape) (empty_heads limits.heap (base limits shape))
-    (shape.table ∷ 1 ∷ (words ++ shape.tables)) (replicate (2 ^ limits.heap) 0)
+    (header shape.table 1 ++ (words ++ shape.tables)) (replicate (2 ^ limits.heap) 0)
     ≡ front limits shape ++ (words ++ back limits shape)
 of_parts limits shape words =
     regrouped (fixed_cells limits.heap limits.deep (base limits shape) (empty_heads limits.heap (base limits shape)))
-    words shape.tables
+    (header shape.table 1) words shape.tables
     (replicate (base limits shape - statics_at - size shape) 0) (replicate (2 ^ limits.heap) 0)
-    (replicate (FRAME_WORDS * limits.deep) 0) shape.table 1
+    (replicate (FRAME_WORDS * limits.deep) 0)
 
 -- the input's words in the fields
 
-set-third : (a b : ℕ) (words rest : List ℕ) (i word : ℕ) → i < length words
-    → slice_set (a ∷ b ∷ (words ++ rest)) (HEADER_WORDS + i) word ≡ a ∷ b ∷ (slice_set words i word ++ rest)
-set-third a b words rest i word h =
-    let e : HEADER_WORDS + i ≡ suc (suc i) = omega arith in
-    ap (λ k. slice_set (a ∷ b ∷ (words ++ rest)) k word) e
-    ∙ ap (λ (cells : List ℕ). a ∷ b ∷ cells) (set-append_left words rest i word h)
+set-behind : (head words rest : List ℕ) (i word : ℕ) → length head ≡ HEADER_WORDS → i < length words
+    → slice_set (head ++ (words ++ rest)) (HEADER_WORDS + i) word ≡ head ++ (slice_set words i word ++ rest)
+set-behind head words rest i word long h =
+    let e : HEADER_WORDS + i - HEADER_WORDS ≡ i = omega arith in
+    set-append_right head (words ++ rest) HEADER_WORDS (HEADER_WORDS + i) word long (omega arith)
+    ∙ ap (λ k. head ++ slice_set (words ++ rest) k word) e
+    ∙ ap (λ (cells : List ℕ). head ++ cells) (set-append_left words rest i word h)
 
 abbrev IsFieldBelow : ℕ → FieldWord → Type 0
 IsFieldBelow n entry = entry.field < n
 
 with_words-values : (a b n : ℕ) (input : List FieldWord) (values : List Value) (rest : List ℕ) → length values ≡ n
     → All (IsFieldBelow n) input
-    → with_words input (a ∷ b ∷ (words_of values ++ rest)) ≡ a ∷ b ∷ (words_of (with_input input values) ++ rest)
+    → with_words input (header a b ++ (words_of values ++ rest))
+    ≡ header a b ++ (words_of (with_input input values) ++ rest)
 with_words-values a b n [] values rest e below = refl
 with_words-values a b n (entry ∷ input) values rest e below =
     let first : entry.field < n = All-head (IsFieldBelow n) entry input below in
     let within : entry.field < length (words_of values) = omega (arith, length-map values number_of) in
-    ap (with_words input) (set-third a b (words_of values) rest entry.field entry.word within
-    ∙ ap (λ words. a ∷ b ∷ (words ++ rest)) (sym (map-set number_of values entry.field (Word entry.word))))
+    ap (with_words input) (set-behind (header a b) (words_of values) rest entry.field entry.word refl within
+    ∙ ap (λ words. header a b ++ (words ++ rest)) (sym (map-set number_of values entry.field (Word entry.word))))
     ∙ with_words-values a b n input (slice_set values entry.field (Word entry.word)) rest
     (length-set values entry.field (Word entry.word) ∙ e) (All-tail (IsFieldBelow n) entry input below)
 
@@ -164,7 +167,7 @@ loaded-program program places limits input valid =
     ap (λ n. with_parts limits n (empty_heads limits.heap (heap_base limits.heap n))
     (with_words input (statics_of shape)) (replicate (2 ^ limits.heap) 0)) (length-statics shape)
     ∙ ap (λ (words : List ℕ). with_parts limits (size shape) (empty_heads limits.heap (base limits shape))
-    (with_words input (shape.table ∷ 1 ∷ (words ++ shape.tables))) (replicate (2 ^ limits.heap) 0))
+    (with_words input (header shape.table 1 ++ (words ++ shape.tables))) (replicate (2 ^ limits.heap) 0))
     (sym (zero_words fields))
     ∙ ap (λ (cells : List ℕ). with_parts limits (size shape) (empty_heads limits.heap (base limits shape)) cells
     (replicate (2 ^ limits.heap) 0))
@@ -210,19 +213,19 @@ plain_words base _ (more v values is are) = ap (λ w. w ∷ map (word_of base []
     ∙ ap (λ (rest : List ℕ). number_of v ∷ rest) (plain_words base values are)
 
 statics_with : (shape : Shape) (words : List ℕ) → length words ≡ shape.fields
-    → (shape.table ∷ 1 ∷ words) ++ drop (length (shape.table ∷ 1 ∷ words)) (statics_of shape)
-    ≡ shape.table ∷ 1 ∷ (words ++ shape.tables)
+    → (header shape.table 1 ++ words) ++ drop (length (header shape.table 1 ++ words)) (statics_of shape)
+    ≡ header shape.table 1 ++ (words ++ shape.tables)
 statics_with shape words e =
-    ap (λ (rest : List ℕ). shape.table ∷ 1 ∷ (words ++ rest))
+    ap (λ (rest : List ℕ). header shape.table 1 ++ (words ++ rest))
     (drop_at (replicate shape.fields 0) shape.tables (length words) (length-replicate shape.fields 0 ∙ sym e))
 
 static_words-program : (program : Source) (places : List (List ℕ)) (base : ℕ) (values : List Value) → ArePlain values
     → length values ≡ length (main_fields program)
     → static_words program base [] (program_statics program places) (alone (main_of program).class values)
-    ≡ (shape_of program places).table ∷ 1 ∷ (words_of values ++ (shape_of program places).tables)
+    ≡ header (shape_of program places).table 1 ++ (words_of values ++ (shape_of program places).tables)
 static_words-program program places base values plain same =
     let shape = shape_of program places in
-    ap (λ (ws : List ℕ). (shape.table ∷ 1 ∷ ws) ++ drop (length (shape.table ∷ 1 ∷ ws)) (statics_of shape))
+    ap (λ (ws : List ℕ). (header shape.table 1 ++ ws) ++ drop (length (header shape.table 1 ++ ws)) (statics_of shape))
     (plain_words base values plain)
     ∙ statics_with shape (words_of values) (length-map values number_of ∙ same)
 
@@ -242,10 +245,10 @@ layout-program program places limits values allowed plain same =
     (with_book at (start limits.heap) (replicate (2 ^ limits.heap) 0)))
     (static_words-program program places at values plain same)
     ∙ ap (λ (heap : List ℕ). with_parts limits (length statics) (empty_heads limits.heap at)
-    (shape.table ∷ 1 ∷ (words_of values ++ shape.tables)) heap)
+    (header shape.table 1 ++ (words_of values ++ shape.tables)) heap)
     (with_book-start at limits.heap (2 ^ limits.heap) (pow_pos limits.heap))
     ∙ ap (λ n. with_parts limits n (empty_heads limits.heap (heap_base limits.heap n))
-    (shape.table ∷ 1 ∷ (words_of values ++ shape.tables)) (replicate (2 ^ limits.heap) 0)) (length-statics shape)
+    (header shape.table 1 ++ (words_of values ++ shape.tables)) (replicate (2 ^ limits.heap) 0)) (length-statics shape)
     ∙ of_parts limits shape (words_of values)
 
 -- the values that a run begins with are plain
@@ -287,7 +290,7 @@ starts_loaded program image limits input statics allowed valid =
     ∙ sym (loaded-program program statics.places limits input valid)
     ∙ ap (λ (cells : List ℕ). loaded cells limits input) (sym at)
 
--- the front has 42 cells
+-- the front ends where the main object's fields begin
 
 length-heads : (h base : ℕ) → 1 ≤ h → h ≤ 20 → length (empty_heads h base
     ++ replicate (31 - length (empty_heads h base)) 0) ≡ 31
@@ -303,12 +306,12 @@ length-heads h base from to =
       length-replicate {A = ℕ} (31 - length (empty_heads h base)) 0,
     )
 
-pub length-front : (limits : Limits) (shape : Shape) → IsLimits limits → length (front limits shape) ≡ 42
+pub length-front : (limits : Limits) (shape : Shape) → IsLimits limits → length (front limits shape) ≡ FIRST_FIELD
 length-front limits shape allowed =
     let at = base limits shape in
     omega (
       arith,
       length-append {A = ℕ} (fixed_cells limits.heap limits.deep at (empty_heads limits.heap at))
-          (shape.table ∷ 1 ∷ []),
+          (header shape.table 1),
       length-heads limits.heap at allowed.heap_from allowed.heap_to,
     )

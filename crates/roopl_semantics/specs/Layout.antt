@@ -18,6 +18,7 @@ use Rattle.class_table.specs.Classes.{main_of}
 use Rattle.roopl_semantics.specs.Report.{numbered}
 use Rattle.pisa_isa.specs.Image.{Segments}
 use Rattle.pisa_isa.specs.Loaded.{statics_at, heap_base, fixed_cells}
+use Rattle.code_conventions.specs.Header.{header}
 use Rattle.code_conventions.specs.declared.memory.TheConstants.{HEADER_WORDS, TABLE_HEADER}
 
 -- the length of a class's table: its number, and a code place for each method slot
@@ -35,8 +36,8 @@ table_addresses program = each_below (table_at program) (length program.classes)
 
 -- the main object in an image: its table's address, its count and fields of 0
 abbrev pub main_statics : Source → List ℕ
-main_statics program = table_at program (main_of program).class ∷ 1
-    ∷ replicate (length (main_fields program)) 0
+main_statics program = header (table_at program (main_of program).class) 1
+    ++ replicate (length (main_fields program)) 0
 
 -- the tables of the classes from this number on: the number, and the code places
 abbrev pub tables : ℕ → List (List ℕ) → List ℕ
@@ -71,7 +72,7 @@ head_word program (OfObjects class length) = length
 -- the words of an object or array: its head, its count and its cells
 abbrev pub object_words : Source → ℕ → List (ℕ × ℕ) → Object → List ℕ
 object_words program base blocks object =
-    head_word program object.head ∷ object.count ∷ map (word_of base blocks) object.cells
+    header (head_word program object.head) object.count ++ map (word_of base blocks) object.cells
 
 -- the first word of each free block of a list is the address of the next
 abbrev pub with_links : ℕ → List ℕ → List ℕ → List ℕ

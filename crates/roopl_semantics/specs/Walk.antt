@@ -13,24 +13,21 @@ use Rattle.roopl_semantics.specs.Store.{Store}
 use Rattle.roopl_semantics.specs.Source.{main_fields}
 use Rattle.roopl_semantics.specs.Execution.{order_of_cells}
 use Rattle.roopl_semantics.specs.Report.{Text, objects_shown, live_line, live_count}
+use Rattle.pisa_isa.specs.declared.fixed.TheConstants.{ORDER_CELL, HEAP_CELL, STACK_CELL}
 use Rattle.pisa_isa.specs.Machine.{word_at}
-use Rattle.pisa_isa.specs.Loaded.{statics_at}
+use Rattle.pisa_isa.specs.Loaded.{statics_at, head_cell}
 use Rattle.code_conventions.specs.declared.memory.TheConstants.{HEADER_WORDS}
 use Rattle.roopl_semantics.specs.Layout.{table_addresses, is_plain}
 
 -- the order of the heap, its base and its end, as the fixed cells tell them
 abbrev pub highest_order : List ℕ → ℕ
-highest_order cells = word_at cells 1
+highest_order cells = word_at cells ORDER_CELL
 
 abbrev pub heap_start : List ℕ → ℕ
-heap_start cells = word_at cells 2
+heap_start cells = word_at cells HEAP_CELL
 
 abbrev pub heap_end : List ℕ → ℕ
-heap_end cells = word_at cells 3
-
--- the cell of the head of a free list
-abbrev pub head_cell : ℕ → ℕ
-head_cell order = 8 + order
+heap_end cells = word_at cells STACK_CELL
 
 -- the addresses in a free list from this one on, at most so many
 abbrev pub list_from : ℕ → List ℕ → ℕ → List ℕ

@@ -14,13 +14,13 @@ use Rattle.roopl_semantics.specs.Run.{Run, Done, Fault, More, ◌>>=◌}
 use Rattle.roopl_semantics.specs.Store.{State, Store, Binding, main_name}
 use Rattle.roopl_semantics.specs.Source.{source, IsValid}
 use Rattle.roopl_semantics.specs.Execution.{Setting}
-use Rattle.roopl_semantics.proofs.MoreFuel.{within_done, within_fault, IsDoneWithin}
+use Rattle.roopl_semantics.proofs.MoreFuel.{within_done, within_fault, IsDoneWithin, IsFaultWithin}
 use Rattle.meaning_points.specs.Points.{Point, behind as behind_run}
 use Rattle.meaning_points.specs.Trail.{Trail, trail}
 use Rattle.meaning_machine.specs.Machine.{Config, next, walk, seen, point_of as point_in}
 use Rattle.meaning_machine.specs.SourceLaws.{set_for, start_of}
 use Rattle.meaning_machine.specs.TrailLaws.{BeginsWith}
-use Rattle.meaning_machine.proofs.Steps.{plus, walk_plus, seen_plus}
+use Rattle.meaning_machine.proofs.Steps.{plus, seen_plus}
 use Rattle.meaning_machine.proofs.Sources.{joined}
 use Rattle.meaning_machine.proofs.Trails.{walked}
 use Rattle.meaning_sound.specs.Sound.{name_of}
@@ -29,7 +29,7 @@ use Rattle.source_store.specs.HeapView.{Kept}
 use Rattle.source_steps.specs.Metered.{Went, Stopped, metered, Failed}
 use Rattle.source_steps.specs.declared.stop.Stop.{Stop}
 use Rattle.source_steps.specs.declared.stop.Stop.TheVariants as stop
-use Rattle.source_steps.proofs.Fuelled.{goes, gives, fails, left_at_most}
+use Rattle.source_steps.proofs.Fuelled.{left_at_most}
 use Rattle.source_execution.specs.Variables.{binding_of}
 use Rattle.source_execution.specs.Standing.{IsOver as IsPast, config_at, setting_at, next_place}
 use Rattle.source_meaning.proofs.Ending.{ends_done, ends_fault}
@@ -48,6 +48,7 @@ use Rattle.source_debugger.specs.Ended.{IsOver, IsEnded, HasStopped, IsStopped, 
 use Rattle.source_debugger.specs.Ended.{left_of as left_in}
 use Rattle.source_debugger.specs.Walks.{AtPoint, AtEnd, Unknown, end_stand, point_stand, stand_at}
 use Rattle.source_debugger.proofs.Left.{FindsPosition, all_left, finds}
+use Rattle.source_debugger.proofs.Rewound.{one_more, one_fault, counts, none_behind}
 
 -- ---- a watch along points
 
@@ -166,23 +167,13 @@ pub begins_here : (program : Source) (limits : Limits) (input : List FieldWord) 
     → IsUnderWay program limits input most c
 begins_here program limits input most c fuel none setting start whole = record {
   steps = 0;
-  came = gives most (start_of program input)
-      ∙ ap (λ (x : Config). Went x most) (sym start)
-      ∙ ap (λ (k : ℕ). Went (config_at c.execution) k) (sym fuel);
+  cost = 0;
+  came = ap (λ (x : Config). Done x 0) (sym start);
+  spent = omega arith;
   count = sym none;
   same = setting;
   whole = whole;
 }
-
-none_behind : (setting : Setting) (r : Run Config) → behind_run r (seen setting 0) ≡ []
-none_behind setting (Done x cost) = refl
-none_behind setting (Fault code cost) = refl
-none_behind setting More = refl
-
-counts : (setting : Setting) (params n : ℕ) (st : State) (body : Statements)
-    → n + length (point_in setting params st body) ≡ counted n (next_place body)
-counts setting params n st End = omega arith
-counts setting params n st (Then s rest) = omega arith
 
 module _ (program : Source) (limits : Limits) (input : List FieldWord) (n : ℕ) (c : Course) (from at : Watching)
     (come : HasCome program limits input n c from at) where
@@ -198,13 +189,8 @@ module _ (program : Source) (limits : Limits) (input : List FieldWord) (n : ℕ)
   abbrev steps : ℕ
   steps = come.way.steps
 
-  came_done : IsDoneWithin n (walk here steps first) x (n - c.fuel)
-  came_done = within_done n (walk here steps first) x (n - c.fuel)
-      (ends_done n (walk here steps first) x c.fuel come.way.came)
-
-  one_step : metered n (walk here (plus steps 1) first) ≡ metered c.fuel (next here x >>= walk here 0)
-  one_step = ap (metered n) (walk_plus here steps 1 first)
-      ∙ goes n c.fuel (walk here steps first) x (walk here 1) come.way.came
+  came_done : IsDoneWithin n (walk here steps first) x come.way.cost
+  came_done = record { is = come.way.came; in_fuel = let s = come.way.spent in omega arith }
 
   one_seen : seen here (plus steps 1) first ≡ seen here steps first ++ point_in here x.params x.state x.rest
   one_seen = seen_plus here steps 1 first
@@ -229,25 +215,42 @@ module _ (program : Source) (limits : Limits) (input : List FieldWord) (n : ℕ)
         → setting_at later.execution ≡ setting_at c.execution → later.execution.broken ≡ false
         → later.passed ≡ counted c.passed (next_place x.rest)
         → HasCome program limits input n later from (behind at (next_place x.rest))
-    come_further later e s w count = record {
-      way = record {
-        steps = plus steps 1;
-        came = one_step ∙ goes c.fuel later.fuel (next here x) (config_at later.execution) (walk here 0)
-            (ap (metered c.fuel) (sym next_here) ∙ e) ∙ gives later.fuel (config_at later.execution);
-        count = ap (λ (l : List Point). length l) one_seen
-            ∙ length-append (seen here steps first) (point_in here x.params x.state x.rest)
-            ∙ ap (λ (k : ℕ). k + length (point_in here x.params x.state x.rest)) come.way.count
-            ∙ counts here x.params c.passed x.state x.rest ∙ sym count;
-        same = s ∙ come.way.same;
-        whole = w;
-      };
-      seen = passes;
-    }
+    come_further later e s w count =
+        let gone : IsDoneWithin c.fuel (next here x) (config_at later.execution) (c.fuel - later.fuel) =
+        within_done c.fuel (next here x) (config_at later.execution) (c.fuel - later.fuel)
+        (ends_done c.fuel (next here x) (config_at later.execution) later.fuel
+        (ap (metered c.fuel) (sym next_here) ∙ e)) in
+        let left = left_at_most c.fuel (next (setting_at c.execution) x) (config_at later.execution) later.fuel e in
+        let spent = come.way.spent in
+        record {
+          way = record {
+            steps = plus steps 1;
+            cost = come.way.cost + (c.fuel - later.fuel);
+            came = one_more here steps first x (config_at later.execution) come.way.cost (c.fuel - later.fuel)
+                come.way.came gone.is;
+            spent = omega arith;
+            count = ap (λ (l : List Point). length l) one_seen
+                ∙ length-append (seen here steps first) (point_in here x.params x.state x.rest)
+                ∙ ap (λ (k : ℕ). k + length (point_in here x.params x.state x.rest)) come.way.count
+                ∙ counts here x.params c.passed x.state x.rest ∙ sym count;
+            same = s ∙ come.way.same;
+            whole = w;
+          };
+          seen = passes;
+        }
 
     stops : (left code : ℕ) → metered c.fuel (next (setting_at c.execution) x) ≡ Stopped code left
-        → metered n (walk here (plus steps 1) first) ≡ Stopped code left
-    stops left code e = one_step
-        ∙ fails c.fuel left (next here x) (walk here 0) (stop.Fault code) (ap (metered c.fuel) (sym next_here) ∙ e)
+        → IsFaultWithin n (walk here (plus steps 1) first) code (come.way.cost + (c.fuel - left))
+    stops left code e =
+        let stopped : IsFaultWithin c.fuel (next here x) code (c.fuel - left) =
+        within_fault c.fuel (next here x) code (c.fuel - left)
+        (ends_fault c.fuel (next here x) code left (ap (metered c.fuel) (sym next_here) ∙ e)) in
+        let spent = come.way.spent in
+        let within = stopped.in_fuel in
+        record {
+          is = one_fault here steps first x code come.way.cost (c.fuel - left) come.way.came stopped.is;
+          in_fuel = omega arith;
+        }
 
 -- ---- how it ended
 
@@ -275,18 +278,18 @@ module _ (program : Source) (limits : Limits) (input : List FieldWord) (n : ℕ)
   abbrev now : Config
   now = config_at c.execution
 
-  done : IsDoneWithin n (walk (set_for program limits) come.way.steps (start_of program input)) now (n - c.fuel)
+  done : IsDoneWithin n (walk (set_for program limits) come.way.steps (start_of program input)) now come.way.cost
   done = came_done program limits input n c from at come
 
   -- at the end
   module _ (over : IsPast (config_at c.execution)) where
-    is_source : source program limits input n ≡ Done now.state (n - c.fuel)
-    is_source = (joined program limits input n).over come.way.steps now (n - c.fuel) done.is over.rest over.around
+    is_source : source program limits input n ≡ Done now.state come.way.cost
+    is_source = (joined program limits input n).over come.way.steps now come.way.cost done.is over.rest over.around
         done.in_fuel
 
     end_state : IsAccepted program → IsLimits limits → IsValid program input → now.state ≡ last_state (heap_of c)
     end_state accepted inside valid =
-        let kept = end_is_sound program limits input n now.state (n - c.fuel) accepted inside valid is_source
+        let kept = end_is_sound program limits input n now.state come.way.cost accepted inside valid is_source
         in
         let frame : now.state.frame ≡ [] = no_names now.state.frame kept.sound.names in
         let self : now.state.self ≡ main_name = kept.stays.self_same in
@@ -305,13 +308,13 @@ module _ (program : Source) (limits : Limits) (input : List FieldWord) (n : ℕ)
     pub is_over : IsAccepted program → IsLimits limits → IsValid program input
         → IsOver (heap_of c) from at (trail program limits input n)
     is_over accepted inside valid =
-        let end = (walked program limits input n).over come.way.steps now (n - c.fuel) done.is over.rest
+        let end = (walked program limits input n).over come.way.steps now come.way.cost done.is over.rest
         over.around
         done.in_fuel in
         record {
           seen = ap (watched from) end.1 ∙ come.seen;
-          cost = n - c.fuel;
-          done = end.0 ∙ ap (λ (st : State). Done st (n - c.fuel)) (end_state accepted inside valid);
+          cost = come.way.cost;
+          done = end.0 ∙ ap (λ (st : State). Done st come.way.cost) (end_state accepted inside valid);
         }
 
   -- at a point
@@ -321,12 +324,11 @@ module _ (program : Source) (limits : Limits) (input : List FieldWord) (n : ℕ)
   is_at (Err why) want is = tt
   is_at (Ok e) want is =
       let some = is.some in
-      let most = left_at_most n (walk (set_for program limits) come.way.steps (start_of program input)) now c.fuel
-      come.way.came in
+      let spent = come.way.spent in
       let along : BeginsWith (trail program limits input n).points
       (seen (set_for program limits) come.way.steps (start_of program input))
       (point_in (set_for program limits) now.params now.state now.rest) =
-      (walked program limits input n).along come.way.steps now (n - c.fuel) done.is (omega arith) in
+      (walked program limits input n).along come.way.steps now come.way.cost done.is (omega arith) in
       subst (λ (e : Ended). IsEnded e (heap_of c) from (trail program limits input n)) (sym is.is)
       (ap (watched from) along.are
       ∙ watched_on from at (seen (set_for program limits) come.way.steps (start_of program input)) _ come.seen
@@ -342,20 +344,16 @@ module _ (program : Source) (limits : Limits) (input : List FieldWord) (n : ℕ)
       → IfOk r (λ e. IsEnded e heap from (trail program limits input n))
   is_stopped (Err none) heap why left not e is = tt
   is_stopped (Ok e) heap (stop.Fault code) left not failed is =
-      let walk_stops = stops program limits input n c from at come not left code failed in
-      let w = within_fault n (walk (set_for program limits) (plus come.way.steps 1) (start_of program input)) code
-      (n - left)
-      (ends_fault n (walk (set_for program limits) (plus come.way.steps 1) (start_of program input)) code left
-      walk_stops)
-      in
-      let end = (walked program limits input n).fault (plus come.way.steps 1) code (n - left) w.is w.in_fuel in
+      let cost : ℕ = come.way.cost + (c.fuel - left) in
+      let w : IsFaultWithin n (walk (set_for program limits) (plus come.way.steps 1) (start_of program input)) code
+      cost = stops program limits input n c from at come not left code failed in
+      let end = (walked program limits input n).fault (plus come.way.steps 1) code cost w.is w.in_fuel in
       subst (λ (e : Ended). IsEnded e heap from (trail program limits input n)) (sym is) (record {
         seen = ap (watched from) end.1 ∙ passes program limits input n c from at come not;
-        cost = n - left;
+        cost = come.way.cost + (c.fuel - left);
         fault = end.0;
       })
   is_stopped (Ok e) heap stop.More left not failed is = absurd is
-  is_stopped (Ok e) heap stop.Arrived left not failed is = absurd is
   is_stopped (Ok e) heap stop.NoMemory left not failed is = absurd is
 
 -- what is kept of a place is the same where the store and the log are

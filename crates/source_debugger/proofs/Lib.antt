@@ -1,3 +1,4 @@
+pub mod Rewound
 pub mod Left
 pub mod Onwards
 pub mod Backwards

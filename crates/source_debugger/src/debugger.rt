@@ -18,7 +18,7 @@ use std::marker::Model;
 use two_way_debugger::Command;
 
 /// A debugger of a program's run on an input. It keeps a position, and the run where the last
-/// command left it: a move forward goes on from there, and a move back runs the program anew.
+/// command left it: a move forward goes on from there, and a move back steps back from there.
 #[derive(Drop)]
 pub struct SourceDebugger<'a> {
     checked: &'a Checked,

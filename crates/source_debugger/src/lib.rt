@@ -2,7 +2,7 @@
 //! of a script, and shows variables and objects. A layer above may use that after any list of
 //! commands the position and the text are those of the definitions on the points of the meaning. It
 //! keeps the run where the last command left it: a move forward goes on from there, and a move back
-//! runs the program anew from its start.
+//! steps back from there.
 #![tactic(auto)]
 
 mod debugger;

@@ -1,19 +1,22 @@
 // Runs of a program under a watch.
-ghost use Rattle.std.specs.Prelude.{◌≡◌, ◌+◌, ◌*◌, ◌≤◌, true, false, length, IfOk, IfErr, OnOk, OnErr};
+ghost use Rattle.std.specs.Prelude.{◌≡◌, ◌+◌, ◌*◌, ◌<◌, ◌≤◌, true, false, length, IfOk, IfErr, OnOk, OnErr};
 ghost use Rattle.rpp_words.specs.Limits.{IsLimits};
 ghost use Rattle.rpp_tree.specs.Views.{source_of};
 ghost use Rattle.meaning_points.specs.Trail.{trail};
 ghost use Rattle.meaning_machine.specs.Machine.{next};
+ghost use Rattle.meaning_machine.specs.Turned.{turn as turned_round};
+ghost use Rattle.meaning_machine.specs.Reversed.{back as next_back};
 ghost use Rattle.source_steps.specs.Metered.{Gives, metered};
 ghost use Rattle.source_execution.specs.Standing.{StepFalls, config_at, setting_at, next_place};
 ghost use Rattle.source_debugger.specs.declared.running.TheConstants.{MOST_COST};
 ghost use Rattle.source_debugger.specs.Standing.{IsValidRun};
 ghost use Rattle.source_debugger.specs.Watched.{surely as surely_in, counted as counted_at};
-ghost use Rattle.source_debugger.specs.Courses.{IsUnderWay, Holds, heap_of};
+ghost use Rattle.source_debugger.specs.Courses.{IsUnderWay, IsTurned, Holds, heap_of};
 ghost use Rattle.source_debugger.specs.Ended.{IsEnded, IsStopped, HasStopped};
 
 use crate::watching::{Watching, ahead, behind, surely, wanted};
 use class_table::Checked;
+use meaning_reversed::laws::steps_are_undone;
 use rpp_words::{Input, Limits, NoMemory};
 use source_execution::{Execution, Variable};
 use source_steps::Stop;
@@ -136,13 +139,108 @@ fn step(course: &mut Course) -> Result<(), Stop>
     }
 }
 
-// A run that is broken off, or has gone too far for a watch, begins anew.
+// How many points are passed before the one at this place, if there is one.
+fn uncounted(passed: u64, place: Option<u32>) -> u64
+    requires { 0 < passed }
+    ensures { passed ≡ counted_at result place }
+{
+    match place {
+        None => passed,
+        Some(_place) => passed - 1,
+    }
+}
+
+// A step back of a run that is turned round. An error breaks the run off.
+fn step_back(course: &mut Course) -> Result<(), Stop>
+    requires whole { course.old.execution.broken ≡ false }
+    requires some { 0 < course.old.passed }
+    ensures gives { Gives (λ u. config_at course.new.execution) result course.new.fuel
+        (metered course.old.fuel
+        (next_back (setting_at course.old.execution) (config_at course.old.execution))) }
+    ensures passed { OnOk result (course.old.passed ≡ counted_at course.new.passed
+        (next_place (config_at course.new.execution).past)) }
+    ensures whole { OnOk result (course.new.execution.broken ≡ false) }
+    ensures breaks { OnErr result (course.new.broken ≡ true) }
+    ensures stays { OnOk result (course.new.broken ≡ course.old.broken) }
+    ensures setting { setting_at course.new.execution ≡ setting_at course.old.execution }
+    ensures falls { OnOk result (StepFalls (config_at course.old.execution)
+        (2 * course.new.fuel + length (config_at course.new.execution).around)
+        (2 * course.old.fuel + length (config_at course.old.execution).around)) }
+    ensures less { course.new.fuel ≤ course.old.fuel }
+{
+    match course.execution.step_back(&mut course.fuel) {
+        Ok(()) => {
+            course.passed = uncounted(course.passed, course.execution.last_place());
+            Ok(())
+        }
+        Err(why) => {
+            course.broken = true;
+            Err(why)
+        }
+    }
+}
+
+// Steps back until no more points are passed than these, or the run stands at its start. An error
+// breaks the run off.
+fn go_back<'a>(run: &Run<'a>, course: &mut Course<'a>, most: u64)
+    requires run { IsValidRun (source_of run.now.checked.now) run.now.limits
+        run.now.input.now.words.items }
+    requires turned { IsTurned (source_of run.now.checked.now) run.now.limits
+        run.now.input.now.words.items MOST_COST course.old }
+    ensures turned { course.new.broken ≡ false → IsTurned (source_of run.now.checked.now)
+        run.now.limits run.now.input.now.words.items MOST_COST course.new }
+{
+    run.checked.program();
+    steps_are_undone();
+    while course.passed > most {
+        if course.execution.is_over() {
+            return;
+        }
+        match step_back(course) {
+            Ok(()) => {}
+            Err(_stop) => return,
+        }
+    }
+}
+
+// The run turns round.
+fn turn(course: &mut Course)
+    requires { course.old.execution.broken ≡ false }
+    ensures turned { config_at course.new.execution
+        ≡ turned_round (config_at course.old.execution) }
+    ensures whole { course.new.execution.broken ≡ false }
+    ensures setting { setting_at course.new.execution ≡ setting_at course.old.execution }
+    ensures same { course.new ≡ record course.old { execution = course.new.execution } }
+{
+    course.execution.turn();
+}
+
+// Turns round, steps back until no more points are passed than these, and turns again. An error
+// breaks the run off.
+fn rewind<'a>(run: &Run<'a>, course: &mut Course<'a>, most: u64)
+    requires run { IsValidRun (source_of run.now.checked.now) run.now.limits
+        run.now.input.now.words.items }
+    requires under_way { IsUnderWay (source_of run.now.checked.now) run.now.limits
+        run.now.input.now.words.items MOST_COST course.old }
+    ensures holds { Holds (source_of run.now.checked.now) run.now.limits
+        run.now.input.now.words.items course.new }
+{
+    turn(course);
+    go_back(run, course, most);
+    if !course.broken {
+        turn(course);
+    }
+}
+
+// A run that has gone too far for a watch steps back. One that is broken off, or that a step back
+// breaks off, begins anew.
 fn make_ready<'a>(
     run: &Run<'a>,
     course: &mut Course<'a>,
     watching: Watching,
 ) -> Result<(), NoMemory>
-    requires limits { IsLimits run.now.limits }
+    requires run { IsValidRun (source_of run.now.checked.now) run.now.limits
+        run.now.input.now.words.items }
     requires holds { Holds (source_of run.now.checked.now) run.now.limits
         run.now.input.now.words.items course.old }
     ensures ready { OnOk result (IsUnderWay (source_of run.now.checked.now) run.now.limits
@@ -151,14 +249,18 @@ fn make_ready<'a>(
     ensures holds { Holds (source_of run.now.checked.now) run.now.limits
         run.now.input.now.words.items course.new }
 {
-    if !course.broken && course.passed <= surely(watching) {
+    let most = surely(watching);
+    if !course.broken && course.passed > most {
+        rewind(run, course, most);
+    }
+    if !course.broken && course.passed <= most {
         return Ok(());
     }
     *course = begin(run)?;
     Ok(())
 }
 
-/// Goes on to the point that is wanted, or anew from the start where the run has gone too far. The
+/// Goes on to the point that is wanted, or back to before it where the run has gone too far. The
 /// only error is that memory ran out, or that the run costs more than 2 ^ 64.
 pub(crate) fn run_to<'a>(
     run: &Run<'a>,
@@ -236,6 +338,6 @@ fn broken(stop: Stop, watching: Watching) -> Result<Ended, NoMemory>
 {
     match stop {
         Stop::Fault(code) => Ok(Ended::Fault { code, watching }),
-        Stop::More | Stop::Arrived | Stop::NoMemory => Err(NoMemory),
+        Stop::More | Stop::NoMemory => Err(NoMemory),
     }
 }

@@ -170,31 +170,33 @@ changed : (old mid : Run) (st : State) → mid ≡ record old { heap = mid.heap;
     → past_it (config_of mid) (here_in mid) (rest_in mid) st ≡ past_it (config_of old) (here_in old) (rest_in old) st
 changed old mid st e = ap (λ r. past_it (config_of r) (here_in r) (rest_in r) st) e
 
-module _ (old : Run) (fuel : ℕ) (t : Statement) (here : here_in old ≡ t) (simple : IsSimple t) where
+-- a statement that changes the state alone, and is past
+module _ (old : Run) (fuel : ℕ) (ran : Run' State) (whole : Run' Config)
+    (is : whole ≡ ran >>= (λ st. give (past_it (config_of old) (here_in old) (rest_in old) st))) where
+  pub alone_fails : (left : ℕ) (why : Stop) → Failed why left (metered fuel ran)
+      → Failed why left (metered fuel whole)
+  alone_fails left why e = subst (λ r. Failed why left (metered fuel r)) (sym is) (fails fuel left ran _ why e)
+
+  pub alone_goes : (mid : Run) (left : ℕ) (y : Config) → metered fuel ran ≡ Went (state_in mid) left
+      → mid ≡ record old { heap = mid.heap; values = mid.values }
+      → y ≡ past_it (config_of mid) (here_in mid) (rest_in mid) (state_in mid)
+      → metered fuel whole ≡ Went y left
+  alone_goes mid left y e same passed =
+      ap (metered fuel) is ∙ goes fuel left ran (state_in mid) _ e
+      ∙ gives left (past_it (config_of old) (here_in old) (rest_in old) (state_in mid))
+      ∙ ap (λ z. Went z left) (sym (passed ∙ changed old mid (state_in mid) same))
+
+module _ (old : Run) (t : Statement) (here : here_in old ≡ t) (simple : IsSimple t) where
   abbrev place : Setting
   place = setting_of old.setting
 
   abbrev ran : Statement → Run' State
   ran s = statement place 0 (λ body st. More) s (state_in old)
 
-  simple_is : begun place (config_of old) (here_in old) (rest_in old)
+  pub simple_is : begun place (config_of old) (here_in old) (rest_in old)
       ≡ ran t >>= (λ st. give (past_it (config_of old) (here_in old) (rest_in old) st))
   simple_is = begun_simply place (config_of old) (here_in old) (rest_in old) (subst IsSimple (sym here) simple)
       ∙ ap (λ s. ran s >>= (λ st. give (past_it (config_of old) (here_in old) (rest_in old) st))) here
-
-  pub simple_fails : (left : ℕ) (why : Stop) → Failed why left (metered fuel (ran t))
-      → Failed why left (metered fuel (begun place (config_of old) (here_in old) (rest_in old)))
-  simple_fails left why e = subst (λ r. Failed why left (metered fuel r)) (sym simple_is)
-      (fails fuel left (ran t) _ why e)
-
-  pub simple_goes : (mid : Run) (left : ℕ) (y : Config) → metered fuel (ran t) ≡ Went (state_in mid) left
-      → mid ≡ record old { heap = mid.heap; values = mid.values }
-      → y ≡ past_it (config_of mid) (here_in mid) (rest_in mid) (state_in mid)
-      → metered fuel (begun place (config_of old) (here_in old) (rest_in old)) ≡ Went y left
-  simple_goes mid left y e same passed =
-      ap (metered fuel) simple_is ∙ goes fuel left (ran t) (state_in mid) _ e
-      ∙ gives left (past_it (config_of old) (here_in old) (rest_in old) (state_in mid))
-      ∙ ap (λ z. Went z left) (sym (passed ∙ changed old mid (state_in mid) same))
 
 pub simple_before : (back : Bool) (s : Statement) → IsSimple (turned back s) → IsSimple s
 simple_before false s i = i

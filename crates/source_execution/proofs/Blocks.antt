@@ -1,15 +1,18 @@
 -- The statements of a block by their places.
-use Rattle.std.proofs.Common.{◌≡◌, ℕ, zero, suc, ◌+◌, ◌<◌, ◌≤◌, refl, sym, ap, ◌∙◌, arith, List, [], ◌∷◌, ◌⊎◌}
+use Rattle.std.proofs.Common.{◌≡◌, ℕ, zero, suc, ◌+◌, ◌<◌, ◌≤◌, ◌^◌, refl, sym, ap, ◌∙◌, arith, List, [], ◌∷◌, ◌⊎◌}
 use Rattle.std.proofs.Common.{inl, inr, length, map, get_or, Bool, true, false}
 use Rattle.rpp_tree.specs.declared.tree.Stmt.{Stmt}
 use Rattle.rpp_tree.specs.declared.tree.Block.{Block}
-use Rattle.rpp_tree.specs.Tree.{Statement, Statements, End, Then, joined}
+use Rattle.rpp_tree.specs.Tree.{Whole, Object as AnObject, Statement, Statements, New, Delete, End, Then, joined}
 use Rattle.rpp_tree.specs.Views.{statement_of, statements_of, block_of}
 use Rattle.rpp_tree.proofs.Blocks.{block_of-list}
 use Rattle.stmt_inverter.specs.Inverse.{inverse_statement, inverse}
 use Rattle.roopl_semantics.specs.Execution.{in_direction}
 use Rattle.source_steps.specs.Ends.{turned}
+use Rattle.source_execution.specs.declared.task.Task.{Task}
+use Rattle.source_execution.specs.declared.task.Task.TheVariants as task
 use Rattle.source_execution.specs.Blocks.{statement_at, rest_at, count_of}
+use Rattle.source_execution.specs.Tasks.{task_of}
 
 pub rest_here : (at : ℕ) (body : Statements) → at < count_of body
     → rest_at at body ≡ Then (statement_at at body) (rest_at (suc at) body)
@@ -39,7 +42,7 @@ at_back at End b k e = let same : k ≡ at = omega arith in ap (λ n. statement_
 at_back at (Then s rest) b zero e = absurd (omega arith)
 at_back at (Then s rest) b (suc k) e = at_back at rest b k (omega arith)
 
-count_inverse : (body : Statements) → count_of (inverse body) ≡ count_of body
+pub count_inverse : (body : Statements) → count_of (inverse body) ≡ count_of body
 count_inverse End = refl
 count_inverse (Then s rest) =
     let e : count_of (joined (inverse rest) (Then (inverse_statement s) End)) ≡ count_of (inverse rest) + 1 =
@@ -56,7 +59,7 @@ before_or_at (suc a) (suc b) h = elim (before_or_at a b (omega arith)) [
   | inr e ↦ inr (ap suc e)
 ]
 
-at_inverse : (body : Statements) (at back : ℕ) → at + suc back ≡ count_of body
+pub at_inverse : (body : Statements) (at back : ℕ) → at + suc back ≡ count_of body
     → statement_at at (inverse body) ≡ inverse_statement (statement_at back body)
 at_inverse End at back e = absurd (omega arith)
 at_inverse (Then s rest) at zero e =
@@ -135,3 +138,24 @@ pub made_last : (first last : Statement) (body : Statements) (at : ℕ) → at �
 made_last first last body at e =
     sym (at_back 0 body (Then last End) (count_of body) (omega arith))
     ∙ ap (λ n. statement_at n (Then first (joined body (Then last End)))) (sym e)
+
+-- ---- no block is longer than memory can hold
+
+pub task_small : (t : Task) → count_of (task_of t) ≤ 2 ^ 63 + 1
+task_small task.Nothing = omega arith
+task_small (task.Text block back) =
+    let n = block_count back block.now in
+    let l = block.now.list.ok.0 in
+    let m = block.now.list.ok.1 in
+    let k = block.now.list.small in
+    omega arith
+task_small (task.Made made) =
+    let n = block_count made.back made.body.now in
+    let l = made.body.now.list.ok.0 in
+    let m = made.body.now.list.ok.1 in
+    let k = made.body.now.list.small in
+    let c = made_count (New made.at (AnObject made.class.now) (Whole made.name.now))
+    (Delete made.at (AnObject made.class.now) (Whole made.name.now))
+    (in_direction made.back (block_of made.body.now)) in
+    omega arith
+task_small (task.Exchange element calls) = omega arith

@@ -21,6 +21,8 @@ use Rattle.source_steps.proofs.Moves.{bound_cut}
 use Rattle.source_execution.specs.declared.frames.Caller.{Caller}
 use Rattle.source_execution.specs.declared.frames.Part.TheVariants as runs
 use Rattle.source_execution.specs.declared.run.Run.{Run}
+use Rattle.source_execution.specs.Blocks.{count_of}
+use Rattle.source_execution.specs.Tasks.{task_of}
 use Rattle.source_execution.specs.Opens.{caller_of, cells_in, values_in, part_of, IsOpen}
 use Rattle.source_execution.specs.Runs.{IsSound, config_of, state_in, here_in, rest_in}
 use Rattle.source_execution.proofs.Entered.{entered_as}
@@ -147,6 +149,7 @@ module _ (run mid callee : Run) (same : mid ≡ record run { heap = mid.heap; va
           ∙ length-map callee.params.now (λ var. var.name.text));
       order = ap (λ (r : Run). r.heap.order) call ∙ s.order ∙ sym (ap (λ (r : Run). r.setting.limits.heap) call);
       opens = subst (λ (r : Run). All IsOpen r.frames.items) (sym call) s.opens;
+      within = subst (λ (r : Run). r.at ≤ count_of (task_of r.task)) (sym call) s.within;
     }
 
     -- the whole of it

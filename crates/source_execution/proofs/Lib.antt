@@ -1,7 +1,9 @@
 pub mod Blocks
+pub mod Around
 pub mod Opened
 pub mod Over
 pub mod Begun
+pub mod Asking
 pub mod Entered
 pub mod Ended
 pub mod Undone
@@ -11,5 +13,4 @@ pub mod Callee
 pub mod Stepped
 pub mod Started
 pub mod Returned
-pub mod Stated
 pub mod Last

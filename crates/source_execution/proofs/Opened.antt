@@ -9,6 +9,7 @@ use Rattle.source_execution.specs.declared.task.Task.{Task}
 use Rattle.source_execution.specs.declared.frames.Part.{Part}
 use Rattle.source_execution.specs.declared.frames.Frame.{Frame}
 use Rattle.source_execution.specs.declared.run.Run.{Run}
+use Rattle.source_execution.specs.Blocks.{count_of}
 use Rattle.source_execution.specs.Tasks.{task_of}
 use Rattle.source_execution.specs.Opens.{open_of, part_of, IsOpen}
 use Rattle.source_execution.specs.Runs.{IsSound, config_of, state_in, here_in, rest_in, leaving}
@@ -52,8 +53,9 @@ module _ (run new : Run) where
       ∙ ap (λ n. config_of (record run { task = frame.task; at = n; frames = new.frames })) same
       ∙ sym (ap (leaving (config_of run)) outer)
 
-pub passed_sound : (run : Run) (next : ℕ) → IsSound run → IsSound (record run { at = next })
-passed_sound run next s = record { each = s.each; order = s.order; opens = s.opens }
+pub passed_sound : (run : Run) (next : ℕ) → next ≡ run.at + 1 → run.at < count_of (task_of run.task) → IsSound run
+    → IsSound (record run { at = next })
+passed_sound run next e h s = record { each = s.each; order = s.order; opens = s.opens; within = omega arith }
 
 module _ (run new : Run) (frame : Frame) where
   pub opened_sound : (task : Task) → new ≡ record run { task = task; at = 0; frames = new.frames }
@@ -62,6 +64,7 @@ module _ (run new : Run) (frame : Frame) where
     each = s.each;
     order = s.order;
     opens = subst (All IsOpen) (sym f) (All-push IsOpen run.frames.items frame s.opens o);
+    within = omega arith;
   })
 
   popped : (r : Option Frame) → r ≡ Some frame → run.frames.items ≡ new.frames.items ++ option_to_list r
@@ -71,12 +74,14 @@ module _ (run new : Run) (frame : Frame) where
   pub frame_open : run.frames.items ≡ new.frames.items ++ frame ∷ [] → IsSound run → IsOpen frame
   frame_open f s = (All-pop IsOpen run.frames.items new.frames.items (Some frame) f s.opens).1
 
-  pub closed_sound : (next : ℕ) → new ≡ record run { task = frame.task; at = next; frames = new.frames }
+  pub closed_sound : (next : ℕ) → next ≡ frame.at + 1
+      → new ≡ record run { task = frame.task; at = next; frames = new.frames }
       → run.frames.items ≡ new.frames.items ++ frame ∷ [] → IsSound run → IsSound new
-  closed_sound next e f s = subst IsSound (sym e) (record {
+  closed_sound next n e f s = let o = (frame_open f s).within in subst IsSound (sym e) (record {
     each = s.each;
     order = s.order;
     opens = (All-pop IsOpen run.frames.items new.frames.items (Some frame) f s.opens).0;
+    within = omega arith;
   })
 
 -- the innermost open statement goes on in another part
@@ -108,6 +113,7 @@ module _ (run new : Run) (frame next : Frame) (front : List Frame) (f : run.fram
         each = s.each;
         order = s.order;
         opens = subst (All IsOpen) (sym g) (All-push IsOpen front next all o);
+        within = omega arith;
       })
 
   pub turned_count : length new.frames.items ≡ length run.frames.items

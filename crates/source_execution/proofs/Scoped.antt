@@ -73,6 +73,7 @@ module _ (run : Run) (scope : Chain) (names : names_of scope ≡ names_in run) w
       each = f.each ∙ ap (λ ns. length ns) names;
       order = f.order;
       opens = s.opens;
+      within = s.within;
     })
 
     pub sound_after : {E : Type 0} (result : Result E Stop) → IsSound run
@@ -103,6 +104,7 @@ module _ (run new : Run) (same : new ≡ record run { locals = new.locals; value
     each = ap (λ (vs : List Held). length vs) e ∙ ap suc s.each ∙ sym (ap counted l);
     order = s.order;
     opens = s.opens;
+    within = s.within;
   })
 
   -- the innermost variable goes
@@ -116,7 +118,7 @@ module _ (run new : Run) (same : new ≡ record run { locals = new.locals; value
       let more : length run.values.items ≡ suc (length new.values.items) = ap (λ (vs : List Held). length vs) e in
       let fewer : counted run.locals.items ≡ suc (counted new.locals.items) = ap counted l in
       let each : length run.values.items ≡ counted run.locals.items = s.each in
-      subst IsSound (sym same) (record { each = omega arith; order = s.order; opens = s.opens })
+      subst IsSound (sym same) (record { each = omega arith; order = s.order; opens = s.opens; within = s.within })
 
   pub state_config : (st : State) → state_in new ≡ st → config_of new ≡ record (config_of run) { state = st }
   state_config st e =

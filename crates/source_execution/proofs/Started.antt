@@ -101,14 +101,15 @@ module _ (run : Run) (program : Source) (input : List FieldWord) (order : ℕ) (
       ∙ ap (λ x. config_by [] [] [] [] (starting_heap program input order) main_name 1 x (task_of run.task)) a
       ∙ ap (λ x. config_by [] [] [] [] (starting_heap program input order) main_name 1 0 x) b
 
-  pub started_sound : order ≡ run.setting.limits.heap → IsSound run
-  started_sound o = record {
+  pub started_sound : order ≡ run.setting.limits.heap → run.at ≡ 0 → IsSound run
+  started_sound o a = record {
     each = ap (λ (vs : List Held). length vs) v
         ∙ sym (ap (λ (ls : List (Bor (List ℕ))). length (map (λ own. own.now) ls
         ++ map (λ var. var.name.text) run.params.now)) l
         ∙ ap (λ (ps : List Var). length (map (λ var. var.name.text) ps)) p);
     order = ap (λ (k : Kept). k.order) h ∙ o;
     opens = subst (λ (fs : List Frame). All IsOpen fs) (sym f) (All-nil IsOpen);
+    within = omega arith;
   }
 
 -- ---- the end

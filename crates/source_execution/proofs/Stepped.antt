@@ -1,19 +1,21 @@
 -- A step of a run, and steps one after another.
 use Rattle.std.proofs.Common.{◌≡◌, ◌<◌, ◌≤◌, ◌+◌, ◌*◌, ℕ, refl, sym, ap, subst, ◌∙◌, arith, List, [], ◌∷◌}
-use Rattle.std.proofs.Common.{false, length, reverse}
+use Rattle.std.proofs.Common.{Bool, true, false, length, reverse}
 use Rattle.std.proofs.lemmas.List.{length-map, length-reverse}
 use Rattle.std.specs.Prelude.{Result, Ok, Err, OnOk}
 use Rattle.std.specs.Result.{IsErrAnd}
 use Rattle.rpp_tree.specs.Tree.{Statements, End, Then}
 use Rattle.roopl_semantics.specs.Run.{◌>>=◌, spend}
 use Rattle.roopl_semantics.specs.Execution.{Setting}
-use Rattle.meaning_machine.specs.Machine.{Config, Open, begun, closing, stepped, next, walk}
+use Rattle.meaning_machine.specs.Machine.{Config, Open, closing, stepped, next, walk}
 use Rattle.meaning_machine.proofs.Steps.{plus, walk_plus}
+use Rattle.meaning_machine.specs.Reversed.{stepped_back}
 use Rattle.source_steps.specs.declared.stop.Stop.{Stop}
 use Rattle.source_steps.specs.Metered.{Went, metered, Failed, Gives}
 use Rattle.source_steps.specs.StateView.{setting_of}
 use Rattle.source_steps.proofs.Fuelled.{goes, fails, gives}
 use Rattle.source_execution.specs.declared.run.Run.{Run}
+use Rattle.source_execution.specs.Backwards.{begun_in, step_in}
 use Rattle.source_execution.specs.Blocks.{count_of}
 use Rattle.source_execution.specs.Tasks.{task_of}
 use Rattle.source_execution.specs.Opens.{open_of}
@@ -31,32 +33,36 @@ module _ (run : Run) where
   abbrev place : Config
   place = config_of run
 
-  next_ends : count_of (task_of run.task) ≤ run.at → closing here place place.around ≡ next here place
-  next_ends h = sym (ap (stepped here place) (rest_end run.at (task_of run.task) h))
+  step_ends : (back : Bool) → count_of (task_of run.task) ≤ run.at
+      → closing here place place.around ≡ step_in back here place
+  step_ends false h = sym (ap (stepped here place) (rest_end run.at (task_of run.task) h))
+  step_ends true h = sym (ap (stepped_back here place) (rest_end run.at (task_of run.task) h))
 
-  next_begins : run.at < count_of (task_of run.task)
-      → next here place ≡ spend 1 >>= (λ u. begun here place (here_in run) (rest_in run))
-  next_begins h = ap (stepped here place) (rest_here run.at (task_of run.task) h)
+  step_begins : (back : Bool) → run.at < count_of (task_of run.task)
+      → step_in back here place ≡ spend 1 >>= (λ u. begun_in back here place (here_in run) (rest_in run))
+  step_begins false h = ap (stepped here place) (rest_here run.at (task_of run.task) h)
+  step_begins true h = ap (stepped_back here place) (rest_here run.at (task_of run.task) h)
 
-  pub ended_gives : {E : Type 0} (f : E → Config) (result : Result E Stop) (fuel left : ℕ)
+  pub ended_gives : {E : Type 0} (f : E → Config) (result : Result E Stop) (fuel left : ℕ) (back : Bool)
       → count_of (task_of run.task) ≤ run.at
       → Gives f result left (metered fuel (closing here place place.around))
-      → Gives f result left (metered fuel (next here place))
-  ended_gives f result fuel left h g = subst (λ r. Gives f result left (metered fuel r)) (next_ends h) g
+      → Gives f result left (metered fuel (step_in back here place))
+  ended_gives f result fuel left back h g =
+      subst (λ r. Gives f result left (metered fuel r)) (step_ends back h) g
 
-  pub begins_unpaid : (fuel left : ℕ) (why : Stop) → run.at < count_of (task_of run.task)
-      → Failed why left (metered fuel (spend 1)) → Failed why left (metered fuel (next here place))
-  begins_unpaid fuel left why h e = subst (λ r. Failed why left (metered fuel r)) (sym (next_begins h))
-      (fails fuel left (spend 1) (λ u. begun here place (here_in run) (rest_in run)) why e)
+  pub begins_unpaid : (fuel left : ℕ) (why : Stop) (back : Bool) → run.at < count_of (task_of run.task)
+      → Failed why left (metered fuel (spend 1)) → Failed why left (metered fuel (step_in back here place))
+  begins_unpaid fuel left why back h e = subst (λ r. Failed why left (metered fuel r)) (sym (step_begins back h))
+      (fails fuel left (spend 1) (λ u. begun_in back here place (here_in run) (rest_in run)) why e)
 
-  pub begins_gives : {E : Type 0} (f : E → Config) (result : Result E Stop) (fuel one left : ℕ)
+  pub begins_gives : {E : Type 0} (f : E → Config) (result : Result E Stop) (fuel one left : ℕ) (back : Bool)
       → run.at < count_of (task_of run.task) → metered fuel (spend 1) ≡ Went tt one
-      → Gives f result left (metered one (begun here place (here_in run) (rest_in run)))
-      → Gives f result left (metered fuel (next here place))
-  begins_gives f result fuel one left h e g =
-      subst (λ r. Gives f result left (metered fuel r)) (sym (next_begins h))
+      → Gives f result left (metered one (begun_in back here place (here_in run) (rest_in run)))
+      → Gives f result left (metered fuel (step_in back here place))
+  begins_gives f result fuel one left back h e g =
+      subst (λ r. Gives f result left (metered fuel r)) (sym (step_begins back h))
       (subst (λ m. Gives f result left m)
-      (sym (goes fuel one (spend 1) tt (λ u. begun here place (here_in run) (rest_in run)) e)) g)
+      (sym (goes fuel one (spend 1) tt (λ u. begun_in back here place (here_in run) (rest_in run)) e)) g)
 
   pub begins_falls : {E : Type 0} (result : Result E Stop) (after first : ℕ) → run.at < count_of (task_of run.task)
       → OnOk result (after < first) → OnOk result (StepFalls place after first)

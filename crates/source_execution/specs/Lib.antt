@@ -5,3 +5,4 @@ pub mod Runs
 pub mod Endings
 pub mod Standing
 pub mod Variables
+pub mod Backwards

@@ -1,5 +1,5 @@
 -- What is open, as the machine sees it.
-use Rattle.std.specs.Prelude.{◌≡◌, ◌≤◌, ◌^◌, ℕ, suc, List, [], ◌∷◌, ◌++◌, map, length, Option, Some}
+use Rattle.std.specs.Prelude.{◌≡◌, ◌<◌, ℕ, suc, List, [], ◌∷◌, ◌++◌, map, length, Option, Some}
 use Rattle.std.specs.Prelude.{None}
 use Rattle.rpp_tree.specs.Tree.{Expression, Null}
 use Rattle.rpp_tree.specs.Views.{expression_of, block_of}
@@ -18,7 +18,7 @@ use Rattle.source_execution.specs.declared.frames.Caller.{Caller}
 use Rattle.source_execution.specs.declared.frames.Part.{Part as Runs}
 use Rattle.source_execution.specs.declared.frames.Part.TheVariants as runs
 use Rattle.source_execution.specs.declared.frames.Frame.{Frame}
-use Rattle.source_execution.specs.Blocks.{statement_at, rest_at, past_at}
+use Rattle.source_execution.specs.Blocks.{statement_at, rest_at, past_at, count_of}
 use Rattle.source_execution.specs.Tasks.{task_of}
 
 abbrev pub closing_of : Closing → Expression
@@ -77,7 +77,7 @@ IsCaller (runs.Calling caller) =
     length caller.values.items ≡ length (caller_names caller)
 IsCaller _ = Unit {0}
 
--- so it is in each open statement, and no block is longer than memory can hold
+-- so it is in each open statement, which is one of its block
 pub record IsOpen (frame : Frame) : Type 0 where
-  pub small : frame.at ≤ 2 ^ 63
+  pub within : frame.at < count_of (task_of frame.task)
   pub caller : IsCaller frame.part

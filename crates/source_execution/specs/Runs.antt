@@ -1,5 +1,6 @@
 -- Where a run stands, as the machine sees it.
-use Rattle.std.specs.Prelude.{◌≡◌, ℕ, suc, List, [], ◌∷◌, ◌++◌, map, reverse, length, All, Option}
+use Rattle.std.specs.Prelude.{◌≡◌, ◌≤◌, ℕ, suc, List, [], ◌∷◌, ◌++◌, map, reverse, length, All}
+use Rattle.std.specs.Prelude.{Option}
 use Rattle.std.specs.Prelude.{Some, None}
 use Rattle.rpp_tree.specs.Tree.{Statement, Statements, Update, Swap, New, Delete, Copy, Uncopy}
 use Rattle.rpp_tree.specs.Tree.{Skip}
@@ -11,7 +12,7 @@ use Rattle.roopl_semantics.specs.Value.{Cell}
 use Rattle.source_steps.specs.declared.cell.Cell.{Cell as Place}
 use Rattle.source_steps.specs.CellView.{cell_of}
 use Rattle.source_execution.specs.declared.run.Run.{Run}
-use Rattle.source_execution.specs.Blocks.{statement_at, rest_at, past_at}
+use Rattle.source_execution.specs.Blocks.{statement_at, rest_at, past_at, count_of}
 use Rattle.source_execution.specs.Tasks.{task_of}
 use Rattle.source_execution.specs.Opens.{open_of, IsOpen}
 
@@ -45,11 +46,13 @@ config_of run = record {
   around = map open_of (reverse run.frames.items);
 }
 
--- each variable has a value, in each open method, and the heap is of the order that the limits say
+-- each variable has a value, in each open method, the heap is of the order that the limits say, and
+-- no more statements are past than the block has
 pub record IsSound (run : Run) : Type 0 where
   pub each : length run.values.items ≡ length (names_in run)
   pub order : run.heap.order ≡ run.setting.limits.heap
   pub opens : All IsOpen run.frames.items
+  pub within : run.at ≤ count_of (task_of run.task)
 
 -- the cell of a receiver, if there is one
 abbrev pub only_cell : Option Place → List Cell

@@ -57,7 +57,7 @@ pub fn closing_value(run: &Run, fuel: &mut u64, closing: &Closing) -> Result<Val
 /// A choice begins: the side that its test finds is open.
 fn choose<'a>(run: &mut Run<'a>, fuel: &mut u64, at: u32, choice: &Choice<'a>) -> Result<(), Stop>
     requires sound { IsSound run.old }
-    requires small { run.old.at ≤ 2 ^ 63 }
+    requires within { run.old.at < count_of (task_of run.old.task) }
     requires here { here_in run.old ≡ If at (expression_of choice.now.test.now)
         (in_direction choice.now.back (block_of choice.now.taken.now))
         (in_direction choice.now.back (block_of choice.now.other.now))
@@ -79,7 +79,7 @@ fn choose<'a>(run: &mut Run<'a>, fuel: &mut u64, at: u32, choice: &Choice<'a>) -
 /// A side of a choice is open.
 fn open_side<'a>(run: &mut Run<'a>, side: bool, choice: &Choice<'a>) -> Result<(), Stop>
     requires sound { IsSound run.old }
-    requires small { run.old.at ≤ 2 ^ 63 }
+    requires within { run.old.at < count_of (task_of run.old.task) }
     ensures opened { MatchResult result (λ u. config_of run.new
         ≡ inside (config_of run.old) (here_in run.old) (rest_in run.old)
         (Chosen side (expression_of choice.now.test.now) (expression_of choice.now.after.now))
@@ -113,7 +113,7 @@ fn open_side<'a>(run: &mut Run<'a>, side: bool, choice: &Choice<'a>) -> Result<(
 /// A loop begins: its first part is open where its entry holds.
 fn repeat<'a>(run: &mut Run<'a>, fuel: &mut u64, at: u32, turns: &Loop<'a>) -> Result<(), Stop>
     requires sound { IsSound run.old }
-    requires small { run.old.at ≤ 2 ^ 63 }
+    requires within { run.old.at < count_of (task_of run.old.task) }
     requires here { here_in run.old ≡ Repeat at (expression_of turns.now.entry.now)
         (in_direction turns.now.back (block_of turns.now.first.now))
         (in_direction turns.now.back (block_of turns.now.again.now))
@@ -163,7 +163,7 @@ pub fn open_local<'a>(
     task: Task<'a>,
 ) -> Result<(), Stop>
     requires sound { IsSound run.old }
-    requires small { run.old.at ≤ 2 ^ 63 }
+    requires within { run.old.at < count_of (task_of run.old.task) }
     ensures gives { Gives (λ u. config_of run.new) result fuel.new
         (metered fuel.old (held_local (setting_of run.old.setting) (config_of run.old)
         (here_in run.old) (rest_in run.old) local.now.name.now (closing_of local.now.value)
@@ -187,7 +187,7 @@ fn open_holding<'a>(
     task: Task<'a>,
 ) -> Result<(), Stop>
     requires sound { IsSound run.old }
-    requires small { run.old.at ≤ 2 ^ 63 }
+    requires within { run.old.at < count_of (task_of run.old.task) }
     ensures opened { MatchResult result (λ u. config_of run.new
         ≡ inside (config_of run.old) (here_in run.old) (rest_in run.old)
         (Holding local.now.name.now (closing_of local.now.value) (closing_of local.now.end_value))
@@ -207,7 +207,6 @@ fn open_holding<'a>(
 fn begin_simple<'a>(run: &mut Run<'a>, fuel: &mut u64, line: &Line<'a>) -> Result<(), Stop>
     requires sound { IsSound run.old }
     requires within { run.old.at < count_of (task_of run.old.task) }
-    requires small { run.old.at ≤ 2 ^ 63 }
     requires here { here_in run.old ≡ line_of line.now }
     requires simple { IsSimple (line_of line.now) }
     ensures gives { Gives (λ u. config_of run.new) result fuel.new
@@ -231,7 +230,6 @@ fn begin_simple<'a>(run: &mut Run<'a>, fuel: &mut u64, line: &Line<'a>) -> Resul
 fn begin_forward<'a>(run: &mut Run<'a>, fuel: &mut u64, s: &'a Stmt) -> Result<(), Stop>
     requires sound { IsSound run.old }
     requires within { run.old.at < count_of (task_of run.old.task) }
-    requires small { run.old.at ≤ 2 ^ 63 }
     requires here { here_in run.old ≡ statement_of s.now }
     ensures gives { Gives (λ u. config_of run.new) result fuel.new
         (metered fuel.old (begun (setting_of run.old.setting) (config_of run.old)
@@ -355,7 +353,6 @@ fn begin_forward<'a>(run: &mut Run<'a>, fuel: &mut u64, s: &'a Stmt) -> Result<(
 fn begin_backward<'a>(run: &mut Run<'a>, fuel: &mut u64, s: &'a Stmt) -> Result<(), Stop>
     requires sound { IsSound run.old }
     requires within { run.old.at < count_of (task_of run.old.task) }
-    requires small { run.old.at ≤ 2 ^ 63 }
     requires here { here_in run.old ≡ turned true (statement_of s.now) }
     ensures gives { Gives (λ u. config_of run.new) result fuel.new
         (metered fuel.old (begun (setting_of run.old.setting) (config_of run.old)
@@ -478,7 +475,7 @@ fn begin_backward<'a>(run: &mut Run<'a>, fuel: &mut u64, s: &'a Stmt) -> Result<
 /// A `construct` begins: its variable appears, with what it means inside.
 fn construct<'a>(run: &mut Run<'a>, fuel: &mut u64, made: &Construct<'a>) -> Result<(), Stop>
     requires sound { IsSound run.old }
-    requires small { run.old.at ≤ 2 ^ 63 }
+    requires within { run.old.at < count_of (task_of run.old.task) }
     ensures gives { Gives (λ u. config_of run.new) result fuel.new
         (metered fuel.old (held_local (setting_of run.old.setting) (config_of run.old)
         (here_in run.old) (rest_in run.old) made.now.name.now.text (Null made.now.at)
@@ -504,7 +501,6 @@ fn construct<'a>(run: &mut Run<'a>, fuel: &mut u64, made: &Construct<'a>) -> Res
 pub fn begin<'a>(run: &mut Run<'a>, fuel: &mut u64, line: &Line<'a>) -> Result<(), Stop>
     requires sound { IsSound run.old }
     requires within { run.old.at < count_of (task_of run.old.task) }
-    requires small { run.old.at ≤ 2 ^ 63 }
     requires here { here_in run.old ≡ line_of line.now }
     ensures gives { Gives (λ u. config_of run.new) result fuel.new
         (metered fuel.old (begun (setting_of run.old.setting) (config_of run.old)

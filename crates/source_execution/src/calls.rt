@@ -12,6 +12,7 @@ ghost use Rattle.source_store.specs.ValueView.{value_of, values_of};
 ghost use Rattle.source_steps.specs.CellView.{cell_of};
 ghost use Rattle.source_steps.specs.Metered.{Gives, metered};
 ghost use Rattle.source_steps.specs.StateView.{setting_of};
+ghost use Rattle.source_execution.specs.Blocks.{count_of};
 ghost use Rattle.source_execution.specs.Tasks.{task_of};
 ghost use Rattle.source_execution.specs.Opens.{cells_in, values_in, part_of, IsCaller};
 ghost use Rattle.source_execution.specs.Runs.{IsSound, config_of, state_in, here_in, rest_in, only_cell};
@@ -172,7 +173,7 @@ fn enter<'a>(
     calls: &Calls<'a>,
 ) -> Result<(), Stop>
     requires sound { IsSound run.old }
-    requires small { run.old.at ≤ 2 ^ 63 }
+    requires within { run.old.at < count_of (task_of run.old.task) }
     requires shallow { run.old.setting.depth < (setting_of run.old.setting).limits.deep }
     ensures entered { MatchResult result (λ u. config_of run.new
         ≡ entered (setting_of run.old.setting) (config_of run.old) (here_in run.old)
@@ -205,7 +206,7 @@ fn enter_with<'a>(
     inside: Vec<Value>,
 ) -> Result<(), Stop>
     requires sound { IsSound run.old }
-    requires small { run.old.at ≤ 2 ^ 63 }
+    requires within { run.old.at < count_of (task_of run.old.task) }
     requires shallow { run.old.setting.depth < (setting_of run.old.setting).limits.deep }
     requires cells { map cell_of args.items
         ≡ cells_named (setting_of run.old.setting) (state_in run.old) calls.now.args.now }
@@ -268,7 +269,7 @@ fn values_in_order(run: &Run, cells: &Vec<Cell>) -> Result<Vec<Value>, Stop>
 /// A call of a method of the present object begins.
 fn call_own<'a>(run: &mut Run<'a>, fuel: &mut u64, calls: &Calls<'a>) -> Result<(), Stop>
     requires sound { IsSound run.old }
-    requires small { run.old.at ≤ 2 ^ 63 }
+    requires within { run.old.at < count_of (task_of run.old.task) }
     ensures gives { Gives (λ u. config_of run.new) result fuel.new
         (metered fuel.old (called (setting_of run.old.setting) (config_of run.old)
         (here_in run.old) (rest_in run.old) calls.now.at calls.now.back None calls.now.method.now
@@ -296,7 +297,7 @@ pub fn call_on<'a>(
     calls: &Calls<'a>,
 ) -> Result<(), Stop>
     requires sound { IsSound run.old }
-    requires small { run.old.at ≤ 2 ^ 63 }
+    requires within { run.old.at < count_of (task_of run.old.task) }
     ensures gives { Gives (λ u. config_of run.new) result fuel.new
         (metered fuel.old (called (setting_of run.old.setting) (config_of run.old)
         (here_in run.old) (rest_in run.old) calls.now.at calls.now.back (Some (Whole name.now))
@@ -342,7 +343,7 @@ pub fn call<'a>(
     calls: &Calls<'a>,
 ) -> Result<(), Stop>
     requires sound { IsSound run.old }
-    requires small { run.old.at ≤ 2 ^ 63 }
+    requires within { run.old.at < count_of (task_of run.old.task) }
     ensures gives { Gives (λ u. config_of run.new) result fuel.new
         (metered fuel.old (called (setting_of run.old.setting) (config_of run.old)
         (here_in run.old) (rest_in run.old) calls.now.at calls.now.back

@@ -8,7 +8,7 @@ ghost use Rattle.source_store.specs.ValueView.{value_of, values_of};
 ghost use Rattle.source_steps.specs.CellView.{cell_of};
 ghost use Rattle.source_steps.specs.Metered.{Gives, metered};
 ghost use Rattle.source_steps.specs.StateView.{setting_of};
-ghost use Rattle.source_execution.specs.Blocks.{past_at, rest_at};
+ghost use Rattle.source_execution.specs.Blocks.{past_at, rest_at, count_of};
 ghost use Rattle.source_execution.specs.Tasks.{task_of};
 ghost use Rattle.source_execution.specs.Opens.{open_of, part_of, caller_of, caller_names, cells_in, values_in, IsCaller};
 ghost use Rattle.source_execution.specs.Runs.{IsSound, config_of, state_in};
@@ -278,7 +278,7 @@ fn give_back(
 
 /// A method is past: what its caller stood in is open again.
 fn become_caller<'a>(run: &mut Run<'a>, task: Task<'a>, at: usize, caller: Caller<'a>)
-    requires small { at ≤ 2 ^ 63 }
+    requires within { at < count_of (task_of task) }
     requires sound { IsSound run.old }
     requires each { length caller.values.items ≡ length (caller_names caller) }
     ensures state { state_in run.new ≡ record {

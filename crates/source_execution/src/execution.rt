@@ -5,20 +5,23 @@ ghost use Rattle.rpp_tree.specs.Views.{source_of};
 ghost use Rattle.roopl_semantics.specs.Store.{Word};
 ghost use Rattle.roopl_semantics.specs.Source.{with_input, main_body};
 ghost use Rattle.meaning_machine.specs.Machine.{next};
+ghost use Rattle.meaning_machine.specs.Turned.{turn as turned_round};
 ghost use Rattle.meaning_machine.specs.SourceLaws.{set_for, start_of};
+ghost use Rattle.meaning_machine.specs.Reversed.{back as next_back};
 ghost use Rattle.source_store.specs.ValueView.{values_of};
 ghost use Rattle.source_steps.specs.Metered.{Gives, metered};
 ghost use Rattle.source_steps.specs.StateView.{setting_of};
+ghost use Rattle.source_execution.specs.Backwards.{step_in};
 ghost use Rattle.source_execution.specs.Tasks.{task_of};
 ghost use Rattle.source_execution.specs.Runs.{IsSound, config_of};
 ghost use Rattle.source_execution.specs.Variables.{binding_of};
 ghost use Rattle.source_execution.specs.Standing.{IsOver, Walks, StepFalls, config_at, setting_at, next_place, starting_heap};
 
-use crate::begins::begin;
 use crate::ends::end;
 use crate::methods::method_at;
 use crate::places::line_place;
-use crate::run::Run;
+use crate::requests::begin_line;
+use crate::run::{Run, turn};
 use crate::task::{Task, line_at};
 use crate::variables::{Variable, variables_in};
 use class_table::Checked;
@@ -74,11 +77,11 @@ fn main_task<'a>(checked: &'a Checked) -> Task<'a>
     }
 }
 
-/// A step of a run.
-fn step<'a>(run: &mut Run<'a>, fuel: &mut u64) -> Result<(), Stop>
+/// A step of a run, turned round or not.
+fn step<'a>(run: &mut Run<'a>, fuel: &mut u64, back: bool) -> Result<(), Stop>
     requires sound { IsSound run.old }
     ensures gives { Gives (λ u. config_of run.new) result fuel.new
-        (metered fuel.old (next (setting_of run.old.setting) (config_of run.old))) }
+        (metered fuel.old (step_in back (setting_of run.old.setting) (config_of run.old))) }
     ensures sound { OnOk result (IsSound run.new) }
     ensures falls { OnOk result (StepFalls (config_of run.old)
         (2 * fuel.new + length run.new.frames.items)
@@ -91,7 +94,7 @@ fn step<'a>(run: &mut Run<'a>, fuel: &mut u64) -> Result<(), Stop>
         Some(line) => {
             match spend(fuel, 1) {
                 Err(why) => Err(why),
-                Ok(()) => begin(run, fuel, &line),
+                Ok(()) => begin_line(run, fuel, &line, back),
             }
         }
     }
@@ -185,13 +188,54 @@ impl<'a> Execution<'a> {
             (2 * fuel.old + length (config_at self.old).around)) }
         ensures less { fuel.new ≤ fuel.old }
     {
-        match step(&mut self.run, fuel) {
+        self.go(fuel, false)
+    }
+
+    /// A step of the run that is turned round: one of the machine that is turned round, in which
+    /// `new` and `delete` take requests to the heap back. What breaks off a step breaks it off.
+    pub fn step_back(&mut self, fuel: &mut u64) -> Result<(), Stop>
+        requires whole { self.old.broken ≡ false }
+        ensures gives { Gives (λ u. config_at self.new) result fuel.new
+            (metered fuel.old (next_back (setting_at self.old) (config_at self.old))) }
+        ensures whole { OnOk result (self.new.broken ≡ false) }
+        ensures setting { setting_at self.new ≡ setting_at self.old }
+        ensures falls { OnOk result (StepFalls (config_at self.old)
+            (2 * fuel.new + length (config_at self.new).around)
+            (2 * fuel.old + length (config_at self.old).around)) }
+        ensures less { fuel.new ≤ fuel.old }
+    {
+        self.go(fuel, true)
+    }
+
+    // A step, turned round or not. An error breaks the run off.
+    fn go(&mut self, fuel: &mut u64, back: bool) -> Result<(), Stop>
+        requires whole { self.old.broken ≡ false }
+        ensures gives { Gives (λ u. config_at self.new) result fuel.new
+            (metered fuel.old (step_in back (setting_at self.old) (config_at self.old))) }
+        ensures whole { OnOk result (self.new.broken ≡ false) }
+        ensures setting { setting_at self.new ≡ setting_at self.old }
+        ensures falls { OnOk result (StepFalls (config_at self.old)
+            (2 * fuel.new + length (config_at self.new).around)
+            (2 * fuel.old + length (config_at self.old).around)) }
+        ensures less { fuel.new ≤ fuel.old }
+    {
+        match step(&mut self.run, fuel, back) {
             Ok(()) => Ok(()),
             Err(why) => {
                 self.broken = true;
                 Err(why)
             }
         }
+    }
+
+    /// The run turns round: what is past is to come, undone.
+    pub fn turn(&mut self)
+        requires whole { self.old.broken ≡ false }
+        ensures turned { config_at self.new ≡ turned_round (config_at self.old) }
+        ensures whole { self.new.broken ≡ false }
+        ensures setting { setting_at self.new ≡ setting_at self.old }
+    {
+        turn(&mut self.run);
     }
 
     /// Steps until the run is over, where it is not broken off.
@@ -214,6 +258,20 @@ impl<'a> Execution<'a> {
         ensures { result ≡ next_place (config_at self.now).rest }
     {
         match line_at(&self.run.task, self.run.at) {
+            None => None,
+            Some(line) => Some(line_place(&line)),
+        }
+    }
+
+    /// The place of the statement that is past last, if one is.
+    pub fn last_place(&self) -> Option<u32>
+        requires { self.now.broken ≡ false }
+        ensures { result ≡ next_place (config_at self.now).past }
+    {
+        if self.run.at == 0 {
+            return None;
+        }
+        match line_at(&self.run.task, self.run.at - 1) {
             None => None,
             Some(line) => Some(line_place(&line)),
         }

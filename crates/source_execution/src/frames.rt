@@ -1,8 +1,13 @@
 // What is open around the block that runs.
-use crate::task::Task;
+ghost use Rattle.std.specs.Prelude.{◌≡◌, All, map};
+ghost use Rattle.meaning_machine.specs.Turned.{turned_open, turned_part};
+ghost use Rattle.source_execution.specs.Opens.{open_of, part_of, IsCaller, IsOpen};
+
+use crate::task::{Task, count_in, undone_task};
 use rpp_tree::tree::{Block, Expr, Var};
 use source_steps::Cell;
 use source_store::Value;
+use std::mem::swap;
 
 /// A choice, in its direction.
 #[derive(Clone, Copy)]
@@ -87,4 +92,56 @@ pub struct Frame<'a> {
     pub task: Task<'a>,
     pub at: usize,
     pub part: Part<'a>,
+}
+
+/// A loop, undone.
+#[tactic(auto, using(crate::proofs::Around::first_undone, crate::proofs::Around::again_undone))]
+fn undone_loop<'a>(turns: &Loop<'a>) -> Loop<'a>
+    ensures first { part_of (Part.First result) ≡ turned_part (part_of (Part.First turns.now)) }
+    ensures again { part_of (Part.Again result) ≡ turned_part (part_of (Part.Again turns.now)) }
+{
+    Loop {
+        entry: turns.exit,
+        first: turns.first,
+        again: turns.again,
+        exit: turns.entry,
+        back: !turns.back,
+    }
+}
+
+/// Which part of an open statement runs, once it is undone.
+fn turn_part(part: &mut Part)
+    ensures turned { part_of part.new ≡ turned_part (part_of part.old) }
+    ensures caller { IsCaller part.old → IsCaller part.new }
+{
+    match part {
+        Part::Chosen { test, after, .. } => swap(test, after),
+        Part::First(turns) => *turns = undone_loop(turns),
+        Part::Again(turns) => *turns = undone_loop(turns),
+        Part::Holding(local) => swap(&mut local.value, &mut local.end_value),
+        Part::Calling(_caller) => {}
+    }
+}
+
+/// An open statement is undone: what is past in its block is to come.
+fn turn_frame(frame: &mut Frame)
+    requires { IsOpen frame.old }
+    ensures turned { open_of frame.new ≡ turned_open (open_of frame.old) }
+    ensures open { IsOpen frame.new }
+{
+    frame.at = count_in(&frame.task) - 1 - frame.at;
+    frame.task = undone_task(&frame.task);
+    turn_part(&mut frame.part);
+}
+
+/// Each open statement is undone.
+pub fn turn_frames(frames: &mut Vec<Frame>)
+    requires { All IsOpen frames.old.items }
+    ensures turned { map open_of frames.new.items
+        ≡ map turned_open (map open_of frames.old.items) }
+    ensures open { All IsOpen frames.new.items }
+{
+    for frame in frames.iter_mut() {
+        turn_frame(frame);
+    }
 }

@@ -9,6 +9,7 @@ mod execution;
 mod frames;
 mod methods;
 mod places;
+mod requests;
 mod run;
 mod simple;
 mod task;

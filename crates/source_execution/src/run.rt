@@ -1,14 +1,15 @@
 // Where a run stands, and its moves between blocks.
 ghost use Rattle.std.specs.Prelude.{◌≡◌, ◌+◌, ◌<◌, ◌≤◌, ◌^◌, ◌∷◌, ◌++◌, [], suc, map, length, OnOk, OnErr, IfErr, MatchResult};
 ghost use Rattle.meaning_machine.specs.Machine.{past_it, inside, turned_to};
+ghost use Rattle.meaning_machine.specs.Turned.{turn as turned_round};
 ghost use Rattle.source_steps.specs.StateView.{names_of};
 ghost use Rattle.source_execution.specs.Blocks.{count_of};
 ghost use Rattle.source_execution.specs.Tasks.{task_of};
 ghost use Rattle.source_execution.specs.Opens.{part_of, IsCaller};
 ghost use Rattle.source_execution.specs.Runs.{IsSound, config_of, state_in, here_in, rest_in, leaving};
 
-use crate::frames::{Frame, Part};
-use crate::task::Task;
+use crate::frames::{Frame, Part, turn_frames};
+use crate::task::{Task, count_in, undone_task};
 use rpp_tree::tree::Var;
 use source_steps::{Scope, Setting, Stop};
 use source_store::{Heap, Value};
@@ -38,7 +39,6 @@ pub fn scope_of<'a, 'b>(locals: &'b Vec<&'a [u8]>, params: &'b [Var]) -> Scope<'
 /// The statement that began is past.
 pub fn pass(run: &mut Run)
     requires within { run.old.at < count_of (task_of run.old.task) }
-    requires small { run.old.at ≤ 2 ^ 63 }
     requires sound { IsSound run.old }
     ensures passed { config_of run.new
         ≡ past_it (config_of run.old) (here_in run.old) (rest_in run.old) (state_in run.old) }
@@ -52,7 +52,7 @@ pub fn pass(run: &mut Run)
 /// A block begins in a part of the statement that began.
 pub fn open_block<'a>(run: &mut Run<'a>, part: Part<'a>, task: Task<'a>) -> Result<(), Stop>
     requires sound { IsSound run.old }
-    requires small { run.old.at ≤ 2 ^ 63 }
+    requires within { run.old.at < count_of (task_of run.old.task) }
     requires part { IsCaller part }
     ensures opened { MatchResult result (λ u. config_of run.new
         ≡ inside (config_of run.old) (here_in run.old) (rest_in run.old) (part_of part.entry)
@@ -87,4 +87,16 @@ pub fn close_block(run: &mut Run)
             run.at = frame.at + 1;
         }
     }
+}
+
+/// The run turns round: what is past is to come, undone.
+pub fn turn(run: &mut Run)
+    requires sound { IsSound run.old }
+    ensures turned { config_of run.new ≡ turned_round (config_of run.old) }
+    ensures sound { IsSound run.new }
+    ensures setting { run.new.setting ≡ run.old.setting }
+{
+    run.at = count_in(&run.task) - run.at;
+    run.task = undone_task(&run.task);
+    turn_frames(&mut run.frames);
 }

@@ -1,6 +1,7 @@
 // The blocks that run, and their statements.
-ghost use Rattle.std.specs.Prelude.{◌≡◌, ◌<◌, ◌≤◌, ◌^◌, ◌-◌, IfNone, IfSome, false};
+ghost use Rattle.std.specs.Prelude.{◌≡◌, ◌<◌, ◌≤◌, ◌-◌, IfNone, IfSome, false};
 ghost use Rattle.rpp_tree.specs.Views.{block_of, statement_of};
+ghost use Rattle.stmt_inverter.specs.Inverse.{inverse};
 ghost use Rattle.roopl_semantics.specs.Execution.{in_direction};
 ghost use Rattle.source_steps.specs.Ends.{turned};
 ghost use Rattle.source_execution.specs.Blocks.{statement_at, count_of};
@@ -68,7 +69,6 @@ fn statement_in<'a>(block: &'a Block, back: bool, at: usize) -> Option<&'a Stmt>
     ensures within { IfSome result (λ s. at < count_of (in_direction back (block_of block.now))) }
     ensures statement { IfSome result (λ s. turned back (statement_of s.now)
         ≡ statement_at at (in_direction back (block_of block.now))) }
-    ensures small { IfSome result (λ s. at < 2 ^ 63) }
 {
     let count = block.list.len();
     if count <= at {
@@ -89,7 +89,6 @@ fn line_in_construct<'a>(made: &Construct<'a>, at: usize) -> Option<Line<'a>>
     ensures within { IfSome result (λ line. at < count_of (task_of (Task.Made made.now))) }
     ensures statement { IfSome result (λ line. line_of line
         ≡ statement_at at (task_of (Task.Made made.now))) }
-    ensures small { IfSome result (λ line. at ≤ 2 ^ 63) }
 {
     if at == 0 {
         return Some(Line::Make(*made));
@@ -116,7 +115,6 @@ fn line_in_exchange<'a>(element: &'a Place, calls: &Calls<'a>, at: usize) -> Opt
         < count_of (task_of (Task.Exchange element.entry calls.now))) }
     ensures statement { IfSome result (λ line. line_of line
         ≡ statement_at at (task_of (Task.Exchange element.entry calls.now))) }
-    ensures small { IfSome result (λ line. at ≤ 2 ^ 63) }
 {
     match at {
         0 => Some(Line::Exchange {
@@ -137,7 +135,6 @@ pub fn line_at<'a>(task: &Task<'a>, at: usize) -> Option<Line<'a>>
     ensures past { IfNone result (count_of (task_of task.now) ≤ at) }
     ensures within { IfSome result (λ line. at < count_of (task_of task.now)) }
     ensures statement { IfSome result (λ line. line_of line ≡ statement_at at (task_of task.now)) }
-    ensures small { IfSome result (λ line. at ≤ 2 ^ 63) }
 {
     match task {
         Task::Nothing => None,
@@ -147,5 +144,48 @@ pub fn line_at<'a>(task: &Task<'a>, at: usize) -> Option<Line<'a>>
         },
         Task::Made(made) => line_in_construct(made, at),
         Task::Exchange { element, calls } => line_in_exchange(element, calls, at),
+    }
+}
+
+/// How many statements a block that runs has.
+#[tactic(auto, using(crate::proofs::Blocks::block_count, crate::proofs::Blocks::made_count))]
+pub fn count_in(task: &Task) -> usize
+    ensures { result ≡ count_of (task_of task.now) }
+{
+    match task {
+        Task::Nothing => 0,
+        Task::Text { block, .. } => block.list.len(),
+        Task::Made(made) => made.body.list.len() + 2,
+        Task::Exchange { .. } => 3,
+    }
+}
+
+/// A block that runs, undone.
+#[tactic(auto, using(crate::proofs::Around::direction_undone, crate::proofs::Around::made_undone))]
+pub fn undone_task<'a>(task: &Task<'a>) -> Task<'a>
+    ensures { task_of result ≡ inverse (task_of task.now) }
+{
+    match task {
+        Task::Nothing => Task::Nothing,
+        Task::Text { block, back } => Task::Text {
+            block,
+            back: !*back,
+        },
+        Task::Made(made) => Task::Made(Construct {
+            at: made.at,
+            class: made.class,
+            name: made.name,
+            body: made.body,
+            back: !made.back,
+        }),
+        Task::Exchange { element, calls } => Task::Exchange {
+            element,
+            calls: Calls {
+                at: calls.at,
+                back: !calls.back,
+                method: calls.method,
+                args: calls.args,
+            },
+        },
     }
 }

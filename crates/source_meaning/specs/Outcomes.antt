@@ -28,7 +28,6 @@ IsOutcome outcome.More run = run ≡ More
 abbrev pub IsStop : Stop → ℕ → Outcome → Type 0
 IsStop (stop.Fault code) cost answer = answer ≡ outcome.Fault code cost
 IsStop stop.More cost answer = answer ≡ outcome.More
-IsStop stop.Arrived cost answer = ⊥
 IsStop stop.NoMemory cost answer = ⊥
 
 -- where the run is over, more fuel gives the same answer

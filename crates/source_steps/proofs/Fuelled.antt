@@ -108,7 +108,6 @@ pub fails : {A B : Type 0} (fuel left : ℕ) (run : Run A) (next : A → Run B) 
 fails fuel left run next (stop.Fault code) e = metered_then fuel run next
     ∙ ap (λ m. chain m (λ b l. metered l (next b))) e
 fails fuel left run next stop.More e = metered_then fuel run next ∙ ap (λ m. chain m (λ b l. metered l (next b))) e
-fails fuel left run next stop.Arrived e = tt
 fails fuel left run next stop.NoMemory e = tt
 
 -- gives at no cost
@@ -213,7 +212,6 @@ spend_fails setting (suc n) fuel left s rest st (stop.Fault code) e =
     fails fuel left (spend 1) (λ u. statement setting n (exec setting n) s st >>= (λ next. exec setting n rest next))
     (stop.Fault code) e
 spend_fails setting n fuel left s rest st stop.More e = block_out setting n fuel s rest st e
-spend_fails setting n fuel left s rest st stop.Arrived e = tt
 spend_fails setting n fuel left s rest st stop.NoMemory e = tt
 
 -- ---- what is left

@@ -6,3 +6,4 @@ pub mod Moves
 pub mod Allocated
 pub mod Scopes
 pub mod Restored
+pub mod TakenBack

@@ -3,7 +3,7 @@ use Rattle.std.proofs.Common.{◌≡◌, ℕ, zero, suc, ◌≤◌, refl, sym, a
 use Rattle.std.proofs.Common.{None, Bool, true, false, map, replicate}
 use Rattle.std.proofs.lemmas.Bool.{ltb-true, ltb-false}
 use Rattle.std.proofs.lemmas.Option.{slice_get_past}
-use Rattle.std.proofs.lemmas.List.{length-map}
+use Rattle.std.proofs.lemmas.List.{length-map, map-set}
 use Rattle.std.specs.Prelude.{Option, slice_get, slice_set, nat_lt, position}
 use Rattle.std.specs.Option.{unwrap_or}
 use Rattle.std.specs.Str.{bytes_eq}
@@ -107,25 +107,9 @@ pub cell_field : (program : Source) (st : State) (name : List ℕ) (index : ℕ)
     → Part st.self index ≡ cell_named program st name
 cell_field program st name index e f = ap (λ i. Part st.self i) f ∙ ap (slot_or_field program st name) e
 
-pub length_set : {A : Type 0} (xs : List A) (i : ℕ) (x : A) → length (slice_set xs i x) ≡ length xs
-length_set [] i x = refl
-length_set (y ∷ xs) zero x = refl
-length_set (y ∷ xs) (suc i) x = ap suc (length_set xs i x)
-
-pub set_past : {A : Type 0} (xs : List A) (i : ℕ) (x : A) → length xs ≤ i → slice_set xs i x ≡ xs
-set_past [] i x h = refl
-set_past (y ∷ xs) zero x h = absurd (omega arith)
-set_past (y ∷ xs) (suc i) x h = ap (λ r. y ∷ r) (set_past xs i x (omega arith))
-
-pub map_set : {A B : Type 0} (f : A → B) (xs : List A) (i : ℕ) (x : A)
-    → map f (slice_set xs i x) ≡ slice_set (map f xs) i (f x)
-map_set f [] i x = refl
-map_set f (y ∷ xs) zero x = refl
-map_set f (y ∷ xs) (suc i) x = ap (λ r. f y ∷ r) (map_set f xs i x)
-
 pub frame_set : (scope : Chain) (values : List Held) (index : ℕ) (value : Held)
     → frame_of scope (slice_set values index value) ≡ with_value (frame_of scope values) index (value_of value)
-frame_set scope values index value = ap (bindings (names_of scope)) (map_set value_of values index value)
+frame_set scope values index value = ap (bindings (names_of scope)) (map-set value_of values index value)
     ∙ sym (binding_set (names_of scope) (map value_of values) index (value_of value))
 
 pub values_replicate : (n : ℕ) (v : Held) → map value_of (replicate n v) ≡ replicate n (value_of v)

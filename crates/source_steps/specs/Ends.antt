@@ -3,7 +3,7 @@ use Rattle.std.specs.Prelude.{ℕ, suc, ◌+◌, List, Bool, true, false, not, �
 use Rattle.std.specs.Prelude.{replicate, Option, Some, None, Result}
 use Rattle.std.specs.Option.{unwrap_or}
 use Rattle.rpp_words.specs.Words.{is_less}
-use Rattle.rpp_tree.specs.Tree.{Expression, Statement, Statements, Source}
+use Rattle.rpp_tree.specs.Tree.{Expression, Lvalue, Statement, Statements, Source}
 use Rattle.class_table.specs.Classes.{class_number, class_fields, method_slot}
 use Rattle.stmt_inverter.specs.Inverse.{inverse_statement}
 use Rattle.roopl_semantics.specs.Run.{Run, More, ◌>>=◌, give, spend, fault_if}
@@ -15,7 +15,8 @@ use Rattle.roopl_semantics.specs.Execution.{moved_out, moved_back, delocal_fault
 use Rattle.roopl_semantics.specs.Execution.{not_same_fault, class_differs_fault}
 use Rattle.roopl_semantics.specs.Execution.{length_differs_fault, length_fault, count_fault}
 use Rattle.roopl_semantics.specs.Execution.{not_empty_fault}
-use Rattle.roopl_semantics.specs.Value.{Cell, Slot, read, written, evaluated, nil_fault}
+use Rattle.roopl_semantics.specs.Value.{Cell, Slot, read, written, evaluated, found, nil_fault}
+use Rattle.meaning_machine.specs.Reversed.{ungiven}
 use Rattle.source_store.specs.declared.value.Value.{Value as Held}
 use Rattle.source_store.specs.HeapView.{Kept as Heap}
 use Rattle.source_steps.specs.declared.stop.Stop.{Stop}
@@ -148,6 +149,24 @@ array_head (Some class) length = OfObjects class length
 abbrev pub first_element : Option ℕ → Value
 first_element None = Word 0
 first_element (Some class) = Nil
+
+-- behind the place of a `delete` of an object that is taken back
+abbrev pub there_again : Setting → List ℕ → Cell → State → Run State
+there_again setting class cell st =
+    let number = unwrap_or (class_number setting.program class) 0 in
+    ungiven st.log cell (OfClass number) (zero_values (class_fields setting.program number)) st
+
+-- behind the place and the length of a `delete` of an array that is taken back
+abbrev pub array_again : Cell → (ℕ → Head) → Value → Value → State → Run State
+array_again cell head element v st =
+    ungiven st.log cell (head (number_of v)) (replicate (number_of v) element) st
+
+-- a `delete` of an array that is taken back
+abbrev pub array_undeleted : Setting → Lvalue → Expression → (ℕ → Head) → Value → State → Run State
+array_undeleted setting target size head element st = do
+  cell ← found setting.program target st
+  v ← evaluated setting.program size st
+  array_again cell head element v st
 
 -- the slot of a name, or 0
 abbrev pub slot_or_first : Source → ℕ → List ℕ → ℕ

@@ -35,19 +35,11 @@ chain (Went result left) next = next result left
 chain (Stopped code left) next = Stopped code left
 chain Out next = Out
 
--- a run that stopped so; a run that is broken off at a point, or for want of memory, says nothing
+-- a run that stopped so; a run that is broken off for want of memory says nothing
 abbrev pub Failed : {B : Type 0} → Stop → ℕ → Metered B → Type 0
 Failed (stop.Fault code) left run = run ≡ Stopped code left
 Failed stop.More left run = run ≡ Out
-Failed stop.Arrived left run = Unit {0}
 Failed stop.NoMemory left run = Unit {0}
-
--- a run that stopped by itself, and not at a point that is watched for
-abbrev pub IsOwnStop : Stop → Type 0
-IsOwnStop (stop.Fault code) = Unit {0}
-IsOwnStop stop.More = Unit {0}
-IsOwnStop stop.Arrived = ⊥
-IsOwnStop stop.NoMemory = Unit {0}
 
 -- what a call that answered so gave: its value, or why it stopped
 abbrev pub Gives : {A B : Type 0} → (A → B) → Result A Stop → ℕ → Metered B → Type 0

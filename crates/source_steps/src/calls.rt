@@ -1,10 +1,10 @@
 // The values that move into a call and back.
-ghost use Rattle.std.specs.Prelude.{◌≡◌, ◌≤◌, ◌++◌, IfOk, OnOk, OnErr, MatchResult, length, map, not, IfErr};
+ghost use Rattle.std.specs.Prelude.{◌≡◌, ◌≤◌, ◌++◌, IfOk, OnOk, OnErr, MatchResult, length, map, not};
 ghost use Rattle.roopl_semantics.specs.Value.{read};
 ghost use Rattle.roopl_semantics.specs.Execution.{cells_named, moved_out, moved_back};
 ghost use Rattle.source_store.specs.ValueView.{value_of, values_of};
 ghost use Rattle.source_steps.specs.CellView.{cell_of};
-ghost use Rattle.source_steps.specs.Metered.{metered, IsOwnStop};
+ghost use Rattle.source_steps.specs.Metered.{metered};
 ghost use Rattle.source_steps.specs.Ends.{Ends};
 ghost use Rattle.source_steps.specs.StateView.{IsFramed, state_of, setting_of};
 
@@ -97,7 +97,6 @@ pub fn move_back(
         ≡ state_of setting.now scope.now heap.old values.old.items) }
     ensures framed { IsFramed setting.now scope.now heap.new values.new.items }
     ensures same { fuel.new ≡ fuel.old }
-    ensures own { IfErr result IsOwnStop }
 {
     match cells {
         [] => Ok(()),
@@ -164,7 +163,6 @@ pub fn return_values(
         ≡ state_of setting.now scope.now heap.old values.old.items) }
     ensures framed { IsFramed setting.now scope.now heap.new values.new.items }
     ensures same { fuel.new ≡ fuel.old }
-    ensures own { IfErr result IsOwnStop }
 {
     match receiver {
         [] => move_back(setting, scope, heap, values, fuel, args, inside),

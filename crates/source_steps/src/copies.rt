@@ -1,11 +1,11 @@
 // Copies of references.
-ghost use Rattle.std.specs.Prelude.{◌≡◌, ◌≤◌, OnOk, not, IfErr};
+ghost use Rattle.std.specs.Prelude.{◌≡◌, ◌≤◌, OnOk, not};
 ghost use Rattle.rpp_tree.specs.Tree.{Copy as CopyTo, Uncopy};
 ghost use Rattle.rpp_tree.specs.Views.{lvalue_of};
 ghost use Rattle.roopl_semantics.specs.Execution.{same_cell};
 ghost use Rattle.source_steps.specs.CellView.{cell_of};
 ghost use Rattle.source_steps.specs.Ends.{Ends, does_simply, copied, uncopied};
-ghost use Rattle.source_steps.specs.Metered.{metered, IsOwnStop};
+ghost use Rattle.source_steps.specs.Metered.{metered};
 ghost use Rattle.source_steps.specs.StateView.{IsFramed, state_of, setting_of};
 
 use crate::apart::copy_apart;
@@ -45,7 +45,6 @@ fn refer(
         (state_of setting.now scope.now heap.old values.old.items))) }
     ensures framed { OnOk result (IsFramed setting.now scope.now heap.new values.new.items) }
     ensures less { fuel.new ≤ fuel.old }
-    ensures own { IfErr result IsOwnStop }
 {
     let first = read_cell(setting, scope, heap, values, a);
     let second = read_cell(setting, scope, heap, values, b);
@@ -75,7 +74,6 @@ pub fn copy(
         (state_of setting.now scope.now heap.old values.old.items)) }
     ensures framed { OnOk result (IsFramed setting.now scope.now heap.new values.new.items) }
     ensures less { fuel.new ≤ fuel.old }
-    ensures own { IfErr result IsOwnStop }
 {
     let a = locate(setting, scope, heap, values, fuel, source)?;
     let b = locate(setting, scope, heap, values, fuel, target)?;
@@ -99,7 +97,6 @@ fn take_back(
         (state_of setting.now scope.now heap.old values.old.items))) }
     ensures framed { OnOk result (IsFramed setting.now scope.now heap.new values.new.items) }
     ensures less { fuel.new ≤ fuel.old }
-    ensures own { IfErr result IsOwnStop }
 {
     let first = read_cell(setting, scope, heap, values, a);
     let second = read_cell(setting, scope, heap, values, b);
@@ -129,7 +126,6 @@ pub fn uncopy(
         (state_of setting.now scope.now heap.old values.old.items)) }
     ensures framed { OnOk result (IsFramed setting.now scope.now heap.new values.new.items) }
     ensures less { fuel.new ≤ fuel.old }
-    ensures own { IfErr result IsOwnStop }
 {
     let a = locate(setting, scope, heap, values, fuel, source)?;
     let b = locate(setting, scope, heap, values, fuel, target)?;

@@ -1,10 +1,12 @@
 //! The steps that statements of the source are made of, and the statements that hold no others:
-//! values and places, updates, swaps, copies, objects that are made and deleted, and the moves of
-//! values into a call and back. A layer above may use that each answers exactly what the meaning
-//! says with so much fuel: the state and the fuel that is left, the fault, or that no fuel is left.
+//! values and places, updates, swaps, copies, objects that are made and deleted, also taken back,
+//! and the moves of values into a call and back. A layer above may use that each answers exactly
+//! what the meaning says with so much fuel: the state and the fuel that is left, the fault, or that
+//! no fuel is left.
 #![tactic(auto)]
 
 mod apart;
+mod back;
 mod calls;
 mod cell;
 mod copies;
@@ -16,6 +18,7 @@ mod simple;
 mod steps;
 mod stop;
 
+pub use back::{undelete_object, undeleted, unmade};
 pub use calls::{cells_of, move_back, move_out, read_cells, return_values};
 pub use cell::{Cell, cell_of_name, put_value, read_cell};
 pub use copies::{copy, uncopy};

@@ -1,9 +1,9 @@
 // The end of a local variable.
-ghost use Rattle.std.specs.Prelude.{◌≡◌, ◌≤◌, OnOk, MatchResult, None, IfErr};
+ghost use Rattle.std.specs.Prelude.{◌≡◌, ◌≤◌, OnOk, MatchResult, None};
 ghost use Rattle.roopl_semantics.specs.Execution.{element_name};
 ghost use Rattle.rpp_tree.specs.Tree.{Null};
 ghost use Rattle.rpp_tree.specs.Views.{expression_of};
-ghost use Rattle.source_steps.specs.Metered.{metered, IsOwnStop};
+ghost use Rattle.source_steps.specs.Metered.{metered};
 ghost use Rattle.source_steps.specs.Ends.{Ends, local_end};
 ghost use Rattle.source_steps.specs.StateView.{IsFramed, IsInner, state_of, setting_of};
 
@@ -35,7 +35,6 @@ pub fn close_local(
         (state_of setting.now inner.now heap.old values.old.items))) }
     ensures framed { OnOk result (IsFramed setting.now scope.now heap.new values.new.items) }
     ensures less { fuel.new ≤ fuel.old }
-    ensures own { IfErr result IsOwnStop }
 {
     let last = evaluate(setting, inner, heap, values, fuel, end_value)?;
     let local = read_cell(setting, inner, heap, values, Cell::Slot(0));
@@ -62,7 +61,6 @@ pub fn close_nil(
         (state_of setting.now inner.now heap.old values.old.items))) }
     ensures framed { OnOk result (IsFramed setting.now scope.now heap.new values.new.items) }
     ensures less { fuel.new ≤ fuel.old }
-    ensures own { IfErr result IsOwnStop }
 {
     spend(fuel, 1)?;
     let local = read_cell(setting, inner, heap, values, Cell::Slot(0));

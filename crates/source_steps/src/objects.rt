@@ -1,5 +1,5 @@
 // Objects and arrays that are made and deleted.
-ghost use Rattle.std.specs.Prelude.{◌≡◌, ◌+◌, ◌≤◌, ◌<◌, ◌^◌, IfOk, OnOk, MatchResult, length, replicate, IfErr};
+ghost use Rattle.std.specs.Prelude.{◌≡◌, ◌+◌, ◌≤◌, ◌<◌, ◌^◌, IfOk, OnOk, MatchResult, length, replicate};
 ghost use Rattle.std.specs.Option.{unwrap_or};
 ghost use Rattle.rpp_tree.specs.Tree.{New, Delete, Object as AnObject};
 ghost use Rattle.rpp_tree.specs.Views.{source_of, creation_of, expression_of, lvalue_of};
@@ -9,7 +9,7 @@ ghost use Rattle.roopl_semantics.specs.Execution.{allocated, freed, new_array as
 ghost use Rattle.source_store.specs.ValueView.{value_of, values_of, head_of};
 ghost use Rattle.source_steps.specs.CellView.{cell_of};
 ghost use Rattle.source_steps.specs.Ends.{Ends, does_simply, array_head, first_element, new_of, made, filled, made_array, emptied, gone, gone_array};
-ghost use Rattle.source_steps.specs.Metered.{metered, IsOwnStop};
+ghost use Rattle.source_steps.specs.Metered.{metered};
 ghost use Rattle.source_steps.specs.StateView.{IsFramed, state_of, setting_of};
 
 use crate::apart::place_apart;
@@ -65,7 +65,6 @@ fn allocate(
         (state_of setting.now scope.now heap.old values.old.items))) }
     ensures framed { OnOk result (IsFramed setting.now scope.now heap.new values.new.items) }
     ensures same { fuel.new ≡ fuel.old }
-    ensures own { IfErr result IsOwnStop }
 {
     if heap.is_too_large(cells.len() as u32) {
         return Err(Stop::Fault(8));
@@ -95,7 +94,6 @@ fn make(
         (state_of setting.now scope.now heap.old values.old.items))) }
     ensures framed { OnOk result (IsFramed setting.now scope.now heap.new values.new.items) }
     ensures less { fuel.new ≤ fuel.old }
-    ensures own { IfErr result IsOwnStop }
 {
     let old = read_cell(setting, scope, heap, values, cell);
     refuse(fuel, 4, !old.is_nil())?;
@@ -119,7 +117,6 @@ fn allocate_object(
         (state_of setting.now scope.now heap.old values.old.items))) }
     ensures framed { OnOk result (IsFramed setting.now scope.now heap.new values.new.items) }
     ensures less { fuel.new ≤ fuel.old }
-    ensures own { IfErr result IsOwnStop }
 {
     let number = class_of_name(setting, class);
     let cells = zeros(setting.alloc, fields_of(setting, number))?;
@@ -146,7 +143,7 @@ pub fn class_of_name(setting: &Setting, name: &Text) -> u32
 }
 
 /// The fields of a class.
-fn fields_of<'a>(setting: &Setting<'a>, class: u32) -> &'a [Var]
+pub(crate) fn fields_of<'a>(setting: &Setting<'a>, class: u32) -> &'a [Var]
     ensures fields { result.now ≡ class_fields (source_of setting.now.checked.now) class }
     ensures few { length result.now ≤ 64 }
 {
@@ -170,7 +167,6 @@ pub fn new_object(
         (state_of setting.now scope.now heap.old values.old.items)) }
     ensures framed { OnOk result (IsFramed setting.now scope.now heap.new values.new.items) }
     ensures less { fuel.new ≤ fuel.old }
-    ensures own { IfErr result IsOwnStop }
 {
     let cell = locate(setting, scope, heap, values, fuel, place)?;
     place_apart(setting, scope, heap, values, fuel, place)?;
@@ -178,7 +174,7 @@ pub fn new_object(
 }
 
 /// What an array's head is, and what its elements begin with.
-fn element_of(kind: Option<u32>) -> Value
+pub(crate) fn element_of(kind: Option<u32>) -> Value
     ensures { value_of result ≡ first_element kind }
 {
     match kind {
@@ -187,7 +183,7 @@ fn element_of(kind: Option<u32>) -> Value
     }
 }
 
-fn head_of_array(kind: Option<u32>, length: u32) -> Head
+pub(crate) fn head_of_array(kind: Option<u32>, length: u32) -> Head
     ensures { head_of result ≡ array_head kind length }
 {
     match kind {
@@ -197,7 +193,7 @@ fn head_of_array(kind: Option<u32>, length: u32) -> Head
 }
 
 /// So many equal elements.
-fn elements(alloc: Global, count: u32, value: Value) -> Result<Vec<Value>, NoMemory>
+pub(crate) fn elements(alloc: Global, count: u32, value: Value) -> Result<Vec<Value>, NoMemory>
     ensures { IfOk result (λ cells. cells.items ≡ replicate count value) }
 {
     Ok(vec![in alloc; value; count as usize]?)
@@ -222,7 +218,6 @@ fn allocate_array(
         (state_of setting.now scope.now heap.old values.old.items))) }
     ensures framed { OnOk result (IsFramed setting.now scope.now heap.new values.new.items) }
     ensures same { fuel.new ≡ fuel.old }
-    ensures own { IfErr result IsOwnStop }
 {
     if heap.is_too_large(count) {
         return Err(Stop::Fault(8));
@@ -258,7 +253,6 @@ fn make_array(
         (state_of setting.now scope.now heap.old values.old.items))) }
     ensures framed { OnOk result (IsFramed setting.now scope.now heap.new values.new.items) }
     ensures less { fuel.new ≤ fuel.old }
-    ensures own { IfErr result IsOwnStop }
 {
     let old = read_cell(setting, scope, heap, values, cell);
     let count = size.number();
@@ -285,7 +279,6 @@ fn fill_array(
         (first_element kind) count (state_of setting.now scope.now heap.old values.old.items))) }
     ensures framed { OnOk result (IsFramed setting.now scope.now heap.new values.new.items) }
     ensures less { fuel.new ≤ fuel.old }
-    ensures own { IfErr result IsOwnStop }
 {
     spend(fuel, setting.limits.heap as u64 + 1)?;
     allocate_array(setting, scope, heap, values, fuel, cell, kind, count)?;
@@ -310,7 +303,6 @@ pub fn new_array(
         (state_of setting.now scope.now heap.old values.old.items))) }
     ensures framed { OnOk result (IsFramed setting.now scope.now heap.new values.new.items) }
     ensures less { fuel.new ≤ fuel.old }
-    ensures own { IfErr result IsOwnStop }
 {
     let cell = locate(setting, scope, heap, values, fuel, place)?;
     let value = evaluate(setting, scope, heap, values, fuel, size)?;
@@ -360,7 +352,6 @@ fn empty_out(
         (state_of setting.now scope.now heap.old values.old.items))) }
     ensures framed { OnOk result (IsFramed setting.now scope.now heap.new values.new.items) }
     ensures less { fuel.new ≤ fuel.old }
-    ensures own { IfErr result IsOwnStop }
 {
     spend(fuel, setting.limits.heap as u64 + 1 + cells as u64)?;
     refuse(fuel, 7, !heap.is_empty(name))?;
@@ -383,7 +374,6 @@ fn drop_object(
         (state_of setting.now scope.now heap.old values.old.items))) }
     ensures framed { OnOk result (IsFramed setting.now scope.now heap.new values.new.items) }
     ensures less { fuel.new ≤ fuel.old }
-    ensures own { IfErr result IsOwnStop }
 {
     let value = read_cell(setting, scope, heap, values, cell);
     let name = value.number();
@@ -411,7 +401,6 @@ pub fn delete_object(
         (state_of setting.now scope.now heap.old values.old.items)) }
     ensures framed { OnOk result (IsFramed setting.now scope.now heap.new values.new.items) }
     ensures less { fuel.new ≤ fuel.old }
-    ensures own { IfErr result IsOwnStop }
 {
     let cell = locate(setting, scope, heap, values, fuel, place)?;
     place_apart(setting, scope, heap, values, fuel, place)?;
@@ -434,7 +423,6 @@ fn drop_array(
         (state_of setting.now scope.now heap.old values.old.items))) }
     ensures framed { OnOk result (IsFramed setting.now scope.now heap.new values.new.items) }
     ensures less { fuel.new ≤ fuel.old }
-    ensures own { IfErr result IsOwnStop }
 {
     let value = read_cell(setting, scope, heap, values, cell);
     let name = value.number();
@@ -470,7 +458,6 @@ pub fn delete_array(
         (expression_of size.now) (state_of setting.now scope.now heap.old values.old.items))) }
     ensures framed { OnOk result (IsFramed setting.now scope.now heap.new values.new.items) }
     ensures less { fuel.new ≤ fuel.old }
-    ensures own { IfErr result IsOwnStop }
 {
     let cell = locate(setting, scope, heap, values, fuel, place)?;
     let value = evaluate(setting, scope, heap, values, fuel, size)?;
@@ -494,7 +481,6 @@ pub fn new_made(
         (state_of setting.now scope.now heap.old values.old.items)) }
     ensures framed { OnOk result (IsFramed setting.now scope.now heap.new values.new.items) }
     ensures less { fuel.new ≤ fuel.old }
-    ensures own { IfErr result IsOwnStop }
 {
     match made {
         Made::Object(class) => new_object(setting, scope, heap, values, fuel, at, class, place),
@@ -532,7 +518,6 @@ pub fn delete_made(
         (state_of setting.now scope.now heap.old values.old.items)) }
     ensures framed { OnOk result (IsFramed setting.now scope.now heap.new values.new.items) }
     ensures less { fuel.new ≤ fuel.old }
-    ensures own { IfErr result IsOwnStop }
 {
     match made {
         Made::Object(class) => delete_object(setting, scope, heap, values, fuel, at, class, place),

@@ -1,12 +1,12 @@
 // The steps that statements are made of, each with its cost.
-ghost use Rattle.std.specs.Prelude.{◌≡◌, ◌+◌, ◌<◌, ◌≤◌, IfOk, OnOk, MatchResult, ◌∷◌, length, drop, IfErr};
+ghost use Rattle.std.specs.Prelude.{◌≡◌, ◌+◌, ◌<◌, ◌≤◌, IfOk, OnOk, MatchResult, ◌∷◌, length, drop};
 ghost use Rattle.rpp_tree.specs.Views.{expression_of, lvalue_of};
 ghost use Rattle.roopl_semantics.specs.Execution.{holds};
 ghost use Rattle.roopl_semantics.specs.Value.{evaluated as evaluated_in, found as found_in};
 ghost use Rattle.roopl_semantics.specs.Run.{spend as spending, fault_if};
 ghost use Rattle.source_store.specs.ValueView.{value_of};
 ghost use Rattle.source_steps.specs.CellView.{cell_of};
-ghost use Rattle.source_steps.specs.Metered.{Gives, metered, IsOwnStop};
+ghost use Rattle.source_steps.specs.Metered.{Gives, metered};
 ghost use Rattle.source_steps.specs.StateView.{IsFramed, state_of, setting_of};
 
 use crate::cell::Cell;
@@ -21,7 +21,6 @@ pub fn spend(fuel: &mut u64, cost: u64) -> Result<(), Stop>
     ensures gives { Gives (λ u. tt) result fuel.new (metered fuel.old (spending cost)) }
     ensures less { fuel.new ≤ fuel.old }
     ensures paid { OnOk result (fuel.new + cost ≡ fuel.old) }
-    ensures own { IfErr result IsOwnStop }
 {
     if *fuel < cost {
         return Err(Stop::More);
@@ -34,7 +33,6 @@ pub fn spend(fuel: &mut u64, cost: u64) -> Result<(), Stop>
 pub fn refuse(fuel: &mut u64, code: u32, test: bool) -> Result<(), Stop>
     ensures gives { Gives (λ u. tt) result fuel.new (metered fuel.old (fault_if code test)) }
     ensures same { fuel.new ≡ fuel.old }
-    ensures own { IfErr result IsOwnStop }
 {
     if test {
         return Err(Stop::Fault(code));
@@ -57,7 +55,6 @@ pub fn evaluate(
         (state_of setting.now scope.now heap.now values.now.items))) }
     ensures less { fuel.new ≤ fuel.old }
     ensures some { IfOk result (λ value. fuel.new < fuel.old) }
-    ensures own { IfErr result IsOwnStop }
 {
     match pay(*fuel, e) {
         None => Err(Stop::More),
@@ -85,7 +82,6 @@ pub fn locate(
         (metered fuel.old (found_in (setting_of setting.now).program (lvalue_of place.now)
         (state_of setting.now scope.now heap.now values.now.items))) }
     ensures less { fuel.new ≤ fuel.old }
-    ensures own { IfErr result IsOwnStop }
 {
     match pay_place(*fuel, place) {
         None => Err(Stop::More),

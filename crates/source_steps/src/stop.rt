@@ -12,8 +12,6 @@ pub enum Stop {
     Fault(u32),
     /// The cost passes the fuel.
     More,
-    /// The point of the run that is watched for.
-    Arrived,
     /// There is not enough memory.
     NoMemory,
 }

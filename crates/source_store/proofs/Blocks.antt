@@ -1,5 +1,6 @@
 -- What every heap keeps, through its changes.
 use Rattle.std.proofs.Common.{◌≡◌, ℕ, zero, suc, ◌+◌, ◌-◌, ◌^◌, ◌%◌, ◌<◌, ◌≤◌, refl, sym, ap, subst, ◌∙◌, arith, List}
+use Rattle.std.proofs.Common.{length-set}
 use Rattle.std.proofs.Common.{[], ◌∷◌, ◌++◌, length, map, reverse, Some, None, eq-eqb, Bool, true, false, if◌then◌else◌}
 use Rattle.std.proofs.lemmas.Bool.{eqb-true, eqb-false, ltb-true, ltb-false}
 use Rattle.std.proofs.lemmas.List.{reverse-append, map_push, length-map}
@@ -7,6 +8,7 @@ use Rattle.std.specs.Prelude.{Option, nat_eq, nat_lt, is_none, slice_get, slice_
 use Rattle.std.proofs.Math.Nat.{pow-le-pow_right}
 use Rattle.std.specs.Option.{unwrap_or}
 use Rattle.rpp_words.specs.Order.{IsOrderFor}
+use Rattle.rpp_words.specs.declared.input.TheConstants.{HEADER_WORDS}
 use Rattle.buddy_book.specs.Book.{Book, start, take, give, order_for}
 use Rattle.buddy_book.specs.Place.{Log, Taken, Given, count_taken, block_of, without_name, with_block, after_request}
 use Rattle.buddy_book.specs.Place.{place}
@@ -16,28 +18,24 @@ use Rattle.buddy_book.proofs.Beginning.{start-kept}
 use Rattle.buddy_book.proofs.Table.{order_in-with}
 use Rattle.buddy_book.proofs.Orders.{take_took, give_gave}
 use Rattle.buddy_book.proofs.Kept.{none_taken, take_kept, given_back, give_kept}
-use Rattle.buddy_book.proofs.Requests.{order_least, order_room, order_in-with_other, order_in-without_other}
+use Rattle.buddy_book.proofs.Requests.{order_in-with_other, order_in-without_other}
 use Rattle.buddy_book.proofs.Requests.{block_of_other}
 use Rattle.roopl_semantics.specs.Store.{Value, Head, no_object, object_at, without}
 use Rattle.roopl_semantics.specs.Execution.{order_of_cells, new_object}
+use Rattle.roopl_semantics.specs.Laws.{book_of, block_in as block_in_places}
+use Rattle.roopl_semantics.proofs.Orders.{order_from_one, has_room}
 use Rattle.source_store.specs.declared.object.Object.{Object as Live}
 use Rattle.source_store.specs.declared.requests.Request.{Request as Asked}
 use Rattle.source_store.specs.ValueView.{value_of, values_of, object_of}
 use Rattle.source_store.specs.HeapView.{Kept, kept_of, store_of, request_of, log_of, live_in, block_and_size, block_in}
 use Rattle.source_store.specs.HeapView.{block_at, IsBlock, IsPlaced, IsHeap, SameBlocks, TookBlock, TookNone}
 use Rattle.source_store.proofs.Tables.{differs, object_named_store, pushed_length, pushed_store, pushed_block}
-use Rattle.source_store.proofs.Tables.{block_before, block_past, length_set, cleared_store, cleared_block, other_block}
+use Rattle.source_store.proofs.Tables.{block_before, block_past, cleared_store, cleared_block, other_block}
 
-pub order_is : (size k : ℕ) → size < 2 ^ 31 → IsOrderFor (size + 2) k → k ≡ order_of_cells size
+pub order_is : (size k : ℕ) → size < 2 ^ 31 → IsOrderFor (size + HEADER_WORDS) k → k ≡ order_of_cells size
 order_is size k h is =
-    let two : size + 2 ≡ 2 + size = omega arith in
-    sym (order_for-only (size + 2) k (omega arith) is) ∙ ap (λ n. order_for n) two
-
-pub from_one : (cells : ℕ) → 1 ≤ order_of_cells cells
-from_one cells = order_least 31 1 (2 + cells)
-
-pub has_room : (cells : ℕ) → order_of_cells cells ≤ 20 → 2 + cells ≤ 2 ^ order_of_cells cells
-has_room cells h = order_room 31 1 (2 + cells) (omega arith)
+    let turned : size + HEADER_WORDS ≡ HEADER_WORDS + size = omega arith in
+    sym (order_for-only (size + HEADER_WORDS) k (omega arith) is) ∙ ap (λ n. order_for n) turned
 
 -- ---- changes that move no block
 
@@ -49,6 +47,7 @@ moved_over book f g log same p = record {
   placed = p.placed;
   each = λ name address size e. p.each name address size (sym (same name) ∙ e);
   apart = λ n m address size other a b. p.apart n m address size other (sym (same n) ∙ a) (sym (same m) ∙ b);
+  undone = p.undone;
 }
 
 pub heap_stays : (order : ℕ) (book : Shown) (table after : List (Option Live)) (requests : List Asked)
@@ -78,7 +77,7 @@ module _ (book : Shown) (f g : ℕ → Option (ℕ × ℕ)) (log : Log) (p : IsP
     block = at - book.base
 
     from : 1 ≤ k
-    from = let one = from_one size in omega arith
+    from = let one = order_from_one size in omega arith
 
     none : order_in book.taken block ≡ None
     none = none_taken book k block after p.kept from took (order_in book.taken block) refl
@@ -141,6 +140,18 @@ module _ (book : Shown) (f g : ℕ → Option (ℕ × ℕ)) (log : Log) (p : IsP
     apart_after n m address s o a b false q false r = p.apart n m address s o (sym (there n (eqb-false n name q)) ∙ a)
         (sym (there m (eqb-false m name r)) ∙ b)
 
+    taken_back : place book.h (Given name k ∷ (Taken name k ∷ log)) ≡ place book.h log
+    taken_back =
+        ap (λ q. after_request (Given name k) (after_request (Taken name k) q)) p.placed
+        ∙ ap (λ t. after_request (Given name k) (with_block name p.blocks t)) took
+        ∙ ap (λ t. Some (record {
+          book = give after k (if t then block else block_of p.blocks name);
+          blocks = if t then p.blocks else (name, block) ∷ without_name p.blocks name;
+        })) (eq-eqb name name refl)
+        ∙ ap (λ b. Some (record { book = b; blocks = p.blocks }))
+        (take_took book.h k block book.free after from p.kept.sound took).undone
+        ∙ sym p.placed
+
     pub took_placed : IsPlaced (record {
       h = book.h;
       base = book.base;
@@ -154,6 +165,10 @@ module _ (book : Shown) (f g : ℕ → Option (ℕ × ℕ)) (log : Log) (p : IsP
       placed = ap (after_request (Taken name k)) p.placed ∙ ap (with_block name p.blocks) took;
       each = λ n address s e. each_after n address s e (nat_eq n name) refl;
       apart = λ n m address s o a b. apart_after n m address s o a b (nat_eq n name) refl (nat_eq m name) refl;
+      undone = (
+        record { book = ap book_of taken_back; blocks = λ n. ap (λ q. block_in_places q n) taken_back },
+        p.undone,
+      );
     }
 
   -- ---- a block given back
@@ -172,6 +187,20 @@ module _ (book : Shown) (f g : ℕ → Option (ℕ × ℕ)) (log : Log) (p : IsP
     not_it : (n address s : ℕ) → g n ≡ Some (address, s) → n ≡ name → ⊥
     not_it n address s e same = let z = sym e ∙ ap g same ∙ gone in cc
 
+    given_taken : place book.h (Taken name k ∷ (Given name k ∷ log))
+        ≡ Some (record { book = book.free; blocks = (name, its_block) ∷ without_name p.blocks name })
+    given_taken =
+        let back = given_back book k its_block p.kept own.with_order in
+        ap (λ q. after_request (Taken name k) (after_request (Given name k) q)) p.placed
+        ∙ ap (with_block name (without_name p.blocks name))
+        (give_gave book.h k its_block book.free (order_from_one size) back.order_to p.kept.lists p.kept.sound
+        back.aligned back.fits).undone
+
+    same_block : (n : ℕ) (t : Bool) → nat_eq name n ≡ t
+        → (if t then its_block else block_of (without_name p.blocks name) n) ≡ block_of p.blocks n
+    same_block n true e = ap (block_of p.blocks) (eqb-true name n e)
+    same_block n false e = block_of_other p.blocks name n (eqb-false name n e)
+
     pub gave_placed : IsPlaced (record {
       h = book.h;
       base = book.base;
@@ -181,8 +210,8 @@ module _ (book : Shown) (f g : ℕ → Option (ℕ × ℕ)) (log : Log) (p : IsP
     gave_placed =
         let back = given_back book k its_block p.kept own.with_order in
         record {
-          kept = give_kept book k its_block p.kept (from_one size) own.with_order
-              ((give_gave book.h k its_block book.free (from_one size) back.order_to p.kept.lists p.kept.sound
+          kept = give_kept book k its_block p.kept (order_from_one size) own.with_order
+              ((give_gave book.h k its_block book.free (order_from_one size) back.order_to p.kept.lists p.kept.sound
               back.aligned back.fits).count ∙ p.kept.lists);
           blocks = without_name p.blocks name;
           placed = ap (after_request (Given name k)) p.placed;
@@ -200,6 +229,15 @@ module _ (book : Shown) (f g : ℕ → Option (ℕ × ℕ)) (log : Log) (p : IsP
               };
           apart = λ n m address s o a b. p.apart n m address s o (sym (there n (not_it n address s a)) ∙ a)
               (sym (there m (not_it m address o b)) ∙ b);
+          undone = (
+            record {
+              book = ap book_of given_taken ∙ sym (ap book_of p.placed);
+              blocks = λ n. ap (λ q. block_in_places q n) given_taken
+                  ∙ ap (λ b. Some b) (same_block n (nat_eq name n) refl)
+                  ∙ sym (ap (λ q. block_in_places q n) p.placed);
+            },
+            p.undone,
+          );
         }
 
 -- ---- the heap before a run
@@ -249,6 +287,7 @@ starts_so order book table first requests from to is items alone nothing =
         placed = rw is refl;
         each = λ name address size e. absurd (no_block name address size (ap (λ t. block_at t name) (sym items) ∙ e));
         apart = λ n m address size other a b. absurd (no_block n address size (ap (λ t. block_at t n) (sym items) ∙ a));
+        undone = tt;
       };
     })
   where
@@ -420,9 +459,9 @@ module _ (order : ℕ) (book : Shown) (table : List (Option Live)) (requests : L
         (λ n other. other_block table name n other) in
         record {
           same = ap (λ b. b.h) full ∙ heap.same;
-          next = let p = length_set table name None in let h = heap.next in let l = ap (λ l. count_taken l) log_given in
+          next = let p = length-set table name None in let h = heap.next in let l = ap (λ l. count_taken l) log_given in
               omega arith;
-          few = let p = length_set table name None in let f = heap.few in omega arith;
+          few = let p = length-set table name None in let f = heap.few in omega arith;
           placed = subst (λ b. IsPlaced b (block_at (slice_set table name None)) (log_of (requests ++ asked ∷ [])))
               (sym full) (subst (λ l. IsPlaced (given_to book (give book.free (order_of_cells size)
               (block_of heap.placed.blocks name)) (without_taken (block_of heap.placed.blocks name) book.taken))

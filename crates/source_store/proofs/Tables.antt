@@ -1,11 +1,13 @@
 -- The table of objects as a store.
 use Rattle.std.proofs.Common.{◌≡◌, ℕ, zero, suc, ◌+◌, ◌<◌, ◌≤◌, refl, sym, ap, ◌∙◌, arith, List, [], ◌∷◌, ◌++◌, length}
+use Rattle.std.proofs.Common.{length-set}
 use Rattle.std.proofs.Common.{Some, None, eq-eqb, Bool, true, false, if◌then◌else◌, map}
-use Rattle.std.proofs.lemmas.Bool.{eqb-true, eqb-false, ltb-true, ltb-false}
+use Rattle.std.proofs.lemmas.Bool.{eqb-true, eqb-false, ltb-true, ltb-false, lt-ltb, le-ltb}
 use Rattle.std.proofs.lemmas.Option.{slice_get_past}
 use Rattle.std.specs.Prelude.{Result, Ok, Err, OnOk, OnErr, Option, slice_get, slice_set, nat_eq, nat_lt}
 use Rattle.std.specs.Option.{option_map}
 use Rattle.roopl_semantics.specs.Store.{Object, Store, object_named, changed_at, without}
+use Rattle.meaning_machine.specs.Reversed.{put_back}
 use Rattle.source_store.specs.declared.object.Object.{Object as Live}
 use Rattle.source_store.specs.ValueView.{object_of}
 use Rattle.source_store.specs.HeapView.{live_in, live_at, listed, listing, store_of, block_in, block_at, SameBlocks}
@@ -118,16 +120,11 @@ get_set_other (y ∷ xs) zero (suc j) x h = refl
 get_set_other (y ∷ xs) (suc i) zero x h = refl
 get_set_other (y ∷ xs) (suc i) (suc j) x h = get_set_other xs i j x (λ e. h (ap suc e))
 
-pub length_set : {A : Type 0} (xs : List A) (i : ℕ) (x : A) → length (slice_set xs i x) ≡ length xs
-length_set [] i x = refl
-length_set (y ∷ xs) zero x = refl
-length_set (y ∷ xs) (suc i) x = ap suc (length_set xs i x)
-
 pub changed_store : (table : List (Option Live)) (name : ℕ) (old slot : Option Live) (change : Object → Object)
     → slice_get table name ≡ Some old → live_in (Some slot) ≡ option_map change (live_in (Some old))
     → name < length table → store_of (slice_set table name slot) ≡ changed_at (store_of table) name change
 changed_store table name old slot change at e h =
-    ap (λ n. listing n (live_at (slice_set table name slot))) (length_set table name slot)
+    ap (λ n. listing n (live_at (slice_set table name slot))) (length-set table name slot)
     ∙ sym (changed_in (length table) (live_at table) (live_at (slice_set table name slot)) name change h
     (ap live_in (get_set_same table name slot h) ∙ (e ∙ ap (λ o. option_map change (live_in o)) (sym at)))
     (λ i other. ap live_in (get_set_other table name i slot other)))
@@ -136,23 +133,12 @@ pub changed_past : (table : List (Option Live)) (name : ℕ) (change : Object �
     → store_of table ≡ changed_at (store_of table) name change
 changed_past table name change h = sym (changed_out (length table) (live_at table) name change h)
 
-pub set_past : {A : Type 0} (xs : List A) (i : ℕ) (x : A) → length xs ≤ i → slice_set xs i x ≡ xs
-set_past [] i x h = refl
-set_past (y ∷ xs) zero x h = absurd (omega arith)
-set_past (y ∷ xs) (suc i) x h = ap (λ r. y ∷ r) (set_past xs i x (omega arith))
-
-pub map_set : {A B : Type 0} (f : A → B) (xs : List A) (i : ℕ) (x : A)
-    → map f (slice_set xs i x) ≡ slice_set (map f xs) i (f x)
-map_set f [] i x = refl
-map_set f (y ∷ xs) zero x = refl
-map_set f (y ∷ xs) (suc i) x = ap (λ r. f y ∷ r) (map_set f xs i x)
-
 -- ---- the table with a slot changed
 
 pub same_blocks : (table : List (Option Live)) (name : ℕ) (old slot : Option Live) → slice_get table name ≡ Some old
     → block_in (Some slot) ≡ block_in (Some old) → name < length table → SameBlocks table (slice_set table name slot)
 same_blocks table name old slot at e h = record {
-  length = length_set table name slot;
+  length = length-set table name slot;
   blocks = λ k. by k (nat_eq k name) refl;
 }
   where
@@ -209,7 +195,7 @@ without_in (suc n) f g name h gone there = by (λ l. without_in n f g name l gon
 pub cleared_store : (table : List (Option Live)) (name : ℕ) → name < length table
     → store_of (slice_set table name None) ≡ without (store_of table) name
 cleared_store table name h =
-    ap (λ n. listing n (live_at (slice_set table name None))) (length_set table name None)
+    ap (λ n. listing n (live_at (slice_set table name None))) (length-set table name None)
     ∙ sym (without_in (length table) (live_at table) (live_at (slice_set table name None)) name h
     (ap live_in (get_set_same table name None h))
     (λ i other. ap live_in (get_set_other table name i None other)))
@@ -221,6 +207,61 @@ cleared_block table name h = ap block_in (get_set_same table name None h)
 pub other_block : (table : List (Option Live)) (name k : ℕ) → (k ≡ name → ⊥)
     → block_at (slice_set table name None) k ≡ block_at table k
 other_block table name k other = ap block_in (get_set_other table name k None other)
+
+-- ---- the table with an object again
+
+pub filled_block : (table : List (Option Live)) (name : ℕ) (live : Live) → name < length table
+    → block_at (slice_set table name (Some live)) name ≡ block_in (Some (Some live))
+filled_block table name live h = ap block_in (get_set_same table name (Some live) h)
+
+pub filled_other : (table : List (Option Live)) (name : ℕ) (live : Live) (k : ℕ) → (k ≡ name → ⊥)
+    → block_at (slice_set table name (Some live)) k ≡ block_at table k
+filled_other table name live k other = ap block_in (get_set_other table name k (Some live) other)
+
+put_above : (n : ℕ) (f : ℕ → Option Object) (name : ℕ) (o : Object) → n ≤ name
+    → put_back (listing n f) name o ≡ (name, o) ∷ listing n f
+put_above zero f name o h = refl
+put_above (suc n) f name o h = by (put_above n f name o (omega arith)) (f n)
+  where
+    by : put_back (listing n f) name o ≡ (name, o) ∷ listing n f → (x : Option Object)
+        → put_back (listed n x (listing n f)) name o ≡ (name, o) ∷ listed n x (listing n f)
+    by below None = below
+    by below (Some a) = ap (λ t. if t then (name, o) ∷ ((n, a) ∷ listing n f) else (n, a)
+        ∷ put_back (listing n f) name o) (lt-ltb n name (omega arith))
+
+put_inside : (n : ℕ) (f g : ℕ → Option Object) (name : ℕ) (o : Object) → name < n → f name ≡ None → g name ≡ Some o
+    → ((i : ℕ) → (i ≡ name → ⊥) → g i ≡ f i) → put_back (listing n f) name o ≡ listing n g
+put_inside zero f g name o h gone here there = absurd (omega arith)
+put_inside (suc n) f g name o h gone here there = by (λ l. put_inside n f g name o l gone here there) (nat_eq n name) refl
+  where
+    later : (x : Option Object) (rest : Store) → name < n
+        → put_back (listed n x rest) name o ≡ listed n x (put_back rest name o)
+    later None rest l = refl
+    later (Some a) rest l = ap (λ t. if t then (name, o) ∷ ((n, a) ∷ rest) else (n, a) ∷ put_back rest name o)
+        (le-ltb n name (omega arith))
+
+    by : (name < n → put_back (listing n f) name o ≡ listing n g) → (t : Bool) → nat_eq n name ≡ t
+        → put_back (listing (suc n) f) name o ≡ listing (suc n) g
+    by below true e =
+        let same : n ≡ name = eqb-true n name e in
+        let rest : listing n f ≡ listing n g = listing_same n f g (λ i l. sym (there i (λ k. omega arith))) in
+        ap (λ x. put_back (listed n x (listing n f)) name o) (ap f same ∙ gone)
+        ∙ put_above n f name o (omega arith) ∙ ap (λ k. (k, o) ∷ listing n f) (sym same)
+        ∙ ap (λ r. (n, o) ∷ r) rest ∙ ap (λ x. listed n x (listing n g)) (sym (ap g same ∙ here))
+    by below false e =
+        let other : n ≡ name → ⊥ = eqb-false n name e in
+        let l : name < n = omega (arith, other) in
+        later (f n) (listing n f) l ∙ ap (listed n (f n)) (below l)
+        ∙ ap (λ x. listed n x (listing n g)) (sym (there n other))
+
+pub filled_store : (table : List (Option Live)) (name : ℕ) (live : Live) → slice_get table name ≡ Some None
+    → name < length table
+    → store_of (slice_set table name (Some live)) ≡ put_back (store_of table) name (object_of live)
+filled_store table name live free h =
+    ap (λ n. listing n (live_at (slice_set table name (Some live)))) (length-set table name (Some live))
+    ∙ sym (put_inside (length table) (live_at table) (live_at (slice_set table name (Some live))) name (object_of live) h
+    (ap live_in free) (ap live_in (get_set_same table name (Some live) h))
+    (λ i other. ap live_in (get_set_other table name i (Some live) other)))
 
 -- ---- the table with one more object
 

@@ -1,11 +1,13 @@
 -- What contracts see of a heap, and what every heap keeps.
 use Rattle.std.specs.Prelude.{◌≡◌, ℕ, zero, suc, ◌+◌, ◌^◌, ◌<◌, List, [], ◌∷◌, map, length}
 use Rattle.std.specs.Prelude.{reverse, Option}
-use Rattle.std.specs.Prelude.{Some, None, slice_get, is_none, true, false}
-use Rattle.buddy_book.specs.Place.{Request, Taken, Given, Log, count_taken, block_of, place}
+use Rattle.std.specs.Prelude.{Some, None, slice_get, is_none, Bool, true, false}
+use Rattle.buddy_book.specs.Place.{Request, Taken, Given, Log, Placing, count_taken, block_of, place}
 use Rattle.buddy_book.specs.Shown.{Shown, order_in, IsKept}
-use Rattle.roopl_semantics.specs.Store.{Value, Head, Object, Store}
+use Rattle.roopl_semantics.specs.Store.{Value, Head, Object, Store, without}
 use Rattle.roopl_semantics.specs.Execution.{order_of_cells, new_object}
+use Rattle.roopl_semantics.specs.Laws.{book_of, block_in as block_in_places}
+use Rattle.meaning_machine.specs.Reversed.{put_back}
 use Rattle.source_store.specs.declared.object.Object.{Object as Live}
 use Rattle.source_store.specs.declared.requests.Request.{Request as Asked}
 use Rattle.source_store.specs.declared.requests.Request.TheVariants as asked
@@ -71,6 +73,22 @@ pub record IsBlock (book : Shown) (blocks : List (ℕ × ℕ)) (name address siz
   pub at : address ≡ book.base + block_of blocks name
   pub with_order : order_in book.taken (block_of blocks name) ≡ Some (order_of_cells size)
 
+-- the free blocks are the same, and the block of each name
+pub record SamePlaces (first second : Option Placing) : Type 0 where
+  pub book : book_of first ≡ book_of second
+  pub blocks : (name : ℕ) → block_in_places first name ≡ block_in_places second name
+
+-- the request that takes one back
+abbrev pub opposite : Request → Request
+opposite (Taken name order) = Given name order
+opposite (Given name order) = Taken name order
+
+-- each of these requests, taken back, leads to the places before it
+abbrev pub AreUndone : ℕ → Log → Type 0
+AreUndone h [] = Unit {0}
+AreUndone h (request ∷ older) =
+    SamePlaces (place h (opposite request ∷ (request ∷ older))) (place h older) × AreUndone h older
+
 -- the blocks of these names, as the requests place them
 pub record IsPlaced (book : Shown) (block_of_name : ℕ → Option (ℕ × ℕ)) (log : Log) : Type 0 where
   pub kept : IsKept book
@@ -80,6 +98,7 @@ pub record IsPlaced (book : Shown) (block_of_name : ℕ → Option (ℕ × ℕ))
       → IsBlock book blocks name address size
   pub apart : (n m address size other : ℕ) → block_of_name n ≡ Some (address, size)
       → block_of_name m ≡ Some (address, other) → n ≡ m
+  pub undone : AreUndone book.h log
 
 -- what every heap keeps: the next name is the table's length, and a word, and each block stands
 -- where the requests place it
@@ -118,3 +137,30 @@ pub record TookNone (old new : Kept) (size : ℕ) : Type 0 where
 abbrev pub Took : Option ℕ → Kept → Kept → Head → List Value → Type 0
 Took (Some name) old new head cells = TookBlock name old new head cells
 Took None old new head cells = TookNone old new (length cells)
+
+-- the heap before the newest request, where that was for a new object
+abbrev pub before_take : Kept → Log → Option Kept
+before_take heap (Taken name order ∷ older) =
+    Some (record heap { store = without heap.store name; log = older })
+before_take heap (Given name order ∷ older) = None
+before_take heap [] = None
+
+-- the heap before the newest request, where that gave an object back: with the object's name, which
+-- has one variable, this head and these cells
+abbrev pub before_give : Kept → Head → List Value → Log → Option (ℕ × Kept)
+before_give heap head cells (Given name order ∷ older) =
+    Some (
+      name,
+      record heap {
+        store = put_back heap.store name (new_object head cells);
+        log = older;
+      },
+    )
+before_give heap head cells (Taken name order ∷ older) = None
+before_give heap head cells [] = None
+
+-- whether this is a place of the table where nothing lives
+abbrev pub is_free_slot : Option (Option Live) → Bool
+is_free_slot (Some None) = true
+is_free_slot (Some (Some live)) = false
+is_free_slot None = false

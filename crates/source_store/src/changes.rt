@@ -116,7 +116,7 @@ fn block_in_slot(slot: &Option<Object>) -> Option<(u32, usize)>
 }
 
 /// The address of the block of a name, and the number of its cells.
-fn block_of(objects: &[Option<Object>], name: usize) -> Option<(u32, usize)>
+pub(crate) fn block_of(objects: &[Option<Object>], name: usize) -> Option<(u32, usize)>
     ensures { result ≡ block_at objects.now name }
 {
     match objects.get(name) {

@@ -81,7 +81,7 @@ pub(crate) fn is_all_zero(cells: &[Value]) -> bool
 }
 
 /// Another value at a place, if there is one.
-#[tactic(auto, using(crate::proofs::Tables::set_past))]
+#[tactic(auto, using(std::proofs::lemmas::List::set_past))]
 pub(crate) fn put_value(values: &mut Vec<Value>, index: usize, value: Value)
     ensures { values.new.items ≡ slice_set values.old.items index value }
 {

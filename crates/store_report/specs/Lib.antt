@@ -2,5 +2,4 @@ pub mod Ascii
 pub mod Memory
 pub mod Told
 pub mod Leads
-pub mod Tables
 pub mod Shown

@@ -1,5 +1,6 @@
 // What cells lead to.
 ghost use Rattle.std.specs.Prelude.{◌≡◌, ◌≤◌, ◌<◌, length, position, nat_eq, IfSome};
+ghost use Rattle.rpp_tree.specs.declared.limits.TheConstants.{MOST_CLASSES};
 ghost use Rattle.store_report.specs.Leads.{lead_of as lead_told, is_reference, class_at_table};
 
 use class_table::ClassTable;
@@ -54,7 +55,7 @@ fn place_of(words: &[u32], word: u32) -> Option<usize>
 
 /// The class whose table stands at an address, or the first one.
 pub fn class_at_table(tables: &[u32], word: u32) -> u32
-    requires { length tables.now ≤ 256 }
+    requires { length tables.now ≤ MOST_CLASSES }
     ensures { result ≡ class_at_table tables.now word }
 {
     match place_of(tables, word) {

@@ -8,7 +8,6 @@ mod lines;
 mod meeting;
 mod memories;
 mod stores;
-mod tables;
 mod walking;
 
 pub use memories::report;

@@ -2,6 +2,7 @@
 ghost use Rattle.std.specs.Prelude.{◌≡◌, ◌≤◌, ◌<◌, ◌+◌, ◌^◌, ◌++◌, [], ℕ, All, List, length, map, replicate, string_bytes, OnOk, IfOk, codes};
 ghost use Rattle.std.specs.Str.{IsAscii};
 ghost use Rattle.std.specs.Fmt.{decimal};
+ghost use Rattle.rpp_tree.specs.declared.limits.TheConstants.{MOST_FIELDS, MOST_CLASSES};
 ghost use Rattle.rpp_words.specs.declared.input.FieldWord.{FieldWord};
 ghost use Rattle.rpp_words.specs.Texts.{line_end};
 ghost use Rattle.rpp_tree.specs.Views.{source_of};
@@ -19,7 +20,6 @@ ghost use Rattle.store_report.specs.Told.{report_told};
 
 use crate::leads::{Lead, class_at_table, lead_of};
 use crate::lines::{add_bytes, add_live, add_name, add_word, class_name};
-use crate::tables::table_addresses;
 use crate::walking::{Memory, met_all};
 use class_table::Checked;
 use code_conventions::memory::{COUNT_WORD, FIRST_FIELD, HEADER_WORDS};
@@ -28,6 +28,7 @@ use pisa_machine::{Machine, word_at};
 use rpp_tree::text::Text;
 use rpp_tree::tree::{Program, Var};
 use rpp_words::NoMemory;
+use static_layout::table_addresses;
 use std::alloc::{AllocError, Global};
 
 /// The report of a machine's memory, by following the references in its cells from the main object
@@ -53,7 +54,7 @@ pub fn report(alloc: Global, machine: &Machine, checked: &Checked) -> Result<Str
 {
     let table = checked.table();
     let program = checked.program();
-    let tables = table_addresses(alloc, table)?;
+    let tables = table_addresses(alloc, checked)?;
     let fields = table.fields(table.main().class);
     let memory = Memory {
         machine,
@@ -135,7 +136,7 @@ fn add_fields(
     fields: &[Var],
 ) -> Result<(), AllocError>
     requires names { All HasAsciiName fields.now }
-    requires few { length fields.now ≤ 64 }
+    requires few { length fields.now ≤ MOST_FIELDS }
     requires low { at < 2 ^ 40 }
     ensures { OnOk result (string_bytes out.new
         ≡ string_bytes out.old ++ field_lines indent.now (addresses_of met.now.entries) fields.now
@@ -208,7 +209,7 @@ fn add_class(out: &mut String, program: &Program, class: u32) -> Result<(), Allo
 
 // What the head word of an object or array tells: its class, or its length.
 fn add_head(out: &mut String, memory: &Memory, lead: Lead, word: u32) -> Result<(), AllocError>
-    requires few { length memory.now.tables.now ≤ 256 }
+    requires few { length memory.now.tables.now ≤ MOST_CLASSES }
     requires names { (class : ℕ) → IsAscii (class_at (source_of memory.now.program.now) class).name.text }
     ensures { OnOk result (string_bytes out.new
         ≡ string_bytes out.old ++ head_shown (source_of memory.now.program.now)
@@ -237,7 +238,7 @@ fn add_cells(
     lead: Lead,
     word: u32,
 ) -> Result<(), AllocError>
-    requires few { length memory.now.tables.now ≤ 256 }
+    requires few { length memory.now.tables.now ≤ MOST_CLASSES }
     requires names { (class : ℕ) → All HasAsciiName (fields_in memory.now.table.now class) }
     ensures { OnOk result (string_bytes out.new
         ≡ string_bytes out.old ++ cells_by memory.now.table.now memory.now.tables.now
@@ -267,7 +268,7 @@ fn add_object(
     at: u32,
     lead: Lead,
 ) -> Result<(), AllocError>
-    requires few { length memory.now.tables.now ≤ 256 }
+    requires few { length memory.now.tables.now ≤ MOST_CLASSES }
     requires names { AreAscii (source_of memory.now.program.now) memory.now.table.now }
     ensures { OnOk result (string_bytes out.new
         ≡ string_bytes out.old ++ object_by
@@ -289,7 +290,7 @@ fn add_objects(
     met: &IndexMap<u32, Lead>,
     memory: &Memory,
 ) -> Result<(), AllocError>
-    requires few { length memory.now.tables.now ≤ 256 }
+    requires few { length memory.now.tables.now ≤ MOST_CLASSES }
     requires names { AreAscii (source_of memory.now.program.now) memory.now.table.now }
     ensures { OnOk result (string_bytes out.new
         ≡ string_bytes out.old ++ objects_by
@@ -308,8 +309,8 @@ fn add_objects(
 
 // The whole text.
 fn compose(alloc: Global, memory: &Memory, fields: &[Var]) -> Result<String, NoMemory>
-    requires few { length memory.now.tables.now ≤ 256 }
-    requires few_fields { length fields.now ≤ 64 }
+    requires few { length memory.now.tables.now ≤ MOST_CLASSES }
+    requires few_fields { length fields.now ≤ MOST_FIELDS }
     requires names { AreAscii (source_of memory.now.program.now) memory.now.table.now }
     requires field_names { All HasAsciiName fields.now }
     ensures { IfOk result (λ text. string_bytes text

@@ -1,5 +1,6 @@
 // The walk of a memory: what is met from the main object on.
 ghost use Rattle.std.specs.Prelude.{◌≡◌, ◌≤◌, ◌<◌, ◌+◌, ◌^◌, length, replicate, OnOk, IfOk};
+ghost use Rattle.rpp_tree.specs.declared.limits.TheConstants.{MOST_FIELDS, MOST_CLASSES};
 ghost use Rattle.code_conventions.specs.declared.memory.TheConstants.{FIRST_FIELD};
 ghost use Rattle.store_report.specs.declared.leads.Lead.TheVariants as lead;
 ghost use Rattle.store_report.specs.Leads.{meets_one, meets, leads_of, meets_behind, walks, met_all};
@@ -50,7 +51,7 @@ fn meet_fields(
     at: u64,
     fields: &[Var],
 ) -> Result<(), NoMemory>
-    requires few { length fields.now ≤ 64 }
+    requires few { length fields.now ≤ MOST_FIELDS }
     requires low { at < 2 ^ 40 }
     ensures { OnOk result (met.new.entries
         ≡ meets machine.now.state.cells met.old.entries at (leads_of table.now fields.now)) }
@@ -89,7 +90,7 @@ fn meet_behind(
     at: u32,
     lead: Lead,
 ) -> Result<(), NoMemory>
-    requires { length memory.now.tables.now ≤ 256 }
+    requires { length memory.now.tables.now ≤ MOST_CLASSES }
     ensures { OnOk result (met.new.entries
         ≡ meets_behind memory.now.table.now memory.now.tables.now memory.now.machine.now.state.cells
         met.old.entries (at, lead)) }
@@ -117,8 +118,8 @@ pub fn met_all(
     memory: &Memory,
     fields: &[Var],
 ) -> Result<IndexMap<u32, Lead>, NoMemory>
-    requires classes { length memory.now.tables.now ≤ 256 }
-    requires few { length fields.now ≤ 64 }
+    requires classes { length memory.now.tables.now ≤ MOST_CLASSES }
+    requires few { length fields.now ≤ MOST_FIELDS }
     ensures { IfOk result (λ met. met.entries
         ≡ met_all memory.now.table.now memory.now.tables.now fields.now
         memory.now.machine.now.state.cells) }

@@ -8,7 +8,7 @@ use Rattle.rpp_tree.specs.Tree.{Source}
 use Rattle.rpp_ports.specs.Ports.{Texts}
 use Rattle.meaning_points.specs.Trail.{trail}
 use Rattle.two_way_debugger.specs.declared.command.Command.{Command}
-use Rattle.two_way_debugger.specs.declared.script.TheConstants.{MOST_SCRIPT}
+use Rattle.pisa_scripts.specs.declared.lines.TheConstants.{MOST_SCRIPT}
 use Rattle.two_way_debugger.specs.declared.error.ScriptError.{ScriptError}
 use Rattle.two_way_debugger.specs.declared.error.ScriptError.TheVariants.{BadCommand}
 use Rattle.two_way_debugger.specs.declared.error.ScriptError.TheVariants as script

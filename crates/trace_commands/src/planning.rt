@@ -2,7 +2,7 @@
 ghost use Rattle.std.specs.Prelude.{◌≡◌, ◌≤◌, ◌∷◌, length, option_map, List, ℕ, IfOk, string_bytes};
 ghost use Rattle.rpp_tree.specs.Views.{source_of};
 ghost use Rattle.rpp_tree.specs.declared.limits.TheConstants.{MOST_BYTES};
-ghost use Rattle.two_way_debugger.specs.declared.script.TheConstants.{MOST_SCRIPT};
+ghost use Rattle.pisa_scripts.specs.declared.lines.TheConstants.{MOST_SCRIPT};
 ghost use Rattle.two_way_debugger.specs.Scripts.{script_of};
 ghost use Rattle.source_debugger.specs.Standing.{IsValidRun};
 ghost use Rattle.pisa_loader.specs.declared.input.TheConstants.{MOST_INPUT};
@@ -16,13 +16,14 @@ use class_table::Checked;
 use command_plan::{
     NoPlan, Plan, Room, Sizes, Verdict, bad_command_line, read_file, read_input_file,
 };
+use pisa_scripts::MOST_SCRIPT;
 use program_commands::{Ready, ready};
 use rpp_ports::Shelf;
 use rpp_tree::MOST_BYTES;
 use rpp_words::{Input, Limits, NoMemory};
 use source_debugger::SourceDebugger;
 use std::alloc::Global;
-use two_way_debugger::{Command, MOST_SCRIPT, ScriptError, read_script};
+use two_way_debugger::{Command, ScriptError, read_script};
 
 // The texts that a command reads.
 #[derive(Drop)]

@@ -15,4 +15,4 @@ pub use command::Command;
 pub use debugger::Debugger;
 pub use error::ScriptError;
 pub use moves::LAST_POSITION;
-pub use script::{MOST_SCRIPT, read_script};
+pub use script::read_script;

@@ -5,11 +5,8 @@ ghost use Rattle.pisa_scripts.specs.Lines.{pieces as pieces_of};
 
 use crate::command::Command;
 use crate::error::ScriptError;
-use pisa_scripts::{is_blank, number_up_to, pieces, short_number, without_returns};
+use pisa_scripts::{MOST_SCRIPT, is_blank, number_up_to, pieces, short_number, without_returns};
 use std::alloc::Global;
-
-/// The most bytes of a script.
-pub const MOST_SCRIPT: usize = 65_536;
 
 /// The most cells that one command prints.
 const MOST_CELLS: u64 = 1000;

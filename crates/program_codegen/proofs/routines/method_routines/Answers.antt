@@ -6,7 +6,7 @@ use Rattle.class_table.specs.Table.{Table}
 use Rattle.class_table.proofs.InheritedSlots.{class_there}
 use Rattle.program_codegen.proofs.Counts.{class_few}
 use Rattle.program_codegen.proofs.Entries.{class_pushed}
-use Rattle.program_codegen.proofs.Tables.{many_classes}
+use Rattle.static_layout.proofs.Counted.{many_classes}
 use Rattle.program_codegen.proofs.routines.method_routines.Goals as goal
 
 pub class_routines-requires-clause-few : goal.class_routines-requires-clause-few

@@ -5,7 +5,8 @@ use Rattle.class_table.specs.Table.{Table}
 use Rattle.roopl_semantics.specs.Layout.{tables}
 use Rattle.paired_code.specs.Link.{static_word}
 use Rattle.refine_program.specs.Methods.{slot_places}
-use Rattle.program_codegen.proofs.Tables.{table_pushed, many_classes}
+use Rattle.static_layout.proofs.Counted.{many_classes}
+use Rattle.program_codegen.proofs.Tables.{table_pushed}
 use Rattle.program_codegen.proofs.statics.add_tables.Goals as goal
 
 pub loop-class-preserved : goal.loop-class-preserved

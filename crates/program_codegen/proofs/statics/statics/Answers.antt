@@ -1,9 +1,10 @@
-use Rattle.std.proofs.Common.{◌≡◌, ◌∙◌, sym, ap, ◌∷◌, ◌++◌, List, length, replicate, arith}
+use Rattle.std.proofs.Common.{◌≡◌, ◌∙◌, sym, ap, ◌++◌, ℕ, List, length, replicate, arith}
 use Rattle.rpp_tree.specs.declared.tree.Var.{Var}
 use Rattle.rpp_tree.specs.Views.{source_of}
 use Rattle.class_table.specs.declared.method.MethodId.{MethodId}
 use Rattle.class_table.specs.Classes.{main_of}
 use Rattle.class_table.specs.Table.{Table}
+use Rattle.code_conventions.specs.Header.{header}
 use Rattle.roopl_semantics.specs.Layout.{table_at, tables}
 use Rattle.roopl_semantics.specs.Source.{main_fields}
 use Rattle.roopl_semantics.proofs.MainPlace.{class_inside, fields_read}
@@ -11,27 +12,12 @@ use Rattle.refine_program.specs.Methods.{table_places}
 use Rattle.program_codegen.proofs.Tables.{statics_read}
 use Rattle.program_codegen.proofs.statics.statics.Goals as goal
 
-pub table_at-requires-clause-fields : goal.table_at-requires-clause-fields
-table_at-requires-clause-fields c =
-    let main = c.main-class.ensures ∙ ap (λ (t : Table). t.main) (c.table.ensures.table ∙ sym c.table-2.ensures.table)
-    in
-    ap (λ (vars : List Var). length vars)
-    (fields_read (source_of c.args.checked.now) c.table-2.result.now c.main-class.result c.fields.result.now
-    c.table.ensures.accepted c.table-2.ensures.table main c.fields.ensures.fields)
-
-pub table_at-requires-clause-inside : goal.table_at-requires-clause-inside
-table_at-requires-clause-inside c =
+pub table_at-requires : goal.table_at-requires
+table_at-requires c =
     let program = source_of c.args.checked.now in
     let main = ap (λ (id : MethodId). id.class) (c.main-class.ensures
     ∙ ap (λ (t : Table). t.main) c.table.ensures.table) in
     omega (arith, main, class_inside program c.table.ensures.accepted)
-
-pub table_at-requires-clause-small : goal.table_at-requires-clause-small
-table_at-requires-clause-small c =
-    let program = source_of c.args.checked.now in
-    let main = ap (λ (id : MethodId). id.class) (c.main-class.ensures
-    ∙ ap (λ (t : Table). t.main) c.table.ensures.table) in
-    omega (arith, main, class_inside program c.table.ensures.accepted, c.table.ensures.accepted.limits.classes_few)
 
 pub returns : goal.returns
 returns c =
@@ -46,9 +32,10 @@ returns c =
     ∙ ap (λ (id : MethodId). table_at program id.class) main in
     λ places.
     let ts = tables 1 (table_places program 1 places) in
-    statics_read places program c.table_at.result (length c.fields.result.now) c.new-words.result.items
-    c.push.new.self.items c.push-2.new.self.items c.add_zeros.new.words.items c.add_tables.new.words.items ts
-    c.new-words.ensures.items c.in_ok-push.ensures.items c.in_ok-push-2.ensures.items c.in_ok-add_zeros.ensures
-    (c.in_ok-add_tables.ensures places)
-    ∙ ap (λ a. a ∷ 1 ∷ (replicate (length c.fields.result.now) 0 ++ ts)) at
-    ∙ ap (λ (vars : List Var). table_at program (main_of program).class ∷ 1 ∷ (replicate (length vars) 0 ++ ts)) fields
+    statics_read places program c.header.result (length c.fields.result.now) c.new-words.result.items
+    c.add_words.new.words.items c.add_zeros.new.words.items c.add_tables.new.words.items ts
+    c.new-words.ensures.items c.in_ok-add_words.ensures c.in_ok-add_zeros.ensures (c.in_ok-add_tables.ensures places)
+    ∙ ap (λ (words : List ℕ). words ++ replicate (length c.fields.result.now) 0 ++ ts) c.header.ensures
+    ∙ ap (λ a. header a 1 ++ replicate (length c.fields.result.now) 0 ++ ts) at
+    ∙ ap (λ (vars : List Var). header (table_at program (main_of program).class) 1 ++ replicate (length vars) 0 ++ ts)
+    fields

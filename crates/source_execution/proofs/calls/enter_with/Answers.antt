@@ -1,4 +1,4 @@
-use Rattle.std.proofs.Common.{◌≡◌, ◌≤◌, ◌^◌, ℕ, List, refl, sym, ap, ap₂, subst, ◌∙◌, map, length}
+use Rattle.std.proofs.Common.{◌≡◌, ◌<◌, ℕ, List, refl, sym, ap, ap₂, subst, ◌∙◌, map, length}
 use Rattle.std.specs.Option.{unwrap_or, option_map}
 use Rattle.rpp_tree.specs.Tree.{Procedure}
 use Rattle.rpp_tree.specs.Views.{procedure_of}
@@ -10,6 +10,7 @@ use Rattle.source_steps.specs.CellView.{cell_of}
 use Rattle.source_steps.specs.StateView.{setting_of}
 use Rattle.source_execution.specs.declared.frames.Caller.{Caller}
 use Rattle.source_execution.specs.declared.run.Run.{Run}
+use Rattle.source_execution.specs.Blocks.{count_of}
 use Rattle.source_execution.specs.Tasks.{task_of}
 use Rattle.source_execution.specs.Opens.{caller_of, caller_names, cells_in, values_in}
 use Rattle.source_execution.specs.Runs.{config_of, state_in, only_cell}
@@ -31,11 +32,10 @@ open_block-requires-clause-sound c =
     (c.become_callee-caller.ensures.params ∙ c.params_for-params.ensures.params)
     (c.become_callee-caller.ensures.values ∙ c.params_for-params.ensures.values) c.move_in.ensures.sound
 
-pub open_block-requires-clause-small : goal.open_block-requires-clause-small
-open_block-requires-clause-small c =
-    let at : c.become_callee-caller.new.run.at ≡ c.args.run.now.at =
-    ap (λ (r : Run). r.at) c.become_callee-caller.ensures.callee ∙ ap (λ (r : Run). r.at) c.move_in.ensures.same in
-    subst (λ (n : ℕ). n ≤ 2 ^ 63) (sym at) c.requires.small
+pub open_block-requires-clause-within : goal.open_block-requires-clause-within
+open_block-requires-clause-within c =
+    subst (λ (r : Run). r.at < count_of (task_of r.task)) (sym c.become_callee-caller.ensures.callee)
+    (subst (λ (r : Run). r.at < count_of (task_of r.task)) (sym c.move_in.ensures.same) c.requires.within)
 
 pub open_block-requires-clause-part : goal.open_block-requires-clause-part
 open_block-requires-clause-part c =

@@ -1,8 +1,12 @@
-use Rattle.std.proofs.Common.{sym, ap, ◌∙◌}
+use Rattle.std.proofs.Common.{sym, ap, ◌∙◌, arith}
 use Rattle.source_steps.specs.declared.expressions.Setting.{Setting as Here}
 use Rattle.source_steps.specs.StateView.{setting_of}
 use Rattle.source_execution.specs.Opens.{caller_of}
+use Rattle.source_execution.proofs.Blocks.{task_small}
 use Rattle.source_execution.proofs.ends.become_caller.Goals as goal
+
+pub overflow_add-run : goal.overflow_add-run
+overflow_add-run c = let n = task_small c.args.task in let h = c.requires.within in omega arith
 
 pub returns-clause-state : goal.returns-clause-state
 returns-clause-state c =
@@ -22,4 +26,5 @@ returns-clause-sound c = record {
   each = c.requires.each;
   order = c.requires.sound.order ∙ sym (ap (λ (h : Here). h.limits.heap) c.caller_setting-run.ensures);
   opens = c.requires.sound.opens;
+  within = (let h = c.requires.within in omega arith);
 }

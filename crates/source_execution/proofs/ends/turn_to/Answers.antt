@@ -14,7 +14,7 @@ returns-in_ok-push-in-Some-clause-sound c =
     c.in-Some.frame (record c.in-Some.frame { part = c.args.part }) c.pop.new.self.items c.in-Some.ensures.items
     c.in_ok-push-in-Some.ensures.items c.args.task refl c.requires.sound
     (record {
-      small = (frame_open c.args.run.now (record c.args.run.now { frames = c.pop.new.self }) c.in-Some.frame
-          c.in-Some.ensures.items c.requires.sound).small;
+      within = (frame_open c.args.run.now (record c.args.run.now { frames = c.pop.new.self }) c.in-Some.frame
+          c.in-Some.ensures.items c.requires.sound).within;
       caller = c.requires.part;
     })

@@ -1,11 +1,13 @@
-use Rattle.std.proofs.Common.{◌+◌, ◌≤◌, ◌^◌, refl, arith}
+use Rattle.std.proofs.Common.{◌+◌, refl, arith}
+use Rattle.source_execution.proofs.Blocks.{task_small}
 use Rattle.source_execution.proofs.Opened.{closed_is, closed_sound, frame_open}
 use Rattle.source_execution.proofs.run.close_block.Goals as goal
 
 pub overflow_add-run : goal.overflow_add-run
 overflow_add-run c =
-    let o : c.in-Some.frame.at ≤ 2 ^ 63 = (frame_open c.args.run.now (record c.args.run.now { frames = c.pop.new.self })
-    c.in-Some.frame c.in-Some.ensures.items c.requires.sound).small in
+    let o = (frame_open c.args.run.now (record c.args.run.now { frames = c.pop.new.self })
+    c.in-Some.frame c.in-Some.ensures.items c.requires.sound).within in
+    let n = task_small c.in-Some.frame.task in
     omega arith
 
 pub returns-in-Some-clause-closed : goal.returns-in-Some-clause-closed
@@ -22,4 +24,4 @@ returns-in-Some-clause-sound c =
       task = c.in-Some.frame.task;
       at = c.in-Some.frame.at + 1;
       frames = c.pop.new.self;
-    }) c.in-Some.frame (c.in-Some.frame.at + 1) refl c.in-Some.ensures.items c.requires.sound
+    }) c.in-Some.frame (c.in-Some.frame.at + 1) refl refl c.in-Some.ensures.items c.requires.sound

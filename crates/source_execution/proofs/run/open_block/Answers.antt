@@ -12,4 +12,4 @@ pub returns-clause-sound : goal.returns-clause-sound
 returns-clause-sound c =
     opened_sound c.args.run.now (record c.args.run.now { task = c.args.task; at = 0; frames = c.push.new.self })
     (record { task = c.args.run.now.task; at = c.args.run.now.at; part = c.args.part }) c.args.task refl
-    c.in_ok-push.ensures.items c.requires.sound (record { small = c.requires.small; caller = c.requires.part })
+    c.in_ok-push.ensures.items c.requires.sound (record { within = c.requires.within; caller = c.requires.part })

@@ -1,7 +1,7 @@
-use Rattle.std.proofs.Common.{ap, ◌∙◌, List, length}
+use Rattle.std.proofs.Common.{ap, ◌∙◌, List, length, length-set}
 use Rattle.roopl_semantics.specs.Store.{Binding, State}
 use Rattle.source_steps.specs.StateView.{state_of, frame_of}
-use Rattle.source_steps.proofs.Tables.{frame_set, length_set}
+use Rattle.source_steps.proofs.Tables.{frame_set}
 use Rattle.source_steps.proofs.cell.write_cell.Goals as goal
 
 pub returns-in-Slot : goal.returns-in-Slot
@@ -13,7 +13,7 @@ returns-in-Slot c =
           ∙ frame_set c.args.scope.now c.args.values.now.items c.in-Slot.index c.args.value));
       framed = record {
         each = ap length c.put_value.ensures
-            ∙ (length_set c.args.values.now.items c.in-Slot.index c.args.value ∙ c.requires.each);
+            ∙ (length-set c.args.values.now.items c.in-Slot.index c.args.value ∙ c.requires.each);
         order = c.requires.order;
       };
     }

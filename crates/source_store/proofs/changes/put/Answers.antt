@@ -1,7 +1,7 @@
 use Rattle.std.proofs.Common.{ap, ◌∙◌, List}
+use Rattle.std.proofs.lemmas.List.{map-set}
 use Rattle.roopl_semantics.specs.Store.{Value, Object}
 use Rattle.source_store.specs.ValueView.{values_of, value_of, head_of}
-use Rattle.source_store.proofs.Tables.{map_set}
 use Rattle.source_store.proofs.changes.put.Goals as goal
 
 pub returns-clause-object : goal.returns-clause-object
@@ -11,5 +11,5 @@ returns-clause-object c =
       count = c.args.object.now.count;
       cells = cells;
     } in
-    ap build (ap values_of c.put_value.ensures ∙ map_set value_of c.args.object.now.cells.items c.args.index
+    ap build (ap values_of c.put_value.ensures ∙ map-set value_of c.args.object.now.cells.items c.args.index
     c.args.value)

@@ -1,5 +1,5 @@
-use Rattle.std.proofs.Common.{◌+◌, refl, ap, ◌∙◌, arith, length}
-use Rattle.source_store.specs.HeapView.{live_at, listing, listed}
+use Rattle.std.proofs.Common.{◌+◌, refl, arith}
+use Rattle.source_store.specs.HeapView.{live_at}
 use Rattle.source_store.proofs.Tables.{listed_few, listing_few, listing_next}
 use Rattle.source_store.proofs.heap.live_among.Goals as goal
 

@@ -1,26 +1,25 @@
 use Rattle.std.proofs.Common.{◌≡◌, ◌∙◌, sym, ap, subst, length, arith}
 use Rattle.std.specs.Prelude.{All, IfOk, Result, Ok, Err, string_bytes}
 use Rattle.rpp_tree.specs.Views.{source_of}
-use Rattle.class_table.specs.First.{each_below}
 use Rattle.class_table.specs.Table.{Table, table_of}
 use Rattle.class_table.proofs.Numbers.{length-each_below}
+use Rattle.roopl_semantics.specs.Layout.{table_at, table_addresses}
 use Rattle.roopl_semantics.proofs.MainPlace.{fields_read}
 use Rattle.store_report.specs.Ascii.{HasAsciiName, AreAscii}
 use Rattle.store_report.specs.Shown.{report_by}
 use Rattle.store_report.specs.Told.{report_told}
-use Rattle.store_report.specs.Tables.{table_in}
 use Rattle.store_report.proofs.Names.{names_ascii, ascii_main_fields}
 use Rattle.store_report.proofs.Grounding.{last_told, first_told}
-use Rattle.store_report.proofs.Placed.{tables_are, code_tells}
+use Rattle.store_report.proofs.Placed.{code_tells}
 use Rattle.store_report.proofs.memories.report.Goals as goal
 
 pub compose-requires-clause-few : goal.compose-requires-clause-few
 compose-requires-clause-few c =
-    let table = c.table-table.result.now in
-    let e : length c.deref.result.now ≡ length (each_below (table_in table) (length table.names)) =
-    ap length (c.deref.ensures.value ∙ c.in_ok-tables.ensures.places) in
-    let few = c.in_ok-tables.ensures.few in
-    omega (arith, length-each_below (table_in table) (length table.names))
+    let program = source_of c.args.checked.now in
+    let e : length c.deref.result.now ≡ length (table_addresses program) =
+    ap length (c.deref.ensures.value ∙ c.in_ok-tables.ensures) in
+    let few = c.table-table.ensures.accepted.limits.classes_few in
+    omega (arith, length-each_below (table_at program) (length program.classes))
 
 pub compose-requires-clause-names : goal.compose-requires-clause-names
 compose-requires-clause-names c =
@@ -47,9 +46,7 @@ returns-clause-lines c =
     let accepted = c.table-table.ensures.accepted in
     let are = fields_read program c.table-table.result.now c.main.result c.fields-fields.result.now accepted
     c.table-table.ensures.table c.main.ensures c.fields-fields.ensures.fields in
-    let places = c.deref.ensures.value ∙ c.in_ok-tables.ensures.places
-    ∙ ap (λ (t : Table). each_below (table_in t) (length t.names)) c.table-table.ensures.table
-    ∙ tables_are program accepted in
+    let places = c.deref.ensures.value ∙ c.in_ok-tables.ensures in
     map_ok (λ text. string_bytes text ≡ report_by (source_of c.program-program.result.now) c.table-table.result.now
     c.deref.result.now c.fields-fields.result.now cells) (λ text. string_bytes text ≡ report_told program cells)
     c.compose.result

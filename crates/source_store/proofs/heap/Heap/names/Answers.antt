@@ -1,4 +1,4 @@
-use Rattle.std.proofs.Common.{◌≡◌, ◌+◌, ◌≤◌, length, sym, ap, ◌∙◌, arith}
+use Rattle.std.proofs.Common.{◌≡◌, ◌+◌, length, sym, ap, ◌∙◌, arith}
 use Rattle.buddy_book.specs.Place.{count_taken}
 use Rattle.roopl_semantics.specs.Store.{object_named}
 use Rattle.source_store.proofs.Tables.{named_past}

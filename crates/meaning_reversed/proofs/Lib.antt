@@ -1,0 +1,10 @@
+pub mod Undoing
+pub mod Simple
+pub mod Branches
+pub mod Holding
+pub mod CallsBack
+pub mod CallsBackOpened
+pub mod Requests
+pub mod Made
+pub mod AllSteps
+pub mod Walked

@@ -1,0 +1,7 @@
+//! Where the static cells of a program's image stand: the addresses of the tables of its classes.
+//! The code that makes objects, the image and the report of a memory use these calls.
+#![tactic(auto)]
+
+mod tables;
+
+pub use tables::{table_addresses, table_at};
