@@ -18,6 +18,7 @@ from .names import Names
 from .source import Class, Method, Variable, parsed
 
 MAIN = 40
+HEADER_WORDS = 2
 FRAME_WORDS = 512
 FIRST_VARIABLE = 16
 LINK, OBJECT, PLACE = 0, 1, 2
@@ -111,7 +112,7 @@ class Layout:
         self.main_class = next(method.owner for method in self.names.source.methods()
                                if method.name == 'main' and not method.parameters)
         self.tables: Dict[int, Class] = {}
-        address = MAIN + 2 + len(self.names.all_fields(self.main_class))
+        address = MAIN + HEADER_WORDS + len(self.names.all_fields(self.main_class))
         for each in self.classes:
             self.tables[address] = each
             address += 1 + len(self.slots(each))
@@ -173,23 +174,23 @@ class Reading:
 
     def object_at(self, address: int, owner: Class) -> Block:
         fields = self.layout.names.all_fields(owner)
-        cells = tuple((each.name, self.value(self.cells[address + 2 + at], each.type)) for at, each in enumerate(fields))
-        words = 2 + len(fields) if address == MAIN else 1 << order_for(2 + len(fields))
+        cells = tuple((each.name, self.value(self.cells[address + HEADER_WORDS + at], each.type)) for at, each in enumerate(fields))
+        words = HEADER_WORDS + len(fields) if address == MAIN else 1 << order_for(HEADER_WORDS + len(fields))
         return Block(address, words, 'object', owner.name, self.cells[address + 1], cells)
 
     def array_at(self, address: int, kind: str) -> Block:
         length = self.cells[address]
         element = kind[:-2] if kind.endswith('[]') else 'int'
-        cells = tuple((f'[{at}]', self.value(self.cells[address + 2 + at], element)) for at in range(length))
+        cells = tuple((f'[{at}]', self.value(self.cells[address + HEADER_WORDS + at], element)) for at in range(length))
         head = f'{element}[{length}]' if kind else f'array[{length}]'
-        return Block(address, 1 << order_for(2 + length), 'array', head, self.cells[address + 1], cells)
+        return Block(address, 1 << order_for(HEADER_WORDS + length), 'array', head, self.cells[address + 1], cells)
 
     def block_at(self, address: int) -> Block:
         """The block that is taken here; what is not yet written in, or no longer, has no form."""
         first, kind = self.cells[address], self.types.get(address, '')
         if first in self.layout.tables and not kind.endswith('[]'):
             return self.object_at(address, self.layout.tables[first])
-        if 0 < first <= self.stack - address - 2:
+        if 0 < first <= self.stack - address - HEADER_WORDS:
             return self.array_at(address, kind)
         return Block(address, 2, 'taken')
 

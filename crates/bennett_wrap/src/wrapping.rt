@@ -9,15 +9,16 @@ ghost use Rattle.bennett_wrap.specs.Wrapped.{left_by, entered_by, finish_of, inn
 use crate::copying::copy_image;
 use code_conventions::cells::with_word;
 use image_inverter::flip;
-use pisa_isa::{Cell, Image, Op};
+use pisa_isa::{Cell, Image, MOST_CELLS, Op};
 use rpp_words::NoMemory;
 use std::alloc::Global;
 
 /// The most cells that are copied.
 pub const MOST_COPIED: usize = 64;
 
-/// The most code cells of an image that is wrapped: as many as the largest compiled image has.
-pub const MOST_WRAPPED: usize = 4_008_192;
+/// The most code cells of an image that is wrapped: whatever is copied, the wrapped image then has no
+/// more than an image may have.
+pub const MOST_WRAPPED: usize = (MOST_CELLS - 13 - 8 * MOST_COPIED) / 2;
 
 /// An image that computes, copies and computes back: it has the code of the image, with a branch in
 /// the place of FINISH, the copy code, and the flipped code, with a branch in the place of START.

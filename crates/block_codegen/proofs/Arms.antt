@@ -29,9 +29,11 @@ use Rattle.refine_form.specs.Held.{Holds, HoldsBoth}
 use Rattle.refine_form.specs.Stands.{shape_of}
 use Rattle.code_scope.specs.Visible.{Visible, spot_of, free_of, known_in, outer_of}
 use Rattle.code_scope.proofs.Parameters.{parameters_few}
-use Rattle.expr_uncompute.specs.Code.{words, place_words}
+use Rattle.register_expressions.specs.Code.{words}
+use Rattle.expr_uncompute.specs.Code.{place_words}
 use Rattle.expr_uncompute.specs.Promises as code
-use Rattle.expr_uncompute.specs.Steps.{tokens, place_tokens}
+use Rattle.register_expressions.specs.Steps.{tokens}
+use Rattle.expr_uncompute.specs.Steps.{place_tokens}
 use Rattle.expr_uncompute.specs.Sizes.{swap_size}
 use Rattle.expr_uncompute.proofs.Bounds.{words_most, place_words_most}
 use Rattle.refine_expressions.specs.Typing.{typing_in}
@@ -177,7 +179,7 @@ pub call_arm : {E : Type 0} (v : Visible) (x : Statement) (at : ℕ) (back : Boo
     (name : Option Ident) (method : Ident) (args : List Ident) (r : Result Code E)
     → x ≡ Call at back receiver method args → option_map Whole name ≡ receiver → StatementStands v x
     → IfOk r (λ p. CallLaw v back name method args p.cells) → IfOk r (λ p. p.marks ≡ [])
-    → IfOk r (λ p. length p.cells ≤ 22 * length args + 97) → IfOk r (λ p. InnerPiece v x p)
+    → IfOk r (λ p. length p.cells ≤ 18 * length args + 77) → IfOk r (λ p. InnerPiece v x p)
 call_arm v x at back receiver name method args (Err e) is same h law none size = tt
 call_arm v x at back receiver name method args (Ok p) is same h law none size =
     let e : x ≡ Call at back (option_map Whole name) method args = is
@@ -191,7 +193,7 @@ pub element_arm : {E : Type 0} (v : Visible) (at : ℕ) (back : Bool) (element :
     (index : Expression) (method : Ident) (args : List Ident) (r : Result Code E) → element ≡ Item array index
     → StatementStands v (Call at back (Some element) method args)
     → IfOk r (λ p. ElementLaw v at back element method args p.cells) → IfOk r (λ p. p.marks ≡ [])
-    → IfOk r (λ p. length p.cells ≤ 160 * (2 + place_tokens element) + 22 * length args + 229)
+    → IfOk r (λ p. length p.cells ≤ 160 * (2 + place_tokens element) + 18 * length args + 205)
     → IfOk r (λ p. InnerPiece v (Call at back (Some element) method args) p)
 element_arm v at back element array index method args (Err e) is h law none size = tt
 element_arm v at back element array index method args (Ok p) is h law none size =
@@ -213,7 +215,7 @@ pub whole_arm : {E : Type 0} (v : Visible) (at : ℕ) (back : Bool) (receiver : 
     (args : List Ident) (r : Result Code E) → receiver ≡ Whole name
     → StatementStands v (Call at back (Some receiver) method args)
     → IfOk r (λ p. CallLaw v back (Some name) method args p.cells) → IfOk r (λ p. p.marks ≡ [])
-    → IfOk r (λ p. length p.cells ≤ 22 * length args + 97)
+    → IfOk r (λ p. length p.cells ≤ 18 * length args + 77)
     → IfOk r (λ p. InnerPiece v (Call at back (Some receiver) method args) p)
 whole_arm v at back receiver name method args r is h law none size =
     call_arm v (Call at back (Some receiver) method args) at back (Some receiver) (Some name) method args r refl
@@ -223,7 +225,7 @@ pub if_arm : {E : Type 0} (v : Visible) (x : Statement) (at : ℕ) (test after :
     (one two : Code) (r : Result Code E) → x ≡ If at test taken other after → StatementStands v x
     → BlockPiece v taken one → BlockPiece v other two
     → IfOk r (λ p. IfLaw (known_in v) test after one.cells two.cells p.cells) → IfOk r (λ p. HoldsBoth two one p)
-    → IfOk r (λ p. length p.cells ≤ 58 * (tokens test + tokens after) + length one.cells + length two.cells + 22)
+    → IfOk r (λ p. length p.cells ≤ 58 * (tokens test + tokens after) + length one.cells + length two.cells + 18)
     → IfOk r (λ p. InnerPiece v x p)
 if_arm v x at test after taken other one two (Err e) is h a b law holds size = tt
 if_arm v x at test after taken other one two (Ok p) is h a b law holds size =
@@ -234,7 +236,7 @@ pub from_arm : {E : Type 0} (v : Visible) (x : Statement) (at : ℕ) (entry exit
     (one two : Code) (r : Result Code E) → x ≡ From at entry first again exit → StatementStands v x
     → BlockPiece v first one → BlockPiece v again two
     → IfOk r (λ p. FromLaw (known_in v) entry exit one.cells two.cells p.cells) → IfOk r (λ p. HoldsBoth two one p)
-    → IfOk r (λ p. length p.cells ≤ 58 * (tokens entry + tokens exit) + length one.cells + length two.cells + 22)
+    → IfOk r (λ p. length p.cells ≤ 58 * (tokens entry + tokens exit) + length one.cells + length two.cells + 18)
     → IfOk r (λ p. InnerPiece v x p)
 from_arm v x at entry exit first again one two (Err e) is h a b law holds size = tt
 from_arm v x at entry exit first again one two (Ok p) is h a b law holds size =
@@ -246,7 +248,7 @@ pub local_arm : {E : Type 0} (v : Visible) (x : Statement) (at : ℕ) (var : Var
     → StatementStands v x
     → BlockPiece (with_variable v var) body inside
     → IfOk r (λ p. LocalLaw (known_in v) var value last inside.cells p.cells) → IfOk r (λ p. Holds inside p)
-    → IfOk r (λ p. length p.cells ≤ 58 * (tokens value + tokens last) + length inside.cells + 16)
+    → IfOk r (λ p. length p.cells ≤ 58 * (tokens value + tokens last) + length inside.cells + 12)
     → IfOk r (λ p. InnerPiece v x p)
 local_arm v x at var value body end_var last inside (Err e) is h a law holds size = tt
 local_arm v x at var value body end_var last inside (Ok p) is h a law holds size =
@@ -260,7 +262,7 @@ pub if_made : {E : Type 0} (v w u : Visible) (x : Statement) (at : ℕ) (test af
     → StatementStands v x
     → w ≡ v → u ≡ w → BlockPiece v taken one → BlockPiece w other two
     → IfOk r (λ p. IfLaw (known_in u) test after one.cells two.cells p.cells) → IfOk r (λ p. HoldsBoth two one p)
-    → IfOk r (λ p. length p.cells ≤ 58 * (tokens test + tokens after) + length one.cells + length two.cells + 22)
+    → IfOk r (λ p. length p.cells ≤ 58 * (tokens test + tokens after) + length one.cells + length two.cells + 18)
     → IfOk r (λ p. InnerPiece v x p)
 if_made v w u x at test after taken other one two r is h e f a b law holds size =
     if_arm v x at test after taken other one two r is h a (subst (λ z. BlockPiece z other two) e b)
@@ -271,7 +273,7 @@ pub from_made : {E : Type 0} (v w u : Visible) (x : Statement) (at : ℕ) (entry
     → StatementStands v x
     → w ≡ v → u ≡ w → BlockPiece v first one → BlockPiece w again two
     → IfOk r (λ p. FromLaw (known_in u) entry exit one.cells two.cells p.cells) → IfOk r (λ p. HoldsBoth two one p)
-    → IfOk r (λ p. length p.cells ≤ 58 * (tokens entry + tokens exit) + length one.cells + length two.cells + 22)
+    → IfOk r (λ p. length p.cells ≤ 58 * (tokens entry + tokens exit) + length one.cells + length two.cells + 18)
     → IfOk r (λ p. InnerPiece v x p)
 from_made v w u x at entry exit first again one two r is h e f a b law holds size =
     from_arm v x at entry exit first again one two r is h a (subst (λ z. BlockPiece z again two) e b)
@@ -290,7 +292,7 @@ pub local_made : {E : Type 0} (v w u o : Visible) (x : Statement) (at : ℕ) (va
     → x ≡ Local at var value body end_var last → StatementStands v x
     → w ≡ with_variable v var → u ≡ w → o ≡ popped u → BlockPiece w body inside
     → IfOk r (λ p. LocalLaw (known_in o) var value last inside.cells p.cells) → IfOk r (λ p. Holds inside p)
-    → IfOk r (λ p. length p.cells ≤ 58 * (tokens value + tokens last) + length inside.cells + 16)
+    → IfOk r (λ p. length p.cells ≤ 58 * (tokens value + tokens last) + length inside.cells + 12)
     → IfOk r (λ p. InnerPiece v x p)
 local_made v w u o x at var value body end_var last inside r is h e f g a law holds size =
     let back : o ≡ v = g ∙ ap popped (f ∙ e) in

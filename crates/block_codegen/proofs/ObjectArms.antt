@@ -49,7 +49,7 @@ pub copy_arm : {E : Type 0} (v : Visible) (x : Statement) (at : ℕ) (kind : Var
     (r : Result Code E) → x ≡ Copy at kind source target → StatementStands v x
     → IfOk r (λ p. CopyLaw (spot_of (known_in v)) (free_of (known_in v)) source target p.cells)
     → IfOk r (λ p. p.marks ≡ [])
-    → IfOk r (λ p. length p.cells ≤ 71 + 80 * (place_tokens source + place_tokens target))
+    → IfOk r (λ p. length p.cells ≤ 47 + 80 * (place_tokens source + place_tokens target))
     → IfOk r (λ p. InnerPiece v x p)
 copy_arm v x at kind source target (Err e) is h law none size = tt
 copy_arm v x at kind source target (Ok p) is h law none size =
@@ -63,7 +63,7 @@ copy_arm v x at kind source target (Ok p) is h law none size =
 pub uncopy_arm : {E : Type 0} (v : Visible) (x : Statement) (at : ℕ) (kind : VarType) (source target : Lvalue)
     (copy : Code) (r : Result Code E) → x ≡ Uncopy at kind source target → StatementStands v x
     → CopyLaw (spot_of (known_in v)) (free_of (known_in v)) source target copy.cells
-    → length copy.cells ≤ 71 + 80 * (place_tokens source + place_tokens target)
+    → length copy.cells ≤ 47 + 80 * (place_tokens source + place_tokens target)
     → IfOk r (λ p. p ≡ unmarked (mirror_cells copy.cells)) → IfOk r (λ p. InnerPiece v x p)
 uncopy_arm v x at kind source target copy (Err e) is h law size mirrored = tt
 uncopy_arm v x at kind source target copy (Ok p) is h law size mirrored =
@@ -137,7 +137,7 @@ pub construct_made : {E : Type 0} (v w u : Visible) (x : Statement) (at : ℕ) (
     making.cells
     → length making.cells ≤ creation_size (Object class) (Whole name) → BlockPiece w body inside
     → IfOk r (λ p. ConstructLaw o at var making.cells inside.cells p.cells) → IfOk r (λ p. Holds inside p)
-    → IfOk r (λ p. length p.cells ≤ 2 * length making.cells + length inside.cells + 132)
+    → IfOk r (λ p. length p.cells ≤ 2 * length making.cells + length inside.cells + 128)
     → IfOk r (λ p. InnerPiece v x p)
 construct_made v w u x at class name body end var making inside o (Err e) is h var_is w_is u_is o_is new few a made held
     size = tt

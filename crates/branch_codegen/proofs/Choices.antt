@@ -2,7 +2,7 @@
 use Rattle.std.proofs.Common.{◌≡◌, ℕ, suc, ◌+◌, ◌-◌, ◌<◌, ◌≤◌, Bool, true, false, List, [], ◌∷◌, refl, sym, ap, ◌∙◌}
 use Rattle.std.proofs.Common.{subst, arith}
 use Rattle.std.specs.Prelude.{not, if◌then◌else◌}
-use Rattle.code_conventions.specs.declared.registers.TheConstants.{FLAG}
+use Rattle.code_conventions.specs.declared.registers.TheConstants.{FLAG, NOUGHT}
 use Rattle.rpp_tree.specs.Tree.{Expression, Statements, If}
 use Rattle.stmt_inverter.specs.Inverse.{inverse}
 use Rattle.pisa_isa.specs.Machine.{Memory}
@@ -15,7 +15,6 @@ use Rattle.paired_code.specs.Does.{Told, Fine, plus, told_then, Meets, fine, fau
 use Rattle.paired_code.specs.Does.{if_told}
 use Rattle.paired_code.proofs.Laws.{will_more}
 use Rattle.paired_code.proofs.Does.{bit as flag_bit}
-use Rattle.paired_code.proofs.If.{if_does, if_undoes}
 use Rattle.roopl_semantics.specs.Run.{Run, Done as DoneRun, Fault as FaultRun, More as MoreRun, ◌>>=◌, give, fault_if}
 use Rattle.roopl_semantics.specs.Store.{Value, State}
 use Rattle.roopl_semantics.specs.Value.{evaluated}
@@ -26,6 +25,7 @@ use Rattle.refine_form.proofs.Told.{alone, told_after, told_bind, same_then}
 use Rattle.refine_form.proofs.Rules.{as_known, meets_rate, wraps, meets_told, meets_slack, meets_less}
 use Rattle.refine_form.proofs.Rows.{here, next, will_row}
 use Rattle.branch_codegen.proofs.Flags.{Flagged, FlagLaw, test_flags, mk}
+use Rattle.branch_codegen.proofs.Ifs.{if_does, if_undoes}
 
 -- a value that is used by its truth alone
 pub told_holds : {B : Type 0} (r : Run Value) (g : Bool → Told B)
@@ -84,6 +84,9 @@ module _ (w : World) (thousand : w.rates.steps ≡ 1000) (counts : 1 ≤ w.rates
   flag_is : (v : Bool) (st : State) (m : Memory) → R v st m → reg m FLAG ≡ flag_bit v
   flag_is true st m h = ap (λ z. reg z FLAG) (as_known m _ h.regs_are)
   flag_is false st m h = ap (λ z. reg z FLAG) (as_known m _ h.regs_are)
+
+  nought_is : (v : Bool) (st : State) (m : Memory) → R v st m → reg m NOUGHT ≡ 0
+  nought_is v st m h = ap (λ z. reg z NOUGHT) (as_known m _ h.regs_are)
 
   -- a test at the rates of statements
   pub tells : (d : Bool) (e : Expression) (p : List Symbol) → FlagLaw w s e p
@@ -157,7 +160,7 @@ module _ (w : World) (thousand : w.rates.steps ≡ 1000) (counts : 1 ≤ w.rates
         (to_flagged qq false n _ (hq n less false u)) in
         will_more w.im _ false m _ _ (λ o x. meets_told _ _ (sym (told_if w.setting n at test taken other after st))
         (from_flagged x))
-        ((if_does w.im FLAG R flag_is w.rates counts 50 2 (omega (arith, thousand)) tp ap_code (part_code pp) qq
+        ((if_does w.im R flag_is nought_is w.rates counts 50 2 (omega (arith, thousand)) tp ap_code (part_code pp) qq
         (λ n a. told (tested w.setting test a)) (λ n a. told (tested w.setting after a))
         (λ k a. told (exec w.setting n taken a)) (λ k a. told (exec w.setting n other a))
         (tells false test tp ht) (tells false after ap_code ha) (suc n) p q).does st m
@@ -173,7 +176,7 @@ module _ (w : World) (thousand : w.rates.steps ≡ 1000) (counts : 1 ≤ w.rates
         λ k l. does_less qq true (R false) n k 2 _ (omega arith) (to_flagged qq true n _ (hq n less true u)) in
         will_more w.im _ true m _ _ (λ o x. meets_told _ _ (sym
         (told_if w.setting n at after (inverse taken) (inverse other) test st)) (from_flagged x))
-        ((if_undoes w.im FLAG R flag_is w.rates counts 50 2 (omega (arith, thousand)) tp ap_code (part_code pp) qq
+        ((if_undoes w.im R flag_is nought_is w.rates counts 50 2 (omega (arith, thousand)) tp ap_code (part_code pp) qq
         (λ n a. told (tested w.setting test a)) (λ n a. told (tested w.setting after a))
         (λ k a. told (exec w.setting n (inverse taken) a)) (λ k a. told (exec w.setting n (inverse other) a))
         (tells true test tp ht) (tells true after ap_code ha) (suc n) p q).does st m

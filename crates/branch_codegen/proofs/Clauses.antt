@@ -4,12 +4,13 @@ use Rattle.std.proofs.Common.{length-append}
 use Rattle.paired_code.specs.declared.part.Symbol.{Symbol}
 use Rattle.code_conventions.specs.Cells.{bra}
 use Rattle.paired_code.specs.declared.part.Symbol.TheVariants.{Own}
-use Rattle.paired_code.specs.Layout.{between, fork, check_cells, branch_cells, loop_cells, mirror_cells}
+use Rattle.paired_code.specs.Layout.{between, fork, branch_cells, loop_cells, mirror_cells}
 use Rattle.paired_code.specs.Rows.{line, within}
 use Rattle.paired_code.specs.Code.{Code, loop_code}
 use Rattle.refine_form.specs.Worlds.{world_of}
 use Rattle.refine_form.specs.Held.{Holds, HoldsBoth}
 use Rattle.refine_form.proofs.Holding.{holds_itself, both_of, both_loop}
+use Rattle.code_conventions.specs.declared.faults.TheConstants.{FI, LOOP}
 use Rattle.code_conventions.specs.declared.registers.TheConstants.{FLAG}
 use Rattle.branch_codegen.specs.Branches.{flips, check, part_code, if_code, turn_code, from_code}
 use Rattle.branch_codegen.specs.Laws.{IfCode, FromCode}
@@ -56,32 +57,31 @@ loop_length r head tail =
 within_length : (p : List Symbol) → length (within (flips ∷ []) p) ≡ suc (length p + 1)
 within_length p = ap suc (length-append p (mirror_cells (line (flips ∷ []))))
 
-sum_if : (t p q a n1 n2 n3 b pp : ℕ) → n1 ≡ t + n2 → n2 ≡ b + n3 → n3 ≡ a + 5 → b ≡ pp + q + 10 → pp ≡ suc (p + 1)
-    → suc (suc (suc (suc (suc n1)))) ≡ t + p + q + a + 22
+sum_if : (t p q a n1 n2 n3 b pp : ℕ) → n1 ≡ t + n2 → n2 ≡ b + n3 → n3 ≡ a + 3 → b ≡ pp + q + 10 → pp ≡ suc (p + 1)
+    → suc (suc (suc n1)) ≡ t + p + q + a + 18
 sum_if t p q a n1 n2 n3 b pp e1 e2 e3 e4 e5 = omega arith
 
-pub if_length : (t p q a : List Symbol) → length (if_code t p q a) ≡ length t + length p + length q + length a + 22
+pub if_length : (t p q a : List Symbol) → length (if_code t p q a) ≡ length t + length p + length q + length a + 18
 if_length t p q a =
-    let chk = check_cells FLAG 1 in
+    let chk = check FI in
     let B = branch_cells FLAG (part_code p) q in
     sum_if (length t) (length p) (length q) (length a) (length (t ++ (B ++ (a ++ chk)))) (length (B ++ (a ++ chk)))
     (length (a ++ chk)) (length B) (length (part_code p))
     (length-append t (B ++ (a ++ chk))) (length-append B (a ++ chk)) (length-append a chk)
     (branch_length FLAG (part_code p) q) (within_length p)
 
-sum_turn : (e p x n1 n2 : ℕ) → n1 ≡ e + suc (suc (suc (suc (suc n2)))) → n2 ≡ p + suc (suc (suc (suc (suc x))))
-    → n1 ≡ e + p + x + 10
+sum_turn : (e p x n1 n2 : ℕ) → n1 ≡ e + suc (suc (suc n2)) → n2 ≡ p + suc (suc (suc x)) → n1 ≡ e + p + x + 6
 sum_turn e p x n1 n2 h g = omega arith
 
-turn_length : (e p x : List Symbol) → length (turn_code e p x) ≡ length e + length p + length x + 10
+turn_length : (e p x : List Symbol) → length (turn_code e p x) ≡ length e + length p + length x + 6
 turn_length e p x =
-    sum_turn (length e) (length p) (length x) (length (turn_code e p x)) (length (p ++ (check ++ x)))
-    (length-append e (check ++ (p ++ (check ++ x)))) (length-append p (check ++ x))
+    sum_turn (length e) (length p) (length x) (length (turn_code e p x)) (length (p ++ (check LOOP ++ x)))
+    (length-append e (check LOOP ++ (p ++ (check LOOP ++ x)))) (length-append p (check LOOP ++ x))
 
-sum_from : (e p q x n1 n2 n3 : ℕ) → n1 ≡ suc (n2 + 1) → n2 ≡ n3 + q + 10 → n3 ≡ e + p + x + 10 → n1 ≡ e + p + q + x + 22
+sum_from : (e p q x n1 n2 n3 : ℕ) → n1 ≡ suc (n2 + 1) → n2 ≡ n3 + q + 10 → n3 ≡ e + p + x + 6 → n1 ≡ e + p + q + x + 18
 sum_from e p q x n1 n2 n3 h g k = omega arith
 
-pub from_length : (e p q x : List Symbol) → length (from_code e p q x) ≡ length e + length p + length q + length x + 22
+pub from_length : (e p q x : List Symbol) → length (from_code e p q x) ≡ length e + length p + length q + length x + 18
 from_length e p q x =
     let turns = loop_cells FLAG (turn_code e p x) q in
     sum_from (length e) (length p) (length q) (length x) (length (from_code e p q x)) (length turns)
@@ -90,8 +90,8 @@ from_length e p q x =
 
 -- ---- cells and marks
 
-pub turn_cells : (e p x : List Symbol) → (e ++ check) ++ (p ++ (check ++ x)) ≡ turn_code e p x
-turn_cells e p x = append_assoc e check (p ++ (check ++ x))
+pub turn_cells : (e p x : List Symbol) → (e ++ check LOOP) ++ (p ++ (check LOOP ++ x)) ≡ turn_code e p x
+turn_cells e p x = append_assoc e (check LOOP) (p ++ (check LOOP ++ x))
 
 -- the second part of a loop, and the first one in its turn
 pub loop_held : (r : ℕ) (turn first again : Code) → Holds first turn → HoldsBoth again first (loop_code r turn again)

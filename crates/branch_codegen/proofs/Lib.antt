@@ -1,4 +1,5 @@
 pub mod Flags
+pub mod Ifs
 pub mod Choices
 pub mod Repeats
 pub mod Clauses

@@ -4,18 +4,18 @@ use Rattle.std.proofs.Common.{◌++◌, refl, sym, ap, ◌∙◌, subst, arith, 
 use Rattle.std.specs.Prelude.{not}
 use Rattle.std.proofs.Math.Nat.{mul-add, mul-le-mul_right}
 use Rattle.code_conventions.specs.declared.faults.TheConstants.{LOOP}
-use Rattle.code_conventions.specs.declared.registers.TheConstants.{FLAG}
+use Rattle.code_conventions.specs.declared.registers.TheConstants.{FLAG, NOUGHT}
 use Rattle.rpp_tree.specs.Tree.{Expression, Number, Null, Variable, Element, Binary, Statements, From, nodes}
 use Rattle.stmt_inverter.specs.Inverse.{inverse}
 use Rattle.pisa_isa.specs.Machine.{Memory}
 use Rattle.paired_code.specs.declared.part.Symbol.{Symbol}
 use Rattle.paired_code.specs.Machine.{Image, reg}
-use Rattle.paired_code.specs.Layout.{xor, check_cells, loop_cells}
+use Rattle.paired_code.specs.Layout.{xor, loop_cells, Equal}
 use Rattle.paired_code.specs.Pieces.{Outcome, Done, Trapped, Still, Will, after, to_tail, to_head}
 use Rattle.paired_code.specs.Does.{Rates, Told, Fine, Fault, More, plus, told_then, Meets, fine, faults, more, Does}
 use Rattle.paired_code.specs.Does.{in_order}
 use Rattle.paired_code.proofs.Laws.{Next, will_of, will_more}
-use Rattle.paired_code.proofs.Small.{runs_check_zero, runs_check_other}
+use Rattle.paired_code.proofs.Checks.{runs_passes, runs_fails}
 use Rattle.paired_code.proofs.Does.{will_first, will_last, Quiet, quiet}
 use Rattle.paired_code.proofs.Loop.{Turns, turn, turns_more, will_loop, After_head}
 use Rattle.roopl_semantics.specs.Run.{Run, Done as DoneRun, Fault as FaultRun, More as MoreRun, ◌>>=◌, give, fault_if}
@@ -27,7 +27,7 @@ use Rattle.refine_form.specs.Form.{World, Scope, Open, Owes, StmtLaw, BlockLaw, 
 use Rattle.refine_form.specs.Form.{one, turned}
 use Rattle.paired_code.specs.Rows.{line}
 use Rattle.refine_form.specs.Cells.{around}
-use Rattle.branch_codegen.specs.Branches.{flips, from_code}
+use Rattle.branch_codegen.specs.Branches.{flips, check, from_code}
 use Rattle.paired_code.proofs.Small.{runs_still}
 use Rattle.refine_form.proofs.Told.{alone, told_after, told_bind, same_then, plus_none, plus_plus}
 use Rattle.refine_form.proofs.Rules.{as_known, wraps_spent, meets_told}
@@ -195,10 +195,13 @@ module _ (w : World) (thousand : w.rates.steps ≡ 1000) (counts : 1 ≤ w.rates
   flag_one : (st : State) (m : Memory) → Flagged w s u true st m → reg m FLAG ≢ 0
   flag_one st m h e = let q : reg m FLAG ≡ 1 = ap (λ z. reg z FLAG) (as_known m _ h.regs_are) in omega (arith, e, q)
 
+  nought_zero : (v : Bool) (st : State) (m : Memory) → Flagged w s u v st m → reg m NOUGHT ≡ 0
+  nought_zero v st m h = ap (λ z. reg z NOUGHT) (as_known m _ h.regs_are)
+
   check_passes : (st : State) (m : Memory) → Flagged w s u false st m
-      → Will w.im (check_cells FLAG LOOP) d m (Quiet (Flagged w s u false st) 4)
-  check_passes st m h = will_of w.im _ d m _ _ (runs_check_zero w.im d FLAG LOOP m (flag_zero st m h))
-      (quiet h (omega arith))
+      → Will w.im (check LOOP) d m (Quiet (Flagged w s u false st) 2)
+  check_passes st m h = will_of w.im _ d m _ _ (runs_passes w.im d (Equal FLAG NOUGHT) LOOP m
+      (flag_zero st m h ∙ sym (nought_zero false st m h))) (quiet h (omega arith))
 
   turn_small : to_tail d + to_head d ≡ 6
   turn_small = go d
@@ -241,7 +244,7 @@ module _ (w : World) (thousand : w.rates.steps ≡ 1000) (counts : 1 ≤ w.rates
   module _ (pa pb ps pt hd : List Symbol) (h1 : FlagLaw w s e1 pa) (h2 : FlagLaw w s e2 pb)
       (first_does : Does w.im ps d (Open w s u) (Open w s u) w.rates n 0 (λ st. told (exec w.setting n first st)))
       (again_does : Does w.im pt d (Open w s u) (Open w s u) w.rates n 0 (λ st. told (exec w.setting n again st)))
-      (hd_is : in_order d (pa ∷ check_cells FLAG LOOP ∷ ps ∷ check_cells FLAG LOOP ∷ pb ∷ []) ≡ hd) where
+      (hd_is : in_order d (pa ∷ check LOOP ∷ ps ∷ check LOOP ∷ pb ∷ []) ≡ hd) where
     abbrev Rounds : ℕ → Type 0
     Rounds j = (v : Bool) (st : State) (m : Memory) → Flagged w s u v st m
         → Turns w.im FLAG hd pt d m (Left j (enters v j st))
@@ -249,7 +252,7 @@ module _ (w : World) (thousand : w.rates.steps ≡ 1000) (counts : 1 ≤ w.rates
     module _ (j : ℕ) (ih : Rounds j) (fuel : suc j ≤ n) (t : Told State) (c1 cs c2 k : ℕ) (st2 : State)
         (t_is : t ≡ plus (c1 + (cs + c2)) (told_then (told (exec w.setting n again st2))
         (λ c end2. enters false j end2))) (some : 1 ≤ c1) (counted : c1 + (cs + c2) ≤ w.rates.counts * k)
-        (moves : 1 ≤ k) (steps : k ≤ 400 * c1 + (1000 * cs + 400 * c2) + 108) where
+        (moves : 1 ≤ k) (steps : k ≤ 400 * c1 + (1000 * cs + 400 * c2) + 104) where
       abbrev Q : Outcome → Type 0
       Q o = Left (suc j) t o
 
@@ -321,7 +324,7 @@ module _ (w : World) (thousand : w.rates.steps ≡ 1000) (counts : 1 ≤ w.rates
 
         heading : (a1 k2 a2 k3 cs c2 : ℕ) (st2 : State) (m3 : Memory) (b : Bool)
             → told (exec w.setting n first st) ≡ Fine st2 cs → told (tested w.setting e2 st2) ≡ Fine b c2
-            → Flagged w s u b st2 m3 → a1 ≤ 4 → a2 ≤ 4 → cs ≤ w.rates.counts * k2 → k2 ≤ 1000 * cs
+            → Flagged w s u b st2 m3 → a1 ≤ 2 → a2 ≤ 2 → cs ≤ w.rates.counts * k2 → k2 ≤ 1000 * cs
             → c2 ≤ w.rates.counts * k3 → k3 ≤ 400 * c2 + 50 → P (Done m3 (k1 + (a1 + (k2 + (a2 + k3)))))
         heading a1 k2 a2 k3 cs c2 st2 m3 true es e2_is h la lb n2 l2 n3 l3 =
             let told_is : enters v (suc j) st ≡ Fine st2 (c1 + (cs + (c2 + 0))) = enters_is (suc j)
@@ -356,17 +359,17 @@ module _ (w : World) (thousand : w.rates.steps ≡ 1000) (counts : 1 ≤ w.rates
             )
 
         rest_does : (m : Memory) → Flagged w s u false st m
-            → Will w.im (in_order d (check_cells FLAG LOOP ∷ ps ∷ check_cells FLAG LOOP ∷ pb ∷ [])) d m
+            → Will w.im (in_order d (check LOOP ∷ ps ∷ check LOOP ∷ pb ∷ [])) d m
             (λ o. P (after k1 o))
         rest_does m h =
-            quiet_then w.im d (Flagged w s u false st) 4 (check_cells FLAG LOOP) (ps ∷ check_cells FLAG LOOP ∷ pb ∷ [])
+            quiet_then w.im d (Flagged w s u false st) 2 (check LOOP) (ps ∷ check LOOP ∷ pb ∷ [])
             m
             (λ o. P (after k1 o)) (check_passes st m h) (λ m1 a1 i la.
-            step_then w.im d (Open w s u) w.rates n 0 ps (check_cells FLAG LOOP ∷ pb ∷ []) m1
+            step_then w.im d (Open w s u) w.rates n 0 ps (check LOOP ∷ pb ∷ []) m1
             (told (exec w.setting n first st)) (λ o. P (after k1 (after a1 o)))
             (first_does.does st m1 (record { regs_are = i.regs_are; open_frame = i.open_frame }))
             (λ st2 m2 cs k2 es o2 n2 l2.
-            quiet_then w.im d (Flagged w s u false st2) 4 (check_cells FLAG LOOP) (pb ∷ []) m2
+            quiet_then w.im d (Flagged w s u false st2) 2 (check LOOP) (pb ∷ []) m2
             (λ o. P (after k1 (after a1 (after k2 o)))) (check_passes st2 m2
             (record { regs_are = o2.regs_are; open_frame = o2.open_frame })) (λ m3 a2 i3 lb.
             step_last w.im d (λ b m4. Flagged w s u b st2 m4) (test_rates w) n 50 pb m3 (told (tested w.setting e2 st2))
@@ -415,25 +418,25 @@ module _ (w : World) (thousand : w.rates.steps ≡ 1000) (counts : 1 ≤ w.rates
       abbrev Rest : Type 0
       Rest = (c1 k1 : ℕ) → told (tested w.setting e1 st) ≡ Fine v c1 → c1 ≤ w.rates.counts * k1 → k1 ≤ 400 * c1 + 50
           → (m : Memory) → Flagged w s u false st m → Will w.im
-          (in_order d (check_cells FLAG LOOP ∷ ps ∷ check_cells FLAG LOOP ∷ pb ∷ [])) d m (λ o. PA (after k1 o))
+          (in_order d (check LOOP ∷ ps ∷ check LOOP ∷ pb ∷ [])) d m (λ o. PA (after k1 o))
 
       tried : Rest → (f b : Bool) → xor v b ≡ f → (c1 k1 : ℕ) → told (tested w.setting e1 st) ≡ Fine b c1
           → c1 ≤ w.rates.counts * k1 → k1 ≤ 400 * c1 + 50 → (m : Memory) → Flagged w s u (xor v b) st m
-          → Will w.im (in_order d (check_cells FLAG LOOP ∷ ps ∷ check_cells FLAG LOOP ∷ pb ∷ [])) d m
+          → Will w.im (in_order d (check LOOP ∷ ps ∷ check LOOP ∷ pb ∷ [])) d m
           (λ o. PA (after k1 o))
       tried go true b f_is c1 k1 e n1 l1 m h =
           let i : Flagged w s u true st m = subst (λ z. Flagged w s u z st m) f_is h in
-          let k = runs_check_other w.im d FLAG LOOP m (flag_one st m i) in
           let told_is : enters v jj st ≡ Fault LOOP (c1 + 0) = then_at _ b c1 (λ b. looped (xor v b) (says jj st)) e
           ∙ ap (λ z. plus c1 (looped z (says jj st))) f_is in
           let some = test_costs w.setting e1 st b c1 e in
           let Q1 : Outcome → Type 0 = λ o. PA (after k1 o) in
-          let W1 : Memory → ℕ → Type 0 = λ m1 k. Will w.im (in_order d (ps ∷ check_cells FLAG LOOP ∷ pb ∷ [])) d m1
+          let W1 : Memory → ℕ → Type 0 = λ m1 k. Will w.im (in_order d (ps ∷ check LOOP ∷ pb ∷ [])) d m1
           (λ o. Q1 (after k o)) in
-          will_first w.im d (check_cells FLAG LOOP) (ps ∷ check_cells FLAG LOOP ∷ pb ∷ []) m Q1
-          (will_of w.im _ d m (Trapped LOOP k.0) (Next W1 Q1) k.2
+          will_first w.im d (check LOOP) (ps ∷ check LOOP ∷ pb ∷ []) m Q1
+          (will_of w.im _ d m (Trapped LOOP 1) (Next W1 Q1) (runs_fails w.im d (Equal FLAG NOUGHT) LOOP m
+          (λ e. flag_one st m i (e ∙ nought_zero true st m i)))
           (meets_told _ _ (sym told_is) (faults (of_thousand _ (c1 + 0) 0
-          (let q = k.1 in omega (arith, some, l1, q))))))
+          (omega (arith, some, l1))))))
       tried go false b f_is c1 k1 e n1 l1 m h =
           go c1 k1 (subst (λ z. told (tested w.setting e1 st) ≡ Fine z c1) (xor_false v b f_is) e) n1 l1 m
           (subst (λ z. Flagged w s u z st m) f_is h)
@@ -442,7 +445,7 @@ module _ (w : World) (thousand : w.rates.steps ≡ 1000) (counts : 1 ≤ w.rates
       begins go m h =
           subst (λ z. Will w.im z d m PA) hd_is
           (step_then w.im d (λ b m1. Flagged w s u (xor v b) st m1) (test_rates w) n 50 pa
-          (check_cells FLAG LOOP ∷ ps ∷ check_cells FLAG LOOP ∷ pb ∷ []) m (told (tested w.setting e1 st)) PA
+          (check LOOP ∷ ps ∷ check LOOP ∷ pb ∷ []) m (told (tested w.setting e1 st)) PA
           (h1 n d u v st m h)
           (λ b m1 c1 k1 e i n1 l1. tried go (xor v b) b refl c1 k1 e n1 l1 m1 i)
           (λ x c k e l.
@@ -518,7 +521,7 @@ module _ (w : World) (thousand : w.rates.steps ≡ 1000) (counts : 1 ≤ w.rates
     hx = test_flags w s exit px tx
 
     abbrev chk : List Symbol
-    chk = check_cells FLAG LOOP
+    chk = check LOOP
 
     abbrev head_code : List Symbol
     head_code = pe ++ (chk ++ (pf ++ (chk ++ px)))

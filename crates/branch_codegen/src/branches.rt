@@ -1,7 +1,7 @@
 // A conditional and a loop, one piece after the other.
 ghost use Rattle.std.specs.Prelude.{◌≡◌, ◌+◌, ◌∷◌, ◌++◌, List, [], length, IfOk};
 ghost use Rattle.paired_code.specs.Code.{unmarked};
-ghost use Rattle.paired_code.specs.Layout.{check_cells, branch_cells, loop_cells};
+ghost use Rattle.paired_code.specs.Layout.{branch_cells, loop_cells};
 ghost use Rattle.paired_code.specs.Rows.{line};
 ghost use Rattle.refine_form.specs.Held.{Holds, HoldsBoth};
 ghost use Rattle.branch_codegen.specs.Branches.{flips, part_code, if_code, check, turn_code, from_code};
@@ -9,8 +9,8 @@ ghost use Rattle.branch_codegen.specs.Laws.{IfCode, FromCode};
 
 use code_conventions::cells::xori;
 use code_conventions::faults::{FI, LOOP};
-use code_conventions::registers::FLAG;
-use paired_code::{Piece, branch_if, check_zero, plain, seq, turn_while};
+use code_conventions::registers::{FLAG, NOUGHT};
+use paired_code::{Piece, branch_if, check_equal, plain, seq, turn_while};
 use refine_form::around;
 use rpp_words::NoMemory;
 use std::alloc::Global;
@@ -30,7 +30,7 @@ pub fn conditional(
     ensures law { IfOk result (λ p. IfCode test.cells yes.cells no.cells after.cells p.cells) }
     ensures held { IfOk result (λ p. HoldsBoth no yes p) }
     ensures size { IfOk result (λ p. length p.cells
-        ≡ length test.cells + length yes.cells + length no.cells + length after.cells + 22) }
+        ≡ length test.cells + length yes.cells + length no.cells + length after.cells + 18) }
 {
     if_piece(alloc, test, yes, no, after)
 }
@@ -50,9 +50,16 @@ pub fn repetition(
     ensures law { IfOk result (λ p. FromCode entry.cells first.cells again.cells exit.cells p.cells) }
     ensures held { IfOk result (λ p. HoldsBoth again first p) }
     ensures size { IfOk result (λ p. length p.cells
-        ≡ length entry.cells + length first.cells + length again.cells + length exit.cells + 22) }
+        ≡ length entry.cells + length first.cells + length again.cells + length exit.cells + 18) }
 {
     from_piece(alloc, entry, first, again, exit)
+}
+
+// The flag, which is to be 0.
+fn check_piece(alloc: Global, code: u32) -> Result<Piece, NoMemory>
+    ensures code { IfOk result (λ p. p ≡ unmarked (check code)) }
+{
+    check_equal(alloc, FLAG, NOUGHT, code)
 }
 
 fn flip_piece(alloc: Global) -> Result<Piece, NoMemory>
@@ -78,9 +85,9 @@ fn chosen_piece(alloc: Global, yes: Piece, no: Piece) -> Result<Piece, NoMemory>
 
 fn last_piece(alloc: Global, after: Piece) -> Result<Piece, NoMemory>
     requires none { after.marks ≡ [] }
-    ensures code { IfOk result (λ p. p ≡ unmarked (after.cells ++ check_cells FLAG FI)) }
+    ensures code { IfOk result (λ p. p ≡ unmarked (after.cells ++ check FI)) }
 {
-    seq(after, check_zero(alloc, FLAG, FI)?)
+    seq(after, check_piece(alloc, FI)?)
 }
 
 #[tactic(auto, using(refine_form::proofs::Holding::both_before))]
@@ -125,20 +132,20 @@ fn if_piece(
 {
     let last = last_piece(alloc, after)?;
     let tested = tested_piece(alloc, test, yes, no, last)?;
-    seq(check_zero(alloc, FLAG, FI)?, tested)
+    seq(check_piece(alloc, FI)?, tested)
 }
 
 fn exit_piece(alloc: Global, exit: Piece) -> Result<Piece, NoMemory>
     requires none { exit.marks ≡ [] }
-    ensures code { IfOk result (λ p. p ≡ unmarked (check ++ exit.cells)) }
+    ensures code { IfOk result (λ p. p ≡ unmarked (check LOOP ++ exit.cells)) }
 {
-    seq(check_zero(alloc, FLAG, LOOP)?, exit)
+    seq(check_piece(alloc, LOOP)?, exit)
 }
 
 #[tactic(auto, using(refine_form::proofs::Holding::holds_left))]
 fn left_piece(alloc: Global, first: Piece, exit: Piece) -> Result<Piece, NoMemory>
     requires none { exit.marks ≡ [] }
-    ensures cells { IfOk result (λ p. p.cells ≡ first.cells ++ (check ++ exit.cells)) }
+    ensures cells { IfOk result (λ p. p.cells ≡ first.cells ++ (check LOOP ++ exit.cells)) }
     ensures held { IfOk result (λ p. Holds first p) }
 {
     seq(first, exit_piece(alloc, exit)?)
@@ -146,9 +153,9 @@ fn left_piece(alloc: Global, first: Piece, exit: Piece) -> Result<Piece, NoMemor
 
 fn entry_piece(alloc: Global, entry: Piece) -> Result<Piece, NoMemory>
     requires none { entry.marks ≡ [] }
-    ensures code { IfOk result (λ p. p ≡ unmarked (entry.cells ++ check)) }
+    ensures code { IfOk result (λ p. p ≡ unmarked (entry.cells ++ check LOOP)) }
 {
-    seq(entry, check_zero(alloc, FLAG, LOOP)?)
+    seq(entry, check_piece(alloc, LOOP)?)
 }
 
 #[tactic(auto, using(refine_form::proofs::Holding::behind_clause, crate::proofs::Clauses::turn_cells))]

@@ -2,8 +2,8 @@
 ghost use Rattle.std.specs.Prelude.{◌≤◌, ◌+◌, ◌*◌, length, IfOk};
 ghost use Rattle.rpp_tree.specs.Views.{expression_of};
 ghost use Rattle.code_scope.specs.Visible.{known_in};
-ghost use Rattle.expr_uncompute.specs.Code.{words as words_of};
-ghost use Rattle.expr_uncompute.specs.Steps.{tokens};
+ghost use Rattle.register_expressions.specs.Code.{words as words_of};
+ghost use Rattle.register_expressions.specs.Steps.{tokens};
 ghost use Rattle.refine_form.specs.Held.{HoldsBoth};
 ghost use Rattle.branch_codegen.specs.Laws.{IfLaw, FromLaw};
 
@@ -35,7 +35,7 @@ pub fn if_code(
     ensures held { IfOk result (λ p. HoldsBoth no yes p) }
     ensures size { IfOk result (λ p.
         length p.cells ≤ 58 * (tokens (expression_of test.now) + tokens (expression_of after.now)) +
-        length yes.cells + length no.cells + 22) }
+        length yes.cells + length no.cells + 18) }
 {
     let tested = test_code(alloc, test, scope, FLAG)?;
     let ended = test_code(alloc, after, scope, FLAG)?;
@@ -62,7 +62,7 @@ pub fn from_code(
     ensures size { IfOk result (λ p.
         length p.cells ≤ 58 *
         (tokens (expression_of entry.now) + tokens (expression_of until.now)) +
-        length first.cells + length again.cells + 22) }
+        length first.cells + length again.cells + 18) }
 {
     let begins = test_code(alloc, entry, scope, FLAG)?;
     let exits = test_code(alloc, until, scope, FLAG)?;

@@ -1,10 +1,11 @@
 -- The calls of pieces that make the routine.
 use Rattle.std.proofs.Common.{List, [], ◌∷◌, refl}
 use Rattle.pisa_isa.specs.declared.cell.Cell.{Cell}
-use Rattle.paired_code.specs.Closed.{Shape, Nothing, One, Then, Turned, Loop, Check, IsMade, HasShape}
+use Rattle.paired_code.specs.Layout.{Equal}
+use Rattle.paired_code.specs.Closed.{Shape, Nothing, One, Then, Turned, Loop, Try, IsMade, HasShape}
 use Rattle.paired_code.proofs.Undone.{AllPlain}
 use Rattle.code_conventions.specs.declared.faults.TheConstants.{HEAP_FULL}
-use Rattle.buddy_pisa.specs.declared.rows.TheConstants.{FLAG, ZERO}
+use Rattle.buddy_pisa.specs.declared.rows.TheConstants.{FLAG, EITHER, ZERO}
 use Rattle.buddy_pisa.specs.Rows.{limits_row, over_row, order_row, bottom_row, first_row, some_row, up_row, above_row}
 use Rattle.buddy_pisa.specs.Rows.{take_row, merge_row, apart_row, half_row, allocator_cells}
 use Rattle.buddy_pisa.proofs.Flags.{plain_limits, plain_over, plain_order, plain_bottom, plain_first, plain_some}
@@ -18,7 +19,7 @@ abbrev within_shape : List Cell → Shape → Shape
 within_shape row piece = Then (line_shape row) (Then piece (Turned (line_shape row)))
 
 abbrev check_shape : Shape
-check_shape = Check ZERO HEAP_FULL
+check_shape = Try (Equal ZERO EITHER) HEAP_FULL
 
 abbrev search_shape : Shape
 search_shape =

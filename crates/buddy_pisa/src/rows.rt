@@ -61,7 +61,8 @@ pub const LIMITS_ROW: [Instruction; 9] = [
     (Op::Addi, ANY, 0, 0, u32::MAX - HEAP_CELL + 1),
 ];
 
-// ZERO becomes 1 where the order is above the highest one, or negative as a signed word.
+// ZERO becomes 1 where the order is above the highest one, or negative as a signed word. EITHER is 0
+// there.
 pub const OVER_ROW: [Instruction; 2] = [
     (Op::Sltx, ZERO, TOP, ORDER, 0),
     (Op::Sltx, ZERO, ORDER, EITHER, 0),

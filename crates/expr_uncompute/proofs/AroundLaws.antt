@@ -6,14 +6,15 @@ use Rattle.pisa_isa.specs.Machine.{Memory}
 use Rattle.paired_code.specs.declared.part.Symbol.{Symbol}
 use Rattle.paired_code.specs.Machine.{Image, reg}
 use Rattle.refine_form.specs.declared.spot.Spot.{Spot}
-use Rattle.expr_uncompute.specs.Code.{words, place_words, around, found_place_cells, found_value_cells}
-use Rattle.expr_uncompute.specs.Code.{found_places_cells}
-use Rattle.expr_uncompute.specs.Number.{number, read_of, index_of, place_address}
-use Rattle.expr_uncompute.specs.Laws.{bases_of, Ready, Stays}
+use Rattle.register_expressions.specs.Code.{words, around}
+use Rattle.expr_uncompute.specs.Code.{place_words, found_place_cells, found_value_cells, found_places_cells}
+use Rattle.register_expressions.specs.Number.{number, read_of, index_of, place_address}
+use Rattle.register_expressions.specs.Laws.{bases_of, Ready}
+use Rattle.expr_uncompute.specs.Laws.{Stays}
 use Rattle.expr_uncompute.specs.Promises.{CanRun}
 use Rattle.expr_uncompute.specs.Found.{found, Filled, Changes, Encloses, PlaceAroundLaw, ValueAroundLaw, PlacesStay}
 use Rattle.expr_uncompute.specs.Found.{PlacesAroundLaw, found_place_steps, found_value_steps, found_places_steps}
-use Rattle.expr_uncompute.proofs.Goes.{Goes}
+use Rattle.register_expressions.proofs.Goes.{Goes}
 use Rattle.expr_uncompute.proofs.Enclosing.{leaves_around, traps_in_middle}
 use Rattle.expr_uncompute.proofs.Stored.{same_number}
 use Rattle.expr_uncompute.proofs.Kept.{place_fills, place_changes, value_fills, value_changes, places_fill}

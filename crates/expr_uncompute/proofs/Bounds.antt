@@ -8,27 +8,33 @@ use Rattle.rpp_tree.specs.declared.tree.UpdateOp.{UpdateOp}
 use Rattle.rpp_tree.specs.Tree.{Expression, Number, Null, Variable, Element, Binary, Lvalue, Whole, Item, nodes}
 use Rattle.rpp_tree.specs.Tree.{index_nodes}
 use Rattle.paired_code.specs.declared.part.Symbol.{Symbol}
-use Rattle.paired_code.specs.Layout.{check_cells}
+use Rattle.paired_code.specs.Layout.{check_differ_cells}
 use Rattle.refine_form.specs.declared.spot.Spot.{Spot}
 use Rattle.code_scope.specs.Visible.{offset_of}
 use Rattle.roopl_semantics.specs.Elements.{elements, index_elements, own_element, read_cost}
-use Rattle.expr_uncompute.specs.Number.{index_of}
+use Rattle.register_expressions.specs.Number.{index_of}
+use Rattle.register_expressions.specs.Code as cells
 use Rattle.expr_uncompute.specs.Code
 use Rattle.expr_uncompute.specs.Sizes.{swap_size}
 use Rattle.expr_uncompute.specs.Steps.{operand_steps, open_steps, prepare_steps, parts_steps}
-use Rattle.expr_uncompute.specs.Steps.{prepared_value_steps, prepared_test_steps, held_value_steps, held_test_steps}
+use Rattle.register_expressions.specs.Steps.{held_value_steps, held_test_steps}
+use Rattle.expr_uncompute.specs.Steps.{prepared_value_steps, prepared_test_steps}
 use Rattle.expr_uncompute.specs.Steps.{value_steps, test_steps, fetch_steps, place_steps, compare_steps, apart_steps}
 use Rattle.expr_uncompute.specs.Steps.{both_apart_steps, found_update_steps, update_steps, found_swap_steps}
-use Rattle.expr_uncompute.specs.Steps.{swap_steps, tokens, place_tokens}
-use Rattle.expr_uncompute.specs.Held.{has_element, is_held, is_opened_once, is_near, is_near_index}
-use Rattle.expr_uncompute.specs.Steps.{around_steps, held_steps, near_update_steps, near_swap_steps}
-use Rattle.expr_uncompute.proofs.HeldBounds.{held_few, once_few, near_few, near_index_few, neither_left, neither_right}
-use Rattle.expr_uncompute.proofs.HeldBounds.{some_nodes, operator_most, length_around}
-use Rattle.expr_uncompute.proofs.HeldBounds.{held_value_most, held_test_most, held_most, held_least, held_length}
-use Rattle.expr_uncompute.proofs.HeldBounds.{held_value_least, held_test_least, held_value_length, held_test_length}
+use Rattle.register_expressions.specs.Steps.{tokens}
+use Rattle.expr_uncompute.specs.Steps.{swap_steps, place_tokens}
+use Rattle.register_expressions.specs.Held.{need, has_element, is_held, is_opened_once, is_near, is_near_index}
+use Rattle.register_expressions.specs.Steps.{around_steps, held_steps}
+use Rattle.expr_uncompute.specs.Steps.{near_update_steps, near_swap_steps}
+use Rattle.register_expressions.proofs.HeldBounds.{held_few, once_few, near_few, near_index_few, neither_left}
+use Rattle.register_expressions.proofs.HeldBounds.{neither_right, some_nodes, operator_most, length_around}
+use Rattle.register_expressions.proofs.HeldBounds.{element_length, held_value_most, held_test_most, held_most}
+use Rattle.register_expressions.proofs.HeldBounds.{held_least, held_length, held_value_least, held_test_least}
+use Rattle.register_expressions.proofs.HeldBounds.{held_value_length, held_test_length}
 use Rattle.expr_uncompute.specs.Found.{found_place_steps, found_value_steps, found_places_steps}
+use Rattle.code_conventions.specs.declared.faults.TheConstants.{SHARED_ARRAY}
 use Rattle.code_conventions.specs.declared.registers.TheConstants.{AMOUNT, CONTENT, FIRST_WORD, ITEM, LEFT, OTHER_PLACE}
-use Rattle.code_conventions.specs.declared.registers.TheConstants.{OUTCOME, PLACE, RIGHT, SECOND_WORD, TRUTH}
+use Rattle.code_conventions.specs.declared.registers.TheConstants.{PLACE, RIGHT, SECOND_WORD, TRUTH}
 
 -- ---- steps
 
@@ -39,7 +45,7 @@ operand_most (Variable name) = omega arith
 operand_most (Element name index) = omega arith
 operand_most (Binary at o left right) = omega arith
 
-open_most : (e : Expression) → open_steps e ≤ 28
+open_most : (e : Expression) → open_steps e ≤ 22
 open_most (Number at word) = omega arith
 open_most (Null at) = omega arith
 open_most (Variable name) = omega arith
@@ -94,7 +100,7 @@ pub place_less : (target : Lvalue) → place_steps target ≤ 81 * index_nodes t
 place_less (Whole name) = omega arith
 place_less (Item name index) = let a = operand_most index in let b = prepare_most index in omega arith
 
-compare_is : (e : Expression) → compare_steps e ≡ 21 * length (elements e)
+compare_is : (e : Expression) → compare_steps e ≡ 16 * length (elements e)
 compare_is (Number at word) = refl
 compare_is (Null at) = refl
 compare_is (Variable name) = refl
@@ -115,13 +121,13 @@ compare_none (Binary at o left right) h =
     let b = compare_none right (neither_right (has_element left) (has_element right) h) in
     omega arith
 
-index_compare_is : (target : Lvalue) → compare_steps (index_of target) ≡ 21 * length (index_elements target)
+index_compare_is : (target : Lvalue) → compare_steps (index_of target) ≡ 16 * length (index_elements target)
 index_compare_is (Whole name) = refl
 index_compare_is (Item name index) = compare_is index
 
 -- what an update compares, by what the source counts
 apart_is : (target : Lvalue) (e : Expression) → apart_steps target (index_of target) e
-    ≡ 21 * read_cost (own_element target) (index_elements target ++ elements e)
+    ≡ 16 * read_cost (own_element target) (index_elements target ++ elements e)
 apart_is (Whole name) e = refl
 apart_is (Item name index) e =
     let a = compare_is index in
@@ -129,7 +135,7 @@ apart_is (Item name index) e =
     omega (arith, length-append (elements index) (elements e))
 
 -- and what a swap compares: twice so much where both places are elements
-both_apart_most : (left right : Lvalue) → both_apart_steps left right ≤ 42 * read_cost
+both_apart_most : (left right : Lvalue) → both_apart_steps left right ≤ 32 * read_cost
     (own_element left ++ own_element right) (index_elements left ++ index_elements right)
 both_apart_most (Whole name) (Whole other) = omega arith
 both_apart_most (Whole name) (Item other index) =
@@ -178,7 +184,7 @@ update_most (Item name index) e = by (is_near index e)
   where
     by : (t : Bool) → (if t then near_update_steps index e else found_update_steps (Item name index) e) ≤ 162 *
         (1 + nodes index + nodes e + read_cost (own_element (Item name index)) (elements index ++ elements e))
-    by true = let a = operand_most index in let b = prepare_most index in let c = held_most e in omega arith
+    by true = let a = held_most index in let c = held_most e in omega arith
     by false = found_update_most (Item name index) e
 
 found_swap_most : (left right : Lvalue) → found_swap_steps left right ≤ 304 *
@@ -242,7 +248,7 @@ swap_sharing_most left right = let a = place_most left in let b = place_most rig
     both_apart_most left right in omega arith
 
 -- an expression of few nodes needs few words of the frame
-pub words_most : (e : Expression) → Code.words e + 1 ≤ nodes e
+pub words_most : (e : Expression) → cells.words e + 1 ≤ nodes e
 words_most (Number at word) = omega arith
 words_most (Null at) = omega arith
 words_most (Variable name) = omega arith
@@ -264,8 +270,8 @@ tokens_most (Binary at o left right) = let a = tokens_most left in let b = token
 -- ---- cells
 
 module _ (spot : List ℕ → Spot) (free : ℕ) where
-  copy_cells : (s : Spot) (into : ℕ) → length (Code.copy_cells s into) ≡ 5
-  copy_cells s into = length_around (Code.reach_cells s) (Code.xor into CONTENT ∷ [])
+  copy_cells : (s : Spot) (into : ℕ) → length (cells.copy_cells s into) ≡ 5
+  copy_cells s into = length_around (cells.reach_cells s) (cells.xor into CONTENT ∷ [])
 
   operand_cells : (e : Expression) (i into : ℕ) → length (Code.operand_cells spot free e i into) ≤ 5
   operand_cells (Number at word) i into = omega arith
@@ -276,7 +282,7 @@ module _ (spot : List ℕ → Spot) (free : ℕ) where
   operand_cells (Binary at o left right) i into = let h =
       copy_cells (Rattle.refine_form.specs.declared.spot.Spot.TheVariants.Frame (free + i)) into in omega arith
 
-  operator_cells : (o : BinOp) → length (Code.operator_cells o) ≤ 5
+  operator_cells : (o : BinOp) → length (cells.operator_cells o) ≤ 5
   operator_cells op.Add = omega arith
   operator_cells op.Sub = omega arith
   operator_cells op.Xor = omega arith
@@ -292,30 +298,30 @@ module _ (spot : List ℕ → Spot) (free : ℕ) where
   operator_cells op.NotEqual = omega arith
   operator_cells _ = omega arith
 
-  nil_cells : length Code.nil_check ≡ 7
+  nil_cells : length cells.nil_check ≡ 3
   nil_cells = refl
 
-  index_cells : length Code.index_check ≡ 10
+  index_cells : length cells.index_check ≡ 8
   index_cells = refl
 
-  checked_cells : (name : List ℕ) (index : Expression) (i : ℕ) → length (Code.checked_cells spot free name index i) ≤ 27
+  checked_cells : (name : List ℕ) (index : Expression) (i : ℕ) → length (Code.checked_cells spot free name index i) ≤ 21
   checked_cells name index i =
       let a = operand_cells index i LEFT in
       let c = copy_cells (spot name) RIGHT in
       let p = Code.operand_cells spot free index i LEFT in
-      let r = Code.copy_cells (spot name) RIGHT in
+      let r = cells.copy_cells (spot name) RIGHT in
       omega (
         arith,
-        length-append p (r ++ (Code.nil_check ++ Code.index_check)),
-        length-append r (Code.nil_check ++ Code.index_check),
-        length-append Code.nil_check Code.index_check,
+        length-append p (r ++ (cells.nil_check ++ cells.index_check)),
+        length-append r (cells.nil_check ++ cells.index_check),
+        length-append cells.nil_check cells.index_check,
         nil_cells,
         index_cells,
       )
 
-  -- an element has at most 30 cells open, an operator 15, a leaf 2
+  -- an element has at most 24 cells open, an operator 15, a leaf 2
   abbrev open_bound : Expression → ℕ
-  open_bound (Element name index) = 30
+  open_bound (Element name index) = 24
   open_bound (Binary at o left right) = 15
   open_bound _ = 2
 
@@ -328,18 +334,18 @@ module _ (spot : List ℕ → Spot) (free : ℕ) where
       omega (
         arith,
         length-append (Code.checked_cells spot free name.text index (i + 1))
-            (Code.point_cells ++ Code.exch ITEM RIGHT ∷ []),
+            (cells.point_cells ++ cells.exch ITEM RIGHT ∷ []),
       )
   open_cells (Binary at o left right) i =
       let a = operand_cells left (i + 1) LEFT in
-      let c = operand_cells right (i + 1 + Code.words left) RIGHT in
+      let c = operand_cells right (i + 1 + cells.words left) RIGHT in
       let d = operator_cells o in
       let p = Code.operand_cells spot free left (i + 1) LEFT in
-      let r = Code.operand_cells spot free right (i + 1 + Code.words left) RIGHT in
-      omega (arith, length-append p (r ++ Code.operator_cells o), length-append r (Code.operator_cells o))
+      let r = Code.operand_cells spot free right (i + 1 + cells.words left) RIGHT in
+      omega (arith, length-append p (r ++ cells.operator_cells o), length-append r (cells.operator_cells o))
 
-  store_cells : (s : Spot) (r : ℕ) → length (Code.store_cells s r) ≡ 5
-  store_cells s r = length_around (Code.reach_cells s) (Code.xor CONTENT r ∷ [])
+  store_cells : (s : Spot) (r : ℕ) → length (cells.store_cells s r) ≡ 5
+  store_cells s r = length_around (cells.reach_cells s) (cells.xor CONTENT r ∷ [])
 
   prepare_cells : (e : Expression) (i : ℕ) → length (Code.prepare_cells spot free e i) + 16 ≤ 29 * tokens e
   prepare_cells (Number at word) i = omega arith
@@ -347,33 +353,33 @@ module _ (spot : List ℕ → Spot) (free : ℕ) where
   prepare_cells (Variable name) i = omega arith
   prepare_cells (Element name index) i =
       let whole : Expression = Element name index in
-      let s = Code.store_cells (Rattle.refine_form.specs.declared.spot.Spot.TheVariants.Frame (free + i)) ITEM
+      let s = cells.store_cells (Rattle.refine_form.specs.declared.spot.Spot.TheVariants.Frame (free + i)) ITEM
       in
       let a = prepare_cells index (i + 1) in
       let c = open_cells whole i in
       omega (
         arith,
         length-append (Code.prepare_cells spot free index (i + 1))
-            (Code.around (Code.open_cells spot free whole i) s),
+            (cells.around (Code.open_cells spot free whole i) s),
         length_around (Code.open_cells spot free whole i) s,
         store_cells (Rattle.refine_form.specs.declared.spot.Spot.TheVariants.Frame (free + i)) ITEM,
       )
   prepare_cells (Binary at o left right) i =
       let whole : Expression = Binary at o left right in
-      let s = Code.store_cells (Rattle.refine_form.specs.declared.spot.Spot.TheVariants.Frame (free + i))
-      (Code.operator_result o) in
+      let s = cells.store_cells (Rattle.refine_form.specs.declared.spot.Spot.TheVariants.Frame (free + i))
+      (cells.operator_result o) in
       let p = Code.prepare_cells spot free left (i + 1) in
-      let r = Code.prepare_cells spot free right (i + 1 + Code.words left) in
+      let r = Code.prepare_cells spot free right (i + 1 + cells.words left) in
       let a = prepare_cells left (i + 1) in
-      let d = prepare_cells right (i + 1 + Code.words left) in
+      let d = prepare_cells right (i + 1 + cells.words left) in
       let c = open_cells whole i in
       omega (
         arith,
-        length-append (p ++ r) (Code.around (Code.open_cells spot free whole i) s),
+        length-append (p ++ r) (cells.around (Code.open_cells spot free whole i) s),
         length-append p r,
         length_around (Code.open_cells spot free whole i) s,
         store_cells (Rattle.refine_form.specs.declared.spot.Spot.TheVariants.Frame (free + i))
-            (Code.operator_result o),
+            (cells.operator_result o),
       )
 
   -- the parts and the opened node, with room for nine cells
@@ -386,50 +392,50 @@ module _ (spot : List ℕ → Spot) (free : ℕ) where
       open_cells (Element name index) i in omega arith
   both_cells (Binary at o left right) i =
       let a = prepare_cells left (i + 1) in
-      let d = prepare_cells right (i + 1 + Code.words left) in
+      let d = prepare_cells right (i + 1 + cells.words left) in
       let c = open_cells (Binary at o left right) i in
       omega (
         arith,
         length-append (Code.prepare_cells spot free left (i + 1))
-            (Code.prepare_cells spot free right (i + 1 + Code.words left)),
+            (Code.prepare_cells spot free right (i + 1 + cells.words left)),
       )
 
   prepared_value_cells : (e : Expression) (into : ℕ) → length (Code.prepared_value_cells spot free e into) ≤ 58 * tokens
       e
   prepared_value_cells e into =
-      let mid = Code.around (Code.open_cells spot free e 0) (Code.xor into (Code.result_of e) ∷ []) in
+      let mid = cells.around (Code.open_cells spot free e 0) (cells.xor into (Code.result_of e) ∷ []) in
       omega (
         arith,
         both_cells e 0,
         length_around (Code.parts_cells spot free e 0) mid,
-        length_around (Code.open_cells spot free e 0) (Code.xor into (Code.result_of e) ∷ []),
+        length_around (Code.open_cells spot free e 0) (cells.xor into (Code.result_of e) ∷ []),
       )
 
   pub value_cells : (e : Expression) (into : ℕ) → length (Code.value_cells spot free e into) ≤ 58 * tokens e
   value_cells e into = by (is_held e)
     where
-      by : (t : Bool) → length (if t then Code.held_value_cells spot e into
+      by : (t : Bool) → length (if t then cells.held_value_cells spot e into
           else Code.prepared_value_cells spot free e into) ≤ 58 * tokens e
       by true = held_value_length spot e into
       by false = prepared_value_cells e into
 
   prepared_test_cells : (e : Expression) (into : ℕ) → length (Code.prepared_test_cells spot free e into) ≤ 58 * tokens e
   prepared_test_cells e into =
-      let w = Code.open_cells spot free e 0 ++ Code.truth_cells TRUTH (Code.result_of e) in
-      let mid = Code.around w (Code.xor into TRUTH ∷ []) in
+      let w = Code.open_cells spot free e 0 ++ cells.truth_cells TRUTH (Code.result_of e) in
+      let mid = cells.around w (cells.xor into TRUTH ∷ []) in
       omega (
         arith,
         both_cells e 0,
         length_around (Code.parts_cells spot free e 0) mid,
-        length_around w (Code.xor into TRUTH ∷ []),
+        length_around w (cells.xor into TRUTH ∷ []),
         length-append (Code.open_cells spot free e 0)
-            (Code.truth_cells TRUTH (Code.result_of e)),
+            (cells.truth_cells TRUTH (Code.result_of e)),
       )
 
   pub test_cells : (e : Expression) (into : ℕ) → length (Code.test_cells spot free e into) ≤ 58 * tokens e
   test_cells e into = by (is_held e)
     where
-      by : (t : Bool) → length (if t then Code.held_test_cells spot e into
+      by : (t : Bool) → length (if t then cells.held_test_cells spot e into
           else Code.prepared_test_cells spot free e into) ≤ 58 * tokens e
       by true = held_test_length spot e into
       by false = prepared_test_cells e into
@@ -444,49 +450,47 @@ module _ (spot : List ℕ → Spot) (free : ℕ) where
       open_cells (Element name index) i in omega arith
   twice_open (Binary at o left right) i =
       let a = prepare_cells left (i + 1) in
-      let d = prepare_cells right (i + 1 + Code.words left) in
+      let d = prepare_cells right (i + 1 + cells.words left) in
       let c = open_cells (Binary at o left right) i in
       omega (
         arith,
         length-append (Code.prepare_cells spot free left (i + 1))
-            (Code.prepare_cells spot free right (i + 1 + Code.words left)),
+            (Code.prepare_cells spot free right (i + 1 + cells.words left)),
       )
 
   fetch_cells : (e : Expression) (i into : ℕ) → length (Code.fetch_cells spot free e i into) ≤ 29 * tokens e
   fetch_cells e i into =
-      let mid = Code.around (Code.open_cells spot free e i) (Code.xor into (Code.result_of e) ∷ []) in
+      let mid = cells.around (Code.open_cells spot free e i) (cells.xor into (Code.result_of e) ∷ []) in
       omega (
         arith,
         twice_open e i,
         length-append (Code.parts_cells spot free e i) mid,
-        length_around (Code.open_cells spot free e i) (Code.xor into (Code.result_of e) ∷ []),
+        length_around (Code.open_cells spot free e i) (cells.xor into (Code.result_of e) ∷ []),
       )
 
   place_cells : (target : Lvalue) (i into : ℕ) → length (Code.place_cells spot free target i into) ≤ 29 * place_tokens
       target
   place_cells (Whole name) i into = omega arith
   place_cells (Item name index) i into =
-      let w = Code.checked_cells spot free name.text index i ++ Code.point_cells in
-      let mid = Code.xor into RIGHT ∷ [] in
+      let w = Code.checked_cells spot free name.text index i ++ cells.point_cells in
+      let mid = cells.xor into RIGHT ∷ [] in
       let a = checked_cells name.text index i in
       let c = prepare_cells index i in
       omega (
         arith,
-        length-append (Code.prepare_cells spot free index i) (Code.around w mid),
+        length-append (Code.prepare_cells spot free index i) (cells.around w mid),
         length_around w mid,
-        length-append (Code.checked_cells spot free name.text index i) Code.point_cells,
+        length-append (Code.checked_cells spot free name.text index i) cells.point_cells,
       )
 
-  -- two arrays compared, 22 cells: an element has three tokens and those of its index
-  compare_length : (x y : Spot) → length (Code.compare_cells x y) ≡ 22
+  -- two arrays compared, 17 cells: an element has three tokens and those of its index
+  compare_length : (x y : Spot) → length (Code.compare_cells x y) ≡ 17
   compare_length x y =
-      let w = Code.copy_cells x LEFT in
-      let r = Code.sltx OUTCOME LEFT CONTENT
-      ∷ Code.sltx OUTCOME CONTENT LEFT ∷ Code.xori OUTCOME 1 ∷ [] in
+      let w = cells.copy_cells x LEFT in
       omega (
         arith,
-        length_around (w ++ Code.reach_cells y) (r ++ check_cells OUTCOME 16),
-        length-append w (Code.reach_cells y),
+        length_around (w ++ cells.reach_cells y) (check_differ_cells LEFT CONTENT SHARED_ARRAY),
+        length-append w (cells.reach_cells y),
         copy_cells x LEFT,
       )
 
@@ -525,7 +529,8 @@ module _ (spot : List ℕ → Spot) (free : ℕ) where
 
   -- and with a middle
   pub place_around : (target : Lvalue) (mid : List Symbol)
-      → length (Code.around (Code.found_place_cells spot free target) mid) ≤ length mid + 80 * (1 + place_tokens target)
+      → length (cells.around (Code.found_place_cells spot free target) mid) ≤ length mid + 80 *
+      (1 + place_tokens target)
   place_around target mid =
       let p = Code.place_cells spot free target 0 PLACE in
       let k = Code.apart_cells spot target (index_of target) (Null 0) in
@@ -535,7 +540,7 @@ module _ (spot : List ℕ → Spot) (free : ℕ) where
       omega (arith, length_around (p ++ k) mid, length-append p k)
 
   pub value_around : (target : Lvalue) (e : Expression) (mid : List Symbol)
-      → length (Code.around (Code.found_value_cells spot free target e) mid) ≤ length mid + 80 *
+      → length (cells.around (Code.found_value_cells spot free target e) mid) ≤ length mid + 80 *
       (place_tokens target + tokens e)
   value_around target e mid =
       let p = Code.place_cells spot free target 0 PLACE in
@@ -548,7 +553,7 @@ module _ (spot : List ℕ → Spot) (free : ℕ) where
       omega (arith, length_around ((p ++ v) ++ k) mid, length-append (p ++ v) k, length-append p v)
 
   pub places_around : (source target : Lvalue) (mid : List Symbol)
-      → length (Code.around (Code.found_places_cells spot free source target) mid) ≤ length mid + 80 *
+      → length (cells.around (Code.found_places_cells spot free source target) mid) ≤ length mid + 80 *
       (place_tokens source + place_tokens target)
   places_around source target mid =
       let p = Code.place_cells spot free source 0 PLACE in
@@ -566,8 +571,8 @@ module _ (spot : List ℕ → Spot) (free : ℕ) where
   found_update_cells o target e =
       let p = Code.place_cells spot free target 0 PLACE in
       let v = Code.fetch_cells spot free e (Code.place_words target) AMOUNT in
-      let mid = Code.exch CONTENT PLACE ∷ Code.update_cell o CONTENT AMOUNT
-      ∷ Code.exch CONTENT PLACE ∷ [] in
+      let mid = cells.exch CONTENT PLACE ∷ Code.update_cell o CONTENT AMOUNT
+      ∷ cells.exch CONTENT PLACE ∷ [] in
       let a = place_cells target 0 PLACE in
       let c = fetch_cells e (Code.place_words target) AMOUNT in
       let k = Code.apart_cells spot target (index_of target) e in
@@ -579,7 +584,7 @@ module _ (spot : List ℕ → Spot) (free : ℕ) where
       → length (Code.update_cells spot free o target e) ≤ 80 * (place_tokens target + 1 + tokens e)
   update_cells o (Whole name) (Number at word) = omega (
     arith,
-    length_around (Code.reach_cells (spot name.text)) (Code.number_cell o CONTENT word ∷ []),
+    length_around (cells.reach_cells (spot name.text)) (Code.number_cell o CONTENT word ∷ []),
   )
   update_cells o (Whole name) (Variable other) = omega (
     arith,
@@ -594,33 +599,31 @@ module _ (spot : List ℕ → Spot) (free : ℕ) where
       by : (e : Expression) (t : Bool) → length (if t then Code.held_update_cells spot o (spot name.text) e
           else Code.found_update_cells spot free o (Whole name) e) ≤ 80 * (place_tokens (Whole name) + 1 + tokens e)
       by e true =
-          let alter = Code.update_cell o CONTENT (Code.part 0) ∷ [] in
+          let alter = Code.update_cell o CONTENT (cells.part 0) ∷ [] in
           let a = held_length spot e 0 in
           omega (
             arith,
-            length_around (Code.held_cells spot e 0) (Code.around (Code.reach_cells (spot name.text)) alter),
-            length_around (Code.reach_cells (spot name.text)) alter,
+            length_around (cells.held_cells spot e 0) (cells.around (cells.reach_cells (spot name.text)) alter),
+            length_around (cells.reach_cells (spot name.text)) alter,
           )
       by e false = found_update_cells o (Whole name) e
   update_cells o (Item name index) e = by (is_near index e)
     where
-      by : (t : Bool) → length (if t then Code.near_update_cells spot free o name.text index e
+      by : (t : Bool) → length (if t then Code.near_update_cells spot o name.text index e
           else Code.found_update_cells spot free o (Item name index) e) ≤ 80 * (3 + tokens index + 1 + tokens e)
       by true =
-          let a = prepare_cells index 0 in
-          let c = checked_cells name.text index 0 in
-          let d = held_length spot e 4 in
-          let p = Code.prepare_cells spot free index 0 in
-          let r = Code.checked_cells spot free name.text index 0 in
-          let k = Code.held_cells spot e 4 in
+          let a = held_length spot index 2 in
+          let d = held_length spot e (2 + need index) in
+          let w = cells.held_cells spot index 2 in
+          let p = cells.element_cells spot name.text w 0 in
+          let k = cells.held_cells spot e (2 + need index) in
           omega (
             arith,
-            length_around (Code.near_place_cells spot free name.text index ++ k) (Code.near_middle o),
-            length-append (Code.near_place_cells spot free name.text index) k,
-            length-append p (r ++ Code.point_cells),
-            length-append r Code.point_cells,
-            length_around (Code.exch CONTENT RIGHT ∷ [])
-                (Code.update_cell o CONTENT (Code.part 4) ∷ []),
+            length_around (p ++ k) (Code.near_middle o (2 + need index)),
+            length-append p k,
+            element_length spot name.text w 0,
+            length_around (cells.exch CONTENT (cells.part 1) ∷ [])
+                (Code.update_cell o CONTENT (cells.part (2 + need index)) ∷ []),
           )
       by false = found_update_cells o (Item name index) e
 
@@ -628,8 +631,8 @@ module _ (spot : List ℕ → Spot) (free : ℕ) where
   found_swap_cells (Whole name) right =
       let p = Code.place_cells spot free (Whole name) 0 PLACE in
       let v = Code.place_cells spot free right (Code.place_words (Whole name)) OTHER_PLACE in
-      let mid = Code.exch FIRST_WORD PLACE ∷ Code.exch SECOND_WORD OTHER_PLACE
-      ∷ Code.exch SECOND_WORD PLACE ∷ Code.exch FIRST_WORD OTHER_PLACE ∷ [] in
+      let mid = cells.exch FIRST_WORD PLACE ∷ cells.exch SECOND_WORD OTHER_PLACE
+      ∷ cells.exch SECOND_WORD PLACE ∷ cells.exch FIRST_WORD OTHER_PLACE ∷ [] in
       let c = place_cells right (Code.place_words (Whole name)) OTHER_PLACE in
       let l = Code.apart_cells spot right (index_of (Whole name)) (index_of right) in
       let e = apart_cells right (index_of (Whole name)) (index_of right) in
@@ -639,8 +642,8 @@ module _ (spot : List ℕ → Spot) (free : ℕ) where
       let left : Lvalue = Item name index in
       let p = Code.place_cells spot free left 0 PLACE in
       let v = Code.place_cells spot free right (Code.place_words left) OTHER_PLACE in
-      let mid = Code.exch FIRST_WORD PLACE ∷ Code.exch SECOND_WORD OTHER_PLACE
-      ∷ Code.exch SECOND_WORD PLACE ∷ Code.exch FIRST_WORD OTHER_PLACE ∷ [] in
+      let mid = cells.exch FIRST_WORD PLACE ∷ cells.exch SECOND_WORD OTHER_PLACE
+      ∷ cells.exch SECOND_WORD PLACE ∷ cells.exch FIRST_WORD OTHER_PLACE ∷ [] in
       let a = place_cells left 0 PLACE in
       let c = place_cells right (Code.place_words left) OTHER_PLACE in
       let k = Code.apart_cells spot left (index_of left) (index_of right) in
@@ -658,23 +661,23 @@ module _ (spot : List ℕ → Spot) (free : ℕ) where
       )
 
   beyond_length : (x y : Spot) → length (Code.beyond x y) ≡ 4
-  beyond_length x y = length_around (Code.onward x y ∷ []) (Code.exch SECOND_WORD (Code.base_of y)
-      ∷ Code.exch FIRST_WORD (Code.base_of y) ∷ [])
+  beyond_length x y = length_around (Code.onward x y ∷ []) (cells.exch SECOND_WORD (cells.base_of y)
+      ∷ cells.exch FIRST_WORD (cells.base_of y) ∷ [])
 
   by_one_length : (x y : Spot) → length (Code.swap_by_one x y) ≡ 8
   by_one_length x y =
-      let w = Code.exch FIRST_WORD (Code.base_of x) ∷ Code.beyond x y in
-      let last = Code.exch SECOND_WORD (Code.base_of x) ∷ [] in
+      let w = cells.exch FIRST_WORD (cells.base_of x) ∷ Code.beyond x y in
+      let last = cells.exch SECOND_WORD (cells.base_of x) ∷ [] in
       omega (
         arith,
-        length_around (Code.addi (Code.base_of x) (offset_of x) ∷ []) (w ++ last),
+        length_around (cells.addi (cells.base_of x) (offset_of x) ∷ []) (w ++ last),
         length-append w last,
         beyond_length x y,
       )
 
   at_length : (x y : Spot) → length (Code.swap_at x y) ≡ 8
-  at_length x y = length_around (Code.addi (Code.base_of x) (offset_of x) ∷ Code.onward x y ∷ [])
-      (Code.four_exchanges (Code.base_of x) (Code.base_of y))
+  at_length x y = length_around (cells.addi (cells.base_of x) (offset_of x) ∷ Code.onward x y ∷ [])
+      (Code.four_exchanges (cells.base_of x) (cells.base_of y))
 
   spots_length : (t : Bool) (x y : Spot) → length (if t then Code.swap_by_one x y else Code.swap_at x y) ≡ 8
   spots_length true x y = by_one_length x y
@@ -687,13 +690,13 @@ module _ (spot : List ℕ → Spot) (free : ℕ) where
       let c = checked_cells name index 0 in
       let w = Code.prepare_cells spot free index 0 in
       let r = Code.checked_cells spot free name index 0 in
-      let last = Code.addi (Code.base_of x) (offset_of x) ∷ [] in
+      let last = cells.addi (cells.base_of x) (offset_of x) ∷ [] in
       omega (
         arith,
         length_around (Code.near_place_cells spot free name index ++ last) (Code.four_exchanges p q),
         length-append (Code.near_place_cells spot free name index) last,
-        length-append w (r ++ Code.point_cells),
-        length-append r Code.point_cells,
+        length-append w (r ++ cells.point_cells),
+        length-append r cells.point_cells,
       )
 
   pub swap_cells : (left right : Lvalue) → length (Code.swap_cells spot free left right) ≤ swap_size left right
@@ -703,22 +706,22 @@ module _ (spot : List ℕ → Spot) (free : ℕ) where
       omega (arith, spots_length (Code.have_one_base x y) x y)
   swap_cells (Whole name) (Item other index) = by (is_near_index index)
     where
-      by : (t : Bool) → length (if t then Code.near_swap_cells spot free (Code.base_of (spot name.text))
+      by : (t : Bool) → length (if t then Code.near_swap_cells spot free (cells.base_of (spot name.text))
           RIGHT (spot name.text) other.text index
           else Code.found_swap_cells spot free (Whole name) (Item other index))
           ≤ swap_size (Whole name) (Item other index)
       by true =
-          let a = near_swap (Code.base_of (spot name.text)) RIGHT (spot name.text) other.text index in
+          let a = near_swap (cells.base_of (spot name.text)) RIGHT (spot name.text) other.text index in
           omega arith
       by false = found_swap_cells (Whole name) (Item other index)
   swap_cells (Item name index) (Whole other) = by (is_near_index index)
     where
       by : (t : Bool) → length (if t then Code.near_swap_cells spot free RIGHT
-          (Code.base_of (spot other.text)) (spot other.text) name.text index
+          (cells.base_of (spot other.text)) (spot other.text) name.text index
           else Code.found_swap_cells spot free (Item name index) (Whole other))
           ≤ swap_size (Item name index) (Whole other)
       by true =
-          let a = near_swap RIGHT (Code.base_of (spot other.text)) (spot other.text) name.text index in
+          let a = near_swap RIGHT (cells.base_of (spot other.text)) (spot other.text) name.text index in
           omega arith
       by false = found_swap_cells (Item name index) (Whole other)
   swap_cells (Item name index) (Item other k) = found_swap_cells (Item name index) (Item other k)
@@ -796,7 +799,7 @@ update_least (Item name index) e = by (is_near index e) refl
     by true q =
         let few = near_few index e q in
         let less = few.0 in
-        let a = prepare_least index in
+        let a = held_least index (omega arith) in
         let c = held_least e (omega arith) in
         let d = compare_none index few.2 in
         let g = compare_none e few.1 in

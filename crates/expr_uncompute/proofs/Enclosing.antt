@@ -7,9 +7,9 @@ use Rattle.paired_code.specs.Layout.{mirror_cells}
 use Rattle.paired_code.specs.Pieces.{Outcome, Done, Will, after}
 use Rattle.paired_code.proofs.Laws.{Next, will_of, will_more, will_seq, will_seq_back}
 use Rattle.paired_code.proofs.Contract.{mirror_law}
-use Rattle.expr_uncompute.specs.Code.{around}
+use Rattle.register_expressions.specs.Code.{around}
 use Rattle.expr_uncompute.specs.Found.{LeavesWithin, leaves_within, TrapsWithin, traps_within}
-use Rattle.expr_uncompute.proofs.Goes.{Goes}
+use Rattle.register_expressions.proofs.Goes.{Goes}
 
 -- the middle leaves, and so does the whole
 module _ (im : Image) (w mid : List Symbol) (j least most : ℕ) (m m1 m2 m' : Memory) (g : Goes w j m m1)

@@ -13,16 +13,14 @@ use Rattle.paired_code.specs.declared.part.Symbol.{Symbol}
 use Rattle.refine_form.specs.declared.spot.Spot.{Spot}
 use Rattle.refine_form.specs.declared.spot.Spot.TheVariants.{Field, Frame}
 use Rattle.code_scope.specs.Visible.{offset_of}
-use Rattle.expr_uncompute.specs.Code.{addi, exch, base_of, onward}
-use Rattle.expr_uncompute.specs.Code.{four_exchanges}
-use Rattle.expr_uncompute.specs.Code.{swap_at, swap_by_one}
-use Rattle.expr_uncompute.specs.Code.{have_one_base, swap_spots}
-use Rattle.expr_uncompute.specs.Number.{Bases, address_of}
+use Rattle.register_expressions.specs.Code.{addi, exch, base_of}
+use Rattle.expr_uncompute.specs.Code.{onward, four_exchanges, swap_at, swap_by_one, have_one_base, swap_spots}
+use Rattle.register_expressions.specs.Number.{Bases, address_of}
 use Rattle.expr_uncompute.specs.Laws.{swapped_at}
-use Rattle.expr_uncompute.proofs.Goes.{Goes, goes_seq, goes_cons, goes_to, goes_around, goes_exch}
-use Rattle.expr_uncompute.proofs.Operators.{operands}
-use Rattle.expr_uncompute.proofs.Reading.{moved}
-use Rattle.expr_uncompute.proofs.Scratch.{Scratch, keeping, mem}
+use Rattle.register_expressions.proofs.Goes.{Goes, goes_seq, goes_cons, goes_to, goes_around, goes_exch}
+use Rattle.register_expressions.proofs.Operators.{operands}
+use Rattle.register_expressions.proofs.Reading.{moved}
+use Rattle.register_expressions.proofs.Scratch.{Scratch, keeping, mem}
 use Rattle.expr_uncompute.proofs.Standing.{stand, onto, stands_there, stands_on, there_goes, on_goes, Exchanges}
 use Rattle.expr_uncompute.proofs.Standing.{exchanged}
 

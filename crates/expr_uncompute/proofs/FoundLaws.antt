@@ -8,19 +8,19 @@ use Rattle.code_conventions.specs.declared.registers.TheConstants.{OTHER_PLACE, 
 use Rattle.paired_code.specs.declared.part.Symbol.{Symbol}
 use Rattle.paired_code.specs.Machine.{Image, reg}
 use Rattle.refine_form.specs.declared.spot.Spot.{Spot}
-use Rattle.expr_uncompute.specs.Code.{words, place_words, around, place_cells, apart_cells}
-use Rattle.expr_uncompute.specs.Code.{found_value_cells}
-use Rattle.expr_uncompute.specs.Number.{number, read_of, index_of, place_address, shares, update_shares}
+use Rattle.register_expressions.specs.Code.{words, around}
+use Rattle.expr_uncompute.specs.Code.{place_words, place_cells, apart_cells, found_value_cells}
+use Rattle.register_expressions.specs.Number.{number, read_of, index_of, place_address, shares, update_shares}
 use Rattle.expr_uncompute.specs.Steps.{place_steps, apart_steps}
-use Rattle.expr_uncompute.specs.Laws.{bases_of, Ready}
+use Rattle.register_expressions.specs.Laws.{bases_of, Ready}
 use Rattle.expr_uncompute.specs.Promises.{SeesIn, CanRun, IsTrap}
 use Rattle.expr_uncompute.specs.Found.{found, found_value_steps}
-use Rattle.expr_uncompute.proofs.Goes.{Goes, Traps, goes_to, goes_seq, traps_around, traps_then, traps_first}
-use Rattle.expr_uncompute.proofs.Numbers.{Agree, sees_same}
-use Rattle.expr_uncompute.proofs.Scratch.{keeping, mem}
+use Rattle.register_expressions.proofs.Goes.{Goes, Traps, goes_to, goes_seq, traps_around, traps_then, traps_first}
+use Rattle.register_expressions.proofs.Numbers.{Agree, sees_same}
+use Rattle.register_expressions.proofs.Scratch.{keeping, mem}
 use Rattle.expr_uncompute.proofs.Whole.{as_mem}
 use Rattle.expr_uncompute.proofs.PlaceLaws.{FitPlace, placed, place_points, place_goes, place_traps}
-use Rattle.expr_uncompute.proofs.Written.{filled, both_placed, placed_below, placed_length, placed_words}
+use Rattle.expr_uncompute.proofs.Written.{filled, both_placed, placed_below, placed_length}
 use Rattle.expr_uncompute.proofs.KeptApart.{index_seen, shares_same, apart_goes, apart_traps}
 use Rattle.expr_uncompute.proofs.Updates.{held_goes, both_found, placed_is}
 use Rattle.expr_uncompute.proofs.Statements.{fit_from, run_traps}
@@ -108,7 +108,7 @@ module _ (spot : List ℕ → Spot) (free : ℕ) (m : Memory) where
       goes_seq (place_found target a h s n)
       (goes_to refl (shown_as (place_words target) h 0 a 0 ys) (shown_as (place_words target) h 0 a 0 ys)
       (apart_goes spot (bases_of m) (reg m 4 + free) (reg m) 0 a 0 ys
-      (placed_words spot free (bases_of m) target m.cells h.words s) (omega arith) (omega arith) target e e'
+      (omega arith) (omega arith) target e e'
       (sees_same spot (bases_of m) (reg m 4 + free) m.cells ys below (read_of target) s)
       (sees_same spot (bases_of m) (reg m 4 + free) m.cells ys below e t)
       (sees_same spot (bases_of m) (reg m 4 + free) m.cells ys below e' t')
@@ -130,7 +130,7 @@ module _ (spot : List ℕ → Spot) (free : ℕ) (m : Memory) where
       let traps : Traps (apart_cells spot target e e') (apart_steps target e e') 16
       (mem (bases_of m) (reg m) (keeping 0 a 0) ys) =
       apart_traps spot (bases_of m) (reg m 4 + free) (reg m) 0 a 0 ys
-      (placed_words spot free (bases_of m) target m.cells h.words s) (omega arith) (omega arith) target e e'
+      (omega arith) (omega arith) target e e'
       (sees_same spot (bases_of m) (reg m 4 + free) m.cells ys below (read_of target) s)
       (sees_same spot (bases_of m) (reg m 4 + free) m.cells ys below e t)
       (sees_same spot (bases_of m) (reg m 4 + free) m.cells ys below e' t')
@@ -160,7 +160,7 @@ module _ (spot : List ℕ → Spot) (free : ℕ) (m : Memory) where
       goes_seq (places_found target other a a' h na na')
       (goes_to refl (shown_as (place_words target + place_words other) h.ready 0 a a' ys)
       (shown_as (place_words target + place_words other) h.ready 0 a a' ys)
-      (apart_goes spot (bases_of m) (reg m 4 + free) (reg m) 0 a a' ys k.all (omega arith) (omega arith) other
+      (apart_goes spot (bases_of m) (reg m 4 + free) (reg m) 0 a a' ys (omega arith) (omega arith) other
       (index_of target) (index_of other) (sees_same spot (bases_of m) (reg m 4 + free) m.cells ys k.below
       (read_of other) h.second) (sees_same spot (bases_of m) (reg m 4 + free) m.cells ys k.below
       (index_of target) i) (sees_same spot (bases_of m) (reg m 4 + free) m.cells ys k.below (index_of other) j)
@@ -186,7 +186,7 @@ module _ (spot : List ℕ → Spot) (free : ℕ) (m : Memory) where
       let j = index_seen spot (bases_of m) (reg m 4 + free) other m.cells h.second in
       let traps : Traps (apart_cells spot other (index_of target) (index_of other))
       (apart_steps other (index_of target) (index_of other)) 16 (mem (bases_of m) (reg m) (keeping 0 a a') ys) =
-      apart_traps spot (bases_of m) (reg m 4 + free) (reg m) 0 a a' ys k.all (omega arith) (omega arith) other
+      apart_traps spot (bases_of m) (reg m 4 + free) (reg m) 0 a a' ys (omega arith) (omega arith) other
       (index_of target) (index_of other) (sees_same spot (bases_of m) (reg m 4 + free) m.cells ys k.below
       (read_of other) h.second) (sees_same spot (bases_of m) (reg m 4 + free) m.cells ys k.below (index_of target)
       i) (sees_same spot (bases_of m) (reg m 4 + free) m.cells ys k.below (index_of other) j)

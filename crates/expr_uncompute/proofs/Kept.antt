@@ -3,10 +3,11 @@ use Rattle.std.proofs.Common.{◌≡◌, ℕ, ◌+◌, ◌≤◌, inr, List, len
 use Rattle.std.specs.Prelude.{slice_index, slice_set}
 use Rattle.rpp_tree.specs.Tree.{Expression, Number, Null, Variable, Element, Binary, Lvalue, Whole, Item}
 use Rattle.refine_form.specs.declared.spot.Spot.{Spot}
-use Rattle.expr_uncompute.specs.Code.{words, place_words}
-use Rattle.expr_uncompute.specs.Number.{Bases, given, number, read_of, Sees, Same, SamePlace}
+use Rattle.register_expressions.specs.Code.{words}
+use Rattle.expr_uncompute.specs.Code.{place_words}
+use Rattle.register_expressions.specs.Number.{Bases, given, number, read_of, Sees, Same, SamePlace}
 use Rattle.expr_uncompute.specs.Found.{Filled, Changes}
-use Rattle.expr_uncompute.proofs.Numbers.{Agree, AllWords, sees_same}
+use Rattle.register_expressions.proofs.Numbers.{Agree, AllWords, sees_same}
 use Rattle.expr_uncompute.proofs.Stored.{home, stored, parted, stored_length, stored_other, stored_below, same_lifted}
 use Rattle.expr_uncompute.proofs.Prepare.{parts_done}
 use Rattle.expr_uncompute.proofs.PlaceLaws.{placed}

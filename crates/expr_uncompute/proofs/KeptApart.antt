@@ -1,29 +1,24 @@
 -- A changed element's array is none of those of which elements are read, or fault 16.
-use Rattle.std.proofs.Common.{◌≡◌, ℕ, ◌+◌, ◌^◌, ◌<◌, ◌≤◌, Bool, true, false, List, [], ◌∷◌, ◌++◌, length, refl, ap, ◌∙◌}
-use Rattle.std.proofs.Common.{arith}
+use Rattle.std.proofs.Common.{◌≡◌, ◌≢◌, ℕ, ◌+◌, ◌^◌, ◌<◌, ◌≤◌, Bool, true, false, List, ◌++◌, length, refl}
+use Rattle.std.proofs.Common.{ap, ◌∙◌, arith}
 use Rattle.std.specs.Prelude.{slice_index, slice_set, nat_eq, ◌||◌}
+use Rattle.std.proofs.lemmas.Bool.Decides.{nat_tests}
 use Rattle.pisa_isa.specs.Machine.{Memory}
-use Rattle.rpp_words.specs.Words.{is_less}
 use Rattle.rpp_tree.specs.Tree.{Expression, Number, Null, Variable, Element, Binary, Lvalue, Whole, Item}
-use Rattle.pisa_isa.specs.Table.{word_of as word_of_truth}
-use Rattle.code_conventions.specs.declared.registers.TheConstants.{CONTENT, LEFT, OUTCOME}
-use Rattle.roopl_semantics.specs.Operators.{truth_word}
+use Rattle.code_conventions.specs.declared.faults.TheConstants.{SHARED_ARRAY}
+use Rattle.code_conventions.specs.declared.registers.TheConstants.{CONTENT, LEFT}
+use Rattle.paired_code.specs.Layout.{Differ}
 use Rattle.refine_form.specs.declared.spot.Spot.{Spot}
-use Rattle.expr_uncompute.specs.Number.{Bases, address_of, word_of, read_of, index_of, reads_array, shares, swap_shares}
-use Rattle.expr_uncompute.specs.Number.{Sees}
-use Rattle.expr_uncompute.specs.Code.{reach_cells, copy_cells, compare_cells}
-use Rattle.expr_uncompute.specs.Code.{compare_all, apart_cells, both_apart_cells, sltx, xori}
+use Rattle.register_expressions.specs.Number.{Bases, address_of, word_of, read_of, index_of, reads_array, shares}
+use Rattle.register_expressions.specs.Number.{swap_shares, Sees}
+use Rattle.register_expressions.specs.Code.{reach_cells, copy_cells}
+use Rattle.expr_uncompute.specs.Code.{compare_cells, compare_all, apart_cells, both_apart_cells}
 use Rattle.expr_uncompute.specs.Steps.{compare_steps, apart_steps, both_apart_steps}
-use Rattle.expr_uncompute.proofs.Comparing.{equal}
-use Rattle.expr_uncompute.proofs.Goes.{Goes, Traps, nothing, goes_cons, goes_seq, goes_around, goes_set, goes_xor}
-use Rattle.expr_uncompute.proofs.Goes.{goes_xor_to, goes_check, traps_check, traps_mid, traps_then, traps_first}
-use Rattle.expr_uncompute.proofs.Goes.{traps_more}
-use Rattle.expr_uncompute.proofs.Numbers.{Agree, AllWords}
-use Rattle.expr_uncompute.proofs.Reading.{moved, reach_goes, copy_goes, left_takes}
-use Rattle.expr_uncompute.proofs.Scratch.{keeping, mem}
-
-one_is_not : ◌≡◌ {A = ℕ} 1 0 → ⊥
-one_is_not e = omega arith
+use Rattle.register_expressions.proofs.Goes.{Goes, Traps, nothing, goes_seq, goes_around, goes_check, traps_check}
+use Rattle.register_expressions.proofs.Goes.{traps_mid, traps_then, traps_first, traps_more}
+use Rattle.register_expressions.proofs.Numbers.{Agree}
+use Rattle.register_expressions.proofs.Reading.{moved, reach_goes, copy_goes, left_takes}
+use Rattle.register_expressions.proofs.Scratch.{keeping, mem}
 
 pub neither : (x y : Bool) → (x || y) ≡ false → (x ≡ false) × (y ≡ false)
 neither false y e = (refl, e)
@@ -70,8 +65,7 @@ module _ (spot : List ℕ → Spot) (b : Bases) (low : ℕ) where
       (shares_same zs zs' ag right (index_of left) (index_of right) t (index_seen left zs s)
       (index_seen right zs t))
 
-  module _ (f : ℕ → ℕ) (v p q : ℕ) (zs : List ℕ) (words : AllWords zs) (fits : low ≤ length zs)
-      (small : length zs ≤ 2 ^ 31) where
+  module _ (f : ℕ → ℕ) (v p q : ℕ) (zs : List ℕ) (fits : low ≤ length zs) (small : length zs ≤ 2 ^ 31) where
     abbrev here : Memory
     here = mem b f (keeping v p q) zs
 
@@ -80,42 +74,35 @@ module _ (spot : List ℕ → Spot) (b : Bases) (low : ℕ) where
 
     -- ---- two words
 
-    abbrev compared : (x y : Spot) (o : ℕ) → Memory
-    compared x y o = mem (moved b y) f (record (keeping v p q)
-        { a = slice_index zs (address_of b x); content = slice_index zs (address_of b y); outcome = o })
+    abbrev compared : (x y : Spot) → Memory
+    compared x y = mem (moved b y) f (record (keeping v p q)
+        { a = slice_index zs (address_of b x); content = slice_index zs (address_of b y) })
         (slice_set zs (address_of b y) 0)
 
     both_there : (x y : Spot) → address_of b x < length zs → address_of b y < length zs
-        → Goes (copy_cells x LEFT ++ reach_cells y) 7 (mem b f (keeping v p q) zs) (compared x y 0)
+        → Goes (copy_cells x LEFT ++ reach_cells y) 7 (mem b f (keeping v p q) zs) (compared x y)
     both_there x y h k =
         let u : ℕ = slice_index zs (address_of b x) in
         goes_seq (copy_goes b zs x h small refl (left_takes b f (keeping v p q) u))
         (reach_goes b f (record (keeping v p q) { a = u }) zs y k small)
 
-    same_row : (x y : Spot) (t : Bool)
-        → nat_eq (slice_index zs (address_of b x)) (slice_index zs (address_of b y)) ≡ t
-        → Goes (sltx OUTCOME LEFT CONTENT ∷ sltx OUTCOME CONTENT LEFT ∷ xori OUTCOME 1 ∷ []) 3
-        (compared x y 0) (compared x y (truth_word t))
-    same_row x y t e =
-        let u : ℕ = slice_index zs (address_of b x) in
-        let w : ℕ = slice_index zs (address_of b y) in
-        goes_cons (goes_set _ (compared x y) (word_of_truth (is_less u w)) refl (omega arith) (λ z. refl) (λ z. refl))
-        (goes_cons (goes_xor _ (compared x y) (word_of_truth (is_less u w)) (word_of_truth (is_less w u)) refl
-        (omega arith) (λ z. refl) (λ z. refl)) (goes_xor_to _ (compared x y) _ 1 _
-        (equal u w (words (address_of b x)) (words (address_of b y)) ∙ ap truth_word e) refl (omega arith)
-        (λ z. refl) (λ z. refl)))
+    other_words : (x y : ℕ) → nat_eq x y ≡ false → x ≢ y
+    other_words x y e q = grind (arith, nat_tests)
+
+    same_words : (x y : ℕ) → nat_eq x y ≡ true → x ≡ y
+    same_words x y e = grind (arith, nat_tests)
 
     compare_goes : (x y : Spot) → address_of b x < length zs → address_of b y < length zs
         → nat_eq (slice_index zs (address_of b x)) (slice_index zs (address_of b y)) ≡ false
-        → Goes (compare_cells x y) 21 (mem b f (keeping v p q) zs) (mem b f (keeping v p q) zs)
+        → Goes (compare_cells x y) 16 (mem b f (keeping v p q) zs) (mem b f (keeping v p q) zs)
     compare_goes x y h k e = goes_around (both_there x y h k)
-        (goes_seq (same_row x y false e) (goes_check OUTCOME 16 _ refl)) (both_there x y h k)
+        (goes_check (Differ LEFT CONTENT) SHARED_ARRAY _ (other_words (word x) (word y) e)) (both_there x y h k)
 
     compare_traps : (x y : Spot) → address_of b x < length zs → address_of b y < length zs
         → nat_eq (slice_index zs (address_of b x)) (slice_index zs (address_of b y)) ≡ true
-        → Traps (compare_cells x y) 14 16 (mem b f (keeping v p q) zs)
+        → Traps (compare_cells x y) 8 16 (mem b f (keeping v p q) zs)
     compare_traps x y h k e = traps_mid (both_there x y h k)
-        (traps_then (same_row x y true e) (traps_check OUTCOME 16 _ one_is_not))
+        (traps_check (Differ LEFT CONTENT) SHARED_ARRAY _ (same_words (word x) (word y) e))
 
     -- ---- all elements that an expression reads
 
@@ -140,7 +127,7 @@ module _ (spot : List ℕ → Spot) (b : Bases) (low : ℕ) where
           → (t || reads_array spot b zs (slice_index zs (address_of b x)) rest) ≡ true
           → (reads_array spot b zs (slice_index zs (address_of b x)) rest ≡ true
           → Traps (compare_all spot x rest) (compare_steps rest) 16 (mem b f (keeping v p q) zs))
-          → Traps (compare_cells x y ++ compare_all spot x rest) (21 + compare_steps rest) 16
+          → Traps (compare_cells x y ++ compare_all spot x rest) (16 + compare_steps rest) 16
           (mem b f (keeping v p q) zs)
       element_by y rest k true e h r = traps_more (omega arith)
           (traps_first (compare_all spot x rest) (compare_traps x y there k e))

@@ -13,14 +13,14 @@ use Rattle.code_conventions.specs.declared.registers.TheConstants.{AMOUNT, CONTE
 use Rattle.roopl_semantics.specs.Operators.{updated}
 use Rattle.refine_form.specs.declared.spot.Spot.{Spot}
 use Rattle.code_scope.specs.Visible.{offset_of}
-use Rattle.expr_uncompute.specs.Code.{around, addi, exch, base_of, reach_cells, update_cell}
-use Rattle.expr_uncompute.specs.Code.{number_cell, onward, both_reached}
-use Rattle.expr_uncompute.specs.Number.{Bases, address_of}
-use Rattle.expr_uncompute.proofs.Goes.{Goes, goes_seq, goes_cons, goes_to, goes_around, goes_xor, goes_add, goes_sub}
-use Rattle.expr_uncompute.proofs.Goes.{goes_addi_word}
-use Rattle.expr_uncompute.proofs.Numbers.{AllWords, words_set}
-use Rattle.expr_uncompute.proofs.Reading.{moved, changed_goes}
-use Rattle.expr_uncompute.proofs.Scratch.{keeping, mem}
+use Rattle.register_expressions.specs.Code.{around, addi, exch, base_of, reach_cells}
+use Rattle.expr_uncompute.specs.Code.{update_cell, number_cell, onward, both_reached}
+use Rattle.register_expressions.specs.Number.{Bases, address_of}
+use Rattle.register_expressions.proofs.Goes.{Goes, goes_seq, goes_cons, goes_to, goes_around, goes_xor, goes_add}
+use Rattle.register_expressions.proofs.Goes.{goes_sub, goes_addi_word}
+use Rattle.register_expressions.proofs.Numbers.{AllWords, words_set}
+use Rattle.register_expressions.proofs.Reading.{moved, changed_goes}
+use Rattle.register_expressions.proofs.Scratch.{keeping, mem}
 use Rattle.expr_uncompute.proofs.Standing.{stands_there, stands_on, onto, there_goes, on_goes, exchanged, amount_out}
 use Rattle.expr_uncompute.proofs.Standing.{content_out}
 

@@ -11,11 +11,11 @@ use Rattle.roopl_semantics.specs.Store.{Value, Word, Nil, Name, State, number_of
 use Rattle.roopl_semantics.specs.Value.{Part, variable_value, read_cell, value, cell_of, element_cell, element_of}
 use Rattle.roopl_semantics.specs.Value.{combined as combined_values}
 use Rattle.refine_form.specs.declared.spot.Spot.{Spot}
-use Rattle.expr_uncompute.specs.Number.{Bases, word_of, number, place_address, element_address, element_at, word_in}
-use Rattle.expr_uncompute.specs.Number.{combined}
+use Rattle.register_expressions.specs.Number.{Bases, word_of, number, place_address, element_address, element_at}
+use Rattle.register_expressions.specs.Number.{word_in, combined}
 use Rattle.expr_uncompute.specs.Means.{is_equation, shown, shown_result, cell_result, AreOperands, words, compared}
 use Rattle.expr_uncompute.specs.Means.{OperandsOf, IsInt, StandsArray, Means, MeansPlace}
-use Rattle.expr_uncompute.proofs.Numbers.{element_nil, element_inside, element_past}
+use Rattle.register_expressions.proofs.Numbers.{element_nil, element_inside, element_past}
 
 same_test : (x y u v : ℕ) → (x ≡ y → u ≡ v) → (u ≡ v → x ≡ y) → nat_eq x y ≡ nat_eq u v
 same_test x y u v f g = ⊎_elim (λ e. let k = f e in grind (arith, nat_tests))

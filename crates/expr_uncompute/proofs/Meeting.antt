@@ -13,9 +13,9 @@ use Rattle.roopl_semantics.specs.Store.{Value, State}
 use Rattle.roopl_semantics.specs.Value.{value}
 use Rattle.roopl_semantics.specs.Execution.{holds}
 use Rattle.refine_form.specs.declared.spot.Spot.{Spot}
-use Rattle.expr_uncompute.specs.Code.{words}
+use Rattle.register_expressions.specs.Code.{words}
 use Rattle.expr_uncompute.specs.Steps.{value_steps, test_steps}
-use Rattle.expr_uncompute.specs.Laws.{bases_of, Ready, Xored, truth_of}
+use Rattle.register_expressions.specs.Laws.{bases_of, Ready, Xored, truth_of}
 use Rattle.expr_uncompute.specs.Promises.{SeesIn, ValueLaw, TestLaw}
 use Rattle.expr_uncompute.specs.Means.{shown, shown_result, IsInt, Means}
 use Rattle.expr_uncompute.proofs.SourceLaws.{source_value, source_test}

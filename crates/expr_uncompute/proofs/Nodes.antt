@@ -10,18 +10,20 @@ use Rattle.rpp_tree.specs.declared.tree.Ident.{Ident}
 use Rattle.rpp_tree.specs.Tree.{Expression, Element, Binary}
 use Rattle.refine_form.specs.declared.spot.Spot.{Spot}
 use Rattle.refine_form.specs.declared.spot.Spot.TheVariants.{Frame}
-use Rattle.expr_uncompute.specs.Code.{words, around, open_cells, store_cells, operator_result}
-use Rattle.expr_uncompute.specs.Number.{Bases, given, word_of, number, element_at, Sees}
-use Rattle.expr_uncompute.specs.Steps.{open_steps, around_steps}
-use Rattle.expr_uncompute.proofs.Goes.{Goes, goes_to, goes_around}
-use Rattle.expr_uncompute.proofs.Scratch.{keeping, mem}
-use Rattle.expr_uncompute.proofs.Operators.{operands, operated_scratch}
-use Rattle.expr_uncompute.proofs.Reading.{store_goes}
-use Rattle.expr_uncompute.proofs.Results.{content_goes}
-use Rattle.expr_uncompute.proofs.Numbers.{Agree, AllWords, number_same, sees_same, words_set}
+use Rattle.register_expressions.specs.Code.{words, around, store_cells, operator_result}
+use Rattle.expr_uncompute.specs.Code.{open_cells}
+use Rattle.register_expressions.specs.Number.{Bases, given, word_of, number, element_at, Sees}
+use Rattle.register_expressions.specs.Steps.{around_steps}
+use Rattle.expr_uncompute.specs.Steps.{open_steps}
+use Rattle.register_expressions.proofs.Goes.{Goes, goes_to, goes_around}
+use Rattle.register_expressions.proofs.Scratch.{keeping, mem}
+use Rattle.register_expressions.proofs.Operators.{operands, operated_scratch}
+use Rattle.register_expressions.proofs.Reading.{store_goes}
+use Rattle.register_expressions.proofs.Results.{content_goes}
+use Rattle.register_expressions.proofs.Numbers.{Agree, AllWords, number_same, sees_same, words_set}
 use Rattle.expr_uncompute.proofs.Stored.{home, Reads, reads_same}
 use Rattle.expr_uncompute.proofs.Opening.{Room, Parted, element_place, opened, open_goes, open_gives, result_has}
-use Rattle.expr_uncompute.proofs.Ways.{ok_is, inside_of, address_of_word}
+use Rattle.register_expressions.proofs.Ways.{ok_is, inside_of, address_of_word}
 use Rattle.code_conventions.specs.declared.registers.TheConstants.{CONTENT, ITEM}
 
 operator_apart : (o : BinOp) → operator_result o ≢ CONTENT

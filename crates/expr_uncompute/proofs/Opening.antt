@@ -7,21 +7,24 @@ use Rattle.paired_code.specs.Machine.{reg}
 use Rattle.roopl_semantics.specs.Operators.{operated}
 use Rattle.refine_form.specs.declared.spot.Spot.{Spot}
 use Rattle.refine_form.specs.declared.spot.Spot.TheVariants.{Frame}
-use Rattle.expr_uncompute.specs.Code.{words, operand_cells, checked_cells}
-use Rattle.expr_uncompute.specs.Code.{open_cells, point_cells, exch, result_of}
-use Rattle.expr_uncompute.specs.Number.{Bases, address_of, given, word_of, number, element_at, IsArray, Sees}
+use Rattle.register_expressions.specs.Code.{words}
+use Rattle.expr_uncompute.specs.Code.{operand_cells, checked_cells}
+use Rattle.register_expressions.specs.Code.{point_cells, exch}
+use Rattle.expr_uncompute.specs.Code.{open_cells, result_of}
+use Rattle.register_expressions.specs.Number.{Bases, address_of, given, word_of, number, element_at, IsArray, Sees}
 use Rattle.expr_uncompute.specs.Steps.{operand_steps, checked_steps, open_steps}
-use Rattle.expr_uncompute.proofs.Goes.{Goes, Traps, nothing, goes_seq, goes_to, goes_set, goes_exch, traps_first}
-use Rattle.expr_uncompute.proofs.Goes.{traps_then, traps_more}
-use Rattle.expr_uncompute.proofs.Scratch.{Scratch, keeping, mem}
-use Rattle.expr_uncompute.proofs.Operators.{operands, operated_scratch, operator_goes, operator_gives, operator_has}
-use Rattle.expr_uncompute.proofs.Reading.{HasResult, in_content, in_item, Takes, left_takes, right_takes, copy_goes}
-use Rattle.expr_uncompute.proofs.Reading.{moved, reach_goes}
-use Rattle.expr_uncompute.proofs.Checks.{nil_goes, nil_traps, index_goes, index_traps, point_goes}
-use Rattle.expr_uncompute.proofs.Numbers.{AllWords, number_word}
+use Rattle.register_expressions.proofs.Goes.{Goes, Traps, nothing, goes_seq, goes_to, goes_set, goes_exch, traps_first}
+use Rattle.register_expressions.proofs.Goes.{traps_then, traps_more}
+use Rattle.register_expressions.proofs.Scratch.{Scratch, keeping, mem}
+use Rattle.register_expressions.proofs.Operators.{operands, operated_scratch, operator_goes, operator_gives}
+use Rattle.register_expressions.proofs.Operators.{operator_has}
+use Rattle.register_expressions.proofs.Reading.{HasResult, in_content, in_item, Takes, left_takes, right_takes}
+use Rattle.register_expressions.proofs.Reading.{copy_goes, moved, reach_goes}
+use Rattle.register_expressions.proofs.Checks.{nil_goes, nil_traps, index_goes, index_traps, point_goes}
+use Rattle.register_expressions.proofs.Numbers.{AllWords, number_word}
 use Rattle.expr_uncompute.proofs.Stored.{home, Reads}
-use Rattle.expr_uncompute.proofs.Ways.{ok_is, both_ok, inside_of, fault_of, address_of_word, fault_of_word, IsFault}
-use Rattle.expr_uncompute.proofs.Ways.{by_index, by_nil, by_end}
+use Rattle.register_expressions.proofs.Ways.{ok_is, both_ok, inside_of, fault_of, address_of_word, fault_of_word}
+use Rattle.register_expressions.proofs.Ways.{IsFault, by_index, by_nil, by_end}
 use Rattle.code_conventions.specs.declared.registers.TheConstants.{LEFT, RIGHT}
 
 module _ (spot : List ℕ → Spot) (free : ℕ) (b : Bases) where
@@ -38,7 +41,7 @@ module _ (spot : List ℕ → Spot) (free : ℕ) (b : Bases) where
       → Goes (operand_cells spot free e i into) (operand_steps e) (mem b f (record s { content = 0 }) zs)
       (mem b f' (record s' { content = 0 }) zs)
   operand_goes {into = into} {v = v} {f = f} {f' = f'} {s = s} {s' = s'} (Number at word) i zs h k r t =
-      subst (λ w. Goes (Rattle.expr_uncompute.specs.Code.xori into w ∷ []) 1
+      subst (λ w. Goes (Rattle.register_expressions.specs.Code.xori into w ∷ []) 1
       (mem b f (record s { content = 0 }) zs) (mem b f' (record s' { content = 0 }) zs))
       (sym r) (t.by_number (subst (λ z. z < 2 ^ 32) r h) zs)
   operand_goes {f = f} {s = s} (Null at) i zs h k r t = goes_to refl refl (t.by_nothing (sym r) zs)
@@ -65,7 +68,7 @@ module _ (spot : List ℕ → Spot) (free : ℕ) (b : Bases) where
         (mem b f (operands m p q x 0) zs)
     index_there = operand_goes index i zs sees room reads (left_takes b f (keeping m p q) x)
 
-    array_there : Goes (Rattle.expr_uncompute.specs.Code.copy_cells (spot name) RIGHT) 5
+    array_there : Goes (Rattle.register_expressions.specs.Code.copy_cells (spot name) RIGHT) 5
         (mem b f (operands m p q x 0) zs) (mem b f (operands m p q x (word_of spot b zs name)) zs)
     array_there = let l = room.fits in copy_goes b zs (spot name) (omega arith) room.small refl
         (right_takes b f (operands m p q x 0) (word_of spot b zs name))
@@ -83,7 +86,7 @@ module _ (spot : List ℕ → Spot) (free : ℕ) (b : Bases) where
         (mem b f (keeping m p q) zs)
     checked_nil e =
         traps_more (omega arith) (traps_then index_there (traps_then array_there
-        (traps_first Rattle.expr_uncompute.specs.Code.index_check (nil_traps m p q b f zs x array_at e))))
+        (traps_first Rattle.register_expressions.specs.Code.index_check (nil_traps m p q b f zs x array_at e))))
 
     pub checked_past : word_of spot b zs name ≢ 0 → slice_index zs (word_of spot b zs name) ≤ x
         → Traps (checked_cells spot free name index i) (checked_steps index) 9 (mem b f (keeping m p q) zs)

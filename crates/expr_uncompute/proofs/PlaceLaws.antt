@@ -11,25 +11,24 @@ use Rattle.paired_code.specs.Layout.{mirror_cells}
 use Rattle.paired_code.specs.declared.part.Symbol.{Symbol}
 use Rattle.refine_form.specs.declared.spot.Spot.{Spot}
 use Rattle.refine_form.specs.declared.spot.Spot.TheVariants.{Field, Frame}
-use Rattle.expr_uncompute.specs.Code.{xor, addi, around, base_of}
-use Rattle.expr_uncompute.specs.Code.{checked_cells, point_cells, open_cells, prepare_cells, fetch_cells, place_words}
-use Rattle.expr_uncompute.specs.Code.{place_cells}
+use Rattle.register_expressions.specs.Code.{xor, addi, around, base_of, point_cells}
+use Rattle.expr_uncompute.specs.Code.{checked_cells, open_cells, prepare_cells, fetch_cells, place_words, place_cells}
 use Rattle.expr_uncompute.specs.Code.{result_of}
 use Rattle.code_scope.specs.Visible.{offset_of}
-use Rattle.expr_uncompute.specs.Number.{Bases, address_of, given, word_of, number, place_address, read_of, Sees}
+use Rattle.register_expressions.specs.Number.{Bases, address_of, given, word_of, number, place_address, read_of, Sees}
 use Rattle.expr_uncompute.specs.Steps.{checked_steps, open_steps, prepare_steps, fetch_steps, place_steps}
-use Rattle.expr_uncompute.proofs.Goes.{Goes, Traps, goes_seq, goes_cons, goes_to, goes_around, goes_set, goes_addi}
-use Rattle.expr_uncompute.proofs.Goes.{traps_first, traps_then, traps_more}
-use Rattle.expr_uncompute.proofs.Scratch.{keeping, mem}
-use Rattle.expr_uncompute.proofs.Operators.{operands}
-use Rattle.expr_uncompute.proofs.Results.{amount_goes}
-use Rattle.expr_uncompute.proofs.Numbers.{Agree, AllWords, number_same, sees_same}
+use Rattle.register_expressions.proofs.Goes.{Goes, Traps, goes_seq, goes_cons, goes_to, goes_around, goes_set}
+use Rattle.register_expressions.proofs.Goes.{goes_addi, traps_first, traps_then, traps_more}
+use Rattle.register_expressions.proofs.Scratch.{keeping, mem}
+use Rattle.register_expressions.proofs.Operators.{operands}
+use Rattle.register_expressions.proofs.Results.{amount_goes}
+use Rattle.register_expressions.proofs.Numbers.{Agree, AllWords, number_same, sees_same}
 use Rattle.expr_uncompute.proofs.Stored.{home, stored, parted, Reads, stored_length, stored_below, stored_reads}
 use Rattle.expr_uncompute.proofs.Opening.{Room, based, emptied, opened, open_goes, open_gives, result_has, checked_goes}
 use Rattle.expr_uncompute.proofs.Opening.{checked_nil, checked_past, pointed_goes}
 use Rattle.expr_uncompute.proofs.Prepare.{Fit, stored_words, parts_done, parted_sees, parted_number, parted_room}
 use Rattle.expr_uncompute.proofs.Prepare.{parts_goes, prepare_goes, prepare_traps, node_fault, fault_then}
-use Rattle.expr_uncompute.proofs.Ways.{ok_is, IsInside, inside_of, IsFault, by_index, by_nil, by_end, fault_of}
+use Rattle.register_expressions.proofs.Ways.{ok_is, IsInside, inside_of, IsFault, by_index, by_nil, by_end, fault_of}
 
 module _ (spot : List ℕ → Spot) (free : ℕ) (b : Bases) where
   abbrev low : ℕ

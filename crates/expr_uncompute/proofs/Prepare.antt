@@ -11,18 +11,21 @@ use Rattle.paired_code.specs.Layout.{mirror_cells}
 use Rattle.paired_code.specs.declared.part.Symbol.{Symbol}
 use Rattle.refine_form.specs.declared.spot.Spot.{Spot}
 use Rattle.refine_form.specs.declared.spot.Spot.TheVariants.{Frame}
-use Rattle.expr_uncompute.specs.Code.{words, point_cells, exch, open_cells, store_cells}
-use Rattle.expr_uncompute.specs.Code.{prepare_cells, parts_cells, operator_result}
-use Rattle.expr_uncompute.specs.Number.{Bases, given, word_of, number, element_at, word_in, Sees}
+use Rattle.register_expressions.specs.Code.{words, point_cells, exch, store_cells}
+use Rattle.expr_uncompute.specs.Code.{open_cells}
+use Rattle.register_expressions.specs.Code.{operator_result}
+use Rattle.expr_uncompute.specs.Code.{prepare_cells, parts_cells}
+use Rattle.register_expressions.specs.Number.{Bases, given, word_of, number, element_at, word_in, Sees}
 use Rattle.expr_uncompute.specs.Steps.{open_steps, prepare_steps, parts_steps}
-use Rattle.expr_uncompute.proofs.Goes.{Goes, Traps, nothing, goes_seq, goes_to, traps_first, traps_then, traps_more}
-use Rattle.expr_uncompute.proofs.Scratch.{keeping, mem}
-use Rattle.expr_uncompute.proofs.Numbers.{Agree, AllWords, number_same, sees_same, number_word, words_set}
+use Rattle.register_expressions.proofs.Goes.{Goes, Traps, nothing, goes_seq, goes_to, traps_first, traps_then}
+use Rattle.register_expressions.proofs.Goes.{traps_more}
+use Rattle.register_expressions.proofs.Scratch.{keeping, mem}
+use Rattle.register_expressions.proofs.Numbers.{Agree, AllWords, number_same, sees_same, number_word, words_set}
 use Rattle.expr_uncompute.proofs.Stored.{home, stored, parted, Reads, stored_length, stored_other, stored_below}
 use Rattle.expr_uncompute.proofs.Stored.{stored_reads, reads_same}
 use Rattle.expr_uncompute.proofs.Opening.{Room, Parted, open_traps}
 use Rattle.expr_uncompute.proofs.Nodes.{binary_node, element_node}
-use Rattle.expr_uncompute.proofs.Ways.{err_is, both_ok, one_err, inside_of, address_of_word}
+use Rattle.register_expressions.proofs.Ways.{err_is, both_ok, one_err, inside_of, address_of_word}
 
 module _ (spot : List ℕ → Spot) (free : ℕ) (b : Bases) where
   abbrev low : ℕ

@@ -8,7 +8,7 @@ use Rattle.roopl_semantics.specs.Store.{State}
 use Rattle.roopl_semantics.specs.Value.{variable_value}
 use Rattle.roopl_semantics.specs.Elements.{elements, index_elements, own_element, same_array, is_among, share_array}
 use Rattle.refine_form.specs.declared.spot.Spot.{Spot}
-use Rattle.expr_uncompute.specs.Number.{Bases, index_of, reads_array, shares, update_shares, swap_shares}
+use Rattle.register_expressions.specs.Number.{Bases, index_of, reads_array, shares, update_shares, swap_shares}
 use Rattle.expr_uncompute.specs.Means.{shown, Means, MeansPlace, TellsArrays, TellsShares}
 
 or_false : (x : Bool) → (x || false) ≡ x

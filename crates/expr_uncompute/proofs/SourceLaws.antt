@@ -12,13 +12,15 @@ use Rattle.roopl_semantics.specs.Operators.{updated}
 use Rattle.roopl_semantics.specs.Store.{Value, State, number_of}
 use Rattle.roopl_semantics.specs.Value.{Cell, read, value, cell_of}
 use Rattle.refine_form.specs.declared.spot.Spot.{Spot}
-use Rattle.expr_uncompute.specs.Code.{words, place_words}
+use Rattle.register_expressions.specs.Code.{words}
+use Rattle.expr_uncompute.specs.Code.{place_words}
 use Rattle.roopl_semantics.specs.Elements.{shared_array_fault}
-use Rattle.expr_uncompute.specs.Number.{Bases, number, read_of, index_of, place_address, update_shares, swap_shares}
-use Rattle.expr_uncompute.specs.Number.{Sees, Same, SamePlace}
+use Rattle.register_expressions.specs.Number.{Bases, number, read_of, index_of, place_address, update_shares}
+use Rattle.register_expressions.specs.Number.{swap_shares, Sees, Same, SamePlace}
 use Rattle.expr_uncompute.specs.Steps.{value_steps, test_steps, place_steps, fetch_steps, apart_steps, both_apart_steps}
 use Rattle.expr_uncompute.specs.Steps.{update_steps, swap_steps}
-use Rattle.expr_uncompute.specs.Laws.{bases_of, Ready, Xored, truth_of, turned, updated_at, swapped_at, Stays, BothStay}
+use Rattle.register_expressions.specs.Laws.{bases_of, Ready, Xored, truth_of}
+use Rattle.expr_uncompute.specs.Laws.{turned, updated_at, swapped_at, Stays, BothStay}
 use Rattle.expr_uncompute.specs.Promises.{free_at, SeesIn, ValueLaw, TestLaw, UpdateLaw, SwapLaw, CanRun, IsTrap}
 use Rattle.expr_uncompute.specs.Means.{shown, shown_result, cell_address, cell_result, Means, MeansPlace, SameValues}
 use Rattle.expr_uncompute.specs.Means.{SameCells}

@@ -8,11 +8,12 @@ use Rattle.code_conventions.specs.declared.registers.TheConstants.{AMOUNT, CONTE
 use Rattle.refine_form.specs.declared.spot.Spot.{Spot}
 use Rattle.refine_form.specs.declared.spot.Spot.TheVariants.{Field, Frame}
 use Rattle.code_scope.specs.Visible.{offset_of}
-use Rattle.expr_uncompute.specs.Code.{addi, exch, base_of, onward}
-use Rattle.expr_uncompute.specs.Number.{Bases, address_of}
-use Rattle.expr_uncompute.proofs.Goes.{Goes, goes_to, goes_addi, goes_addi_word, goes_exch}
-use Rattle.expr_uncompute.proofs.Reading.{moved}
-use Rattle.expr_uncompute.proofs.Scratch.{Scratch, keeping, mem}
+use Rattle.register_expressions.specs.Code.{addi, exch, base_of}
+use Rattle.expr_uncompute.specs.Code.{onward}
+use Rattle.register_expressions.specs.Number.{Bases, address_of}
+use Rattle.register_expressions.proofs.Goes.{Goes, goes_to, goes_addi, goes_addi_word, goes_exch}
+use Rattle.register_expressions.proofs.Reading.{moved}
+use Rattle.register_expressions.proofs.Scratch.{Scratch, keeping, mem}
 
 -- where the base of a spot stands
 abbrev pub stand : Bases → Spot → ℕ

@@ -19,11 +19,13 @@ use Rattle.roopl_semantics.specs.Elements.{shared_array_fault}
 use Rattle.roopl_semantics.specs.Execution.{Setting, Runner, statement}
 use Rattle.refine_form.specs.declared.spot.Spot.{Spot}
 use Rattle.refine_form.specs.Form.{told, turned as facing}
-use Rattle.expr_uncompute.specs.Code.{words, place_words}
-use Rattle.expr_uncompute.specs.Number.{read_of, index_of}
+use Rattle.register_expressions.specs.Code.{words}
+use Rattle.expr_uncompute.specs.Code.{place_words}
+use Rattle.register_expressions.specs.Number.{read_of, index_of}
 use Rattle.expr_uncompute.specs.Steps.{place_steps, fetch_steps, apart_steps, both_apart_steps, update_steps}
 use Rattle.expr_uncompute.specs.Steps.{swap_steps}
-use Rattle.expr_uncompute.specs.Laws.{bases_of, turned, swapped_at}
+use Rattle.register_expressions.specs.Laws.{bases_of}
+use Rattle.expr_uncompute.specs.Laws.{turned, swapped_at}
 use Rattle.expr_uncompute.specs.Promises.{UpdateLaw, SwapLaw, CanRun}
 use Rattle.expr_uncompute.specs.Means.{shown, cell_address, Means, MeansPlace, TellsShares}
 use Rattle.expr_uncompute.proofs.Sharing.{update_shares_is, swap_shares_is}

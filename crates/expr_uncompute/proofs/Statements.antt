@@ -16,15 +16,17 @@ use Rattle.paired_code.specs.Pieces.{Done, Trapped, Runs}
 use Rattle.paired_code.specs.declared.part.Symbol.{Symbol}
 use Rattle.roopl_semantics.specs.Operators.{updated}
 use Rattle.refine_form.specs.declared.spot.Spot.{Spot}
-use Rattle.expr_uncompute.specs.Code.{words, place_words, update_cells, swap_cells}
-use Rattle.expr_uncompute.specs.Number.{Bases, number, read_of, index_of, place_address, update_shares, swap_shares}
-use Rattle.expr_uncompute.specs.Number.{Sees, SamePlace}
+use Rattle.register_expressions.specs.Code.{words}
+use Rattle.expr_uncompute.specs.Code.{place_words, update_cells, swap_cells}
+use Rattle.register_expressions.specs.Number.{Bases, number, read_of, index_of, place_address, update_shares}
+use Rattle.register_expressions.specs.Number.{swap_shares, Sees, SamePlace}
 use Rattle.expr_uncompute.specs.Steps.{place_steps, fetch_steps, apart_steps, both_apart_steps, update_steps}
 use Rattle.expr_uncompute.specs.Steps.{swap_steps}
-use Rattle.expr_uncompute.specs.Laws.{bases_of, Ready, turned, updated_at, swapped_at, Stays, BothStay}
-use Rattle.expr_uncompute.proofs.Goes.{TrapsBoth}
-use Rattle.expr_uncompute.proofs.Scratch.{keeping, mem}
-use Rattle.expr_uncompute.proofs.Numbers.{words_set, number_word}
+use Rattle.register_expressions.specs.Laws.{bases_of, Ready}
+use Rattle.expr_uncompute.specs.Laws.{turned, updated_at, swapped_at, Stays, BothStay}
+use Rattle.register_expressions.proofs.Goes.{TrapsBoth}
+use Rattle.register_expressions.proofs.Scratch.{keeping, mem}
+use Rattle.register_expressions.proofs.Numbers.{words_set, number_word}
 use Rattle.expr_uncompute.proofs.Stored.{same_number}
 use Rattle.expr_uncompute.proofs.Whole.{as_mem}
 use Rattle.expr_uncompute.proofs.Written.{FitFrom, same_turned, place_turned}

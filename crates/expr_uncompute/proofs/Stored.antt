@@ -6,9 +6,9 @@ use Rattle.std.proofs.lemmas.List.{get_or-set_same, get_or-set_other}
 use Rattle.rpp_tree.specs.Tree.{Expression, Number, Null, Variable, Element, Binary}
 use Rattle.refine_form.specs.declared.spot.Spot.{Spot}
 use Rattle.refine_form.specs.declared.spot.Spot.TheVariants.{Frame}
-use Rattle.expr_uncompute.specs.Code.{words}
-use Rattle.expr_uncompute.specs.Number.{Bases, address_of, given, word_of, number, Sees, Same}
-use Rattle.expr_uncompute.proofs.Numbers.{Agree, number_same, sees_same}
+use Rattle.register_expressions.specs.Code.{words}
+use Rattle.register_expressions.specs.Number.{Bases, address_of, given, word_of, number, Sees, Same}
+use Rattle.register_expressions.proofs.Numbers.{Agree, number_same, sees_same}
 
 module _ (spot : List ℕ → Spot) (free : ℕ) (b : Bases) where
   -- the address of a word of the frame

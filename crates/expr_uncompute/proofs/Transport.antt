@@ -12,9 +12,11 @@ use Rattle.roopl_semantics.specs.Value.{Cell, Slot, Part, cell_named, variable_v
 use Rattle.roopl_semantics.specs.Elements.{elements, index_elements, own_element, share_array}
 use Rattle.roopl_semantics.specs.Execution.{Setting}
 use Rattle.refine_form.specs.declared.spot.Spot.{Spot}
-use Rattle.expr_uncompute.specs.Code.{words, place_words}
-use Rattle.expr_uncompute.specs.Number.{Bases, read_of, index_of}
-use Rattle.expr_uncompute.specs.Laws.{bases_of, swapped_at}
+use Rattle.register_expressions.specs.Code.{words}
+use Rattle.expr_uncompute.specs.Code.{place_words}
+use Rattle.register_expressions.specs.Number.{Bases, read_of, index_of}
+use Rattle.register_expressions.specs.Laws.{bases_of}
+use Rattle.expr_uncompute.specs.Laws.{swapped_at}
 use Rattle.expr_uncompute.specs.Promises.{CanRun}
 use Rattle.expr_uncompute.specs.Means.{shown, cell_address, AreOperands, words as both_words, compared, OperandsOf}
 use Rattle.expr_uncompute.specs.Means.{IsInt, StandsArray, Means, MeansPlace, TellsShares, SameValues, SameCells}

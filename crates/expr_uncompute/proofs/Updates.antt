@@ -13,50 +13,49 @@ use Rattle.code_conventions.specs.declared.registers.TheConstants.{RIGHT, SECOND
 use Rattle.paired_code.specs.declared.part.Symbol.{Symbol}
 use Rattle.roopl_semantics.specs.Operators.{updated}
 use Rattle.refine_form.specs.declared.spot.Spot.{Spot}
-use Rattle.expr_uncompute.specs.Code.{around, words, exch}
+use Rattle.register_expressions.specs.Code.{around, words, exch}
 use Rattle.expr_uncompute.specs.Code.{update_cell, place_words, place_cells, fetch_cells, apart_cells, both_apart_cells}
 use Rattle.expr_uncompute.specs.Code.{update_middle, four_exchanges, swap_middle, found_update_cells, update_cells}
-use Rattle.expr_uncompute.specs.Code.{found_swap_cells, swap_cells, held_cells}
-use Rattle.expr_uncompute.specs.Code.{held_update_cells, operated_update_cells}
-use Rattle.expr_uncompute.specs.Code.{near_place_cells, near_middle, near_update_cells, item_update_cells}
-use Rattle.expr_uncompute.specs.Code.{near_swap_cells, base_of, addi}
+use Rattle.expr_uncompute.specs.Code.{found_swap_cells, swap_cells, held_update_cells, operated_update_cells}
+use Rattle.expr_uncompute.specs.Code.{near_place_cells, near_update_cells, item_update_cells}
+use Rattle.register_expressions.specs.Code.{base_of, addi}
+use Rattle.expr_uncompute.specs.Code.{near_swap_cells}
 use Rattle.code_scope.specs.Visible.{offset_of}
-use Rattle.expr_uncompute.specs.Held.{need, has_element, is_opened_once, is_near, is_near_index}
-use Rattle.expr_uncompute.specs.Number.{Bases, address_of, number, word_of, element_at, read_of, index_of}
-use Rattle.expr_uncompute.specs.Number.{place_address, reads_array, update_shares, swap_shares, Sees, Same, SamePlace}
+use Rattle.register_expressions.specs.Held.{need, has_element, is_opened_once, is_near, is_near_index}
+use Rattle.register_expressions.specs.Number.{Bases, address_of, number, word_of, element_at, read_of, index_of}
+use Rattle.register_expressions.specs.Number.{place_address, reads_array, update_shares, swap_shares, Sees, Same}
+use Rattle.register_expressions.specs.Number.{SamePlace}
 use Rattle.expr_uncompute.specs.Laws.{swapped_at}
 use Rattle.expr_uncompute.specs.Steps.{place_steps, fetch_steps, apart_steps, both_apart_steps, update_steps}
-use Rattle.expr_uncompute.specs.Steps.{found_update_steps, found_swap_steps, swap_steps, around_steps, held_steps}
-use Rattle.expr_uncompute.specs.Steps.{operated_update_steps, prepare_steps, checked_steps, near_update_steps}
-use Rattle.expr_uncompute.specs.Steps.{item_update_steps, near_swap_steps}
-use Rattle.expr_uncompute.proofs.HeldBounds.{neither_left, neither_right, once_few, near_few, near_index_few}
-use Rattle.expr_uncompute.proofs.HeldUpdates.{held_update_goes, near_update_goes}
-use Rattle.expr_uncompute.proofs.Opened.{is_number}
-use Rattle.expr_uncompute.proofs.Goes.{Goes, Traps, TrapsBoth, goes_seq, goes_cons, goes_to, goes_around, goes_xor}
-use Rattle.expr_uncompute.proofs.Goes.{goes_add, goes_sub, goes_exch, traps_first, traps_then, traps_more, traps_around}
-use Rattle.expr_uncompute.proofs.Goes.{both_more}
-use Rattle.expr_uncompute.proofs.Reading.{moved}
+use Rattle.register_expressions.specs.Steps.{around_steps, held_steps}
+use Rattle.expr_uncompute.specs.Steps.{found_update_steps, found_swap_steps, swap_steps, operated_update_steps}
+use Rattle.expr_uncompute.specs.Steps.{near_update_steps, item_update_steps, near_swap_steps}
+use Rattle.register_expressions.proofs.HeldBounds.{need_least, neither_left, neither_right, once_few, near_few}
+use Rattle.register_expressions.proofs.HeldBounds.{near_index_few}
+use Rattle.expr_uncompute.proofs.HeldUpdates.{no_fault, held_update_goes, near_update_goes, near_update_traps}
+use Rattle.expr_uncompute.proofs.HeldUpdates.{held_prepared}
+use Rattle.register_expressions.proofs.Opened.{is_number}
+use Rattle.register_expressions.proofs.Goes.{Goes, Traps, TrapsBoth, goes_seq, goes_cons, goes_to, goes_around}
+use Rattle.register_expressions.proofs.Goes.{goes_xor, goes_add, goes_sub, goes_exch, traps_first, traps_then}
+use Rattle.register_expressions.proofs.Goes.{traps_more, traps_around, both_more}
+use Rattle.register_expressions.proofs.Reading.{moved}
 use Rattle.expr_uncompute.proofs.Standing.{there_goes}
-use Rattle.expr_uncompute.proofs.Scratch.{keeping, mem}
-use Rattle.expr_uncompute.proofs.Numbers.{Agree, AllWords, number_same, number_word, element_address_same, sees_same}
-use Rattle.expr_uncompute.proofs.Stored.{stored, stored_length, stored_below, same_number, same_lifted}
+use Rattle.register_expressions.proofs.Scratch.{keeping, mem}
+use Rattle.register_expressions.proofs.Numbers.{Agree, AllWords, number_same, number_word, element_address_same}
+use Rattle.register_expressions.proofs.Numbers.{sees_same}
+use Rattle.expr_uncompute.proofs.Stored.{stored, stored_length, stored_below, same_number}
 use Rattle.expr_uncompute.proofs.KeptApart.{shares_same, index_seen, swap_shares_same, apart_goes, apart_traps}
 use Rattle.expr_uncompute.proofs.KeptApart.{both_apart_go, both_apart_traps}
 use Rattle.expr_uncompute.proofs.Leaves.{number_goes, variable_goes}
 use Rattle.expr_uncompute.proofs.Exchanged.{four_swap, spots_go, variable_first, variable_second}
-use Rattle.expr_uncompute.proofs.Operators.{operands}
-use Rattle.expr_uncompute.proofs.Ways.{ok_is, inside_of}
+use Rattle.register_expressions.proofs.Operators.{operands}
+use Rattle.register_expressions.proofs.Ways.{ok_is, inside_of}
 use Rattle.expr_uncompute.proofs.Prepare.{PartsDone, stored_words, parts_done}
 use Rattle.expr_uncompute.proofs.PlaceLaws.{FitPlace, placed, near_goes, near_traps, place_points, other_points}
-use Rattle.expr_uncompute.proofs.PlaceLaws.{place_goes}
-use Rattle.expr_uncompute.proofs.PlaceLaws.{place_traps, fetch_goes, fetch_traps}
+use Rattle.expr_uncompute.proofs.PlaceLaws.{place_goes, place_traps, fetch_goes, fetch_traps}
 use Rattle.expr_uncompute.proofs.Written.{FitFrom, place_fits, value_fits, other_fits, placed_below, placed_length}
 use Rattle.expr_uncompute.proofs.Written.{placed_words, placed_written, filled, filled_written, both_placed}
-use Rattle.expr_uncompute.proofs.Written.{both_written, write_one}
-use Rattle.expr_uncompute.proofs.Written.{write_two}
-
-no_fault : {v c : ℕ} → Ok v ≡ Err c → ⊥
-no_fault e = cc
+use Rattle.expr_uncompute.proofs.Written.{both_written, write_one, write_two}
 
 no_truth : false ≡ true → ⊥
 no_truth e = cc
@@ -166,7 +165,7 @@ module _ (spot : List ℕ → Spot) (free : ℕ) (b : Bases) where
         let fits = h.fits in
         let small = h.small in
         let i = index_seen spot b low target zs h.sees in
-        apart_goes spot b low f v a 0 ys k.all (let c = k.count in omega arith) (let c = k.count in omega arith) target
+        apart_goes spot b low f v a 0 ys (let c = k.count in omega arith) (let c = k.count in omega arith) target
         (index_of target) e (sees_same spot b low zs ys k.below (read_of target) h.sees)
         (sees_same spot b low zs ys k.below (index_of target) i) (sees_same spot b low zs ys k.below e s)
         (shares_same spot b low zs ys k.below target (index_of target) e h.sees i s ∙ apart)
@@ -182,7 +181,7 @@ module _ (spot : List ℕ → Spot) (free : ℕ) (b : Bases) where
         let fits = h.fits in
         let small = h.small in
         let i = index_seen spot b low target zs h.sees in
-        apart_traps spot b low f v a 0 ys k.all (let c = k.count in omega arith) (let c = k.count in omega arith) target
+        apart_traps spot b low f v a 0 ys (let c = k.count in omega arith) (let c = k.count in omega arith) target
         (index_of target) e (sees_same spot b low zs ys k.below (read_of target) h.sees)
         (sees_same spot b low zs ys k.below (index_of target) i) (sees_same spot b low zs ys k.below e s)
         (shares_same spot b low zs ys k.below target (index_of target) e h.sees i s ∙ shared)
@@ -306,46 +305,23 @@ module _ (spot : List ℕ → Spot) (free : ℕ) (b : Bases) where
             (if t then around_steps (held_steps e) 5 else found_update_steps (Whole name) e)
         by false q = found_update_goes (Whole name) e
         by true t = λ zs zs' a v h h' s s' na na' nv nv' sp sv apart apart' q.
-            let l = h.sees in
+            let al : a < low = place_low (Whole name) a zs h.sees na in
             let fits = h.fits in
-            let made = q ∙ ap (λ i. slice_set zs i (updated op (slice_index zs i) v)) (sym (ok_is na)) in
             let few = once_few e t in
-            held_update_goes b f spot low op e zs zs' v few.1 h.all h.small (omega arith) s sv nv (spot name.text)
-            few.0 (omega arith) made
+            held_update_goes b f spot low op e zs zs' a v few.1 h.all h.small (omega arith) (omega arith) s sv nv q
+            (spot name.text) few.0 (ok_is na)
 
-    by_near : (name : Ident) (index e : Expression) → need e < 6 → has_element e ≡ false
-        → Updates (Item name index) e (near_update_cells spot free op name.text index e) (near_update_steps index e)
-    by_near name index e few plain zs zs' a v h h' s s' na na' nv nv' sp sv apart apart' q =
-        let target : Lvalue = Item name index in
-        let al : a < low = place_low target a zs h.sees na in
+    by_near : (name : Ident) (index e : Expression) → 2 + need index + need e < 10 → has_element e ≡ false
+        → has_element index ≡ false
+        → Updates (Item name index) e (near_update_cells spot op name.text index e) (near_update_steps index e)
+    by_near name index e few plain bare zs zs' a v h h' s s' na na' nv nv' sp sv apart apart' q =
+        let al : a < low = place_low (Item name index) a zs h.sees na in
         let n = inside_of zs (word_of spot b zs name.text) (number spot b zs index) a na in
         let n' = inside_of zs' (word_of spot b zs' name.text) (number spot b zs' index) a na' in
-        let ys : List ℕ = stored spot free b index 0 zs in
-        let ys' : List ℕ = stored spot free b index 0 zs' in
-        let fit = place_fits spot free b target (words e) zs h in
-        let fit' = place_fits spot free b target (words e) zs' h' in
-        let below = placed_below spot free b target zs in
-        let below' = placed_below spot free b target zs' in
-        let count : length ys ≡ length zs = placed_length spot free b target zs in
         let fits = h.fits in
-        let small = h.small in
         let same_x : n'.x ≡ n.x = ok_is (sym n'.index ∙ same_number spot free b index zs zs' sp.1 ∙ n.index) in
-        let y : ℕ = updated op (slice_index zs a) v in
-        let over : ys' ≡ slice_set ys a y = ap (placed spot free b target 0) q
-        ∙ placed_written spot free b (λ z. slice_set z a y) (write_one spot free b a y al) target zs h.sees
-        (subst (λ z. Sees spot b low z (read_of target)) q h'.sees)
-        (subst (λ z. SamePlace spot b zs z target) q sp) in
-        near_update_goes b f spot low op e ys ys' v plain (placed_words spot free b target zs h.all h.sees)
-        (omega arith)
-        (omega arith) (sees_same spot b low zs ys below e s)
-        (same_lifted spot free b e zs zs' ys ys' below below' s s' sv)
-        (number_same spot b low zs ys below e s ∙ nv) (near_place_cells spot free name.text index)
-        (prepare_steps index + (checked_steps index + 2)) n.x a (mem b f (keeping 0 0 0) zs)
-        (mem b f (keeping 0 0 0) zs') few (omega arith)
-        (over ∙ ap (λ w. slice_set ys a (updated op w v)) (sym (below a al)))
-        (near_goes spot free b f 0 0 0 0 zs name index fit a n)
-        (goes_to refl refl (ap (λ x. mem b f (operands 0 0 0 x a) ys') same_x)
-        (near_goes spot free b f 0 0 0 0 zs' name index fit' a n'))
+        near_update_goes b f spot low op e zs zs' a v plain h.all h.small (omega arith) (omega arith) s sv nv q name
+        index few bare h.sees h'.sees sp.1 n n' same_x
 
     by_item : (name : Ident) (index e : Expression)
         → Updates (Item name index) e (item_update_cells spot free op name index e)
@@ -353,10 +329,10 @@ module _ (spot : List ℕ → Spot) (free : ℕ) (b : Bases) where
     by_item name index e = by (is_near index e) refl
       where
         by : (t : Bool) → is_near index e ≡ t
-            → Updates (Item name index) e (if t then near_update_cells spot free op name.text index e
+            → Updates (Item name index) e (if t then near_update_cells spot op name.text index e
             else found_update_cells spot free op (Item name index) e)
             (if t then near_update_steps index e else found_update_steps (Item name index) e)
-        by true q = let few = near_few index e q in by_near name index e few.0 few.1
+        by true q = let few = near_few index e q in by_near name index e few.0 few.1 few.2
         by false q = found_update_goes (Item name index) e
 
     pub update_goes : (target : Lvalue) (e : Expression)
@@ -373,15 +349,21 @@ module _ (spot : List ℕ → Spot) (free : ℕ) (b : Bases) where
         → FitFrom spot free b target (words e) zs → place_address spot b zs target ≡ Err c
         → TrapsBoth (update_cells spot free op target e) (place_steps target) c (mem b f (keeping 0 0 0) zs)
     update_traps_place (Whole name) e zs c h n = absurd (cc)
-    update_traps_place (Item name index) e zs c h n = by (is_near index e)
+    update_traps_place (Item name index) e zs c h n = by (is_near index e) refl
       where
-        by : (t : Bool) → TrapsBoth (if t then near_update_cells spot free op name.text index e
+        by : (t : Bool) → is_near index e ≡ t
+            → TrapsBoth (if t then near_update_cells spot op name.text index e
             else found_update_cells spot free op (Item name index) e) (place_steps (Item name index)) c
             (mem b f (keeping 0 0 0) zs)
-        by true = traps_around (near_middle op) (traps_first (held_cells spot e 4) (traps_more (omega arith)
-            (near_traps spot free b f 0 0 0 name index 0 c zs (place_fits spot free b (Item name index) (words e) zs h)
-            n)))
-        by false = found_traps_place f (Item name index) e (apart_cells spot (Item name index) index e)
+        by true q =
+            let few = near_few index e q in
+            let least = need_least e in
+            let fits = h.fits in
+            let room = few.0 in
+            let less = held_prepared index in
+            both_more (omega arith) (near_update_traps b f spot low op e zs h.all h.small (omega arith) name index
+            (omega arith) few.2 h.sees c n)
+        by false q = found_traps_place f (Item name index) e (apart_cells spot (Item name index) index e)
             (update_middle op) zs c h n
 
     pub update_traps_value : (target : Lvalue) (e : Expression) (zs : List ℕ) (a c : ℕ)
@@ -405,7 +387,7 @@ module _ (spot : List ℕ → Spot) (free : ℕ) (b : Bases) where
         by e true q h s n = let few = once_few e q in absurd (no_fault (sym (is_number spot b zs e few.1) ∙ n))
     update_traps_value (Item name index) e zs a c h s na n = by (is_near index e) refl
       where
-        by : (t : Bool) → is_near index e ≡ t → TrapsBoth (if t then near_update_cells spot free op name.text index e
+        by : (t : Bool) → is_near index e ≡ t → TrapsBoth (if t then near_update_cells spot op name.text index e
             else found_update_cells spot free op (Item name index) e) (place_steps (Item name index) + fetch_steps e) c
             (mem b f (keeping 0 0 0) zs)
         by true q =
@@ -422,7 +404,7 @@ module _ (spot : List ℕ → Spot) (free : ℕ) (b : Bases) where
     update_traps_sharing (Whole name) e zs a v h s na nv shared = absurd (cc)
     update_traps_sharing (Item name index) e zs a v h s na nv shared = by (is_near index e) refl
       where
-        by : (t : Bool) → is_near index e ≡ t → TrapsBoth (if t then near_update_cells spot free op name.text index e
+        by : (t : Bool) → is_near index e ≡ t → TrapsBoth (if t then near_update_cells spot op name.text index e
             else found_update_cells spot free op (Item name index) e)
             (place_steps (Item name index) + fetch_steps e + apart_steps (Item name index) index e) 16
             (mem b f (keeping 0 0 0) zs)
@@ -499,7 +481,7 @@ module _ (spot : List ℕ → Spot) (free : ℕ) (b : Bases) where
         let k = placed_is zs h s in
         let fits = h.fits in
         let small = h.small in
-        both_apart_go spot b low f 0 p q ys k.all (let c = k.count in omega arith) (let c = k.count in omega arith)
+        both_apart_go spot b low f 0 p q ys (let c = k.count in omega arith) (let c = k.count in omega arith)
         target other (sees_same spot b low zs ys k.below (read_of target) h.sees)
         (sees_same spot b low zs ys k.below (read_of other) s)
         (swap_shares_same spot b low zs ys k.below target other h.sees s ∙ apart)
@@ -513,7 +495,7 @@ module _ (spot : List ℕ → Spot) (free : ℕ) (b : Bases) where
         let k = placed_is zs h s in
         let fits = h.fits in
         let small = h.small in
-        both_apart_traps spot b low f 0 p q ys k.all (let c = k.count in omega arith) (let c = k.count in omega arith)
+        both_apart_traps spot b low f 0 p q ys (let c = k.count in omega arith) (let c = k.count in omega arith)
         target other (sees_same spot b low zs ys k.below (read_of target) h.sees)
         (sees_same spot b low zs ys k.below (read_of other) s)
         (swap_shares_same spot b low zs ys k.below target other h.sees s ∙ shared)

@@ -9,17 +9,18 @@ use Rattle.paired_code.specs.Machine.{reg}
 use Rattle.paired_code.specs.declared.part.Symbol.{Symbol}
 use Rattle.roopl_semantics.specs.Operators.{is_true, truth_word}
 use Rattle.refine_form.specs.declared.spot.Spot.{Spot}
-use Rattle.expr_uncompute.specs.Code.{around, xor, truth_cells, open_cells, parts_cells, result_of}
-use Rattle.expr_uncompute.specs.Code.{operator_result}
-use Rattle.expr_uncompute.specs.Number.{Bases, number}
+use Rattle.register_expressions.specs.Code.{around, xor, truth_cells}
+use Rattle.expr_uncompute.specs.Code.{open_cells, parts_cells, result_of}
+use Rattle.register_expressions.specs.Code.{operator_result}
+use Rattle.register_expressions.specs.Number.{Bases, number}
 use Rattle.expr_uncompute.specs.Steps.{open_steps, parts_steps, prepared_value_steps, prepared_test_steps}
-use Rattle.expr_uncompute.proofs.Goes.{Goes, goes_seq, goes_to, goes_around, traps_first, TrapsBoth, traps_around}
-use Rattle.expr_uncompute.proofs.Goes.{traps_inside, both_more}
-use Rattle.expr_uncompute.proofs.Scratch.{Scratch, keeping, mem}
-use Rattle.expr_uncompute.proofs.Reading.{in_truth}
-use Rattle.expr_uncompute.proofs.Results.{IsTarget, at0, at1, at11, at12, at13, at14, at15, at25, at26, at27, at28}
-use Rattle.expr_uncompute.proofs.Results.{at29, at30, at31, written, into_goes, truth_goes}
-use Rattle.expr_uncompute.proofs.Numbers.{number_word}
+use Rattle.register_expressions.proofs.Goes.{Goes, goes_seq, goes_to, goes_around, traps_first, TrapsBoth, traps_around}
+use Rattle.register_expressions.proofs.Goes.{traps_inside, both_more}
+use Rattle.register_expressions.proofs.Scratch.{Scratch, keeping, mem}
+use Rattle.register_expressions.proofs.Reading.{in_truth}
+use Rattle.register_expressions.proofs.Results.{IsTarget, at0, at1, at11, at12, at13, at14, at15, at25, at26, at27}
+use Rattle.register_expressions.proofs.Results.{at28, at29, at30, at31, written, into_goes, truth_goes}
+use Rattle.register_expressions.proofs.Numbers.{number_word}
 use Rattle.expr_uncompute.proofs.Stored.{parted}
 use Rattle.expr_uncompute.proofs.Opening.{based, emptied, opened, open_goes, open_gives, result_has}
 use Rattle.expr_uncompute.proofs.Prepare.{Fit, parts_done, parted_sees, parted_number, parted_room, parts_goes}

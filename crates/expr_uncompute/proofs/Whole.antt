@@ -11,20 +11,22 @@ use Rattle.paired_code.specs.Pieces.{Done, Trapped, Runs}
 use Rattle.paired_code.specs.declared.part.Symbol.{Symbol}
 use Rattle.roopl_semantics.specs.Operators.{is_true, truth_word}
 use Rattle.refine_form.specs.declared.spot.Spot.{Spot}
-use Rattle.expr_uncompute.specs.Code.{Target, words, xor, truth_cells, value_cells, test_cells, result_of}
-use Rattle.expr_uncompute.specs.Code.{prepared_value_cells, prepared_test_cells, held_value_cells, held_test_cells}
-use Rattle.expr_uncompute.specs.Held.{is_held}
-use Rattle.expr_uncompute.proofs.HeldBounds.{held_few}
-use Rattle.expr_uncompute.specs.Number.{Bases, number, Sees}
+use Rattle.register_expressions.specs.Code.{Target, words, xor, truth_cells}
+use Rattle.expr_uncompute.specs.Code.{value_cells, test_cells, result_of}
+use Rattle.register_expressions.specs.Code.{held_value_cells, held_test_cells}
+use Rattle.expr_uncompute.specs.Code.{prepared_value_cells, prepared_test_cells}
+use Rattle.register_expressions.specs.Held.{is_held}
+use Rattle.register_expressions.proofs.HeldBounds.{held_few}
+use Rattle.register_expressions.specs.Number.{Bases, number, Sees}
 use Rattle.expr_uncompute.specs.Steps.{value_steps, test_steps, prepared_value_steps, prepared_test_steps}
-use Rattle.expr_uncompute.specs.Steps.{held_value_steps, held_test_steps}
-use Rattle.expr_uncompute.specs.Laws.{Temporary, bases_of, Ready, Xored, truth_of}
-use Rattle.expr_uncompute.proofs.Goes.{runs_along, TrapsBoth, both_more}
-use Rattle.expr_uncompute.proofs.HeldLaws
-use Rattle.expr_uncompute.proofs.Known.{tabulated, tabulated_is}
-use Rattle.expr_uncompute.proofs.Scratch.{Scratch, keeping, registers, mem}
-use Rattle.expr_uncompute.proofs.Results.{IsTarget, at0, at1, at11, at12, at13, at14, at15, at25, at26, at27, at28}
-use Rattle.expr_uncompute.proofs.Results.{at29, at30, at31, target_is, written}
+use Rattle.register_expressions.specs.Steps.{held_value_steps, held_test_steps}
+use Rattle.register_expressions.specs.Laws.{Temporary, bases_of, Ready, Xored, truth_of}
+use Rattle.register_expressions.proofs.Goes.{runs_along, TrapsBoth, both_more}
+use Rattle.register_expressions.proofs.HeldLaws
+use Rattle.register_expressions.proofs.Known.{tabulated, tabulated_is}
+use Rattle.register_expressions.proofs.Scratch.{Scratch, keeping, registers, mem}
+use Rattle.register_expressions.proofs.Results.{IsTarget, at0, at1, at11, at12, at13, at14, at15, at25, at26, at27}
+use Rattle.register_expressions.proofs.Results.{at28, at29, at30, at31, target_is, written}
 use Rattle.expr_uncompute.proofs.Prepare.{Fit}
 use Rattle.expr_uncompute.proofs.ValueLaws.{value_into, test_into, into_traps, value_traps, written_twice}
 
@@ -118,7 +120,7 @@ module _ (spot : List ℕ → Spot) (free into : ℕ) (e : Expression) (m : Memo
         let back = value_into spot free b 0 0 0 e 0 m.cells fit f' v into n t in
         let there = value_into spot free b 0 0 0 e 0 m.cells fit (reg m) v into n t in
         run_of (prepared_value_cells spot free e into) _ (prepared_value_steps e)
-        (runs_along there (Rattle.expr_uncompute.proofs.Goes.goes_to refl refl
+        (runs_along there (Rattle.register_expressions.proofs.Goes.goes_to refl refl
         (written_twice b (reg m) (keeping 0 0 0) m.cells into v t) back) im d)
     value_by (Err c) n =
         let a = (both_more (omega arith) (value_traps spot free b 0 0 0 e 0 m.cells (fit_of spot free e m ready sees)
@@ -142,7 +144,7 @@ module _ (spot : List ℕ → Spot) (free into : ℕ) (e : Expression) (m : Memo
         let back = test_into spot free b 0 0 0 e 0 m.cells fit f' v into n t in
         let there = test_into spot free b 0 0 0 e 0 m.cells fit (reg m) v into n t in
         run_of (prepared_test_cells spot free e into) _ (prepared_test_steps e)
-        (runs_along there (Rattle.expr_uncompute.proofs.Goes.goes_to refl refl
+        (runs_along there (Rattle.register_expressions.proofs.Goes.goes_to refl refl
         (written_twice b (reg m) (keeping 0 0 0) m.cells into (truth_word (is_true v)) t) back) im d)
     test_by (Err c) n =
         let a = (both_more (omega arith) (into_traps spot free b 0 0 0 e 0 m.cells (fit_of spot free e m ready sees)

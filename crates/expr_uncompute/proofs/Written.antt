@@ -6,9 +6,10 @@ use Rattle.std.proofs.lemmas.List.{get_or-set_same, get_or-set_other, set_past, 
 use Rattle.std.proofs.lemmas.Bool.{cases_lt, cases_eq}
 use Rattle.rpp_tree.specs.Tree.{Expression, Number, Null, Variable, Element, Binary, Lvalue, Whole, Item}
 use Rattle.refine_form.specs.declared.spot.Spot.{Spot}
-use Rattle.expr_uncompute.specs.Code.{words, place_words}
-use Rattle.expr_uncompute.specs.Number.{Bases, read_of, Sees, Same, SamePlace}
-use Rattle.expr_uncompute.proofs.Numbers.{Agree, AllWords, sees_same}
+use Rattle.register_expressions.specs.Code.{words}
+use Rattle.expr_uncompute.specs.Code.{place_words}
+use Rattle.register_expressions.specs.Number.{Bases, read_of, Sees, Same, SamePlace}
+use Rattle.register_expressions.proofs.Numbers.{Agree, AllWords, sees_same}
 use Rattle.expr_uncompute.proofs.Stored.{home, stored, parted, IsWrite, stored_length, stored_other, stored_below}
 use Rattle.expr_uncompute.proofs.Stored.{stored_written, parted_written, same_lifted}
 use Rattle.expr_uncompute.proofs.Prepare.{Fit, stored_words}

@@ -1,179 +1,33 @@
--- The cells of value code, in its linear form.
-use Rattle.std.specs.Prelude.{ℕ, ◌+◌, ◌<◌, ◌⊎◌, nat_eq, Bool, true, false, ◌&&◌, not, if◌then◌else◌}
-use Rattle.std.specs.Prelude.{List}
-use Rattle.std.specs.Prelude.{[]}
-use Rattle.std.specs.Prelude.{◌∷◌, ◌++◌}
-use Rattle.rpp_tree.specs.declared.tree.BinOp.{BinOp}
-use Rattle.rpp_tree.specs.declared.tree.BinOp.TheVariants as op
+-- The cells of values, tests, updates and swaps, in their linear form.
+use Rattle.std.specs.Prelude.{ℕ, ◌+◌, nat_eq, Bool, ◌&&◌, not, if◌then◌else◌, List, [], ◌∷◌, ◌++◌}
 use Rattle.rpp_words.specs.Words.{difference_of}
 use Rattle.rpp_tree.specs.declared.tree.Ident.{Ident}
 use Rattle.rpp_tree.specs.declared.tree.UpdateOp.{UpdateOp}
 use Rattle.rpp_tree.specs.declared.tree.UpdateOp.TheVariants as update
 use Rattle.rpp_tree.specs.Tree.{Expression, Number, Null, Variable, Element, Binary, Lvalue, Whole}
 use Rattle.rpp_tree.specs.Tree.{Item}
-use Rattle.pisa_isa.specs.declared.cell.Op.{Op}
-use Rattle.pisa_isa.specs.declared.cell.Op.TheVariants.{Add, Sub, Xor, Addi, Xori, Andx, Orx, Sltx}
-use Rattle.pisa_isa.specs.declared.cell.Op.TheVariants.{Exch}
 use Rattle.code_conventions.specs.declared.registers.TheConstants.{AMOUNT, CONTENT, FIRST_WORD}
-use Rattle.code_conventions.specs.declared.registers.TheConstants.{FRAME, ITEM, LEFT, LEFT_TRUTH}
-use Rattle.code_conventions.specs.declared.registers.TheConstants.{LINK, NOUGHT, OBJECT}
-use Rattle.code_conventions.specs.declared.registers.TheConstants.{OTHER_PLACE, OUTCOME, PLACE}
-use Rattle.code_conventions.specs.declared.registers.TheConstants.{RIGHT, RIGHT_TRUTH, SECOND_WORD}
-use Rattle.code_conventions.specs.declared.registers.TheConstants.{TRUTH}
+use Rattle.code_conventions.specs.declared.registers.TheConstants.{FRAME, ITEM, LEFT, OBJECT}
+use Rattle.code_conventions.specs.declared.registers.TheConstants.{OTHER_PLACE, PLACE, RIGHT}
+use Rattle.code_conventions.specs.declared.registers.TheConstants.{SECOND_WORD, TRUTH}
 use Rattle.paired_code.specs.declared.part.Symbol.{Symbol}
-use Rattle.paired_code.specs.declared.part.Symbol.TheVariants.{Own}
-use Rattle.paired_code.specs.Layout.{mirror_cells, check_cells}
-use Rattle.code_conventions.specs.declared.memory.TheConstants.{HEADER_WORDS}
-use Rattle.code_conventions.specs.declared.faults.TheConstants.{NIL, INDEX, SHARED_ARRAY}
+use Rattle.paired_code.specs.Layout.{check_differ_cells}
+use Rattle.code_conventions.specs.declared.faults.TheConstants.{SHARED_ARRAY}
 use Rattle.refine_form.specs.declared.spot.Spot.{Spot}
 use Rattle.refine_form.specs.declared.spot.Spot.TheVariants.{Field, Frame}
 use Rattle.code_scope.specs.Visible.{offset_of}
-use Rattle.expr_uncompute.specs.Number.{index_of}
-use Rattle.expr_uncompute.specs.declared.held.Kind.{Kind}
-use Rattle.expr_uncompute.specs.declared.held.Kind.TheVariants.{Changes, Gives, Joins, Neither}
-use Rattle.expr_uncompute.specs.Held.{kind, past, need, told_need, left_at, right_at, is_held}
-use Rattle.expr_uncompute.specs.Held.{is_opened_once, is_near}
-use Rattle.expr_uncompute.specs.Held.{is_near_index, is_variable, is_literal, literal_in, is_zero}
-use Rattle.expr_uncompute.specs.Held.{spot_in}
-use Rattle.expr_uncompute.specs.Held.{is_truth}
-
--- a register that no code of expressions uses for itself
-abbrev pub Target : ℕ → Type 0
-Target r = (r < LINK) ⊎ (((OUTCOME < r) × (r < LEFT)) ⊎ ((TRUTH < r) × (r < 32)))
-
--- ---- cells
-
-abbrev pub two : Op → (a b : ℕ) → Symbol
-two op a b = Own (record { op = op; a = a; b = b; c = 0; imm = 0 })
-
-abbrev pub three : Op → (a b c : ℕ) → Symbol
-three op a b c = Own (record { op = op; a = a; b = b; c = c; imm = 0 })
-
-abbrev pub with_word : Op → (a i : ℕ) → Symbol
-with_word op a i = Own (record { op = op; a = a; b = 0; c = 0; imm = i })
-
-abbrev pub add : (d s : ℕ) → Symbol
-add d s = two Add d s
-
-abbrev pub sub : (d s : ℕ) → Symbol
-sub d s = two Sub d s
-
-abbrev pub xor : (d s : ℕ) → Symbol
-xor d s = two Xor d s
-
-abbrev pub exch : (d s : ℕ) → Symbol
-exch d s = two Exch d s
-
-abbrev pub addi : (d w : ℕ) → Symbol
-addi d w = with_word Addi d w
-
-abbrev pub xori : (d w : ℕ) → Symbol
-xori d w = with_word Xori d w
-
-abbrev pub andx : (d s t : ℕ) → Symbol
-andx d s t = three Andx d s t
-
-abbrev pub orx : (d s t : ℕ) → Symbol
-orx d s t = three Orx d s t
-
-abbrev pub sltx : (d s t : ℕ) → Symbol
-sltx d s t = three Sltx d s t
-
--- a piece between another and its mirror
-abbrev pub around : List Symbol → List Symbol → List Symbol
-around w mid = w ++ (mid ++ mirror_cells w)
-
--- ---- words of memory
-
-abbrev pub base_of : Spot → ℕ
-base_of (Field i) = OBJECT
-base_of (Frame i) = FRAME
-
--- the base goes to a spot, whose word is then in `CONTENT`
-abbrev pub reach_cells : Spot → List Symbol
-reach_cells s = addi (base_of s) (offset_of s) ∷ exch CONTENT (base_of s) ∷ []
-
-abbrev pub copy_cells : Spot → ℕ → List Symbol
-copy_cells s into = around (reach_cells s) (xor into CONTENT ∷ [])
-
--- register r xored into the word
-abbrev pub store_cells : Spot → ℕ → List Symbol
-store_cells s r = around (reach_cells s) (xor CONTENT r ∷ [])
-
--- ---- one node
-
--- how many words of the frame an expression needs: one for each element and operator
-abbrev pub words : Expression → ℕ
-words (Number at word) = 0
-words (Null at) = 0
-words (Variable name) = 0
-words (Element name index) = 1 + words index
-words (Binary at op left right) = 1 + (words left + words right)
-
--- the truth of register a in register t
-abbrev pub truth_cells : (t a : ℕ) → List Symbol
-truth_cells t a = sltx t NOUGHT a ∷ sltx t a NOUGHT ∷ []
-
--- an operator's result, from its operands
-abbrev pub operator_cells : BinOp → List Symbol
-operator_cells op.Add = add LEFT RIGHT ∷ []
-operator_cells op.Sub = sub LEFT RIGHT ∷ []
-operator_cells op.Xor = xor LEFT RIGHT ∷ []
-operator_cells op.And = andx OUTCOME LEFT RIGHT ∷ []
-operator_cells op.Or = orx OUTCOME LEFT RIGHT ∷ []
-operator_cells op.AndAlso = truth_cells LEFT_TRUTH LEFT
-    ++ (truth_cells RIGHT_TRUTH RIGHT ++ andx OUTCOME LEFT_TRUTH RIGHT_TRUTH ∷ [])
-operator_cells op.OrElse = truth_cells LEFT_TRUTH LEFT
-    ++ (truth_cells RIGHT_TRUTH RIGHT ++ orx OUTCOME LEFT_TRUTH RIGHT_TRUTH ∷ [])
-operator_cells op.Less = sltx OUTCOME LEFT RIGHT ∷ []
-operator_cells op.Greater = sltx OUTCOME RIGHT LEFT ∷ []
-operator_cells op.AtMost = sltx OUTCOME RIGHT LEFT ∷ xori OUTCOME 1 ∷ []
-operator_cells op.AtLeast = sltx OUTCOME LEFT RIGHT ∷ xori OUTCOME 1 ∷ []
-operator_cells op.Equal = sltx OUTCOME LEFT RIGHT
-    ∷ sltx OUTCOME RIGHT LEFT ∷ xori OUTCOME 1 ∷ []
-operator_cells op.NotEqual = sltx OUTCOME LEFT RIGHT
-    ∷ sltx OUTCOME RIGHT LEFT ∷ []
-operator_cells op.Mul = []
-operator_cells op.Div = []
-operator_cells op.Rem = []
-
--- the register that has it
-abbrev pub operator_result : BinOp → ℕ
-operator_result op.Add = LEFT
-operator_result op.Sub = LEFT
-operator_result op.Xor = LEFT
-operator_result _ = OUTCOME
-
--- a check that passed leaves its flag 0, so that nothing is to be undone after it
-
--- fault 5 where the array is nil
-abbrev pub nil_check_of : (array : ℕ) → List Symbol
-nil_check_of array = sltx OUTCOME NOUGHT array ∷ xori OUTCOME 1 ∷ [] ++ check_cells OUTCOME NIL
-
-abbrev pub nil_check : List Symbol
-nil_check = nil_check_of RIGHT
-
--- fault 9 where the index, without sign, is not below the array's length
-abbrev pub index_check_of : (array index : ℕ) → List Symbol
-index_check_of array index =
-    around (exch CONTENT array ∷ []) (sltx OUTCOME index CONTENT
-    ∷ sltx OUTCOME index NOUGHT ∷ xori OUTCOME 1 ∷ [] ++ check_cells OUTCOME INDEX)
-
-abbrev pub index_check : List Symbol
-index_check = index_check_of RIGHT LEFT
+use Rattle.register_expressions.specs.Number.{index_of}
+use Rattle.register_expressions.specs.Held.{need, is_held, is_opened_once, is_near, is_near_index}
+use Rattle.register_expressions.specs.Code.{add, sub, xor, exch, addi, xori, around, base_of}
+use Rattle.register_expressions.specs.Code.{reach_cells, copy_cells, store_cells, words}
+use Rattle.register_expressions.specs.Code.{truth_cells, operator_cells, operator_result, nil_check}
+use Rattle.register_expressions.specs.Code.{index_check, point_cells, part, element_cells}
+use Rattle.register_expressions.specs.Code.{held_cells, held_value_cells, held_test_cells}
 
 -- fault 16 where the words of two spots are the same
 abbrev pub compare_cells : (x y : Spot) → List Symbol
 compare_cells x y =
-    around (copy_cells x LEFT ++ reach_cells y) (sltx OUTCOME LEFT CONTENT
-    ∷ sltx OUTCOME CONTENT LEFT ∷ xori OUTCOME 1 ∷ [] ++ check_cells OUTCOME SHARED_ARRAY)
-
--- the address of the element in the array's register
-abbrev pub point_of : (array index : ℕ) → List Symbol
-point_of array index = add array index ∷ addi array HEADER_WORDS ∷ []
-
-abbrev pub point_cells : List Symbol
-point_cells = point_of RIGHT LEFT
+    around (copy_cells x LEFT ++ reach_cells y) (check_differ_cells LEFT CONTENT SHARED_ARRAY)
 
 -- the register that has the value of an opened expression
 abbrev pub result_of : Expression → ℕ
@@ -271,140 +125,23 @@ module _ (spot : List ℕ → Spot) where
   both_apart_cells left right = apart_cells left (index_of left) (index_of right)
       ++ apart_cells right (index_of left) (index_of right)
 
--- ---- parts in registers, over memory that stays as it is
-
--- the registers of parts, in order
-abbrev pub part : ℕ → ℕ
-part k = LEFT + k
-
--- the word of an element updated by the value above its index and its address
-abbrev pub near_middle : UpdateOp → List Symbol
-near_middle op = around (exch CONTENT RIGHT ∷ []) (update_cell op CONTENT (part 4) ∷ [])
-
-abbrev pub change_cells : BinOp → (d s : ℕ) → List Symbol
-change_cells op.Add d s = add d s ∷ []
-change_cells op.Sub d s = sub d s ∷ []
-change_cells _ d s = xor d s ∷ []
-
--- the same by a number
-abbrev pub literal_cells : BinOp → (d word : ℕ) → List Symbol
-literal_cells op.Add d word = addi d word ∷ []
-literal_cells op.Sub d word = addi d (difference_of 0 word) ∷ []
-literal_cells _ d word = xori d word ∷ []
-
--- the result xored into a register
-abbrev pub give_cells : BinOp → (d a s : ℕ) → List Symbol
-give_cells op.And d a s = andx d a s ∷ []
-give_cells op.Or d a s = orx d a s ∷ []
-give_cells op.AndAlso d a s = andx d a s ∷ []
-give_cells op.OrElse d a s = orx d a s ∷ []
-give_cells op.Less d a s = sltx d a s ∷ []
-give_cells op.Greater d a s = sltx d s a ∷ []
-give_cells op.AtMost d a s = sltx d s a ∷ xori d 1 ∷ []
-give_cells op.AtLeast d a s = sltx d a s ∷ xori d 1 ∷ []
-give_cells op.Equal d a s = sltx d a s ∷ sltx d s a ∷ xori d 1 ∷ []
-give_cells op.NotEqual d a s = sltx d a s ∷ sltx d s a ∷ []
-give_cells _ d a s = []
-
--- what stands before an operator, by the cells that open its operands: whether the right one is a
--- number that needs no register, and whether each is a variable
-abbrev pub before : (z l r : Bool) → (w v : List Symbol) → List Symbol
-before z l r w v = if z then (if l then [] else w)
-    else (if r then w else (if l then v else w ++ v))
-
--- and the operator's cells with its operands: their spots and their registers
-abbrev pub core : (z l r : Bool) → (x y : Spot) → (a s : ℕ) → (ℕ → ℕ → List Symbol) → List Symbol
-core z l r x y a s mid =
-    if z then (if l then around (reach_cells x) (mid CONTENT NOUGHT) else mid a NOUGHT)
-    else (if r then around (reach_cells y) (mid a CONTENT)
-    else (if l then around (reach_cells x) (mid CONTENT s) else mid a s))
-
--- the truth of what was opened past register k, in that register; a truth is in it already
-abbrev pub told_cells : Bool → List Symbol → (k : ℕ) → List Symbol
-told_cells true w k = w
-told_cells false w k = w ++ truth_cells (part k) (part (k + 1))
-
--- what opens an operator's operands over register k, by their cells
-abbrev pub before_cells : Kind → (left right : Expression) → (w v : List Symbol) → (k : ℕ)
-    → List Symbol
-before_cells Changes left right w v k =
-    before (is_literal right) false (is_variable right) w v
-before_cells Gives left right w v k =
-    before (is_zero right) (is_variable left) (is_variable right) w v
-before_cells Joins left right w v k = told_cells (is_truth left) w (k + 1)
-    ++ told_cells (is_truth right) v (k + 1 + told_need left)
-before_cells Neither left right w v k = []
-
-abbrev pub operands_cells : Expression → (w v : List Symbol) → (k : ℕ) → List Symbol
-operands_cells (Binary at o left right) w v k = before_cells (kind o) left right w v k
-operands_cells _ w v k = []
+-- the word of an element, whose address is in the second register, updated by that of the value
+abbrev pub near_middle : UpdateOp → (k : ℕ) → List Symbol
+near_middle op k = around (exch CONTENT (part 1) ∷ []) (update_cell op CONTENT (part k) ∷ [])
 
 module _ (spot : List ℕ → Spot) where
-  -- the operator itself over register k
-  abbrev pub core_cells : Kind → BinOp → (left right : Expression) → (k : ℕ) → List Symbol
-  core_cells Changes o left right k =
-      if is_literal right then literal_cells o (part k) (literal_in right)
-      else core false false (is_variable right) (spot_in spot left) (spot_in spot right) (part k)
-      (part (k + need left)) (λ a s. change_cells o a s)
-  core_cells Gives o left right k = core (is_zero right) (is_variable left) (is_variable right)
-      (spot_in spot left) (spot_in spot right) (part (k + 1)) (part (k + 1 + need left))
-      (λ a s. give_cells o (part k) a s)
-  core_cells Joins o left right k =
-      give_cells o (part k) (part (k + 1)) (part (k + 1 + told_need left))
-  core_cells Neither o left right k = []
-
-  abbrev pub operated_cells : Kind → BinOp → (left right : Expression) → (w v : List Symbol)
-      → (k : ℕ) → List Symbol
-  operated_cells c o left right w v k = before_cells c left right w v k
-      ++ core_cells c o left right k
-
-  -- the address of an element in register k + 1, by the cells that open its index in register k + 2
-  abbrev pub element_cells : List ℕ → List Symbol → (k : ℕ) → List Symbol
-  element_cells name w k = ((w ++ copy_cells (spot name) (part (k + 1)))
-      ++ (nil_check_of (part (k + 1)) ++ index_check_of (part (k + 1)) (part (k + 2))))
-      ++ point_of (part (k + 1)) (part (k + 2))
-
-  -- the value of an expression in register k, which was 0 as those above it
-  abbrev pub held_cells : Expression → (k : ℕ) → List Symbol
-  held_cells (Number at word) k = xori (part k) word ∷ []
-  held_cells (Null at) k = xori (part k) 0 ∷ []
-  held_cells (Variable name) k = copy_cells (spot name.text) (part k)
-  held_cells (Element name index) k = element_cells name.text (held_cells index (k + 2)) k
-      ++ around (exch CONTENT (part (k + 1)) ∷ []) (xor (part k) CONTENT ∷ [])
-  held_cells (Binary at o left right) k = operated_cells (kind o) o left right
-      (held_cells left (left_at (kind o) (is_truth left) k))
-      (held_cells right (right_at (kind o) (is_truth left) (is_truth right) (need left) k)) k
-
-  -- ---- the value xored into a register: what an operator gives goes there straight
-
-  abbrev pub given_cells : Kind → BinOp → (left right : Expression) → Expression → (into : ℕ)
-      → List Symbol
-  given_cells Gives o left right e into =
-      around (before (is_zero right) (is_variable left) (is_variable right) (held_cells left 0)
-      (held_cells right (need left)))
-      (core (is_zero right) (is_variable left) (is_variable right) (spot_in spot left)
-      (spot_in spot right) (part 0) (part (need left)) (λ a s. give_cells o into a s))
-  given_cells Joins o left right e into =
-      around (told_cells (is_truth left) (held_cells left (past (is_truth left) 0)) 0
-      ++ told_cells (is_truth right) (held_cells right (past (is_truth right) (told_need left)))
-      (told_need left)) (give_cells o into (part 0) (part (told_need left)))
-  given_cells _ o left right e into = around (held_cells e 0) (xor into (part 0) ∷ [])
-
-  abbrev pub held_value_cells : Expression → (into : ℕ) → List Symbol
-  held_value_cells (Binary at o left right) into =
-      given_cells (kind o) o left right (Binary at o left right) into
-  held_value_cells e into = around (held_cells e 0) (xor into (part 0) ∷ [])
-
-  -- and its truth
-  abbrev pub held_test_cells : Expression → (into : ℕ) → List Symbol
-  held_test_cells e into = if is_truth e then held_value_cells e into
-      else around (held_cells e 0) (truth_cells into (part 0))
-
   -- ---- a word updated by the value, whose parts are opened once
 
   abbrev pub held_update_cells : UpdateOp → Spot → Expression → List Symbol
-  held_update_cells op s e = around (held_cells e 0)
+  held_update_cells op s e = around (held_cells spot e 0)
       (around (reach_cells s) (update_cell op CONTENT (part 0) ∷ []))
+
+  -- the word of an element, whose index and address stand below the value
+  abbrev pub near_update_cells : UpdateOp → List ℕ → (index value : Expression) → List Symbol
+  near_update_cells op name index value =
+      around (element_cells spot name (held_cells spot index 2) 0
+      ++ held_cells spot value (2 + need index))
+      (near_middle op (2 + need index))
 
 module _ (spot : List ℕ → Spot) (free : ℕ) where
   -- the value of an operand xored into a register: a word of the frame has it, from i on, where it
@@ -526,17 +263,9 @@ module _ (spot : List ℕ → Spot) (free : ℕ) where
       operated_update_cells op name (Binary at o left right)
   whole_update_cells op name value = found_update_cells op (Whole name) value
 
-  -- of an element, whose address stays in the register of its array; the value stands above
-  abbrev pub near_place_cells : List ℕ → (index : Expression) → List Symbol
-  near_place_cells name index = prepare_cells index 0 ++ (checked_cells name index 0 ++ point_cells)
-
-  abbrev pub near_update_cells : UpdateOp → List ℕ → (index value : Expression) → List Symbol
-  near_update_cells op name index value =
-      around (near_place_cells name index ++ held_cells spot value 4) (near_middle op)
-
   abbrev pub item_update_cells : UpdateOp → Ident → (index value : Expression) → List Symbol
   item_update_cells op name index value =
-      if is_near index value then near_update_cells op name.text index value
+      if is_near index value then near_update_cells spot op name.text index value
       else found_update_cells op (Item name index) value
 
   abbrev pub update_cells : UpdateOp → Lvalue → Expression → List Symbol
@@ -548,6 +277,10 @@ module _ (spot : List ℕ → Spot) (free : ℕ) where
   found_swap_cells left right =
       around ((place_cells left 0 PLACE ++ place_cells right (place_words left) OTHER_PLACE)
       ++ both_apart_cells spot left right) swap_middle
+
+  -- an element that is swapped, whose address stays in the register of its array
+  abbrev pub near_place_cells : List ℕ → (index : Expression) → List Symbol
+  near_place_cells name index = prepare_cells index 0 ++ (checked_cells name index 0 ++ point_cells)
 
   -- of a variable and an element that is found once, whose base and register of its array are p and
   -- q

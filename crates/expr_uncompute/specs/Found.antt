@@ -10,11 +10,13 @@ use Rattle.paired_code.specs.Machine.{Image, with_reg}
 use Rattle.paired_code.specs.Pieces.{Outcome, Done, Trapped, Will}
 use Rattle.roopl_semantics.specs.Elements.{shared_array_fault}
 use Rattle.refine_form.specs.declared.spot.Spot.{Spot}
-use Rattle.expr_uncompute.specs.Code.{words, place_words}
-use Rattle.expr_uncompute.specs.Number.{Bases, number, read_of, index_of, place_address, shares}
-use Rattle.expr_uncompute.specs.Number.{update_shares, Sees, SamePlace}
+use Rattle.register_expressions.specs.Code.{words}
+use Rattle.expr_uncompute.specs.Code.{place_words}
+use Rattle.register_expressions.specs.Number.{Bases, number, read_of, index_of, place_address}
+use Rattle.register_expressions.specs.Number.{shares, update_shares, Sees, SamePlace}
 use Rattle.expr_uncompute.specs.Steps.{place_steps, fetch_steps, apart_steps}
-use Rattle.expr_uncompute.specs.Laws.{bases_of, Stays}
+use Rattle.register_expressions.specs.Laws.{bases_of}
+use Rattle.expr_uncompute.specs.Laws.{Stays}
 use Rattle.expr_uncompute.specs.Promises.{free_at, CanRun, IsTrap}
 
 -- ---- how a run ends

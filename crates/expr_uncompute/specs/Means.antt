@@ -11,7 +11,7 @@ use Rattle.roopl_semantics.specs.Store.{object_at}
 use Rattle.roopl_semantics.specs.Value.{Cell, Slot, Part, cell_named, variable_value, read, value}
 use Rattle.roopl_semantics.specs.Value.{cell_of}
 use Rattle.refine_form.specs.declared.spot.Spot.{Spot}
-use Rattle.expr_uncompute.specs.Number.{Bases, address_of, word_of}
+use Rattle.register_expressions.specs.Number.{Bases, address_of, word_of}
 
 -- the operators that also compare references
 abbrev pub is_equation : BinOp → Bool

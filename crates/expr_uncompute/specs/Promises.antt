@@ -9,13 +9,14 @@ use Rattle.paired_code.specs.Machine.{Image, reg}
 use Rattle.paired_code.specs.Pieces.{Done, Trapped, Runs}
 use Rattle.roopl_semantics.specs.Elements.{shared_array_fault}
 use Rattle.refine_form.specs.declared.spot.Spot.{Spot}
-use Rattle.expr_uncompute.specs.Code.{words, place_words}
-use Rattle.expr_uncompute.specs.Number.{number, read_of, index_of, place_address, update_shares}
-use Rattle.expr_uncompute.specs.Number.{swap_shares, Sees}
+use Rattle.register_expressions.specs.Code.{words}
+use Rattle.expr_uncompute.specs.Code.{place_words}
+use Rattle.register_expressions.specs.Number.{number, read_of, index_of, place_address}
+use Rattle.register_expressions.specs.Number.{update_shares, swap_shares, Sees}
 use Rattle.expr_uncompute.specs.Steps.{value_steps, test_steps, place_steps, fetch_steps}
 use Rattle.expr_uncompute.specs.Steps.{apart_steps, both_apart_steps, update_steps, swap_steps}
-use Rattle.expr_uncompute.specs.Laws.{bases_of, Ready, Xored, truth_of, updated_at, swapped_at}
-use Rattle.expr_uncompute.specs.Laws.{Stays, BothStay}
+use Rattle.register_expressions.specs.Laws.{bases_of, Ready, Xored, truth_of}
+use Rattle.expr_uncompute.specs.Laws.{updated_at, swapped_at, Stays, BothStay}
 
 -- where the free words of the frame begin: all that is read stands below
 abbrev pub free_at : ℕ → Memory → ℕ

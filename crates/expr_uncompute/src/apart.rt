@@ -1,35 +1,22 @@
 // The check that a place that changes is an element of no array of which an element is read.
-ghost use Rattle.std.specs.Prelude.{◌≡◌, ◌<◌, ◌^◌, [], ◌∷◌, IfOk};
+ghost use Rattle.std.specs.Prelude.{◌≡◌, ◌<◌, ◌^◌, IfOk};
 ghost use Rattle.rpp_tree.specs.Tree.{Null};
 ghost use Rattle.rpp_tree.specs.Views.{expression_of, lvalue_of};
 ghost use Rattle.paired_code.specs.Code.{unmarked};
-ghost use Rattle.expr_uncompute.specs.Code.{sltx as sltx_cell, xori as xori_cell, compare_cells, compare_all as cells_of_all, apart_cells, both_apart_cells};
+ghost use Rattle.expr_uncompute.specs.Code.{compare_cells, compare_all as cells_of_all, apart_cells, both_apart_cells};
 ghost use Rattle.code_scope.specs.Visible.{offset_of, spot_of as spot_of_name, known_by};
-ghost use Rattle.expr_uncompute.specs.Number.{read_of, index_of};
+ghost use Rattle.register_expressions.specs.Number.{read_of, index_of};
 
-use crate::cells::{enclosed, sltx, xori};
-use crate::rows::{copy, reached};
 use code_conventions::faults::SHARED_ARRAY;
-use code_conventions::registers::{CONTENT, LEFT, OUTCOME};
+use code_conventions::registers::{CONTENT, LEFT};
 use code_scope::{Names, spot_of};
-use paired_code::{Piece, check_zero, empty, seq};
+use paired_code::{Piece, check_differ, empty, seq};
 use refine_form::Spot;
+use register_expressions::cells::enclosed;
+use register_expressions::rows::{copy, reached};
 use rpp_tree::tree::{Expr, Place};
 use rpp_words::NoMemory;
 use std::alloc::Global;
-
-// Whether two words are the same.
-fn same_row(alloc: Global) -> Result<Piece, NoMemory>
-    ensures { IfOk result (λ p.
-        p ≡ unmarked (sltx_cell OUTCOME LEFT CONTENT ∷ sltx_cell OUTCOME CONTENT LEFT ∷ xori_cell
-        OUTCOME 1 ∷ [])) }
-{
-    let below = sltx(alloc, OUTCOME, LEFT, CONTENT)?;
-    let above = sltx(alloc, OUTCOME, CONTENT, LEFT)?;
-    let differ = seq(below, above)?;
-    let flip = xori(alloc, OUTCOME, 1)?;
-    seq(differ, flip)
-}
 
 // Fault 16 where the words of two spots are the same.
 fn compare(alloc: Global, x: Spot, y: Spot) -> Result<Piece, NoMemory>
@@ -40,9 +27,7 @@ fn compare(alloc: Global, x: Spot, y: Spot) -> Result<Piece, NoMemory>
     let array = copy(alloc, x, LEFT)?;
     let other = reached(alloc, y)?;
     let both = seq(array, other)?;
-    let test = same_row(alloc)?;
-    let stop = check_zero(alloc, OUTCOME, SHARED_ARRAY)?;
-    let check = seq(test, stop)?;
+    let check = check_differ(alloc, LEFT, CONTENT, SHARED_ARRAY)?;
     enclosed(alloc, both, check)
 }
 

@@ -3,9 +3,11 @@ ghost use Rattle.std.specs.Prelude.{◌≡◌, ◌≤◌, ◌+◌, ◌*◌, [], 
 ghost use Rattle.rpp_tree.specs.Tree.{nodes, index_nodes};
 ghost use Rattle.rpp_tree.specs.Views.{expression_of, lvalue_of};
 ghost use Rattle.roopl_semantics.specs.Elements.{elements, index_elements, own_element, read_cost};
-ghost use Rattle.expr_uncompute.specs.Code.{words as words_of, place_words as words_of_place};
+ghost use Rattle.register_expressions.specs.Code.{words as words_of};
+ghost use Rattle.expr_uncompute.specs.Code.{place_words as words_of_place};
 ghost use Rattle.expr_uncompute.specs.Found.{PlaceAroundLaw, ValueAroundLaw, PlacesAroundLaw, found_place_steps, found_value_steps, found_places_steps};
-ghost use Rattle.expr_uncompute.specs.Steps.{tokens, place_tokens};
+ghost use Rattle.register_expressions.specs.Steps.{tokens};
+ghost use Rattle.expr_uncompute.specs.Steps.{place_tokens};
 ghost use Rattle.code_scope.specs.Visible.{spot_of, free_of, known_in};
 
 use crate::middles::{around_place, around_places, around_value};

@@ -3,10 +3,12 @@ ghost use Rattle.std.specs.Prelude.{◌≡◌, ◌≤◌, ◌+◌, ◌*◌, [], 
 ghost use Rattle.rpp_tree.specs.Tree.{nodes, index_nodes};
 ghost use Rattle.rpp_tree.specs.Views.{expression_of, lvalue_of};
 ghost use Rattle.roopl_semantics.specs.Elements.{elements, index_elements, own_element, read_cost};
-ghost use Rattle.expr_uncompute.specs.Code.{Target, words as words_of, place_words as words_of_place};
+ghost use Rattle.register_expressions.specs.Code.{Target, words as words_of};
+ghost use Rattle.expr_uncompute.specs.Code.{place_words as words_of_place};
 ghost use Rattle.expr_uncompute.specs.Promises.{ValueLaw, TestLaw, UpdateLaw, SwapLaw};
 ghost use Rattle.expr_uncompute.specs.Sizes.{swap_size};
-ghost use Rattle.expr_uncompute.specs.Steps.{value_steps, test_steps, update_steps, swap_steps, tokens, place_tokens};
+ghost use Rattle.register_expressions.specs.Steps.{tokens};
+ghost use Rattle.expr_uncompute.specs.Steps.{value_steps, test_steps, update_steps, swap_steps, place_tokens};
 ghost use Rattle.code_scope.specs.Visible.{spot_of, free_of, known_in};
 
 use crate::places::{swap_piece, update_piece};

@@ -2,17 +2,18 @@
 ghost use Rattle.std.specs.Prelude.{◌≡◌, ◌<◌, ◌≤◌, ◌+◌, ◌^◌, [], ◌∷◌, ◌++◌, IfOk};
 ghost use Rattle.rpp_tree.specs.Views.{expression_of, lvalue_of};
 ghost use Rattle.paired_code.specs.Code.{unmarked};
-ghost use Rattle.expr_uncompute.specs.Code.{xor as xor_cell, addi as addi_cell, base_of, words as words_of, place_words as words_of_place, fetch_cells, place_cells, found_place_cells, found_value_cells, found_places_cells};
+ghost use Rattle.register_expressions.specs.Code.{xor as xor_cell, addi as addi_cell, base_of, words as words_of};
+ghost use Rattle.expr_uncompute.specs.Code.{place_words as words_of_place, fetch_cells, place_cells, found_place_cells, found_value_cells, found_places_cells};
 ghost use Rattle.code_scope.specs.Visible.{offset_of, spot_of as spot_of_name, free_of, known_by};
 
 use crate::apart::{apart, apart_from, own_apart};
-use crate::cells::{addi, enclosed, xor};
-use crate::rows::{base, offset, point};
 use crate::values::{checked, open, parts, place_words, prepare, result_register};
 use code_conventions::registers::{AMOUNT, FRAME, OTHER_PLACE, PLACE, RIGHT};
 use code_scope::{Names, spot_of};
 use paired_code::{Piece, seq};
 use refine_form::Spot;
+use register_expressions::cells::{addi, enclosed, xor};
+use register_expressions::rows::{base, offset, point};
 use rpp_tree::tree::{Expr, Place};
 use rpp_words::NoMemory;
 use std::alloc::Global;

@@ -6,13 +6,10 @@
 
 mod apart;
 mod around;
-mod cells;
 mod expressions;
 mod found;
-mod held;
 mod middles;
 mod places;
-mod rows;
 mod values;
 
 pub use around::{place_and_value_around, place_around, places_around};

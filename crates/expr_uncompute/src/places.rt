@@ -3,19 +3,18 @@ ghost use Rattle.std.specs.Prelude.{◌≡◌, ◌≢◌, ◌<◌, ◌≤◌, �
 ghost use Rattle.rpp_tree.specs.Tree.{Whole, Item};
 ghost use Rattle.rpp_tree.specs.Views.{expression_of, lvalue_of};
 ghost use Rattle.paired_code.specs.Code.{unmarked};
-ghost use Rattle.expr_uncompute.specs.Code.{words as words_of, place_words as words_of_place, around, reach_cells, base_of, addi as addi_cell, update_cell as cell_of_update, number_cell as cell_of_number, onward as onward_cell, from_object as onward_from_object, from_frame as onward_from_frame_cell, both_reached as both_reached_cells, found_update_cells, held_update_cells, operated_update_cells, whole_update_cells, near_middle as near_middle_cells, near_place_cells, near_update_cells, item_update_cells, update_cells, four_exchanges as four_of, swap_at as swap_at_cells, beyond as beyond_cells, swap_by_one as swap_by_one_cells, have_one_base as one_base, swap_spots as swap_spots_cells, found_swap_cells, near_swap_cells, whole_swap_cells, item_swap_cells, swap_cells};
-ghost use Rattle.expr_uncompute.specs.Held.{need as need_of};
-ghost use Rattle.expr_uncompute.specs.Number.{read_of};
+ghost use Rattle.register_expressions.specs.Code.{words as words_of, around, reach_cells, base_of, addi as addi_cell};
+ghost use Rattle.expr_uncompute.specs.Code.{place_words as words_of_place, update_cell as cell_of_update, number_cell as cell_of_number, onward as onward_cell, from_object as onward_from_object, from_frame as onward_from_frame_cell, both_reached as both_reached_cells, found_update_cells, held_update_cells, operated_update_cells, whole_update_cells, near_middle as near_middle_cells, near_place_cells, near_update_cells, item_update_cells, update_cells, four_exchanges as four_of, swap_at as swap_at_cells, beyond as beyond_cells, swap_by_one as swap_by_one_cells, have_one_base as one_base, swap_spots as swap_spots_cells, found_swap_cells, near_swap_cells, whole_swap_cells, item_swap_cells, swap_cells};
+ghost use Rattle.register_expressions.specs.Held.{need as need_of};
+ghost use Rattle.register_expressions.specs.Number.{read_of};
 ghost use Rattle.expr_uncompute.specs.Promises.{UpdateLaw, SwapLaw};
 ghost use Rattle.expr_uncompute.specs.Sizes.{swap_size};
-ghost use Rattle.expr_uncompute.specs.Steps.{tokens, place_tokens};
+ghost use Rattle.register_expressions.specs.Steps.{tokens};
+ghost use Rattle.expr_uncompute.specs.Steps.{place_tokens};
 ghost use Rattle.code_scope.specs.Visible.{offset_of, spot_of as spot_of_name, free_of, known_by};
 
 use crate::apart::both_apart;
-use crate::cells::{add, addi, enclosed, exch, sub, xor, xori};
 use crate::found::{both_places, found_value};
-use crate::held::{held, is_near, is_near_index, is_opened_once};
-use crate::rows::{base, offset, point, reached};
 use crate::values::{checked, prepare};
 use code_conventions::registers::{
     AMOUNT, CONTENT, FIRST_WORD, FRAME, LEFT, OBJECT, OTHER_PLACE, PLACE, RIGHT, SECOND_WORD,
@@ -23,13 +22,15 @@ use code_conventions::registers::{
 use code_scope::{Names, spot_of};
 use paired_code::{Piece, seq};
 use refine_form::Spot;
+use register_expressions::cells::{add, addi, enclosed, exch, sub, xor, xori};
+use register_expressions::held::{
+    held, held_place, is_near, is_near_index, is_opened_once, need, part,
+};
+use register_expressions::rows::{base, offset, point, reached};
 use rpp_tree::Text;
 use rpp_tree::tree::{Expr, Place, UpdateOp};
 use rpp_words::{NoMemory, wrap_sub};
 use std::alloc::Global;
-
-// What is added to an element that is found once.
-const ABOVE: u8 = PLACE;
 
 // The word that is out updated by a register.
 fn update_cell(alloc: Global, op: UpdateOp, by: u8) -> Result<Piece, NoMemory>
@@ -250,15 +251,18 @@ fn near_place(alloc: Global, names: &Names, name: &Text, index: &Expr) -> Result
     seq(front, rest)
 }
 
-fn near_middle(alloc: Global, op: UpdateOp) -> Result<Piece, NoMemory>
-    ensures { IfOk result (λ p. p ≡ unmarked (near_middle_cells op)) }
+// An element's word updated by the value in register k of its parts.
+fn near_middle(alloc: Global, op: UpdateOp, k: u32) -> Result<Piece, NoMemory>
+    requires { k < 9 }
+    ensures { IfOk result (λ p. p ≡ unmarked (near_middle_cells op k)) }
 {
-    let there = exch(alloc, CONTENT, RIGHT)?;
-    let alter = update_cell(alloc, op, ABOVE)?;
+    let there = exch(alloc, CONTENT, part(1))?;
+    let alter = update_cell(alloc, op, part(k))?;
     enclosed(alloc, there, alter)
 }
 
 // An element that is found once updated by a value that is opened once.
+#[tactic(auto, using(register_expressions::proofs::HeldBounds::need_least))]
 fn near_update(
     alloc: Global,
     op: UpdateOp,
@@ -269,16 +273,16 @@ fn near_update(
 ) -> Result<Piece, NoMemory>
     requires index { words_of (expression_of index.now) ≤ 1000 }
     requires value { words_of (expression_of value.now) ≤ 1000 }
-    requires few { need_of (expression_of value.now) < 6 }
+    requires few { 2 + need_of (expression_of index.now) + need_of (expression_of value.now) < 10 }
     ensures { IfOk result (λ p.
-        p ≡ unmarked (near_update_cells (spot_of_name (known_by names.now))
-        (free_of (known_by names.now)) op name.now (expression_of index.now)
-        (expression_of value.now))) }
+        p ≡ unmarked (near_update_cells (spot_of_name (known_by names.now)) op name.now
+        (expression_of index.now) (expression_of value.now))) }
 {
-    let found = near_place(alloc, names, name, index)?;
-    let opened = held(alloc, names, value, 4)?;
+    let above = 2 + need(index);
+    let found = held_place(alloc, names, name, index)?;
+    let opened = held(alloc, names, value, above)?;
     let outer = seq(found, opened)?;
-    let middle = near_middle(alloc, op)?;
+    let middle = near_middle(alloc, op, above)?;
     enclosed(alloc, outer, middle)
 }
 

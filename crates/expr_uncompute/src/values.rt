@@ -2,21 +2,22 @@
 ghost use Rattle.std.specs.Prelude.{◌≡◌, ◌≢◌, ◌<◌, ◌≤◌, ◌⊎◌, ◌+◌, ◌*◌, ◌++◌, length, IfOk};
 ghost use Rattle.rpp_tree.specs.Views.{expression_of, lvalue_of};
 ghost use Rattle.paired_code.specs.Code.{unmarked};
-ghost use Rattle.expr_uncompute.specs.Code.{Target, words as words_of, place_words as words_of_place, copy_cells, operand_cells, checked_cells as checked_of, open_cells, prepare_cells, parts_cells, prepared_value_cells, prepared_test_cells, value_cells, test_cells, result_of, nil_check as nil_cells, index_check as index_cells};
-ghost use Rattle.expr_uncompute.specs.Number.{read_of};
+ghost use Rattle.register_expressions.specs.Code.{Target, words as words_of, copy_cells, nil_check as nil_cells, index_check as index_cells};
+ghost use Rattle.expr_uncompute.specs.Code.{place_words as words_of_place, operand_cells, checked_cells as checked_of, open_cells, prepare_cells, parts_cells, prepared_value_cells, prepared_test_cells, value_cells, test_cells, result_of};
+ghost use Rattle.register_expressions.specs.Number.{read_of};
 ghost use Rattle.expr_uncompute.specs.Promises.{ValueLaw, TestLaw};
-ghost use Rattle.expr_uncompute.specs.Steps.{tokens};
+ghost use Rattle.register_expressions.specs.Steps.{tokens};
 ghost use Rattle.code_scope.specs.Visible.{spot_of as spot_of_name, free_of, known_by};
 
-use crate::cells::{enclosed, exch, xor, xori};
-use crate::held::{held_test, held_value, is_held};
-use crate::rows::{
-    copy, index_check, nil_check, operator, operator_register, point, reached, store, truth,
-};
 use code_conventions::registers::{CONTENT, ITEM, LEFT, RIGHT, TRUTH};
 use code_scope::{Names, free_word, spot_of};
 use paired_code::{Piece, empty, seq};
 use refine_form::Spot;
+use register_expressions::cells::{enclosed, exch, xor, xori};
+use register_expressions::held::{held_test, held_value, is_held};
+use register_expressions::rows::{
+    copy, index_check, nil_check, operator, operator_register, point, reached, store, truth,
+};
 use rpp_tree::Text;
 use rpp_tree::tree::{Expr, Place};
 use rpp_words::NoMemory;

@@ -8,14 +8,14 @@ use Rattle.rpp_words.specs.declared.input.TheConstants.{FRAME_WORDS}
 use Rattle.rpp_tree.specs.declared.tree.Ident.{Ident}
 use Rattle.rpp_tree.specs.Tree.{Whole, Item, Local, Construct, Call}
 use Rattle.paired_code.specs.declared.part.Symbol.{Symbol}
-use Rattle.paired_code.specs.Layout.{mirror_cells, check_cells, enter_at_cells, code_line, Stands}
+use Rattle.paired_code.specs.Layout.{mirror_cells, check_equal_cells, enter_at_cells, code_line, Stands}
 use Rattle.paired_code.specs.Pieces.{Will}
 use Rattle.paired_code.specs.Does.{Meets}
 use Rattle.paired_code.specs.Rows.{line}
 use Rattle.paired_code.proofs.Mirrored.{length_mirror}
 use Rattle.pisa_isa.specs.Loaded.{loaded}
 use Rattle.code_conventions.specs.declared.faults.TheConstants.{DELOCAL}
-use Rattle.code_conventions.specs.declared.registers.TheConstants.{FRAME, VALUE}
+use Rattle.code_conventions.specs.declared.registers.TheConstants.{FRAME, NOUGHT, VALUE}
 use Rattle.roopl_semantics.specs.Execution.{exec}
 use Rattle.roopl_semantics.specs.Source.{starting, main_body}
 use Rattle.roopl_semantics.specs.Layout.{layout}
@@ -152,15 +152,15 @@ around_length w mid =
     (length-append w (mid ++ mirror_cells w)) (length-append mid (mirror_cells w)
     ∙ ap (λ n. length mid + n) (length_mirror w))
 
-move_length : (spot : Spot) (j : ℕ) → length (move_code spot j) ≡ 11
+move_length : (spot : Spot) (j : ℕ) → length (move_code spot j) ≡ 9
 unfolding move_code
 move_length (Field i) j = refl
 move_length (Frame i) j = refl
 
-sum_moves : (n k m : ℕ) → m ≡ n + 11 → n ≡ 11 * k → m ≡ 11 * suc k
+sum_moves : (n k m : ℕ) → m ≡ n + 9 → n ≡ 9 * k → m ≡ 9 * suc k
 sum_moves n k m h g = omega arith
 
-moves_length : (spots : List Spot) → length (moves_of spots) ≡ 11 * length spots
+moves_length : (spots : List Spot) → length (moves_of spots) ≡ 9 * length spots
 moves_length [] = refl
 moves_length (spot ∷ spots) = sum_moves (length (moves_of spots)) (length spots) (length (moves_of (spot ∷ spots)))
     (length-append (moves_of spots) (move_code spot (length spots))
@@ -170,11 +170,11 @@ last_length : (slot : ℕ) → length (last_cells slot) ≡ 8
 unfolding last_cells
 last_length slot = refl
 
-sum_own : (k n1 n2 n3 n4 : ℕ) → n1 ≡ 13 + n2 → n2 ≡ n3 + 8 → n3 ≡ 11 * k → n4 ≡ 2 * n1 + 7 → n4 ≡ 22 * k + 49
+sum_own : (k n1 n2 n3 n4 : ℕ) → n1 ≡ 9 + n2 → n2 ≡ n3 + 8 → n3 ≡ 9 * k → n4 ≡ 2 * n1 + 7 → n4 ≡ 18 * k + 41
 sum_own k n1 n2 n3 n4 a b c d = omega arith
 
 pub own_length : (back : Bool) (slot : ℕ) (spots : List Spot)
-    → length (own_cells back slot spots) ≡ 22 * length spots + 49
+    → length (own_cells back slot spots) ≡ 18 * length spots + 41
 unfolding own_cells
 own_length back slot spots =
     let front = depth_code ++ (moves_of spots ++ last_cells slot) in
@@ -185,20 +185,20 @@ own_length back slot spots =
     (moves_length spots)
     (around_length front (enter_at_cells VALUE back))
 
-behind_length : (spot : Spot) (slot : ℕ) → length (behind_of spot slot) ≡ 21
+behind_length : (spot : Spot) (slot : ℕ) → length (behind_of spot slot) ≡ 19
 unfolding last_cells behind_of
 behind_length (Field i) slot = refl
 behind_length (Frame i) slot = refl
 
-nil_length : (spot : Spot) → length (nil_code spot) ≡ 11
+nil_length : (spot : Spot) → length (nil_code spot) ≡ 7
 nil_length (Field i) = refl
 nil_length (Frame i) = refl
 
-sum_checked : (k n1 n2 n3 : ℕ) → n1 ≡ 13 + n2 → n2 ≡ n3 + 21 → n3 ≡ 11 * k → n1 ≡ 11 * k + 34
+sum_checked : (k n1 n2 n3 : ℕ) → n1 ≡ 9 + n2 → n2 ≡ n3 + 19 → n3 ≡ 9 * k → n1 ≡ 9 * k + 28
 sum_checked k n1 n2 n3 a b c = omega arith
 
 checked_length : (spot : Spot) (slot : ℕ) (spots : List Spot)
-    → length (checked_of spot slot spots) ≡ 11 * length spots + 34
+    → length (checked_of spot slot spots) ≡ 9 * length spots + 28
 unfolding checked_of
 checked_length spot slot spots =
     sum_checked (length spots) (length (depth_code ++ (moves_of spots ++ behind_of spot slot)))
@@ -208,17 +208,17 @@ checked_length spot slot spots =
     ∙ ap (λ n. length (moves_of spots) + n) (behind_length spot slot)) (moves_length spots)
 
 front_length : (spot : Spot) (slot : ℕ) (spots : List Spot)
-    → length (front_on_of spot slot spots) ≡ 11 + (11 * length spots + 34)
+    → length (front_on_of spot slot spots) ≡ 7 + (9 * length spots + 28)
 unfolding front_on_of
 front_length spot slot spots = length-append (nil_code spot) (checked_of spot slot spots)
     ∙ ap (λ n. n + length (checked_of spot slot spots)) (nil_length spot)
-    ∙ ap (λ n. 11 + n) (checked_length spot slot spots)
+    ∙ ap (λ n. 7 + n) (checked_length spot slot spots)
 
-sum_on : (k n1 n4 : ℕ) → n1 ≡ 11 + (11 * k + 34) → n4 ≡ 2 * n1 + 7 → n4 ≡ 22 * k + 97
+sum_on : (k n1 n4 : ℕ) → n1 ≡ 7 + (9 * k + 28) → n4 ≡ 2 * n1 + 7 → n4 ≡ 18 * k + 77
 sum_on k n1 n4 a d = omega arith
 
 pub on_length : (back : Bool) (spot : Spot) (slot : ℕ) (spots : List Spot)
-    → length (around (front_on_of spot slot spots) (enter_at_cells VALUE back)) ≡ 22 * length spots + 97
+    → length (around (front_on_of spot slot spots) (enter_at_cells VALUE back)) ≡ 18 * length spots + 77
 on_length back spot slot spots =
     sum_on (length spots) (length (front_on_of spot slot spots))
     (length (around (front_on_of spot slot spots) (enter_at_cells VALUE back))) (front_length spot slot spots)
@@ -234,21 +234,21 @@ pub main_length : (number : ℕ) → length (main_cells number) ≡ 13
 unfolding main_cells
 main_length number = refl
 
-sum_open : (v n k : ℕ) → n ≡ 5 + k → k ≡ v + 3 → n ≡ v + 8
+sum_open : (v n k : ℕ) → n ≡ 3 + k → k ≡ v + 3 → n ≡ v + 6
 sum_open v n k h g = omega arith
 
-open_length : (word : ℕ) (v : List Symbol) → length (local_open word v) ≡ length v + 8
+open_length : (word : ℕ) (v : List Symbol) → length (local_open word v) ≡ length v + 6
 open_length word v =
     let store = store_code word in
     sum_open (length v) (length (local_open word v)) (length (v ++ store))
-    (length-append (check_cells VALUE DELOCAL) (v ++ store)) (length-append v store)
+    (length-append (check_equal_cells VALUE NOUGHT DELOCAL) (v ++ store)) (length-append v store)
 
-sum_local : (v p x n1 n2 n3 n4 n5 : ℕ) → n5 ≡ n1 + n2 → n2 ≡ p + n3 → n3 ≡ n4 → n1 ≡ v + 8 → n4 ≡ x + 8
-    → n5 ≡ v + p + x + 16
+sum_local : (v p x n1 n2 n3 n4 n5 : ℕ) → n5 ≡ n1 + n2 → n2 ≡ p + n3 → n3 ≡ n4 → n1 ≡ v + 6 → n4 ≡ x + 6
+    → n5 ≡ v + p + x + 12
 sum_local v p x n1 n2 n3 n4 n5 a b c d e = omega arith
 
 pub local_length : (word : ℕ) (v p x : List Symbol) → length (local_code word v p x)
-    ≡ length v + length p + length x + 16
+    ≡ length v + length p + length x + 12
 local_length word v p x =
     let last = mirror_cells (local_open word x) in
     sum_local (length v) (length p) (length x) (length (local_open word v)) (length (p ++ last)) (length last)

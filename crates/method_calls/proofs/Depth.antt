@@ -1,5 +1,5 @@
 -- The check of the depth, the place of a method, and what a body puts by.
-use Rattle.std.proofs.Common.{◌≡◌, ◌≢◌, ℕ, ◌+◌, ◌-◌, ◌^◌, ◌<◌, ◌≤◌, Bool, true, false, List, [], ◌∷◌, ◌++◌, length}
+use Rattle.std.proofs.Common.{◌≡◌, ◌≢◌, ℕ, ◌+◌, ◌-◌, ◌^◌, ◌<◌, ◌≤◌, Bool, true, false, List, [], ◌∷◌, length}
 use Rattle.std.proofs.Common.{refl}
 use Rattle.std.proofs.Common.{sym}
 use Rattle.std.proofs.Common.{ap, ◌∙◌, arith}
@@ -9,25 +9,25 @@ use Rattle.std.proofs.Math.ListN.{length-set}
 use Rattle.std.proofs.lemmas.Bool.Decides.{nat_tests}
 use Rattle.rpp_words.specs.declared.input.TheConstants.{FRAME_WORDS}
 use Rattle.rpp_words.specs.Words.{sum_of, negated, is_less, signed}
-use Rattle.pisa_isa.specs.Table.{word_of}
 use Rattle.pisa_isa.specs.declared.cell.Cell.{Cell}
 use Rattle.pisa_isa.specs.Machine.{Memory}
 use Rattle.pisa_isa.specs.declared.fixed.TheConstants.{END_CELL}
 use Rattle.code_conventions.specs.declared.memory.TheConstants.{PLACE_WORD, TABLE_HEADER}
 use Rattle.code_conventions.specs.declared.faults.TheConstants.{TOO_DEEP}
-use Rattle.code_conventions.specs.declared.registers.TheConstants.{ADDRESS, CONTENT, FLAG, FRAME, LINK, MOVED, OBJECT}
+use Rattle.code_conventions.specs.declared.registers.TheConstants.{ADDRESS, CONTENT, FRAME, LINK, MOVED, OBJECT}
 use Rattle.code_conventions.specs.declared.registers.TheConstants.{VALUE}
 use Rattle.paired_code.specs.Machine.{Image}
-use Rattle.paired_code.specs.Layout.{check_cells}
-use Rattle.paired_code.specs.Pieces.{Done, Trapped, Will, after}
-use Rattle.paired_code.proofs.Laws.{will_of, will_more}
+use Rattle.paired_code.specs.Layout.{check_differ_cells}
+use Rattle.paired_code.specs.Pieces.{Done, Trapped, Will}
+use Rattle.paired_code.proofs.Laws.{will_of}
 use Rattle.paired_code.proofs.Call.{set_set}
-use Rattle.paired_code.proofs.Small.{runs_check_zero, runs_check_other}
-use Rattle.code_conventions.specs.Cells.{add, exch, addi, xori, sltx}
-use Rattle.method_calls.specs.CallCode.{end_row, fits_row, depth_code, fetch_row, save_row}
+use Rattle.paired_code.specs.Layout.{Differ}
+use Rattle.paired_code.proofs.Checks.{runs_passes, runs_fails}
+use Rattle.code_conventions.specs.Cells.{add, exch, addi}
+use Rattle.method_calls.specs.CallCode.{end_row, depth_code, fetch_row, save_row}
 use Rattle.refine_form.proofs.Rows.{Ran, here, next, will_row}
 use Rattle.method_calls.proofs.Addresses.{mk, sum_is, difference_is, less_is}
-use Rattle.refine_form.proofs.Rules.{will_in, will_in_trap, will_two, will_two_back}
+use Rattle.refine_form.proofs.Rules.{will_in, will_in_trap}
 use Rattle.paired_code.specs.Rows.{line}
 use Rattle.method_calls.proofs.Exchanges.{exchanges}
 
@@ -53,9 +53,6 @@ small_words u v g h = ap (λ z. int_lt z (signed v)) (signed_small u g) ∙ ap (
 
 pub below : (u v : ℕ) → u < v → v < 2 ^ 31 → is_less u v ≡ true
 below u v p h = small_words u v (omega arith) h ∙ grind (arith, nat_tests)
-
-not_below : (u v : ℕ) → u ≡ v → v < 2 ^ 31 → is_less u v ≡ false
-not_below u v p h = small_words u v (omega arith) h ∙ grind (arith, nat_tests)
 
 pub above_zero : (v : ℕ) → 0 < v → v < 2 ^ 31 → is_less 0 v ≡ true
 above_zero v p h = below 0 v p h
@@ -100,52 +97,25 @@ module _ (im : Image) (ob fr : ℕ) (cs : List ℕ) (inside : END_CELL < length 
       ∙ ap (λ l. Done (depth_mem END_CELL 0 0 l) 1) (filled cs END_CELL))
       (next refl (omega arith) refl here)))
 
-  -- what the two cells leave in the flag
-  flags : (t : Bool) (x y : ℕ) → is_less fr last ≡ t → bit_xor 0 (word_of t) ≡ x → bit_xor x 1 ≡ y
-      → Will im (line fits_row) false (depth_mem END_CELL last 0 gone)
-      (λ o. o ≡ Done (depth_mem END_CELL last y gone) 2)
-  flags t x y e ex ey =
-      will_row im false fits_row 2 _ _
-      (next refl (omega arith) (ap (λ b. Done (depth_mem END_CELL last (bit_xor 0 (word_of b)) gone) 1) e
-      ∙ ap (λ v. Done (depth_mem END_CELL last v gone) 1) ex)
-      (next refl (omega arith) (ap (λ v. Done (depth_mem END_CELL last v gone) 1) ey) here))
-
-  unflags : is_less fr last ≡ true
-      → Will im (line fits_row) true (depth_mem END_CELL last 0 gone) (λ o. o ≡ Done (depth_mem END_CELL last 0 gone) 2)
-  unflags e =
-      will_row im true (xori FLAG 1 ∷ sltx FLAG FRAME CONTENT ∷ []) 2 _ _
-      (next refl (omega arith) refl
-      (next refl (omega arith) (ap (λ b. Done (depth_mem END_CELL last (bit_xor 1 (word_of b)) gone) 1) e) here))
-
-  -- the flag is 0 behind the test, and before it where it is run back
-  passes : (d : Bool) → is_less fr last ≡ true → Will im (line fits_row ++ check_cells FLAG TOO_DEEP) d
-      (depth_mem END_CELL last 0 gone) (λ o. o ≡ Done (depth_mem END_CELL last 0 gone) 6)
-  passes false e =
-      will_two im (line fits_row) (check_cells FLAG TOO_DEEP) _ _ 2 _ (flags true 1 0 e refl refl)
-      (will_of im _ false _ _ _ (runs_check_zero im false FLAG TOO_DEEP (depth_mem END_CELL last 0 gone) refl) refl)
-  passes true e =
-      will_two_back im (line fits_row) (check_cells FLAG TOO_DEEP) _ _ 4 _
-      (will_of im _ true _ _ _ (runs_check_zero im true FLAG TOO_DEEP (depth_mem END_CELL last 0 gone) refl) refl)
-      (will_more im _ true _ _ _ (λ o q. ap (after 4) q) (unflags e))
-
   -- where one more call may be open, nothing happens
   pub depth_passes : (d : Bool) → fr + FRAME_WORDS < end → Will im depth_code d (depth_mem 0 0 0 cs)
-      (λ o. o ≡ Done (depth_mem 0 0 0 cs) 12)
+      (λ o. o ≡ Done (depth_mem 0 0 0 cs) 8)
   depth_passes d h =
-      let t : is_less fr last ≡ true = below fr last (omega (arith, last_is)) (omega (arith, small)) in
-      will_in im d (line end_row) (line fits_row ++ check_cells FLAG TOO_DEEP) _ _ _ _ 3 6 3 finds_end (passes d t)
+      let other : fr ≢ last = λ e. omega (arith, last_is, h, e) in
+      will_in im d (line end_row) (check_differ_cells FRAME CONTENT TOO_DEEP) _ _ _ _ 3 2 3 finds_end
+      (will_of im _ d _ _ _ (runs_passes im d (Differ FRAME CONTENT) TOO_DEEP (depth_mem END_CELL last 0 gone) other)
+      refl)
       leaves_end
 
   -- else it traps
   pub depth_traps : fr + FRAME_WORDS ≡ end → Will im depth_code false (depth_mem 0 0 0 cs)
-      (λ o. (k : ℕ) × (k ≤ 9) × (o ≡ Trapped 14 k))
+      (λ o. (k : ℕ) × (k ≤ 4) × (o ≡ Trapped 14 k))
   depth_traps h =
-      let t : is_less fr last ≡ false = not_below fr last (omega (arith, last_is)) (omega (arith, small)) in
-      let c = runs_check_other im false FLAG TOO_DEEP (depth_mem END_CELL last 1 gone)
-      (λ e. let q : 1 ≡ 0 = e in omega arith) in
-      will_in_trap im false (line end_row) (line fits_row ++ check_cells FLAG TOO_DEEP) _ _ 3 14 6 finds_end
-      (will_two im (line fits_row) (check_cells FLAG TOO_DEEP) _ _ 2 _ (flags false 0 1 t refl refl)
-      (will_of im _ false _ _ _ c.2 (2 + c.0, (let l = c.1 in omega arith), refl)))
+      let same : fr ≡ last = omega (arith, last_is, h) in
+      will_in_trap im false (line end_row) (check_differ_cells FRAME CONTENT TOO_DEEP) _ _ 3 14 1 finds_end
+      (will_of im _ false _ _ _ (runs_fails im false (Differ FRAME CONTENT) TOO_DEEP (depth_mem END_CELL last 0 gone)
+      same)
+      (1, omega arith, refl))
 
 -- ---- the place of a method
 
@@ -248,7 +218,8 @@ module _ (im : Image) (ob fr link place : ℕ) (cs : List ℕ) (inside : fr + PL
         (λ o. o ≡ Done (mk 0 ob fr 0 0 0 0 0 (slice_set (slice_set cs fr link) (fr + PLACE_WORD) place)) 4)
     will_save z z2 =
         let cs1 = slice_set cs fr link in
-        let e : slice_index cs1 (fr + PLACE_WORD) ≡ 0 = get_or-set_other cs fr (fr + PLACE_WORD) link 0 (λ q. omega arith)
+        let e : slice_index cs1 (fr + PLACE_WORD) ≡ 0 = get_or-set_other cs fr (fr + PLACE_WORD) link 0
+        (λ q. omega arith)
         ∙ z2 in
         will_row im false save_row 4 _ _
         (next refl (omega arith) (exchanges false LINK FRAME (mk link ob fr 0 0 0 0 place cs) (omega arith)
@@ -276,5 +247,6 @@ module _ (im : Image) (ob fr link place : ℕ) (cs : List ℕ) (inside : fr + PL
         (next refl (omega arith) (ap (λ v. Done (mk 0 ob v 0 0 0 0 place cs1) 1)
         (less_is (fr + PLACE_WORD) PLACE_WORD fr refl (omega arith)))
         (next refl (omega arith) (exchanges true LINK FRAME (mk 0 ob fr 0 0 0 0 place cs1)
-        (omega (arith, length-set cs (fr + PLACE_WORD) 0)) ∙ ap (λ v. Done (mk v ob fr 0 0 0 0 place (slice_set cs1 fr 0))
+        (omega (arith, length-set cs (fr + PLACE_WORD) 0)) ∙ ap
+        (λ v. Done (mk v ob fr 0 0 0 0 place (slice_set cs1 fr 0))
         1) e) here))))

@@ -9,14 +9,15 @@ use Rattle.rpp_tree.specs.Tree.{Item, Object as AnObject, End, Then, joined}
 use Rattle.stmt_inverter.specs.Inverse.{inverse, inverse_statement}
 use Rattle.pisa_isa.specs.Machine.{Memory}
 use Rattle.code_conventions.specs.declared.faults.TheConstants.{DELOCAL}
-use Rattle.code_conventions.specs.declared.registers.TheConstants.{FRAME, VALUE}
+use Rattle.code_conventions.specs.declared.registers.TheConstants.{FRAME, NOUGHT, VALUE}
 use Rattle.paired_code.specs.declared.part.Symbol.{Symbol}
 use Rattle.paired_code.specs.Machine.{Image}
-use Rattle.paired_code.specs.Layout.{check_cells, mirror_cells}
+use Rattle.paired_code.specs.Layout.{check_equal_cells, mirror_cells}
 use Rattle.paired_code.specs.Pieces.{Done, Will}
 use Rattle.paired_code.specs.Does.{Told, Fine, Fault, More, plus, told_then, Meets, fine, faults, Does, in_order}
 use Rattle.paired_code.proofs.Laws.{will_of, will_more}
-use Rattle.paired_code.proofs.Small.{runs_check_zero, runs_check_other}
+use Rattle.paired_code.specs.Layout.{Equal}
+use Rattle.paired_code.proofs.Checks.{runs_passes, runs_fails}
 use Rattle.paired_code.proofs.Mirrored.{will_mirror}
 use Rattle.paired_code.proofs.Does.{will_last}
 use Rattle.roopl_semantics.specs.Run.{Run, ◌>>=◌, give, fault_if, after_cost}
@@ -81,7 +82,7 @@ module _ (w : World) (IsInit : Scope → Var → Expression → Type 0) (f : Loc
   appears st = told_then (told (evaluated w.setting.program e st)) (λ c v. Fine (opened var.name.text v st) 0)
 
   pub opens_var : (n : ℕ) (st : State) (m : Memory) → Open w s u st m
-      → Will w.im (local_open j p) false m (Late 4 (Meets (Open w (with_var s var) u) w.rates n 53 (appears st)))
+      → Will w.im (local_open j p) false m (Late 2 (Meets (Open w (with_var s var) u) w.rates n 53 (appears st)))
   opens_var n st m h =
       let cs = m.cells in
       let t = told (evaluated w.setting.program e st) in
@@ -103,10 +104,10 @@ module _ (w : World) (IsInit : Scope → Var → Expression → Type 0) (f : Loc
       (fine done (omega arith) (omega arith)))
       (stores w.im ob fr j cs (f.free_in s u st cs var e h.open_frame is) (near [] s st cs h.open_frame) false x 0
       (f.free_word s u st cs var e h.open_frame is))))) in
-      subst (λ z. Will w.im (local_open j p) false z (Late 4
+      subst (λ z. Will w.im (local_open j p) false z (Late 2
       (Meets (Open w (with_var s var) u) w.rates n 53 (appears st)))) (sym (as_known m _ h.regs_are))
-      (will_two w.im (check_cells VALUE DELOCAL) (p ++ store_code j) _ (mk 0 ob fr 0 0 0 0 0 cs) 4 _
-      (will_of w.im _ false _ _ _ (runs_check_zero w.im false 12 3 (mk 0 ob fr 0 0 0 0 0 cs) refl) refl)
+      (will_two w.im (check_equal_cells VALUE NOUGHT DELOCAL) (p ++ store_code j) _ (mk 0 ob fr 0 0 0 0 0 cs) 2 _
+      (will_of w.im _ false _ _ _ (runs_passes w.im false (Equal 12 7) 3 (mk 0 ob fr 0 0 0 0 0 cs) refl) refl)
       (will_more w.im (p ++ store_code j) false _ _ _ (λ o q. late q)
       (subst (λ z. Will w.im (p ++ z) false (mk 0 ob fr 0 0 0 0 0 cs)
       (Meets (Open w (with_var s var) u) w.rates n 53 (appears st))) (append-nil (store_code j)) rest)))
@@ -127,8 +128,8 @@ module _ (w : World) (IsInit : Scope → Var → Expression → Type 0) (f : Loc
   last_check : (n : ℕ) (st : State) (cs : List ℕ) (v : Value) (c : ℕ) → w.opens (with_var s var) u [] st cs
       → told (evaluated w.setting.program e (closed st)) ≡ Fine v c → (m1 : Memory)
       → m1 ≡ holding w u (bit_xor (w.word_of u st (read st (Slot 0))) (w.word_of u (closed st) v)) (gone cs)
-      → (b : Bool) → same_value (read st (Slot 0)) v ≡ b → Will w.im (check_cells VALUE DELOCAL) true m1
-      (Meets (Open w s u) w.rates n 4 (checked st v))
+      → (b : Bool) → same_value (read st (Slot 0)) v ≡ b → Will w.im (check_equal_cells VALUE NOUGHT DELOCAL) true m1
+      (Meets (Open w s u) w.rates n 2 (checked st v))
   last_check n st cs v c h said m1 i true same =
       let z = f.same_words s u st cs var e v c h is said same in
       let known : m1 ≡ mk 0 ob fr 0 0 0 0 0 (gone cs) = i ∙ ap (λ y. mk 0 ob fr 0 0 0 0 y (gone cs)) z in
@@ -136,45 +137,48 @@ module _ (w : World) (IsInit : Scope → Var → Expression → Type 0) (f : Loc
       record { regs_are = refl; open_frame = f.closes s u st cs var e v c h is said same } in
       let told_is : checked st v ≡ Fine (closed st) 0 = ap
       (λ b. told (fault_if delocal_fault (not b) >>= λ z. give (closed st))) same in
-      subst (λ z. Will w.im (check_cells VALUE DELOCAL) true z (Meets (Open w s u) w.rates n 4 (checked st v)))
+      subst (λ z. Will w.im (check_equal_cells VALUE NOUGHT DELOCAL) true z
+      (Meets (Open w s u) w.rates n 2 (checked st v)))
       (sym known)
-      (will_of w.im _ true _ _ _ (runs_check_zero w.im true 12 3 (mk 0 ob fr 0 0 0 0 0 (gone cs)) refl)
+      (will_of w.im _ true _ _ _ (runs_passes w.im true (Equal 12 7) 3 (mk 0 ob fr 0 0 0 0 0 (gone cs)) refl)
       (meets_told _ _ (sym told_is) (fine end (omega arith) (omega arith))))
   last_check n st cs v c h said m1 i false same =
       let nz = f.other_words s u st cs var e v c h is said same in
       let x = bit_xor (w.word_of u st (read st (Slot 0))) (w.word_of u (closed st) v) in
       let told_is : checked st v ≡ Fault 3 0 = ap (λ b. told (fault_if delocal_fault (not b) >>= λ z. give (closed st)))
       same in
-      let k = runs_check_other w.im true 12 3 (mk 0 ob fr 0 0 0 0 x (gone cs)) nz in
-      subst (λ z. Will w.im (check_cells VALUE DELOCAL) true z (Meets (Open w s u) w.rates n 4 (checked st v))) (sym i)
-      (will_of w.im _ true _ _ _ k.2 (meets_told _ _ (sym told_is) (faults (let q = k.1 in omega arith))))
+      let k = runs_fails w.im true (Equal 12 7) 3 (mk 0 ob fr 0 0 0 0 x (gone cs)) nz in
+      subst (λ z. Will w.im (check_equal_cells VALUE NOUGHT DELOCAL) true z
+      (Meets (Open w s u) w.rates n 2 (checked st v))) (sym i)
+      (will_of w.im _ true _ _ _ k (meets_told _ _ (sym told_is) (faults (omega arith))))
 
   pub closes_var : (n : ℕ) (st : State) (m : Memory) → Open w (with_var s var) u st m
-      → Will w.im (local_open j p) true m (Meets (Open w s u) w.rates n 57 (goes_away st))
+      → Will w.im (local_open j p) true m (Meets (Open w s u) w.rates n 55 (goes_away st))
   closes_var n st m h =
       let cs = m.cells in
       let x = w.word_of u st (read st (Slot 0)) in
       let cs1 = gone cs in
       let t = told (evaluated w.setting.program e (closed st)) in
-      let rest : Will w.im (in_order true (p ∷ check_cells VALUE DELOCAL ∷ [])) true (mk 0 ob fr 0 0 0 0 x cs1)
-      (Meets (Open w s u) w.rates n (50 + 4) (told_then t (λ c v. checked st v))) =
+      let rest : Will w.im (in_order true (p ∷ check_equal_cells VALUE NOUGHT DELOCAL ∷ [])) true
+      (mk 0 ob fr 0 0 0 0 x cs1)
+      (Meets (Open w s u) w.rates n (50 + 2) (told_then t (λ c v. checked st v))) =
       meets_then w.im true (λ v m1. m1 ≡ holding w u (bit_xor x (w.word_of u (closed st) v)) cs1) (Open w s u) w.rates n
-      50 4 p (check_cells VALUE DELOCAL ∷ []) (mk 0 ob fr 0 0 0 0 x cs1) t (λ c v. checked st v)
+      50 2 p (check_equal_cells VALUE NOUGHT DELOCAL ∷ []) (mk 0 ob fr 0 0 0 0 x cs1) t (λ c v. checked st v)
       (will_more w.im p true _ _ _ (λ o q. meets_rate (omega (arith, thousand)) q)
       (hp n true u x (closed st) cs1 (f.undeclares s u st cs var e h.open_frame is))) (λ c v m1 said i.
       last_check (n - c) st cs v c h.open_frame said m1 i (same_value (read st (Slot 0)) v) refl) in
       let said : goes_away st ≡ told_then t (λ c v. checked st v) =
       ap (λ r. told_then (told r) (λ c v. checked st v)) (f.not_named s u st cs var e h.open_frame is) in
-      let all : Will w.im ((check_cells VALUE DELOCAL ++ p) ++ store_code j) true (mk 0 ob fr 0 0 0 0 0 cs)
-      (Meets (Open w s u) w.rates n 57 (goes_away st)) =
-      will_two_back w.im (check_cells VALUE DELOCAL ++ p) (store_code j) _ (mk 0 ob fr 0 0 0 0 x cs1) 3 _
+      let all : Will w.im ((check_equal_cells VALUE NOUGHT DELOCAL ++ p) ++ store_code j) true (mk 0 ob fr 0 0 0 0 0 cs)
+      (Meets (Open w s u) w.rates n 55 (goes_away st)) =
+      will_two_back w.im (check_equal_cells VALUE NOUGHT DELOCAL ++ p) (store_code j) _ (mk 0 ob fr 0 0 0 0 x cs1) 3 _
       (stores w.im ob fr j cs (f.var_in s u st cs var e h.open_frame is)
       (near [] (with_var s var) st cs h.open_frame) true 0 x (f.var_word s u st cs var e h.open_frame is))
       (will_more w.im _ true _ _ _ (λ o q. meets_told _ _ (sym said) (meets_later 3 q)) rest) in
-      subst (λ z. Will w.im (local_open j p) true z (Meets (Open w s u) w.rates n 57 (goes_away st)))
+      subst (λ z. Will w.im (local_open j p) true z (Meets (Open w s u) w.rates n 55 (goes_away st)))
       (sym (as_known m _ h.regs_are))
-      (subst (λ z. Will w.im z true (mk 0 ob fr 0 0 0 0 0 cs) (Meets (Open w s u) w.rates n 57 (goes_away st)))
-      (append_assoc (check_cells VALUE DELOCAL) p (store_code j)) all)
+      (subst (λ z. Will w.im z true (mk 0 ob fr 0 0 0 0 0 cs) (Meets (Open w s u) w.rates n 55 (goes_away st)))
+      (append_assoc (check_equal_cells VALUE NOUGHT DELOCAL) p (store_code j)) all)
 
 -- ---- the whole
 
@@ -215,12 +219,12 @@ module _ (w : World) (IsInit : Scope → Var → Expression → Type 0) (f : Loc
   -- the three parts in the order of a direction
   in_parts : (n : ℕ) (d : Bool) (e : Expression) (body : Statements) (e' : Expression) (p1 pb p3 : List Symbol)
       (st : State) (m : Memory)
-      → Will w.im p1 d m (Late 4 (Meets (Open w (with_var s var) u) w.rates n 53
+      → Will w.im p1 d m (Late 2 (Meets (Open w (with_var s var) u) w.rates n 53
       (told_then (told (evaluated w.setting.program e st)) (λ c v. Fine (opened var.name.text v st) 0))))
       → ((n' : ℕ) → n' ≤ n → Does w.im pb d (Open w (with_var s var) u) (Open w (with_var s var) u) w.rates n' 0
       (λ st. told (exec w.setting n body st)))
       → ((n' : ℕ) (st : State) (m : Memory) → Open w (with_var s var) u st m
-      → Will w.im p3 d m (Meets (Open w s u) w.rates n' 57
+      → Will w.im p3 d m (Meets (Open w s u) w.rates n' 55
       (told_then (told (evaluated w.setting.program e' st))
       (λ c v. told (fault_if delocal_fault (not (same_value (read st (Slot 0)) v)) >>= λ z. give
       (closed st))))))
@@ -231,9 +235,9 @@ module _ (w : World) (IsInit : Scope → Var → Expression → Type 0) (f : Loc
       let rest : State → Told State = λ end. told_then (told (evaluated w.setting.program e' end))
       (λ c v. told (fault_if delocal_fault (not (same_value (read end (Slot 0)) v)) >>= λ z. give (closed end))) in
       will_more w.im _ d _ _ _ (λ o q. late_counts 1 0 counts (omega arith) (omega (arith, thousand)) q)
-      (late_then w.im d S (Open w s u) w.rates n 53 (0 + 57) 4 p1 (pb ∷ p3 ∷ []) m _
+      (late_then w.im d S (Open w s u) w.rates n 53 (0 + 55) 2 p1 (pb ∷ p3 ∷ []) m _
       (λ c st1. told_then (told (exec w.setting n body st1)) (λ c end. rest end)) first (λ c st1 m1 said i.
-      meets_then w.im d S (Open w s u) w.rates (n - c) 0 57 pb (p3 ∷ []) m1 (told (exec w.setting n body st1))
+      meets_then w.im d S (Open w s u) w.rates (n - c) 0 55 pb (p3 ∷ []) m1 (told (exec w.setting n body st1))
       (λ c end. rest end) ((block (n - c) (omega arith)).does st1 m1 i) (λ c2 end m2 said2 i2.
       will_last w.im d p3 m2 _ (last (n - c - c2) end m2 i2))))
 

@@ -45,15 +45,15 @@ module _ (im : Image) (ob fr : ℕ) (sp : Spot) (j : ℕ) (cs : List ℕ) where
   up_cells = slice_set (slice_set cs at 0) up (slice_index cs at)
 
   pub moves_up : at < 2 ^ 32 → up < 2 ^ 32 → at < length cs → up < length cs → at ≢ up → slice_index cs up ≡ 0
-      → Will im (move_code sp j) false (mk 0 ob fr 0 0 0 0 0 cs) (λ o. o ≡ Done (mk 0 ob fr 0 0 0 0 0 up_cells) 10)
+      → Will im (move_code sp j) false (mk 0 ob fr 0 0 0 0 0 cs) (λ o. o ≡ Done (mk 0 ob fr 0 0 0 0 0 up_cells) 8)
   unfolding move_code
   moves_up ha hu la lu ne z =
       let cs1 = slice_set cs at 0 in
       let e : slice_index cs1 up ≡ 0 = get_or-set_other cs at up 0 0 (λ q. ne (sym q)) ∙ z in
       let l1 : up < length cs1 = omega (arith, length-set cs at 0) in
-      will_two im (take_code sp) (put_code (first_word + j)) _ (mk 0 ob fr 0 0 (slice_index cs at) 0 0 cs1) 7 _
+      will_two im (take_code sp) (put_code (first_word + j)) _ (mk 0 ob fr 0 0 (slice_index cs at) 0 0 cs1) 5 _
       (takes im ob fr sp cs la ha)
-      (will_more im _ false _ _ _ (λ o q. ap (after 7) q)
+      (will_more im _ false _ _ _ (λ o q. ap (after 5) q)
       (puts im ob fr (first_word + j) cs1 l1 hu false (slice_index cs at) 0 e))
 
   -- back
@@ -68,7 +68,7 @@ module _ (im : Image) (ob fr : ℕ) (sp : Spot) (j : ℕ) (cs : List ℕ) where
   lowers hu lu = puts im ob fr (first_word + j) cs lu hu true 0 (slice_index cs up) refl
 
   pub moves_down : at < 2 ^ 32 → up < 2 ^ 32 → at < length cs → up < length cs → at ≢ up → slice_index cs at ≡ 0
-      → Will im (move_code sp j) true (mk 0 ob fr 0 0 0 0 0 cs) (λ o. o ≡ Done (mk 0 ob fr 0 0 0 0 0 back_cells) 10)
+      → Will im (move_code sp j) true (mk 0 ob fr 0 0 0 0 0 cs) (λ o. o ≡ Done (mk 0 ob fr 0 0 0 0 0 back_cells) 8)
   unfolding move_code
   moves_down ha hu la lu ne z =
       let cs1 = slice_set cs up 0 in
@@ -79,7 +79,7 @@ module _ (im : Image) (ob fr : ℕ) (sp : Spot) (j : ℕ) (cs : List ℕ) where
       (gives_back im ob fr sp cs1 l1 ha (slice_index cs up) (e ∙ z)))
 
   pub traps_down : at < 2 ^ 32 → up < 2 ^ 32 → at < length cs → up < length cs → at ≢ up → slice_index cs at ≢ 0
-      → Will im (move_code sp j) true (mk 0 ob fr 0 0 0 0 0 cs) (λ o. (k : ℕ) × (k ≤ 10) × (o ≡ Trapped 15 k))
+      → Will im (move_code sp j) true (mk 0 ob fr 0 0 0 0 0 cs) (λ o. (k : ℕ) × (k ≤ 8) × (o ≡ Trapped 15 k))
   unfolding move_code
   traps_down ha hu la lu ne nz =
       let cs1 = slice_set cs up 0 in
@@ -123,7 +123,7 @@ module _ (w : World) (knows : Known w) (f : FrameFacts w knows) (s : Scope) (u :
     pub cells : List ℕ
     pub up : w.opens s u (pairs names (vals_from (cells_of names) st)) (out_from (cells_of names) st) cells
     pub goes : Will w.im (moves_code (knows.spot s) names) false (plain w u cs)
-        (λ o. o ≡ Done (plain w u cells) (10 * length names))
+        (λ o. o ≡ Done (plain w u cells) (8 * length names))
 
   pub all_up : (names : List Ident) → AllVariables names → length names ≤ 32 → full ≡ false → (st : State) (cs : List ℕ)
       → w.opens s u [] st cs → AllUp names st cs
@@ -149,10 +149,10 @@ module _ (w : World) (knows : Known w) (f : FrameFacts w knows) (s : Scope) (u :
           let at = address (w.object_of u) (w.frame_of u) sp in
           let up = w.frame_of u + (FRAME_WORDS + (first_word + length vals)) in
           let cs2 = slice_set (slice_set before.cells at 0) up (slice_index before.cells at) in
-          let z : 10 * length names + 10 ≡ 10 * suc (length names) = omega arith in
+          let z : 8 * length names + 8 ≡ 8 * suc (length names) = omega arith in
           let step : Will w.im (move_code sp (length names)) false (plain w u before.cells)
-          (λ o. o ≡ Done (plain w u cs2) 10) =
-          subst (λ k. Will w.im (move_code sp k) false (plain w u before.cells) (λ o. o ≡ Done (plain w u cs2) 10)) n
+          (λ o. o ≡ Done (plain w u cs2) 8) =
+          subst (λ k. Will w.im (move_code sp k) false (plain w u before.cells) (λ o. o ≡ Done (plain w u cs2) 8)) n
           (moves_up w.im (w.object_of u) (w.frame_of u) sp (length vals) before.cells
           (spot_in sp (f.near s name is) os fs) (omega (arith, fs, n)) m.words.at_in m.words.up_in m.words.apart
           m.empty) in
@@ -160,8 +160,8 @@ module _ (w : World) (knows : Known w) (f : FrameFacts w knows) (s : Scope) (u :
             cells = cs2;
             up = m.moved;
             goes = will_two w.im (moves_code (knows.spot s) names) (move_code sp (length names)) (plain w u cs)
-                (plain w u before.cells) (10 * length names) _ before.goes
-                (will_more w.im _ false _ _ _ (λ o q. ap (after (10 * length names)) q ∙ ap (Done (plain w u cs2)) z)
+                (plain w u before.cells) (8 * length names) _ before.goes
+                (will_more w.im _ false _ _ _ (λ o q. ap (after (8 * length names)) q ∙ ap (Done (plain w u cs2)) z)
                 step);
           }
 
@@ -197,11 +197,11 @@ module _ (w : World) (knows : Known w) (f : FrameFacts w knows) (s : Scope) (u :
         omega (arith, q, same, l)
 
     abbrev Q : Outcome → Type 0
-    Q o = Meets Back w.rates n (10 * suc (length names)) (told (moved_back (c ∷ cells_of names) (v ∷ vals) st)) o
+    Q o = Meets Back w.rates n (8 * suc (length names)) (told (moved_back (c ∷ cells_of names) (v ∷ vals) st)) o
 
     back_step : ((cs' : List ℕ) → w.opens s u (pairs names vals) (written st c v) cs'
         → Will w.im (moves_code (knows.spot s) names) true (plain w u cs')
-        (Meets Back w.rates n (10 * length names) (told (moved_back (cells_of names) vals (written st c v)))))
+        (Meets Back w.rates n (8 * length names) (told (moved_back (cells_of names) vals (written st c v)))))
         → (z : Bool) → is_zero (read st c) ≡ z → Will w.im (moves_code (knows.spot s) names
         ++ move_code (knows.spot s name) (length names)) true (plain w u cs) Q
     back_step rest true z =
@@ -211,21 +211,21 @@ module _ (w : World) (knows : Known w) (f : FrameFacts w knows) (s : Scope) (u :
         ∙ told_after 0 (moved_back (cells_of names) vals (written st c v))
         ∙ plus_none (told (moved_back (cells_of names) vals (written st c v))) in
         let first : Will w.im (move_code (knows.spot s name) (length names)) true (plain w u cs)
-        (λ o. o ≡ Done (plain w u cs2) 10) =
-        subst (λ k. Will w.im (move_code (knows.spot s name) k) true (plain w u cs) (λ o. o ≡ Done (plain w u cs2) 10))
+        (λ o. o ≡ Done (plain w u cs2) 8) =
+        subst (λ k. Will w.im (move_code (knows.spot s name) k) true (plain w u cs) (λ o. o ≡ Done (plain w u cs2) 8))
         same
         (moves_down w.im (w.object_of u) (w.frame_of u) (knows.spot s name) (length (pairs names vals)) cs near high
         m.words.at_in m.words.up_in m.words.apart (m.cell.untouched z)) in
         will_two_back w.im (moves_code (knows.spot s) names) (move_code (knows.spot s name) (length names))
-        (plain w u cs) (plain w u cs2) 10 Q first
+        (plain w u cs) (plain w u cs2) 8 Q first
         (will_more w.im _ true _ _ _ (λ o q. meets_told _ _ (sym said)
-        (meets_slack (10 * suc (length names)) (omega arith) (meets_later 10 q))) (rest cs2 (m.back z)))
+        (meets_slack (8 * suc (length names)) (omega arith) (meets_later 8 q))) (rest cs2 (m.back z)))
     back_step rest false z =
         let said : told (moved_back (c ∷ cells_of names) (v ∷ vals) st) ≡ Fault 15 0 =
         ap (λ b. told (fault_if touched_fault (not b) >>= λ t. moved_back (cells_of names) vals (written st c v))) z
         in
         let first = subst (λ k. Will w.im (move_code (knows.spot s name) k) true (plain w u cs)
-        (λ o. (k : ℕ) × (k ≤ 10) × (o ≡ Trapped 15 k))) same
+        (λ o. (k : ℕ) × (k ≤ 8) × (o ≡ Trapped 15 k))) same
         (traps_down w.im (w.object_of u) (w.frame_of u) (knows.spot s name) (length (pairs names vals)) cs near high
         m.words.at_in m.words.up_in m.words.apart (m.cell.touched z)) in
         will_seq_back w.im (moves_code (knows.spot s) names) (move_code (knows.spot s name) (length names)) _ Q
@@ -235,7 +235,7 @@ module _ (w : World) (knows : Known w) (f : FrameFacts w knows) (s : Scope) (u :
   pub all_back : (n : ℕ) (names : List Ident) → AllVariables names → (vals : List Value) (st : State) (cs : List ℕ)
       → length vals ≡ length names → length names ≤ 32 → w.opens s u (pairs names vals) st cs
       → Will w.im (moves_code (knows.spot s) names) true (plain w u cs)
-      (Meets Back w.rates n (10 * length names) (told (moved_back (cells_of names) vals st)))
+      (Meets Back w.rates n (8 * length names) (told (moved_back (cells_of names) vals st)))
   all_back n [] all [] st cs e l h = will_of w.im [] true _ _ _ (runs_empty w.im true (plain w u cs))
       (fine (record { regs_are = refl; open_frame = h }) (omega arith) (omega arith))
   all_back n [] all (v ∷ vals) st cs e l h = absurd (omega (arith, e))

@@ -303,15 +303,15 @@ module _ (w : World) (knows : Known w) (f : FrameFacts w knows) (on : Receivers 
 
     front_in : Will w.im (front_on_code (knows.spot s) x slot args) false (mk 0 ob fr 0 0 0 0 0 cs)
         (λ o. o ≡ Done (mk 0 (w.object_of deep) (fr + FRAME_WORDS) 0 0 0 0 place in_cells)
-        (10 + (12 + (10 * length args + (7 + (5 + 8))))))
+        (6 + (8 + (8 * length args + (5 + (5 + 8))))))
     front_in =
         let e = f.has_end s u st cs h in
         let cs1 = moved.cells in
         let gone = slice_set cs1 at 0 in
         let word = w.object_of deep in
         let take : Will w.im (take_code sp) false (mk 0 ob fr 0 0 0 0 0 cs1)
-        (λ o. o ≡ Done (mk 0 ob fr 0 0 word 0 0 gone) 7) =
-        will_more w.im _ false _ _ _ (λ o q. q ∙ ap (λ v. Done (mk 0 ob fr 0 0 v 0 0 gone) 7) goes.word_is)
+        (λ o. o ≡ Done (mk 0 ob fr 0 0 word 0 0 gone) 5) =
+        will_more w.im _ false _ _ _ (λ o q. q ∙ ap (λ v. Done (mk 0 ob fr 0 0 v 0 0 gone) 5) goes.word_is)
         (takes w.im ob fr sp cs1 goes.words.at_in low) in
         let empty : slice_index gone up ≡ 0 = get_or-set_other cs1 at up 0 0 (λ q. goes.words.apart (sym q))
         ∙ goes.empty in
@@ -323,16 +323,16 @@ module _ (w : World) (knows : Known w) (f : FrameFacts w knows) (on : Receivers 
         (ap (λ v. Done (mk 0 word v 0 0 0 0 0 in_cells) 1)
         (let z : package.Rattle.rpp_words.specs.Words.sum_of fr FRAME_WORDS
         ≡ fr + FRAME_WORDS = (let t = frame_small in omega arith) in z)) here) in
-        will_two w.im (nil_code sp) _ _ _ 10 _ (nil_passes w.im ob fr sp cs peeked.at_in low peeked.small false
+        will_two w.im (nil_code sp) _ _ _ 6 _ (nil_passes w.im ob fr sp cs peeked.at_in low peeked.small false
         (peeked.name_word there))
-        (will_two w.im depth_code _ _ _ 12 _ (depth_passes w.im ob fr cs e.cell_in e.small (end_fits st cs h false room)
+        (will_two w.im depth_code _ _ _ 8 _ (depth_passes w.im ob fr cs e.cell_in e.small (end_fits st cs h false room)
         false (e.room room))
-        (will_two w.im (moves_code (knows.spot s) args) _ _ _ (10 * length args) _ moved.goes
-        (will_two w.im (take_code sp) _ _ _ 7 _ take
+        (will_two w.im (moves_code (knows.spot s) args) _ _ _ (8 * length args) _ moved.goes
+        (will_two w.im (take_code sp) _ _ _ 5 _ take
         (will_two w.im onto_code _ _ _ 5 _ onto
         (will_two w.im (line (addi FRAME FRAME_WORDS ∷ [])) (line (fetch_row slot)) _ _ 1 _ raise
         (will_more w.im (line (fetch_row slot)) false _ _ _
-        (λ o q. ap (λ o. after 10 (after 12 (after (10 * length args) (after 7 (after 5 (after 1 o)))))) q)
+        (λ o q. ap (λ o. after 6 (after 8 (after (8 * length args) (after 5 (after 5 (after 1 o)))))) q)
         (fetched in_cells has_place)))))))
 
     -- what the source says when the body has ended
@@ -391,7 +391,7 @@ module _ (w : World) (knows : Known w) (f : FrameFacts w knows) (on : Receivers 
           (let t = rw_small in omega arith) comes.saved))
 
       abbrev Moved : Outcome → Type 0
-      Moved q = Meets Home w.rates n (20 + 10 * length args) (moves_home end) q
+      Moved q = Meets Home w.rates n (18 + 8 * length args) (moves_home end) q
 
       arguments : (b : Bool) → is_zero (read (home end) c) ≡ b
           → Will w.im (moves_code (knows.spot s) args ++ (take_code sp ++ (onto_code ++ last_row))) true m0 Moved
@@ -405,7 +405,7 @@ module _ (w : World) (knows : Known w) (f : FrameFacts w knows) (on : Receivers 
           ∙ told_after 0 (moved_back cells (values end) home1)
           ∙ plus_none (told (moved_back cells (values end) home1)) in
           let taken : Will w.im (take_code sp ++ (onto_code ++ last_row)) true m0
-          (λ q. q ≡ Done (mk 0 ob fr 0 0 0 0 0 cs3) 20) =
+          (λ q. q ≡ Done (mk 0 ob fr 0 0 0 0 0 cs3) 18) =
           will_two_back w.im (take_code sp) (onto_code ++ last_row) m0 (mk 0 ob fr 0 0 word 0 0 (out_cells cs2)) 13 _
           lowered
           (will_more w.im _ true _ _ _ (λ o q. ap (after 13) q)
@@ -414,9 +414,9 @@ module _ (w : World) (knows : Known w) (f : FrameFacts w knows) (on : Receivers 
           let there_again = g.words.is_there s u (pairs args (values end)) (home end) (Name n_of) cs3 x name args opens1
           is in
           will_two_back w.im (moves_code (knows.spot s) args) (take_code sp ++ (onto_code ++ last_row)) m0
-          (mk 0 ob fr 0 0 0 0 0 cs3) 20 Moved taken
+          (mk 0 ob fr 0 0 0 0 0 cs3) 18 Moved taken
           (will_more w.im _ true _ _ _ (λ o q. meets_told _ _ (sym said)
-          (meets_later 20 (meets_as (λ a m k e i. record
+          (meets_later 18 (meets_as (λ a m k e i. record
           { opened_again = i; receiver = stays cells (values end) home1 a k c not_arg e ∙ there_again })
           q)))
           (all_back w knows f s u n args vars (values end) home1 cs3 many few opens1))
@@ -428,7 +428,7 @@ module _ (w : World) (knows : Known w) (f : FrameFacts w knows) (on : Receivers 
           let found = finds_touched w.im ob fr sp (out_cells cs2) still_in low word
           (λ e. comes.cell.touched z (sym same_word ∙ e)) in
           let taken : Will w.im (take_code sp ++ (onto_code ++ last_row)) true m0
-          (λ q. (k : ℕ) × (k ≤ 20) × (q ≡ Trapped 15 k)) =
+          (λ q. (k : ℕ) × (k ≤ 18) × (q ≡ Trapped 15 k)) =
           will_two_back w.im (take_code sp) (onto_code ++ last_row) m0 (mk 0 ob fr 0 0 word 0 0 (out_cells cs2)) 13 _
           lowered
           (will_more w.im _ true _ _ _ (λ o t. (13 + t.0, (let l = t.1 in omega arith), ap (after 13) t.2)) found) in
@@ -439,19 +439,19 @@ module _ (w : World) (knows : Known w) (f : FrameFacts w knows) (on : Receivers 
           (meets_told (Fault 15 0) _ (sym said) (faults (let l = t.1 in omega arith)))) taken)
 
       front_back : Will w.im (front_on_code (knows.spot s) x slot args) true m0
-          (Meets (Open w s u) w.rates n (20 + 10 * length args + 12 + 10) (moves_home end))
+          (Meets (Open w s u) w.rates n (18 + 8 * length args + 8 + 6) (moves_home end))
       front_back =
           let rest1 = moves_code (knows.spot s) args ++ (take_code sp ++ (onto_code ++ last_row)) in
-          let inner = then_quiet w.im true Home Home w.rates n 12 (20 + 10 * length args) rest1 depth_code m0
+          let inner = then_quiet w.im true Home Home w.rates n 8 (18 + 8 * length args) rest1 depth_code m0
           (moves_home end) (arguments (is_zero (read (home end) c)) refl) (λ a m i. deep_ok a m i) in
-          then_quiet w.im true Home (Open w s u) w.rates n 10 (20 + 10 * length args + 12) (depth_code ++ rest1)
+          then_quiet w.im true Home (Open w s u) w.rates n 6 (18 + 8 * length args + 8) (depth_code ++ rest1)
           (nil_code sp) m0 (moves_home end) inner (λ a m i. nil_ok a m i)
         where
-          deep_ok : (a : State) (m : Memory) → Home a m → Will w.im depth_code true m (Quiet (Home a) 12)
+          deep_ok : (a : State) (m : Memory) → Home a m → Will w.im depth_code true m (Quiet (Home a) 8)
           deep_ok a m i =
               let e = f.has_end s u a m.cells i.opened_again.open_frame in
-              subst (λ z. Will w.im depth_code true z (Quiet (Home a) 12)) (sym (as_known m _ i.opened_again.regs_are))
-              (will_more w.im depth_code true _ _ _ (λ o q. subst (Quiet (Home a) 12) (sym q)
+              subst (λ z. Will w.im depth_code true z (Quiet (Home a) 8)) (sym (as_known m _ i.opened_again.regs_are))
+              (will_more w.im depth_code true _ _ _ (λ o q. subst (Quiet (Home a) 8) (sym q)
               (quiet (record {
                 opened_again = record {
                   regs_are = refl;
@@ -462,14 +462,14 @@ module _ (w : World) (knows : Known w) (f : FrameFacts w knows) (on : Receivers 
               (depth_passes w.im ob fr m.cells e.cell_in e.small
               (end_fits a m.cells i.opened_again.open_frame false room) true (e.room room)))
 
-          nil_ok : (a : State) (m : Memory) → Home a m → Will w.im (nil_code sp) true m (Quiet (Open w s u a) 10)
+          nil_ok : (a : State) (m : Memory) → Home a m → Will w.im (nil_code sp) true m (Quiet (Open w s u a) 6)
           nil_ok a m i =
               let oa = i.opened_again.open_frame in
               let again = g.words.word s u a m.cells x name args oa is in
               let pos = again.name_word (ap is_nil i.receiver) in
-              subst (λ z. Will w.im (nil_code sp) true z (Quiet (Open w s u a) 10))
+              subst (λ z. Will w.im (nil_code sp) true z (Quiet (Open w s u a) 6))
               (sym (as_known m _ i.opened_again.regs_are))
-              (will_more w.im (nil_code sp) true _ _ _ (λ o q. subst (Quiet (Open w s u a) 10) (sym q)
+              (will_more w.im (nil_code sp) true _ _ _ (λ o q. subst (Quiet (Open w s u a) 6) (sym q)
               (quiet (record { regs_are = refl; open_frame = oa }) (omega arith)))
               (nil_passes w.im ob fr sp m.cells again.at_in low again.small true pos))
 
@@ -488,17 +488,17 @@ module _ (w : World) (knows : Known w) (f : FrameFacts w knows) (on : Receivers 
         subst (λ y. Will w.im (enter_at_cells VALUE kind) d (mk 0 (w.object_of deep) y 0 0 0 0 place in_cells)
         (Meets (InCall w (w.routines.scope r) deep place) w.rates n 55 t)) nf body in
         wraps_spent w.im d (front_on_code (knows.spot s) x slot args) (enter_at_cells VALUE kind) _ _
-        (InCall w (w.routines.scope r) deep place) (Open w s u) w.rates n 55 (20 + 10 * length args + 12 + 10)
-        (10 + (12 + (10 * length args + (7 + (5 + 8))))) (1 + length args) 0 t moves_home
+        (InCall w (w.routines.scope r) deep place) (Open w s u) w.rates n 55 (18 + 8 * length args + 8 + 6)
+        (6 + (8 + (8 * length args + (5 + (5 + 8))))) (1 + length args) 0 t moves_home
         f.image.counts (omega arith) (enough w.rates.steps (length args) f.image.thousand few) front_in mid
         (λ a m2 k e i.
         let known = as_known m2 _ (i.regs_are ∙ ap (λ y. registers 0 (w.object_of deep) y 0 0 0 0 place) nf) in
         subst (λ z. Will w.im (front_on_code (knows.spot s) x slot args) true z
-        (Meets (Open w s u) w.rates (n - k) (20 + 10 * length args + 12 + 10) (moves_home a))) (sym known)
+        (Meets (Open w s u) w.rates (n - k) (18 + 8 * length args + 8 + 6) (moves_home a))) (sym known)
         (front_back (n - k) a m2.cells i.open_frame))
       where
-        enough : (steps k : ℕ) → steps ≡ 1000 → k ≤ 32 → 10 + (12 + (10 * k + (7 + (5 + 8)))) +
-            (55 + (20 + 10 * k + 12 + 10)) ≤ steps * (1 + k) + 0
+        enough : (steps k : ℕ) → steps ≡ 1000 → k ≤ 32 → 6 + (8 + (8 * k + (5 + (5 + 8)))) +
+            (55 + (18 + 8 * k + 8 + 6)) ≤ steps * (1 + k) + 0
         enough steps k e few = let z : steps * (1 + k) ≡ 1000 * (1 + k) = ap (λ y. y * (1 + k)) e in omega (arith, z)
 
   -- a trap before anything has moved
@@ -531,7 +531,7 @@ module _ (w : World) (knows : Known w) (f : FrameFacts w knows) (on : Receivers 
       (Meets (Open w s u) w.rates (suc n) 0 (Fault 5 (1 + length args)))
   on_nil n kind d z =
       early n 5 kind d (will_more w.im _ false _ _ _ (λ o q. (q.0, (let l = q.1 in omega arith), q.2))
-      (trap_first (nil_code sp) _ _ 5 8 (nil_traps w.im ob fr sp cs peeked.at_in low peeked.small
+      (trap_first (nil_code sp) _ _ 5 3 (nil_traps w.im ob fr sp cs peeked.at_in low peeked.small
       (peeked.nil_word z))))
 
   too_deep : (n : ℕ) (kind d : Bool) → is_nil (read st c) ≡ false → is_full ≡ true
@@ -539,10 +539,10 @@ module _ (w : World) (knows : Known w) (f : FrameFacts w knows) (on : Receivers 
       (Meets (Open w s u) w.rates (suc n) 0 (Fault 14 (1 + length args)))
   too_deep n kind d there e =
       let he = f.has_end s u st cs h in
-      early n 14 kind d (will_two w.im (nil_code sp) _ _ _ 10 _
+      early n 14 kind d (will_two w.im (nil_code sp) _ _ _ 6 _
       (nil_passes w.im ob fr sp cs peeked.at_in low peeked.small false (peeked.name_word there))
-      (will_more w.im _ false _ _ _ (λ o q. (10 + q.0, (let l = q.1 in omega arith), ap (after 10) q.2))
-      (trap_first depth_code _ _ 14 9 (depth_traps w.im ob fr cs he.cell_in he.small (end_fits st cs h true e)
+      (will_more w.im _ false _ _ _ (λ o q. (6 + q.0, (let l = q.1 in omega arith), ap (after 6) q.2))
+      (trap_first depth_code _ _ 14 4 (depth_traps w.im ob fr cs he.cell_in he.small (end_fits st cs h true e)
       (he.at_end e)))))
 
 -- ---- the law

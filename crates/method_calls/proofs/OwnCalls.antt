@@ -232,7 +232,7 @@ module _ (w : World) (knows : Known w) (f : FrameFacts w knows) (s : Scope) (nam
     has_place = (f.calls.tells s u caller callee moved.cells name args entered is).has_place
 
     front_in : Will w.im (front_code (knows.spot s) slot args) false (mk 0 ob fr 0 0 0 0 0 cs)
-        (λ o. o ≡ Done (mk 0 ob (fr + FRAME_WORDS) 0 0 0 0 place moved.cells) (12 + (10 * length args + 8)))
+        (λ o. o ≡ Done (mk 0 ob (fr + FRAME_WORDS) 0 0 0 0 place moved.cells) (8 + (8 * length args + 8)))
     front_in =
         let e = f.has_end s u st cs h in
         let p = has_place in
@@ -245,14 +245,14 @@ module _ (w : World) (knows : Known w) (f : FrameFacts w knows) (s : Scope) (nam
         let fetched = will_fetch w.im ob (fr + FRAME_WORDS) slot place moved.cells p.object_in p.small
         (f.calls.slot_small s name args is) p.entry_in p.apart p.entry place_small in
         will_two w.im depth_code (moves_code (knows.spot s) args ++ line (addi FRAME FRAME_WORDS ∷ fetch_row slot)) _ _
-        12 _
+        8 _
         (depth_passes w.im ob fr cs e.cell_in e.small (end_fits st cs h false room) false (e.room room))
         (will_two w.im (moves_code (knows.spot s) args) (line (addi FRAME FRAME_WORDS ∷ fetch_row slot)) _ _
-        (10 * length args) _
+        (8 * length args) _
         moved.goes
         (will_two w.im (line (addi FRAME FRAME_WORDS ∷ [])) (line (fetch_row slot)) _ _ 1 _ up
         (will_more w.im (line (fetch_row slot)) false _ _ _
-        (λ o q. ap (λ o. after 12 (after (10 * length args) (after 1 o))) q) fetched)))
+        (λ o q. ap (λ o. after 8 (after (8 * length args) (after 1 o))) q) fetched)))
 
     -- what the source says when the body has ended
     abbrev moves_home : State → Told State
@@ -261,7 +261,7 @@ module _ (w : World) (knows : Known w) (f : FrameFacts w knows) (s : Scope) (nam
 
     front_back : (n : ℕ) (end : State) (cs2 : List ℕ) → w.opens (w.routines.scope r) deep [] end cs2
         → Will w.im (front_code (knows.spot s) slot args) true (mk 0 ob (fr + FRAME_WORDS) 0 0 0 0 place cs2)
-        (Meets (Open w s u) w.rates n (8 + (10 * length args + 12)) (moves_home end))
+        (Meets (Open w s u) w.rates n (8 + (8 * length args + 8)) (moves_home end))
     front_back n end cs2 g =
         let tells = f.calls.tells s u caller end cs2 name args g is in
         let p = tells.has_place in
@@ -281,24 +281,24 @@ module _ (w : World) (knows : Known w) (f : FrameFacts w knows) (s : Scope) (nam
         let values = map (λ binding. binding.value) end.frame in
         let home = record caller { store = end.store; log = end.log } in
         let inner : Will w.im (moves_code (knows.spot s) args ++ line (addi FRAME FRAME_WORDS ∷ fetch_row slot)) true
-        (mk 0 ob (fr + FRAME_WORDS) 0 0 0 0 place cs2) (Meets (Open w s u) w.rates n (8 + 10 * length args)
+        (mk 0 ob (fr + FRAME_WORDS) 0 0 0 0 place cs2) (Meets (Open w s u) w.rates n (8 + 8 * length args)
         (moves_home end)) =
         will_two_back w.im (moves_code (knows.spot s) args) (line (addi FRAME FRAME_WORDS ∷ fetch_row slot)) _ _ 8 _
         both
         (will_more w.im _ true _ _ _ (λ o q. meets_later 8 q)
         (all_back w knows f s u n args vars values home cs2 tells.as_many few left)) in
-        let all = then_quiet w.im true (Open w s u) (Open w s u) w.rates n 12 (8 + 10 * length args)
+        let all = then_quiet w.im true (Open w s u) (Open w s u) w.rates n 8 (8 + 8 * length args)
         (moves_code (knows.spot s) args ++ line (addi FRAME FRAME_WORDS ∷ fetch_row slot)) depth_code
         (mk 0 ob (fr + FRAME_WORDS) 0 0 0 0 place cs2) (moves_home end) inner (λ a m i. checked a m i) in
         will_more w.im (front_code (knows.spot s) slot args) true _ _ _
-        (λ o q. meets_slack (8 + (10 * length args + 12)) (omega arith) q) all
+        (λ o q. meets_slack (8 + (8 * length args + 8)) (omega arith) q) all
       where
-        checked : (a : State) (m : Memory) → Open w s u a m → Will w.im depth_code true m (Quiet (Open w s u a) 12)
+        checked : (a : State) (m : Memory) → Open w s u a m → Will w.im depth_code true m (Quiet (Open w s u a) 8)
         checked a m i =
             let e = f.has_end s u a m.cells i.open_frame in
             let known = as_known m _ i.regs_are in
-            subst (λ z. Will w.im depth_code true z (Quiet (Open w s u a) 12)) (sym known)
-            (will_more w.im depth_code true _ _ _ (λ o q. subst (Quiet (Open w s u a) 12) (sym q)
+            subst (λ z. Will w.im depth_code true z (Quiet (Open w s u a) 8)) (sym known)
+            (will_more w.im depth_code true _ _ _ (λ o q. subst (Quiet (Open w s u a) 8) (sym q)
             (quiet (record { regs_are = refl; open_frame = i.open_frame }) (omega arith)))
             (depth_passes w.im ob fr m.cells e.cell_in e.small (end_fits a m.cells i.open_frame false room) true
             (e.room room)))
@@ -321,17 +321,17 @@ module _ (w : World) (knows : Known w) (f : FrameFacts w knows) (s : Scope) (nam
         (subst (λ x. Will w.im (enter_at_cells VALUE kind) d (mk 0 (w.object_of deep) x 0 0 0 0 place moved.cells)
         (Meets (InCall w (w.routines.scope r) deep place) w.rates n 55 t)) nf body) in
         wraps_spent w.im d (front_code (knows.spot s) slot args) (enter_at_cells VALUE kind) _ _
-        (InCall w (w.routines.scope r) deep place) (Open w s u) w.rates n 55 (8 + (10 * length args + 12))
-        (12 + (10 * length args + 8)) (1 + length args) 0 t moves_home
+        (InCall w (w.routines.scope r) deep place) (Open w s u) w.rates n 55 (8 + (8 * length args + 8))
+        (8 + (8 * length args + 8)) (1 + length args) 0 t moves_home
         f.image.counts (omega arith) (enough w.rates.steps (length args) f.image.thousand few) front_in mid
         (λ a m2 c e i.
         let known = as_known m2 _ (i.regs_are ∙ ap (λ o. registers 0 o (w.frame_of deep) 0 0 0 0 place) so
         ∙ ap (λ x. registers 0 ob x 0 0 0 0 place) nf) in
         subst (λ z. Will w.im (front_code (knows.spot s) slot args) true z
-        (Meets (Open w s u) w.rates (n - c) (8 + (10 * length args + 12)) (moves_home a))) (sym known)
+        (Meets (Open w s u) w.rates (n - c) (8 + (8 * length args + 8)) (moves_home a))) (sym known)
         (front_back (n - c) a m2.cells i.open_frame))
       where
-        enough : (steps k : ℕ) → steps ≡ 1000 → k ≤ 32 → 12 + (10 * k + 8) + (55 + (8 + (10 * k + 12))) ≤ steps *
+        enough : (steps k : ℕ) → steps ≡ 1000 → k ≤ 32 → 8 + (8 * k + 8) + (55 + (8 + (8 * k + 8))) ≤ steps *
             (1 + k) + 0
         enough steps k e few = let z : steps * (1 + k) ≡ 1000 * (1 + k) = ap (λ x. x * (1 + k)) e in omega (arith, z)
 
@@ -344,7 +344,7 @@ module _ (w : World) (knows : Known w) (f : FrameFacts w knows) (s : Scope) (nam
       let W : Memory → ℕ → Type 0 = λ m1 k1. Will w.im (enter_at_cells VALUE kind) d m1
       (Next (λ m2 k2. Will w.im (front_code (knows.spot s) slot args) true m2 (λ o. Q (after k1 (after k2 o))))
       (λ o. Q (after k1 o))) in
-      let trap : (o : Outcome) → (k : ℕ) × (k ≤ 9) × (o ≡ Trapped 14 k)
+      let trap : (o : Outcome) → (k : ℕ) × (k ≤ 4) × (o ≡ Trapped 14 k)
       → Next W Q o = λ o t. subst (Next W Q) (sym t.2) (faults
       (few_steps w.rates.steps (length args) t.0 f.image.thousand t.1)) in
       let first : Will w.im (front_code (knows.spot s) slot args) false (mk 0 ob fr 0 0 0 0 0 cs) (Next W Q) =
@@ -355,7 +355,7 @@ module _ (w : World) (knows : Known w) (f : FrameFacts w knows) (s : Scope) (nam
       (end_fits st cs h true e) (he.at_end e))) in
       will_around w.im d (front_code (knows.spot s) slot args) (enter_at_cells VALUE kind) _ Q first
     where
-      few_steps : (steps k j : ℕ) → steps ≡ 1000 → j ≤ 9 → j ≤ steps * (1 + k) + 0
+      few_steps : (steps k j : ℕ) → steps ≡ 1000 → j ≤ 4 → j ≤ steps * (1 + k) + 0
       few_steps steps k j e l = let z : steps * (1 + k) ≡ 1000 * (1 + k) = ap (λ x. x * (1 + k)) e in omega (arith, z)
 
 -- ---- the law

@@ -1,26 +1,26 @@
 -- The parts of a call that change places: the words of arguments and of the receiver, and OBJECT.
 use Rattle.std.proofs.Common.{◌≡◌, ◌≢◌, ℕ, ◌+◌, ◌^◌, ◌<◌, ◌≤◌, Bool, true, false, List, [], ◌∷◌, ◌++◌, length, refl, ap}
 use Rattle.std.proofs.Common.{◌∙◌, arith}
-use Rattle.std.specs.Prelude.{slice_index, slice_set, bit_xor}
+use Rattle.std.specs.Prelude.{slice_index, slice_set}
 use Rattle.std.proofs.Math.ListN.{length-set}
 use Rattle.rpp_words.specs.declared.input.TheConstants.{FRAME_WORDS}
 use Rattle.rpp_words.specs.Words.{is_less}
 use Rattle.pisa_isa.specs.Machine.{Memory}
-use Rattle.pisa_isa.specs.Table.{word_of}
 use Rattle.code_conventions.specs.declared.faults.TheConstants.{NIL, TOUCHED}
-use Rattle.code_conventions.specs.declared.registers.TheConstants.{CONTENT, FLAG, FRAME, MOVED, NOUGHT, OBJECT}
+use Rattle.code_conventions.specs.declared.registers.TheConstants.{CONTENT, FRAME, MOVED, NOUGHT, OBJECT}
 use Rattle.paired_code.specs.Machine.{Image}
-use Rattle.paired_code.specs.Layout.{check_cells}
+use Rattle.paired_code.specs.Layout.{check_equal_cells, check_positive_cells}
 use Rattle.paired_code.specs.Pieces.{Done, Trapped, Will, after}
 use Rattle.paired_code.specs.Rows.{line}
 use Rattle.paired_code.proofs.Laws.{will_of, will_more}
-use Rattle.paired_code.proofs.Small.{runs_check_zero, runs_check_other}
-use Rattle.code_conventions.specs.Cells.{add, sub, exch, xori, sltx}
+use Rattle.paired_code.specs.Layout.{Equal, Positive}
+use Rattle.paired_code.proofs.Checks.{runs_passes, runs_fails}
+use Rattle.code_conventions.specs.Cells.{add, sub, exch}
 use Rattle.refine_form.specs.Cells.{around}
 use Rattle.refine_form.specs.declared.spot.Spot.{Spot}
 use Rattle.refine_form.proofs.Rows.{here, next, will_row}
 use Rattle.refine_form.proofs.Rules.{will_in, will_in_trap, will_two, will_two_back}
-use Rattle.method_calls.specs.CallCode.{base_of, reach_row, above_row, take_code, put_code, peek_row, nil_row, nil_code}
+use Rattle.method_calls.specs.CallCode.{base_of, reach_row, above_row, take_code, put_code, peek_row, nil_code}
 use Rattle.method_calls.specs.CallCode.{onto_code}
 use Rattle.method_calls.specs.Facts.{address}
 use Rattle.method_calls.proofs.Addresses.{mk, sum_is, difference_is, at_spot, will_reach, will_leave, swaps_moved}
@@ -63,83 +63,61 @@ module _ (im : Image) (ob fr : ℕ) (sp : Spot) (cs : List ℕ) (inside : addres
         (swaps_content im ob fr word 0 0 gone true sp still_in))
         (will_more im _ true _ _ _ (λ o q. ap (after 1) q) (will_leave im ob fr 0 0 0 cs sp low))
 
-    -- what the two cells leave in the flag
-    flags : (t : Bool) (x y : ℕ) → is_less 0 word ≡ t → bit_xor 0 (word_of t) ≡ x → bit_xor x 1 ≡ y
-        → Will im (line nil_row) false (on_spot word 0 0 gone) (λ o. o ≡ Done (on_spot word 0 y gone) 2)
-    flags t x y e ex ey =
-        will_row im false nil_row 2 _ _
-        (next refl (omega arith) (ap (λ b. Done (on_spot word 0 (bit_xor 0 (word_of b)) gone) 1) e
-        ∙ ap (λ v. Done (on_spot word 0 v gone) 1) ex)
-        (next refl (omega arith) (ap (λ v. Done (on_spot word 0 v gone) 1) ey) here))
-
-    unflags : is_less 0 word ≡ true
-        → Will im (line nil_row) true (on_spot word 0 0 gone) (λ o. o ≡ Done (on_spot word 0 0 gone) 2)
-    unflags e =
-        will_row im true (xori FLAG 1 ∷ sltx FLAG NOUGHT CONTENT ∷ []) 2 _ _
-        (next refl (omega arith) refl
-        (next refl (omega arith) (ap (λ b. Done (on_spot word 0 (bit_xor 1 (word_of b)) gone) 1) e) here))
-
-    -- the flag is 0 behind the test, and before it where it is run back
-    passes : (d : Bool) → is_less 0 word ≡ true → Will im (line nil_row ++ check_cells FLAG NIL) d
-        (on_spot word 0 0 gone) (λ o. o ≡ Done (on_spot word 0 0 gone) 6)
-    passes false e =
-        will_two im (line nil_row) (check_cells FLAG NIL) _ _ 2 _ (flags true 1 0 e refl refl)
-        (will_of im _ false _ _ _ (runs_check_zero im false FLAG NIL (on_spot word 0 0 gone) refl) refl)
-    passes true e =
-        will_two_back im (line nil_row) (check_cells FLAG NIL) _ _ 4 _
-        (will_of im _ true _ _ _ (runs_check_zero im true FLAG NIL (on_spot word 0 0 gone) refl) refl)
-        (will_more im _ true _ _ _ (λ o q. ap (after 4) q) (unflags e))
-
     pub nil_passes : (d : Bool) → 0 < word → Will im (nil_code sp) d (mk 0 ob fr 0 0 0 0 0 cs)
-        (λ o. o ≡ Done (mk 0 ob fr 0 0 0 0 0 cs) 10)
+        (λ o. o ≡ Done (mk 0 ob fr 0 0 0 0 0 cs) 6)
     nil_passes d pos =
-        will_in im d (line (peek_row sp)) (line nil_row ++ check_cells FLAG NIL) _ _ _ _ 2 6 2 peeks
-        (passes d (above_zero word pos small)) unpeeks
+        will_in im d (line (peek_row sp)) (check_positive_cells CONTENT NIL) _ _ _ _ 2 2 2 peeks
+        (will_of im _ d _ _ _ (runs_passes im d (Positive CONTENT) NIL (on_spot word 0 0 gone)
+        (above_zero word pos small))
+        refl) unpeeks
 
     pub nil_traps : word ≡ 0 → Will im (nil_code sp) false (mk 0 ob fr 0 0 0 0 0 cs)
-        (λ o. (k : ℕ) × (k ≤ 8) × (o ≡ Trapped 5 k))
+        (λ o. (k : ℕ) × (k ≤ 3) × (o ≡ Trapped 5 k))
     nil_traps z =
         let t : is_less 0 word ≡ false = ap (is_less 0) z in
-        let c = runs_check_other im false FLAG NIL (on_spot word 0 1 gone) (λ e. let q : 1 ≡ 0 = e in omega arith) in
-        will_in_trap im false (line (peek_row sp)) (line nil_row ++ check_cells FLAG NIL) _ _ 2 5 6 peeks
-        (will_two im (line nil_row) (check_cells FLAG NIL) _ _ 2 _ (flags false 0 1 t refl refl)
-        (will_of im _ false _ _ _ c.2 (2 + c.0, (let l = c.1 in omega arith), refl)))
+        will_in_trap im false (line (peek_row sp)) (check_positive_cells CONTENT NIL) _ _ 2 5 1 peeks
+        (will_of im _ false _ _ _ (runs_fails im false (Positive CONTENT) NIL (on_spot word 0 0 gone) t)
+        (1, omega arith, refl))
 
   -- ---- a word that leaves its cell
 
-  pub takes : Will im (take_code sp) false (mk 0 ob fr 0 0 0 0 0 cs) (λ o. o ≡ Done (mk 0 ob fr 0 0 word 0 0 gone) 7)
+  pub takes : Will im (take_code sp) false (mk 0 ob fr 0 0 0 0 0 cs) (λ o. o ≡ Done (mk 0 ob fr 0 0 word 0 0 gone) 5)
   takes =
-      will_in im false (line (reach_row sp)) (check_cells MOVED TOUCHED ++ line (exch MOVED (base_of sp) ∷ [])) _ _ _ _
-      1 5 1
+      will_in im false (line (reach_row sp)) (check_equal_cells MOVED NOUGHT TOUCHED
+      ++ line (exch MOVED (base_of sp) ∷ [])) _ _ _ _
+      1 3 1
       (will_reach im ob fr 0 0 0 cs sp low)
-      (will_two im (check_cells MOVED TOUCHED) (line (exch MOVED (base_of sp) ∷ [])) _ _ 4 _
-      (will_of im _ false _ _ _ (runs_check_zero im false MOVED TOUCHED (on_spot 0 0 0 cs) refl) refl)
-      (will_more im _ false _ _ _ (λ o q. ap (after 4) q) (swaps_moved im ob fr 0 0 0 cs false sp inside)))
+      (will_two im (check_equal_cells MOVED NOUGHT TOUCHED) (line (exch MOVED (base_of sp) ∷ [])) _ _ 2 _
+      (will_of im _ false _ _ _ (runs_passes im false (Equal MOVED NOUGHT) TOUCHED (on_spot 0 0 0 cs) refl) refl)
+      (will_more im _ false _ _ _ (λ o q. ap (after 2) q) (swaps_moved im ob fr 0 0 0 cs false sp inside)))
       (will_leave im ob fr 0 word 0 gone sp low)
 
   pub gives_back : (x : ℕ) → word ≡ 0 → Will im (take_code sp) true (mk 0 ob fr 0 0 x 0 0 cs)
-      (λ o. o ≡ Done (mk 0 ob fr 0 0 0 0 0 (slice_set cs at x)) 7)
+      (λ o. o ≡ Done (mk 0 ob fr 0 0 0 0 0 (slice_set cs at x)) 5)
   gives_back x z =
-      will_in im true (line (reach_row sp)) (check_cells MOVED TOUCHED ++ line (exch MOVED (base_of sp) ∷ [])) _ _ _ _ 1
-      5 1
+      will_in im true (line (reach_row sp)) (check_equal_cells MOVED NOUGHT TOUCHED
+      ++ line (exch MOVED (base_of sp) ∷ [])) _ _ _ _ 1
+      3 1
       (will_reach im ob fr 0 x 0 cs sp low)
-      (will_two_back im (check_cells MOVED TOUCHED) (line (exch MOVED (base_of sp) ∷ [])) _
+      (will_two_back im (check_equal_cells MOVED NOUGHT TOUCHED) (line (exch MOVED (base_of sp) ∷ [])) _
       (on_spot 0 0 0 (slice_set cs at x)) 1 _
       (will_more im _ true _ _ _ (λ o q. q ∙ ap (λ v. Done (on_spot 0 v 0 (slice_set cs at x)) 1) z)
       (swaps_moved im ob fr 0 x 0 cs true sp inside))
-      (will_of im _ true _ _ _ (runs_check_zero im true MOVED TOUCHED (on_spot 0 0 0 (slice_set cs at x)) refl) refl))
+      (will_of im _ true _ _ _ (runs_passes im true (Equal MOVED NOUGHT) TOUCHED (on_spot 0 0 0 (slice_set cs at x))
+      refl) refl))
       (will_leave im ob fr 0 0 0 (slice_set cs at x) sp low)
 
   pub finds_touched : (x : ℕ) → word ≢ 0 → Will im (take_code sp) true (mk 0 ob fr 0 0 x 0 0 cs)
-      (λ o. (k : ℕ) × (k ≤ 6) × (o ≡ Trapped 15 k))
+      (λ o. (k : ℕ) × (k ≤ 3) × (o ≡ Trapped 15 k))
   finds_touched x nz =
-      let c = runs_check_other im true MOVED TOUCHED (on_spot 0 word 0 (slice_set cs at x)) nz in
-      will_in_trap im true (line (reach_row sp)) (check_cells MOVED TOUCHED ++ line (exch MOVED (base_of sp) ∷ [])) _ _
-      1 15 5
+      let c = runs_fails im true (Equal MOVED NOUGHT) TOUCHED (on_spot 0 word 0 (slice_set cs at x)) nz in
+      will_in_trap im true (line (reach_row sp)) (check_equal_cells MOVED NOUGHT TOUCHED
+      ++ line (exch MOVED (base_of sp) ∷ [])) _ _
+      1 15 2
       (will_reach im ob fr 0 x 0 cs sp low)
-      (will_two_back im (check_cells MOVED TOUCHED) (line (exch MOVED (base_of sp) ∷ [])) _
+      (will_two_back im (check_equal_cells MOVED NOUGHT TOUCHED) (line (exch MOVED (base_of sp) ∷ [])) _
       (on_spot 0 word 0 (slice_set cs at x)) 1 _ (swaps_moved im ob fr 0 x 0 cs true sp inside)
-      (will_of im _ true _ _ _ c.2 (1 + c.0, (let h = c.1 in omega arith), refl)))
+      (will_of im _ true _ _ _ c (2, omega arith, refl)))
 
 -- ---- a word of the frame above
 

@@ -7,18 +7,19 @@ use Rattle.refine_form.specs.declared.spot.Spot.TheVariants.{Field, Frame}
 use Rattle.rpp_tree.specs.declared.tree.Ident.{Ident}
 use Rattle.pisa_isa.specs.declared.cell.Cell.{Cell}
 use Rattle.pisa_isa.specs.declared.fixed.TheConstants.{STACK_CELL, END_CELL}
-use Rattle.code_conventions.specs.Cells.{add, sub, exch, addi, xori, sltx}
+use Rattle.code_conventions.specs.Cells.{add, sub, exch, addi}
 use Rattle.code_conventions.specs.declared.faults.TheConstants.{DELOCAL, NIL, TOO_DEEP, TOUCHED}
 use Rattle.code_conventions.specs.declared.memory.TheConstants.{FIRST_VARIABLE, HEADER_WORDS}
 use Rattle.code_conventions.specs.declared.memory.TheConstants.{MAIN_OBJECT}
 use Rattle.code_conventions.specs.declared.memory.TheConstants.{OBJECT_WORD, PLACE_WORD}
 use Rattle.code_conventions.specs.declared.memory.TheConstants.{TABLE_HEADER}
-use Rattle.code_conventions.specs.declared.registers.TheConstants.{ADDRESS, CONTENT, FLAG, FRAME}
+use Rattle.code_conventions.specs.declared.registers.TheConstants.{ADDRESS, CONTENT, FRAME}
 use Rattle.code_conventions.specs.declared.registers.TheConstants.{LINK}
 use Rattle.code_conventions.specs.declared.registers.TheConstants.{MOVED, NOUGHT, OBJECT, VALUE}
 use Rattle.paired_code.specs.declared.part.Symbol.{Symbol}
 use Rattle.paired_code.specs.declared.part.Symbol.TheVariants.{Enter}
-use Rattle.paired_code.specs.Layout.{mirror_cells, check_cells, enter_at_cells}
+use Rattle.paired_code.specs.Layout.{mirror_cells, check_equal_cells, check_differ_cells}
+use Rattle.paired_code.specs.Layout.{check_positive_cells, enter_at_cells}
 use Rattle.paired_code.specs.Rows.{line}
 use Rattle.refine_form.specs.Cells.{around}
 
@@ -46,7 +47,7 @@ above_row word = addi FRAME (FRAME_WORDS + word) ∷ []
 -- the word of a spot leaves its cell for MOVED; back, the cell is to be 0
 abbrev pub take_code : Spot → List Symbol
 take_code spot = around (line (reach_row spot))
-    (check_cells MOVED TOUCHED ++ line (exch MOVED (base_of spot) ∷ []))
+    (check_equal_cells MOVED NOUGHT TOUCHED ++ line (exch MOVED (base_of spot) ∷ []))
 
 -- MOVED changes places with a word of the frame above
 abbrev pub put_code : ℕ → List Symbol
@@ -62,17 +63,14 @@ abbrev pub moves_code : (Ident → Spot) → List Ident → List Symbol
 moves_code spot [] = []
 moves_code spot (name ∷ names) = moves_code spot names ++ move_code (spot name) (length names)
 
--- CONTENT gets the end of the stack, a frame less
+-- CONTENT gets the end of the stack, a frame less: where the last frame begins
 abbrev pub end_row : List Cell
 end_row =
     addi ADDRESS END_CELL ∷ exch CONTENT ADDRESS ∷ addi CONTENT (negated FRAME_WORDS) ∷ []
 
--- the flag is 1 where the frame above would end behind the stack, and 0 behind a check that passes
-abbrev pub fits_row : List Cell
-fits_row = sltx FLAG FRAME CONTENT ∷ xori FLAG 1 ∷ []
-
+-- the open frame is not the last one
 abbrev pub depth_code : List Symbol
-depth_code = around (line end_row) (line fits_row ++ check_cells FLAG TOO_DEEP)
+depth_code = around (line end_row) (check_differ_cells FRAME CONTENT TOO_DEEP)
 
 -- VALUE gets the place of the method in a slot, by the table of the present object's class, whose
 -- word is out of the object meanwhile
@@ -117,7 +115,7 @@ store_code word = around (line (reach_row (Frame word))) (line (exch VALUE FRAME
 
 -- a value goes into the word of a new variable; back, the word is to be the value, or fault 3 comes
 abbrev pub local_open : ℕ → List Symbol → List Symbol
-local_open word value = check_cells VALUE DELOCAL ++ (value ++ store_code word)
+local_open word value = check_equal_cells VALUE NOUGHT DELOCAL ++ (value ++ store_code word)
 
 -- a block with a local variable: the codes of its value, its block and the closing value
 abbrev pub local_code : ℕ → (value body last : List Symbol) → List Symbol
@@ -128,13 +126,9 @@ local_code word value body last = local_open word value
 abbrev pub peek_row : Spot → List Cell
 peek_row spot = addi (base_of spot) (offset_of spot) ∷ exch CONTENT (base_of spot) ∷ []
 
--- the flag is 1 where the word is nil, and 0 behind a check that passes
-abbrev pub nil_row : List Cell
-nil_row = sltx FLAG NOUGHT CONTENT ∷ xori FLAG 1 ∷ []
-
 -- a receiver is not to be nil
 abbrev pub nil_code : Spot → List Symbol
-nil_code spot = around (line (peek_row spot)) (line nil_row ++ check_cells FLAG NIL)
+nil_code spot = around (line (peek_row spot)) (check_positive_cells CONTENT NIL)
 
 -- OBJECT is put by in the frame above, and gets the receiver's word
 abbrev pub onto_code : List Symbol

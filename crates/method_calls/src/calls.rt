@@ -5,24 +5,24 @@ ghost use Rattle.rpp_words.specs.Words.{negated};
 ghost use Rattle.pisa_isa.specs.Table.{IsCell};
 ghost use Rattle.paired_code.specs.Machine.{is_single};
 ghost use Rattle.paired_code.specs.Code.{unmarked};
-ghost use Rattle.paired_code.specs.Layout.{check_cells, enter_at_cells};
+ghost use Rattle.paired_code.specs.Layout.{check_equal_cells, enter_at_cells};
 ghost use Rattle.paired_code.specs.Rows.{line};
 ghost use Rattle.refine_form.specs.Cells.{around};
 ghost use Rattle.refine_form.specs.Held.{Holds};
 ghost use Rattle.code_conventions.specs.Cells.{addi, exch};
-ghost use Rattle.code_conventions.specs.declared.faults.TheConstants.{TOO_DEEP, TOUCHED};
-ghost use Rattle.code_conventions.specs.declared.registers.TheConstants.{FLAG, MOVED};
-ghost use Rattle.method_calls.specs.CallCode.{base_of, offset_of, above_row, take_code, move_code, end_row, fits_row, depth_code, last_cells, save_row, method_code, main_row, main_cells, moves_of, own_cells};
+ghost use Rattle.code_conventions.specs.declared.faults.TheConstants.{TOUCHED};
+ghost use Rattle.code_conventions.specs.declared.registers.TheConstants.{MOVED, NOUGHT};
+ghost use Rattle.method_calls.specs.CallCode.{base_of, offset_of, above_row, take_code, move_code, end_row, depth_code, last_cells, save_row, method_code, main_row, main_cells, moves_of, own_cells};
 ghost use Rattle.method_calls.specs.Facts.{IsNear};
 ghost use Rattle.method_calls.specs.Laws.{MethodCode, MainCode, OwnCallCode};
 
-use code_conventions::cells::{add, addi, exch, sltx, xori};
+use code_conventions::cells::{add, addi, exch};
 use code_conventions::faults::{TOO_DEEP, TOUCHED};
 use code_conventions::memory::{
     FIRST_VARIABLE, HEADER_WORDS, MAIN_OBJECT, PLACE_WORD, TABLE_HEADER,
 };
-use code_conventions::registers::{ADDRESS, CONTENT, FLAG, FRAME, LINK, MOVED, OBJECT, VALUE};
-use paired_code::{Piece, check_zero, empty, enter, enter_at, mirror, plain, seq};
+use code_conventions::registers::{ADDRESS, CONTENT, FRAME, LINK, MOVED, NOUGHT, OBJECT, VALUE};
+use paired_code::{Piece, check_differ, check_equal, empty, enter, enter_at, mirror, plain, seq};
 use pisa_isa::{Cell, END_CELL, STACK_CELL};
 use refine_form::{Spot, around};
 use rpp_words::{FRAME_WORDS, NoMemory};
@@ -74,10 +74,10 @@ fn moved_at(spot: Spot) -> Cell
 // The word of a spot leaves its cell, which is checked when the word comes back.
 fn taken_piece(alloc: Global, spot: Spot) -> Result<Piece, NoMemory>
     ensures code { IfOk result (λ p. p
-        ≡ unmarked (check_cells MOVED TOUCHED ++ line (exch MOVED (base_of spot) ∷ []))) }
+        ≡ unmarked (check_equal_cells MOVED NOUGHT TOUCHED ++ line (exch MOVED (base_of spot) ∷ []))) }
 {
     seq(
-        check_zero(alloc, MOVED, TOUCHED)?,
+        check_equal(alloc, MOVED, NOUGHT, TOUCHED)?,
         plain(alloc, moved_at(spot))?,
     )
 }
@@ -116,7 +116,7 @@ fn move_piece(alloc: Global, spot: Spot, j: u32) -> Result<Piece, NoMemory>
     )
 }
 
-// CONTENT gets the end of the stack, a frame less.
+// CONTENT gets the end of the stack, a frame less: where the last frame begins.
 fn end_piece(alloc: Global) -> Result<Piece, NoMemory>
     ensures code { IfOk result (λ p. p ≡ unmarked (line end_row)) }
 {
@@ -128,22 +128,14 @@ fn end_piece(alloc: Global) -> Result<Piece, NoMemory>
     then(alloc, end, addi(CONTENT, negated(FRAME_WORDS)))
 }
 
-// Whether the frame above fits: the flag is 0 behind it.
-fn fits_piece(alloc: Global) -> Result<Piece, NoMemory>
-    ensures code { IfOk result (λ p. p ≡ unmarked (line fits_row ++ check_cells FLAG TOO_DEEP)) }
-{
-    let test = then(
-        alloc,
-        plain(alloc, sltx(FLAG, FRAME, CONTENT))?,
-        xori(FLAG, 1),
-    )?;
-    seq(test, check_zero(alloc, FLAG, TOO_DEEP)?)
-}
-
 pub(crate) fn depth_piece(alloc: Global) -> Result<Piece, NoMemory>
     ensures code { IfOk result (λ p. p ≡ unmarked (depth_code)) }
 {
-    bare_around(alloc, end_piece(alloc)?, fits_piece(alloc)?)
+    bare_around(
+        alloc,
+        end_piece(alloc)?,
+        check_differ(alloc, FRAME, CONTENT, TOO_DEEP)?,
+    )
 }
 
 // The last cells before a call: FRAME goes up, and VALUE gets the method's place.
@@ -287,7 +279,7 @@ pub fn own_call(alloc: Global, back: bool, slot: u32, args: &[Spot]) -> Result<P
     requires slot { slot < 2 ^ 20 }
     ensures law { IfOk result (λ p. OwnCallCode back slot args.now p.cells) }
     ensures none { IfOk result (λ p. p.marks ≡ []) }
-    ensures size { IfOk result (λ p. length p.cells ≡ 22 * length args.now + 49) }
+    ensures size { IfOk result (λ p. length p.cells ≡ 18 * length args.now + 41) }
 {
     own_piece(alloc, back, slot, args)
 }

@@ -9,8 +9,8 @@ ghost use Rattle.method_calls.specs.Laws.{LocalCode};
 use crate::calls::{bare_around, reach};
 use code_conventions::cells::exch;
 use code_conventions::faults::DELOCAL;
-use code_conventions::registers::{FRAME, VALUE};
-use paired_code::{Piece, check_zero, mirror, plain, seq};
+use code_conventions::registers::{FRAME, NOUGHT, VALUE};
+use paired_code::{Piece, check_equal, mirror, plain, seq};
 use refine_form::Spot;
 use rpp_words::NoMemory;
 use std::alloc::Global;
@@ -33,7 +33,7 @@ fn open_piece(alloc: Global, word: u32, value: Piece) -> Result<Piece, NoMemory>
     ensures code { IfOk result (λ p. p ≡ unmarked (local_open word value.cells)) }
 {
     seq(
-        check_zero(alloc, VALUE, DELOCAL)?,
+        check_equal(alloc, VALUE, NOUGHT, DELOCAL)?,
         seq(value, store_piece(alloc, word)?)?,
     )
 }
@@ -93,7 +93,7 @@ pub fn local_block(
     ensures law { IfOk result (λ p. LocalCode word value.cells body.cells last.cells p.cells) }
     ensures held { IfOk result (λ p. Holds body p) }
     ensures size { IfOk result (λ p. length p.cells
-        ≡ length value.cells + length body.cells + length last.cells + 16) }
+        ≡ length value.cells + length body.cells + length last.cells + 12) }
 {
     local_piece(alloc, word, value, body, last)
 }

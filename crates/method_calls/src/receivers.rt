@@ -2,25 +2,24 @@
 ghost use Rattle.std.specs.Prelude.{◌≡◌, ◌<◌, ◌≤◌, ◌^◌, ◌+◌, ◌*◌, ◌++◌, List, [], ◌∷◌, length, IfOk};
 ghost use Rattle.std.specs.List.{All};
 ghost use Rattle.paired_code.specs.Code.{unmarked};
-ghost use Rattle.paired_code.specs.Layout.{check_cells, enter_at_cells};
+ghost use Rattle.paired_code.specs.Layout.{enter_at_cells};
 ghost use Rattle.paired_code.specs.Rows.{line};
 ghost use Rattle.refine_form.specs.Cells.{around};
 ghost use Rattle.pisa_isa.specs.Table.{IsCell};
 ghost use Rattle.code_conventions.specs.Cells.{exch};
-ghost use Rattle.code_conventions.specs.declared.faults.TheConstants.{NIL};
-ghost use Rattle.code_conventions.specs.declared.registers.TheConstants.{CONTENT, FLAG, VALUE};
-ghost use Rattle.method_calls.specs.CallCode.{base_of, peek_row, nil_row, nil_code, onto_code, last_cells, depth_code, moves_of, behind_of, checked_of, front_on_of};
+ghost use Rattle.code_conventions.specs.declared.registers.TheConstants.{CONTENT, VALUE};
+ghost use Rattle.method_calls.specs.CallCode.{base_of, peek_row, nil_code, onto_code, last_cells, depth_code, moves_of, behind_of, checked_of, front_on_of};
 ghost use Rattle.method_calls.specs.Facts.{IsNear};
 ghost use Rattle.method_calls.specs.Laws.{CallOnCode};
 
 use crate::calls::{
     above_piece, bare_around, depth_piece, fetch_piece, moves_piece, reach, take_piece, then,
 };
-use code_conventions::cells::{add, exch, sltx, sub, xori};
+use code_conventions::cells::{add, exch, sub};
 use code_conventions::faults::NIL;
 use code_conventions::memory::OBJECT_WORD;
-use code_conventions::registers::{CONTENT, FLAG, FRAME, MOVED, NOUGHT, OBJECT, VALUE};
-use paired_code::{Piece, check_zero, enter_at, plain, seq};
+use code_conventions::registers::{CONTENT, FRAME, MOVED, OBJECT, VALUE};
+use paired_code::{Piece, check_positive, enter_at, plain, seq};
 use pisa_isa::Cell;
 use refine_form::Spot;
 use rpp_words::NoMemory;
@@ -45,23 +44,15 @@ fn peek_piece(alloc: Global, spot: Spot) -> Result<Piece, NoMemory>
     then(alloc, plain(alloc, reach(spot))?, content_at(spot))
 }
 
-// Whether it is nil: the flag is 0 behind it.
-fn nil_test(alloc: Global) -> Result<Piece, NoMemory>
-    ensures code { IfOk result (λ p. p ≡ unmarked (line nil_row ++ check_cells FLAG NIL)) }
-{
-    let test = then(
-        alloc,
-        plain(alloc, sltx(FLAG, NOUGHT, CONTENT))?,
-        xori(FLAG, 1),
-    )?;
-    seq(test, check_zero(alloc, FLAG, NIL)?)
-}
-
 fn nil_piece(alloc: Global, spot: Spot) -> Result<Piece, NoMemory>
     requires near { IsNear spot }
     ensures code { IfOk result (λ p. p ≡ unmarked (nil_code spot)) }
 {
-    bare_around(alloc, peek_piece(alloc, spot)?, nil_test(alloc)?)
+    bare_around(
+        alloc,
+        peek_piece(alloc, spot)?,
+        check_positive(alloc, CONTENT, NIL)?,
+    )
 }
 
 fn onto_piece(alloc: Global) -> Result<Piece, NoMemory>
@@ -156,7 +147,7 @@ pub fn call_on(
     requires slot { slot < 2 ^ 20 }
     ensures law { IfOk result (λ p. CallOnCode back spot slot args.now p.cells) }
     ensures none { IfOk result (λ p. p.marks ≡ []) }
-    ensures size { IfOk result (λ p. length p.cells ≡ 22 * length args.now + 97) }
+    ensures size { IfOk result (λ p. length p.cells ≡ 18 * length args.now + 77) }
 {
     on_piece(alloc, back, spot, slot, args)
 }

@@ -25,10 +25,12 @@ use Rattle.roopl_semantics.specs.Execution.{Setting, Runner, statement, freed, n
 use Rattle.roopl_semantics.specs.Execution.{not_empty_fault, heap_full_fault, length_differs_fault, length_fault}
 use Rattle.refine_form.specs.declared.spot.Spot.{Spot}
 use Rattle.refine_form.specs.Form.{told, turned as facing}
-use Rattle.expr_uncompute.specs.Code.{words, place_words}
-use Rattle.expr_uncompute.specs.Number.{number, place_address}
+use Rattle.register_expressions.specs.Code.{words}
+use Rattle.expr_uncompute.specs.Code.{place_words}
+use Rattle.register_expressions.specs.Number.{number, place_address}
 use Rattle.expr_uncompute.specs.Steps.{place_steps, fetch_steps}
-use Rattle.expr_uncompute.specs.Laws.{bases_of, Stays}
+use Rattle.register_expressions.specs.Laws.{bases_of}
+use Rattle.expr_uncompute.specs.Laws.{Stays}
 use Rattle.expr_uncompute.specs.Promises.{free_at}
 use Rattle.expr_uncompute.specs.Found.{LeavesWithin, leaves_within, TrapsWithin, found_value_steps}
 use Rattle.expr_uncompute.specs.Means.{shown, shown_result, cell_address, SameValues}
@@ -145,7 +147,7 @@ module _ (setting : Setting) (address slot : State → ℕ → ℕ) (R : State �
     word_at w e = facts.word st m r ∙ ap (shown (address st) (slot st)) e
 
     -- a fault with the cost of the place and the length
-    fault_meets : (d : Bool) (code extra c : ℕ) → extra ≤ 26 → c ≡ 1 + nodes size
+    fault_meets : (d : Bool) (code extra c : ℕ) → extra ≤ 15 → c ≡ 1 + nodes size
         → Will im p d m (TrapsWithin code (found_value_steps (Whole name) size + extra))
         → Will im p d m (Meets R rates n0 0 (Fault code c))
     fault_meets d code extra c l e t = let up = found_value_most (Whole name) size in
@@ -158,11 +160,11 @@ module _ (setting : Setting) (address slot : State → ℕ → ℕ) (R : State �
         (with_new setting head element (number_of v) (own st) st)))))
     new_by (Word x) below full e eb ef = absurd (subst (Refers (address st)) e (facts.refers st m r))
     new_by (Name array) below full e eb ef =
-        fault_meets false 4 5 _ (omega arith) (omega arith)
+        fault_meets false 4 2 _ (omega arith) (omega arith)
         (makes.not_nil_faults (λ q. subst (Refers (address st)) e (facts.refers st m r)
         (sym (word_at (Name array) e) ∙ q)))
     new_by Nil true full e eb ef =
-        fault_meets false 13 12 _ (omega arith) (omega arith)
+        fault_meets false 13 5 _ (omega arith) (omega arith)
         (law.length_faults im m object frame (at st) (number_of v) (facts.regs_are st m r) (facts.can st m r)
         (place_at_is st m r) (number_at st m r v nv) refl (word_at Nil e)
         (below_one (number_of v) (facts.is_word st m v r nv) eb))
@@ -185,7 +187,7 @@ module _ (setting : Setting) (address slot : State → ℕ → ℕ) (R : State �
         (Meets R rates n0 0 (told (sized_row size (own st) (Ok v)
         (λ v. delete_end setting head element st (own st) w (number_of v)))))
     delete_by (Word x) e = absurd (subst (Refers (address st)) e (facts.refers st m r))
-    delete_by Nil e = fault_meets true 5 9 _ (omega arith) (omega arith) (makes.nil_faults (word_at Nil e))
+    delete_by Nil e = fault_meets true 5 4 _ (omega arith) (omega arith) (makes.nil_faults (word_at Nil e))
     delete_by (Name array) e = last (nat_eq (length_at st array) (number_of v)) (nat_eq (count_at st array) 1)
         (is_empty st array) refl refl refl
       where
@@ -204,7 +206,7 @@ module _ (setting : Setting) (address slot : State → ℕ → ℕ) (R : State �
             let i = s.there.inside in
             let w = s.there.small in
             let differs : length_at st array ≢ number_of v = grind (arith, nat_tests) in
-            fault_meets true 12 17 _ (omega arith) (omega arith)
+            fault_meets true 12 8 _ (omega arith) (omega arith)
             (makes.other_faults (address st array) (word_at (Name array) e) (omega arith) (omega arith) some_at
             (λ q. differs (sym s.mark ∙ q)))
         last true false empty es eo ez =
@@ -212,7 +214,7 @@ module _ (setting : Setting) (address slot : State → ℕ → ℕ) (R : State �
             let w = s.there.small in
             let same : length_at st array ≡ number_of v = grind (arith, nat_tests) in
             let others : count_at st array ≢ 1 = grind (arith, nat_tests) in
-            fault_meets true 6 26 _ (omega arith) (omega arith)
+            fault_meets true 6 15 _ (omega arith) (omega arith)
             (makes.count_faults (address st array) (word_at (Name array) e) (omega arith) (omega arith) some_at
             (s.mark ∙ same) (λ q. others (sym s.there.count ∙ q)))
         last true true false es eo ez =

@@ -6,7 +6,7 @@ use Rattle.paired_code.specs.declared.part.Symbol.{Symbol}
 use Rattle.paired_code.specs.Code.{Code, unmarked}
 use Rattle.roopl_semantics.specs.Elements.{index_elements, own_element, read_cost}
 use Rattle.refine_form.specs.declared.spot.Spot.{Spot}
-use Rattle.expr_uncompute.specs.Code.{xori}
+use Rattle.register_expressions.specs.Code.{xori}
 use Rattle.expr_uncompute.specs.Found.{PlaceAroundLaw, ValueAroundLaw, PlacesAroundLaw}
 use Rattle.expr_uncompute.proofs.Bounds.{found_places_most}
 use Rattle.object_codegen.specs.declared.shape.Shape.TheVariants.{Fixed, Lengthy}
@@ -20,11 +20,14 @@ cells_are : {c : Code} {cells : List Symbol} → c ≡ unmarked cells → c.cell
 cells_are e = ap (λ z. z.cells) e
 
 pub size_returns : {E : Type 0} (n k : ℕ) (cells : List Symbol) (middle : Code) (r : Result Code E)
-    → middle ≡ unmarked cells → length cells ≡ n → IfOk r (λ p. length p.cells ≤ length middle.cells + k)
+    → middle ≡ unmarked cells → length cells ≤ n → IfOk r (λ p. length p.cells ≤ length middle.cells + k)
     → IfOk r (λ p. length p.cells ≤ n + k)
-size_returns n k cells middle (Ok p) e l h = let q : length middle.cells ≡ n = ap length (cells_are e)
-    ∙ l in omega arith
+size_returns n k cells middle (Ok p) e l h = let q : length middle.cells ≡ length cells = ap length (cells_are e)
+    in omega arith
 size_returns n k cells middle (Err a) e l h = tt
+
+pub no_more : {n k : ℕ} → n ≡ k → n ≤ k
+no_more e = omega arith
 
 module _ {E : Type 0} (spot : List ℕ → Spot) (free : ℕ) where
   pub copy_returns : (source target : Lvalue) (middle : Code) (r : Result Code E) → middle ≡ unmarked copy_mid

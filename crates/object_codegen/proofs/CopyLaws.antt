@@ -11,12 +11,12 @@ use Rattle.paired_code.specs.Pieces.{Done, Will}
 use Rattle.paired_code.proofs.Laws.{will_of}
 use Rattle.refine_form.specs.declared.spot.Spot.{Spot}
 use Rattle.expr_uncompute.specs.Code.{place_words}
-use Rattle.expr_uncompute.specs.Laws.{bases_of}
+use Rattle.register_expressions.specs.Laws.{bases_of}
 use Rattle.expr_uncompute.specs.Promises.{free_at}
 use Rattle.expr_uncompute.specs.Found.{found, Filled, PlacesStay, PlacesAroundLaw, Encloses, LeavesWithin}
 use Rattle.expr_uncompute.specs.Found.{leaves_within, TrapsWithin, found_places_steps}
-use Rattle.expr_uncompute.proofs.Goes.{Traps, goes_to}
-use Rattle.expr_uncompute.proofs.Scratch.{keeping, mem}
+use Rattle.register_expressions.proofs.Goes.{Traps, goes_to}
+use Rattle.register_expressions.proofs.Scratch.{keeping, mem}
 use Rattle.expr_uncompute.proofs.Updates.{place_low}
 use Rattle.expr_uncompute.proofs.FoundLaws.{shown_as}
 use Rattle.object_codegen.specs.Code.{copy_checks, uncopy_checks, copy_alter, copy_mid}
@@ -91,7 +91,7 @@ module _ (spot : List ℕ → Spot) (free : ℕ) (source target : Lvalue) (p : L
         → Will im p false m (LeavesWithin (record m { cells = referring a' x (c + 1) m.cells })
         (copy_steps source target) (copy_steps source target))
     copied x c h s =
-        (encloses false).leads (referring a' x (c + 1) m.cells) 66 66
+        (encloses false).leads (referring a' x (c + 1) m.cells) 42 42
         (changes_two (free_at free m) m.cells a' x (x + 1) (c + 1) at.can.ready.words h.q_in h.count_in
         (let i = h.count_in in let l = h.low_in in let k = h.small in omega arith) h.more) s
         (λ ys ys' f f' ch.
@@ -99,16 +99,16 @@ module _ (spot : List ℕ → Spot) (free : ℕ) (source target : Lvalue) (p : L
         h.q_in h.count_in f' ch in
         let g = copy_goes (bases_of m) (reg m) a a' (free_at free m) x c ys
         (copies_filled (free_at free m) room a a' x c m.cells ys f h) in
-        will_of im copy_mid false (found 0 a a' ys m) (Done (found 0 a a' ys' m) 66) _
+        will_of im copy_mid false (found 0 a a' ys m) (Done (found 0 a a' ys' m) 42) _
         ((goes_to refl (found_is ys) (ap (mem (bases_of m) (reg m) (keeping 0 a a')) (sym e) ∙ found_is ys')
-        g).ahead im) (leaves_within 66 (omega arith) (omega arith)))
+        g).ahead im) (leaves_within 42 (omega arith) (omega arith)))
 
     pub uncopied_again : (x c : ℕ) → Shares (free_at free m) a a' x c m.cells
         → PlacesStay spot (bases_of m) (free_at free m) source target m.cells (unreferring a' x c m.cells)
         → Will im p true m (LeavesWithin (record m { cells = unreferring a' x c m.cells }) (copy_steps source target)
         (copy_steps source target))
     uncopied_again x c h s =
-        (encloses true).leads (unreferring a' x c m.cells) 66 66
+        (encloses true).leads (unreferring a' x c m.cells) 42 42
         (changes_two (free_at free m) m.cells a' 0 (x + 1) c at.can.ready.words h.q_in h.count_in (omega arith)
         (let i = h.more in omega arith)) s
         (λ ys ys' f f' ch.
@@ -119,9 +119,9 @@ module _ (spot : List ℕ → Spot) (free : ℕ) (source target : Lvalue) (p : L
         (uncopied (free_at free m) a a' x c ys t) in
         let back = ap (mem (bases_of m) (reg m) (keeping 0 a a')) (copied_again (free_at free m) a a' x c ys t)
         ∙ found_is ys in
-        will_of im copy_mid true (found 0 a a' ys m) (Done (found 0 a a' ys' m) 66) _
+        will_of im copy_mid true (found 0 a a' ys m) (Done (found 0 a a' ys' m) 42) _
         ((goes_to refl (ap (mem (bases_of m) (reg m) (keeping 0 a a')) (sym e) ∙ found_is ys') back g).back im)
-        (leaves_within 66 (omega arith) (omega arith)))
+        (leaves_within 42 (omega arith) (omega arith)))
 
     -- ---- faults
 
@@ -138,42 +138,42 @@ module _ (spot : List ℕ → Spot) (free : ℕ) (source target : Lvalue) (p : L
         (fault_back copy_checks copy_alter t im)
 
     pub nil_fault_of : (d : Bool) → slice_index m.cells a ≡ 0
-        → Will im p d m (TrapsWithin 5 (found_places_steps source target + 7))
-    nil_fault_of false e = (encloses false).traps 5 7 (λ ys f. before 5 7 ys
+        → Will im p d m (TrapsWithin 5 (found_places_steps source target + 2))
+    nil_fault_of false e = (encloses false).traps 5 2 (λ ys f. before 5 2 ys
         (copy_nil (bases_of m) (reg m) a a' ys (let i = inside ys f in let l = a_low in omega arith)
         (f.below a a_low ∙ e)))
-    nil_fault_of true e = (encloses true).traps 5 7 (λ ys f. behind 5 7 ys
+    nil_fault_of true e = (encloses true).traps 5 2 (λ ys f. behind 5 2 ys
         (uncopy_nil (bases_of m) (reg m) a a' ys (let i = inside ys f in let l = a_low in omega arith)
         (f.below a a_low ∙ e)))
 
     pub not_nil_fault_of : (x : ℕ) → slice_index m.cells a ≡ x → x < 2 ^ 31 → x ≢ 0 → slice_index m.cells a' ≢ 0
-        → Will im p false m (TrapsWithin 4 (found_places_steps source target + 15))
+        → Will im p false m (TrapsWithin 4 (found_places_steps source target + 6))
     not_nil_fault_of x e l n n' =
-        (encloses false).traps 4 15 (λ ys f.
+        (encloses false).traps 4 6 (λ ys f.
         let i = inside ys f in
         let k = a_low in
         let k' = a'_low in
-        before 4 15 ys (copy_not_nil (bases_of m) (reg m) a a' ys x (omega arith) (omega arith) (f.below a a_low ∙ e) l
+        before 4 6 ys (copy_not_nil (bases_of m) (reg m) a a' ys x (omega arith) (omega arith) (f.below a a_low ∙ e) l
         n (λ z. n' (sym (f.below a' a'_low) ∙ z))))
 
     pub not_same_fault_of : (x y : ℕ) → slice_index m.cells a ≡ x → slice_index m.cells a' ≡ y → x < 2 ^ 31 → x ≢ 0
-        → x ≢ y → Will im p true m (TrapsWithin 10 (found_places_steps source target + 20))
+        → x ≢ y → Will im p true m (TrapsWithin 10 (found_places_steps source target + 11))
     not_same_fault_of x y e e' l n n' =
-        (encloses true).traps 10 20 (λ ys f.
+        (encloses true).traps 10 11 (λ ys f.
         let i = inside ys f in
         let k = a_low in
         let k' = a'_low in
-        behind 10 20 ys (uncopy_other (bases_of m) (reg m) a a' ys x y (omega arith) (omega arith) (f.below a a_low ∙ e)
+        behind 10 11 ys (uncopy_other (bases_of m) (reg m) a a' ys x y (omega arith) (omega arith) (f.below a a_low ∙ e)
         (f.below a' a'_low ∙ e') l n n'))
 
     pub one_place_fault_of : (x : ℕ) → a ≡ a' → slice_index m.cells a ≡ x → x < 2 ^ 31 → x ≢ 0
-        → Will im p true m (TrapsWithin 10 (found_places_steps source target + 33))
+        → Will im p true m (TrapsWithin 10 (found_places_steps source target + 19))
     one_place_fault_of x q e l n =
-        (encloses true).traps 10 33 (λ ys f.
+        (encloses true).traps 10 19 (λ ys f.
         let i = inside ys f in
         let k = a_low in
         let k' = a'_low in
-        behind 10 33 ys (uncopy_one (bases_of m) (reg m) a a' ys x (omega arith) (omega arith)
+        behind 10 19 ys (uncopy_one (bases_of m) (reg m) a a' ys x (omega arith) (omega arith)
         (rw f.count at.can.ready.small) (f.below a a_low ∙ e) (ap (slice_index ys) (sym q) ∙ f.below a a_low ∙ e)
         l n q))
 

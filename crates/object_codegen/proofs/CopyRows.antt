@@ -24,9 +24,9 @@ use Rattle.roopl_semantics.specs.Execution.{not_same_fault}
 use Rattle.refine_form.specs.declared.spot.Spot.{Spot}
 use Rattle.refine_form.specs.Form.{told, turned as facing}
 use Rattle.expr_uncompute.specs.Code.{place_words}
-use Rattle.expr_uncompute.specs.Number.{place_address, read_of, index_of, shares}
+use Rattle.register_expressions.specs.Number.{place_address, read_of, index_of, shares}
 use Rattle.expr_uncompute.specs.Steps.{place_steps}
-use Rattle.expr_uncompute.specs.Laws.{bases_of}
+use Rattle.register_expressions.specs.Laws.{bases_of}
 use Rattle.expr_uncompute.specs.Promises.{free_at, CanRun}
 use Rattle.expr_uncompute.specs.Found.{LeavesWithin, leaves_within, TrapsWithin, PlacesStay, found_places_steps}
 use Rattle.expr_uncompute.specs.Means.{shown, cell_address, cell_result, MeansPlace, TellsShares, SameCells}
@@ -246,7 +246,7 @@ module _ (setting : Setting) (address slot : State → ℕ → ℕ) (R : State �
       target_is y e = facts.target_word st m b r nb ∙ ap (shown (address st) (slot st)) e
 
       -- a fault with the cost of the places
-      fault_meets : (d : Bool) (code extra c : ℕ) → extra ≤ 33
+      fault_meets : (d : Bool) (code extra c : ℕ) → extra ≤ 19
           → c ≡ 1 + index_nodes source + index_nodes target + read_cost (own_element target)
           (index_elements source ++ index_elements target) → Will im p d m
           (TrapsWithin code (found_places_steps source target + extra))
@@ -258,7 +258,7 @@ module _ (setting : Setting) (address slot : State → ℕ → ℕ) (R : State �
           → Will im p false m (Meets R rates n0 0 (told (pair_row source target (Ok a) (Ok b)
           (λ a b. kept_by reads false (copy_end st b x y)))))
       copy_by (Word w) y ea eb sh = absurd (subst (Refers (address st)) ea (facts.source_refers st m a r na))
-      copy_by Nil y ea eb sh = fault_meets false 5 7 _ (omega arith) (omega arith)
+      copy_by Nil y ea eb sh = fault_meets false 5 2 _ (omega arith) (omega arith)
           (law.nil_faults im false m (at st a) (at st b) (places sh)
           (facts.source_word st m a r na ∙ ap (shown (address st) (slot st)) ea))
       copy_by (Name n) (Word w) ea eb sh = absurd (subst (Refers (address st)) eb (facts.target_refers st m b r nb))
@@ -284,7 +284,7 @@ module _ (setting : Setting) (address slot : State → ℕ → ℕ) (R : State �
           })
           (stay (after_copy st b n) cells' h.0 h.1))
       copy_by (Name n) (Name n') ea eb sh =
-          fault_meets false 4 15 _ (omega arith) (omega arith)
+          fault_meets false 4 6 _ (omega arith) (omega arith)
           (law.not_nil_faults im m (at st a) (at st b) (address st n) (places sh) (name_word n ea) (name_small n ea)
           (name_some n ea) (λ e. subst (Refers (address st)) eb (facts.target_refers st m b r nb)
           (sym (target_is (Name n') eb) ∙ e)))
@@ -296,13 +296,13 @@ module _ (setting : Setting) (address slot : State → ℕ → ℕ) (R : State �
           (fault_if not_same_fault (not t || u) >>= λ _. give (after_uncopy st b n)))))))
       names_by n n' false u et eu ea eb sh =
           let ne : n ≢ n' = grind (arith, nat_tests) in
-          fault_meets true 10 20 _ (omega arith) (omega arith)
+          fault_meets true 10 11 _ (omega arith) (omega arith)
           (law.not_same_faults im m (at st a) (at st b) (address st n) (address st n') (places sh) (name_word n ea)
           (target_is (Name n') eb) (name_small n ea) (name_some n ea)
           (λ e. ne (facts.one_name st m a b n n' r na nb ea eb e)))
       names_by n n' true true et eu ea eb sh =
           let one : at st b ≡ at st a = sym (facts.one_cell st m a b r na nb eu) in
-          fault_meets true 10 33 _ (omega arith) (omega arith)
+          fault_meets true 10 19 _ (omega arith) (omega arith)
           (law.one_place_faults im m (at st a) (address st n)
           (subst (Places spot free source target m (at st a)) one (places sh)) (name_word n ea) (name_small n ea)
           (name_some n ea))
@@ -336,12 +336,12 @@ module _ (setting : Setting) (address slot : State → ℕ → ℕ) (R : State �
           → Will im p true m (Meets R rates n0 0 (told (pair_row source target (Ok a) (Ok b)
           (λ a b. kept_by reads false (uncopy_end st a b x y)))))
       uncopy_by (Word w) y ea eb sh = absurd (subst (Refers (address st)) ea (facts.source_refers st m a r na))
-      uncopy_by Nil y ea eb sh = fault_meets true 5 7 _ (omega arith) (omega arith)
+      uncopy_by Nil y ea eb sh = fault_meets true 5 2 _ (omega arith) (omega arith)
           (law.nil_faults im true m (at st a) (at st b) (places sh)
           (facts.source_word st m a r na ∙ ap (shown (address st) (slot st)) ea))
       uncopy_by (Name n) (Word w) ea eb sh = absurd (subst (Refers (address st)) eb (facts.target_refers st m b r nb))
       uncopy_by (Name n) Nil ea eb sh =
-          fault_meets true 10 20 _ (omega arith) (omega arith)
+          fault_meets true 10 11 _ (omega arith) (omega arith)
           (law.not_same_faults im m (at st a) (at st b) (address st n) 0 (places sh) (name_word n ea)
           (target_is Nil eb) (name_small n ea) (name_some n ea) (name_some n ea))
       uncopy_by (Name n) (Name n') ea eb sh = names_by n n' (nat_eq n n') (same_cell a b) refl refl ea eb sh

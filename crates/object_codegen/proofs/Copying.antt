@@ -1,28 +1,23 @@
 -- The middle of a copy.
-use Rattle.std.proofs.Common.{◌≡◌, ◌≢◌, ℕ, ◌+◌, ◌^◌, ◌<◌, ◌≤◌, Bool, true, false, List, [], ◌∷◌, length, length-set}
+use Rattle.std.proofs.Common.{◌≡◌, ◌≢◌, ℕ, ◌+◌, ◌^◌, ◌<◌, ◌≤◌, List, [], ◌∷◌, length, length-set}
 use Rattle.std.proofs.Common.{refl, sym, ap, ◌∙◌, arith}
-use Rattle.std.specs.Prelude.{slice_index, slice_set, bit_xor, nat_eq}
+use Rattle.std.specs.Prelude.{slice_index, slice_set, bit_xor}
 use Rattle.std.proofs.lemmas.List.{get_or-set_same, get_or-set_other}
 use Rattle.std.specs.Int.Bits.{xor_zero_l}
-use Rattle.std.proofs.lemmas.Bool.Decides.{nat_tests}
 use Rattle.pisa_isa.specs.Machine.{Memory}
 use Rattle.rpp_words.proofs.Laws.{xor-twice}
-use Rattle.rpp_words.specs.Words.{is_less}
-use Rattle.pisa_isa.specs.Table.{word_of}
-use Rattle.code_conventions.specs.declared.registers.TheConstants.{FIRST_WORD, OTHER_PLACE, OUTCOME, PLACE}
-use Rattle.roopl_semantics.specs.Operators.{truth_word}
-use Rattle.expr_uncompute.specs.Code.{addi, xori, sltx}
-use Rattle.expr_uncompute.specs.Number.{Bases}
-use Rattle.expr_uncompute.proofs.Comparing.{equal}
-use Rattle.expr_uncompute.proofs.Goes.{Goes, Traps, goes_cons, goes_seq, goes_around, goes_mirror, goes_xor, goes_set}
-use Rattle.expr_uncompute.proofs.Goes.{goes_xor_to, goes_addi, goes_check, traps_check, traps_mid, traps_then}
-use Rattle.expr_uncompute.proofs.Goes.{traps_first}
-use Rattle.expr_uncompute.proofs.Scratch.{keeping}
+use Rattle.code_conventions.specs.declared.registers.TheConstants.{FIRST_WORD, OTHER_PLACE, PLACE}
+use Rattle.register_expressions.specs.Code.{addi}
+use Rattle.register_expressions.specs.Number.{Bases}
+use Rattle.register_expressions.proofs.Goes.{Goes, Traps, goes_seq, goes_around, goes_mirror}
+use Rattle.register_expressions.proofs.Goes.{goes_xor_to, goes_addi, traps_mid, traps_then, traps_first}
+use Rattle.register_expressions.proofs.Scratch.{keeping}
 use Rattle.object_codegen.specs.Code.{same_words, two_places, copy_checks, uncopy_checks, refer_cells, count_cells}
 use Rattle.object_codegen.specs.Code.{copy_mid}
 use Rattle.object_codegen.specs.Promises.{referring, Copies}
-use Rattle.object_codegen.proofs.Touching.{one_is_not, at, by_place, by_other, by_first, changed, nil_goes, nil_traps}
-use Rattle.object_codegen.proofs.Touching.{some_goes, some_traps, load_goes}
+use Rattle.object_codegen.proofs.Touching.{at, by_place, by_other, by_first, changed, nil_goes, nil_traps}
+use Rattle.object_codegen.proofs.Touching.{some_goes, some_traps, load_goes, goes_zero, traps_zero, goes_differ}
+use Rattle.object_codegen.proofs.Touching.{traps_differ}
 
 xor_self : (x : ℕ) → bit_xor x x ≡ 0
 xor_self x = ap (λ z. bit_xor z x) (sym (xor_zero_l x)) ∙ xor-twice 0 x
@@ -34,42 +29,28 @@ module _ (b : Bases) (f : ℕ → ℕ) (p q : ℕ) where
   -- ---- the checks of the inverse
 
   pub same_goes : (zs : List ℕ) (x : ℕ) → p < length zs → q < length zs → slice_index zs p ≡ x → slice_index zs q ≡ x
-      → Goes same_words 16 (here 0 0 0 zs) (here 0 0 0 zs)
+      → Goes same_words 14 (here 0 0 0 zs) (here 0 0 0 zs)
   same_goes zs x h k e e' =
       let both = goes_seq (load_goes b f (keeping 0 p q) (by_place b f (keeping 0 p q)) zs x 0 x h e (xor_zero_l x))
       (load_goes b f (keeping 0 p q) (by_other b f (keeping 0 p q)) zs x x 0 k e' (xor_self x)) in
-      goes_around both (goes_check FIRST_WORD 10 _ refl) both
+      goes_around both (goes_zero FIRST_WORD 10 _ refl) both
 
   pub same_traps : (zs : List ℕ) (x y : ℕ) → p < length zs → q < length zs → slice_index zs p ≡ x → slice_index zs q ≡ y
-      → x ≢ y → Traps same_words 10 10 (here 0 0 0 zs)
+      → x ≢ y → Traps same_words 7 10 (here 0 0 0 zs)
   same_traps zs x y h k e e' n =
       let both = goes_seq (load_goes b f (keeping 0 p q) (by_place b f (keeping 0 p q)) zs x 0 x h e (xor_zero_l x))
       (load_goes b f (keeping 0 p q) (by_other b f (keeping 0 p q)) zs y x (bit_xor x y) k e' refl) in
-      traps_mid both (traps_check FIRST_WORD 10 _ (λ z. n (sym (xor-twice x y) ∙ ap (λ w. bit_xor w y) z
+      traps_mid both (traps_zero FIRST_WORD 10 _ (λ z. n (sym (xor-twice x y) ∙ ap (λ w. bit_xor w y) z
       ∙ xor_zero_l y)))
 
-  two_row : (zs : List ℕ) (t : Bool) → p < 2 ^ 32 → q < 2 ^ 32 → nat_eq p q ≡ t
-      → Goes (sltx OUTCOME PLACE OTHER_PLACE ∷ sltx OUTCOME OTHER_PLACE PLACE ∷ xori OUTCOME 1 ∷ []) 3 (here 0 0 0 zs)
-      (here (truth_word t) 0 0 zs)
-  two_row zs t h k e =
-      let put : ℕ → Memory = λ z. here z 0 0 zs in
-      goes_cons (goes_set _ put (word_of (is_less p q)) refl (omega arith) (λ z. refl) (λ z. refl))
-      (goes_cons (goes_xor _ put (word_of (is_less p q)) (word_of (is_less q p)) refl (omega arith) (λ z. refl)
-      (λ z. refl)) (goes_xor_to _ put _ 1 _ (equal p q h k ∙ ap truth_word e) refl (omega arith) (λ z. refl)
-      (λ z. refl)))
+  pub two_goes : (zs : List ℕ) → p ≢ q → Goes two_places 2 (here 0 0 0 zs) (here 0 0 0 zs)
+  two_goes zs n = goes_differ PLACE OTHER_PLACE 10 _ n
 
-  pub two_goes : (zs : List ℕ) → p < 2 ^ 32 → q < 2 ^ 32 → p ≢ q → Goes two_places 10 (here 0 0 0 zs) (here 0 0 0 zs)
-  two_goes zs h k n =
-      let t : nat_eq p q ≡ false = grind (arith, nat_tests) in
-      goes_around (two_row zs false h k t) (goes_check OUTCOME 10 _ refl) (two_row zs false h k t)
-
-  pub two_traps : (zs : List ℕ) → p < 2 ^ 32 → q < 2 ^ 32 → p ≡ q → Traps two_places 7 10 (here 0 0 0 zs)
-  two_traps zs h k e =
-      let t : nat_eq p q ≡ true = grind (arith, nat_tests) in
-      traps_mid (two_row zs true h k t) (traps_check OUTCOME 10 _ one_is_not)
+  pub two_traps : (zs : List ℕ) → p ≡ q → Traps two_places 1 10 (here 0 0 0 zs)
+  two_traps zs e = traps_differ PLACE OTHER_PLACE 10 _ e
 
   pub copy_checks_go : (low x c : ℕ) (zs : List ℕ) → Copies low p q x c zs
-      → Goes copy_checks 16 (here 0 0 0 zs) (here 0 0 0 zs)
+      → Goes copy_checks 8 (here 0 0 0 zs) (here 0 0 0 zs)
   copy_checks_go low x c zs h =
       let l = h.count_in in
       let k = h.small in
@@ -80,33 +61,33 @@ module _ (b : Bases) (f : ℕ → ℕ) (p q : ℕ) where
       (omega arith) h.some) (nil_goes b f (keeping 0 p q) (by_other b f (keeping 0 p q) 0) 4 zs (omega arith)
       h.target)
 
-  pub copy_nil : (zs : List ℕ) → p < length zs → slice_index zs p ≡ 0 → Traps copy_checks 7 5 (here 0 0 0 zs)
+  pub copy_nil : (zs : List ℕ) → p < length zs → slice_index zs p ≡ 0 → Traps copy_checks 2 5 (here 0 0 0 zs)
   copy_nil zs h e = traps_first _ (some_traps b f (keeping 0 p q) (by_place b f (keeping 0 p q) 0) 5 zs h e)
 
   pub copy_not_nil : (zs : List ℕ) (x : ℕ) → p < length zs → q < length zs → slice_index zs p ≡ x → x < 2 ^ 31 → x ≢ 0
-      → slice_index zs q ≢ 0 → Traps copy_checks 15 4 (here 0 0 0 zs)
+      → slice_index zs q ≢ 0 → Traps copy_checks 6 4 (here 0 0 0 zs)
   copy_not_nil zs x h k e l n n' = traps_then (some_goes b f (keeping 0 p q) (by_place b f (keeping 0 p q) 0) 5 zs x h e
       l n) (nil_traps b f (keeping 0 p q) (by_other b f (keeping 0 p q) 0) 4 zs k n')
 
   pub uncopy_checks_go : (x : ℕ) (zs : List ℕ) → p < length zs → q < length zs → length zs ≤ 2 ^ 31
       → slice_index zs p ≡ x → slice_index zs q ≡ x → x < 2 ^ 31 → x ≢ 0 → p ≢ q
-      → Goes uncopy_checks 36 (here 0 0 0 zs) (here 0 0 0 zs)
+      → Goes uncopy_checks 20 (here 0 0 0 zs) (here 0 0 0 zs)
   uncopy_checks_go x zs h k s e e' l n n' =
       goes_seq (some_goes b f (keeping 0 p q) (by_place b f (keeping 0 p q) 0) 5 zs x h e l n)
-      (goes_seq (same_goes zs x h k e e') (two_goes zs (omega arith) (omega arith) n'))
+      (goes_seq (same_goes zs x h k e e') (two_goes zs n'))
 
-  pub uncopy_nil : (zs : List ℕ) → p < length zs → slice_index zs p ≡ 0 → Traps uncopy_checks 7 5 (here 0 0 0 zs)
+  pub uncopy_nil : (zs : List ℕ) → p < length zs → slice_index zs p ≡ 0 → Traps uncopy_checks 2 5 (here 0 0 0 zs)
   uncopy_nil zs h e = traps_first _ (some_traps b f (keeping 0 p q) (by_place b f (keeping 0 p q) 0) 5 zs h e)
 
   pub uncopy_other : (zs : List ℕ) (x y : ℕ) → p < length zs → q < length zs → slice_index zs p ≡ x
-      → slice_index zs q ≡ y → x < 2 ^ 31 → x ≢ 0 → x ≢ y → Traps uncopy_checks 20 10 (here 0 0 0 zs)
+      → slice_index zs q ≡ y → x < 2 ^ 31 → x ≢ 0 → x ≢ y → Traps uncopy_checks 11 10 (here 0 0 0 zs)
   uncopy_other zs x y h k e e' l n n' = traps_then (some_goes b f (keeping 0 p q) (by_place b f (keeping 0 p q) 0) 5 zs
       x h e l n) (traps_first _ (same_traps zs x y h k e e' n'))
 
   pub uncopy_one : (zs : List ℕ) (x : ℕ) → p < length zs → q < length zs → length zs ≤ 2 ^ 31 → slice_index zs p ≡ x
-      → slice_index zs q ≡ x → x < 2 ^ 31 → x ≢ 0 → p ≡ q → Traps uncopy_checks 33 10 (here 0 0 0 zs)
+      → slice_index zs q ≡ x → x < 2 ^ 31 → x ≢ 0 → p ≡ q → Traps uncopy_checks 19 10 (here 0 0 0 zs)
   uncopy_one zs x h k s e e' l n n' = traps_then (some_goes b f (keeping 0 p q) (by_place b f (keeping 0 p q) 0) 5 zs x
-      h e l n) (traps_then (same_goes zs x h k e e') (two_traps zs (omega arith) (omega arith) n'))
+      h e l n) (traps_then (same_goes zs x h k e e') (two_traps zs n'))
 
   -- ---- the change
 
@@ -126,7 +107,7 @@ module _ (b : Bases) (f : ℕ → ℕ) (p q : ℕ) where
       (λ z. refl))) (up _)
 
   pub copy_goes : (low x c : ℕ) (zs : List ℕ) → Copies low p q x c zs
-      → Goes copy_mid 66 (here 0 0 0 zs) (here 0 0 0 (referring q x (c + 1) zs))
+      → Goes copy_mid 42 (here 0 0 0 zs) (here 0 0 0 (referring q x (c + 1) zs))
   copy_goes low x c zs h =
       let k = h.small in
       let ll = h.low_in in

@@ -11,12 +11,12 @@ use Rattle.paired_code.specs.declared.part.Symbol.{Symbol}
 use Rattle.paired_code.specs.declared.part.Symbol.TheVariants.{Enter}
 use Rattle.paired_code.specs.Machine.{Image}
 use Rattle.paired_code.specs.Pieces.{Will}
-use Rattle.expr_uncompute.specs.Code.{addi}
-use Rattle.expr_uncompute.specs.Number.{Bases}
+use Rattle.register_expressions.specs.Code.{addi}
+use Rattle.register_expressions.specs.Number.{Bases}
 use Rattle.expr_uncompute.specs.Found.{TrapsWithin}
-use Rattle.expr_uncompute.proofs.Goes.{Goes, goes_cons, goes_seq, goes_around, goes_to, goes_set, goes_xor_to}
-use Rattle.expr_uncompute.proofs.Goes.{goes_exch, goes_addi}
-use Rattle.expr_uncompute.proofs.Scratch.{keeping, mem}
+use Rattle.register_expressions.proofs.Goes.{Goes, goes_cons, goes_seq, goes_around, goes_to, goes_set, goes_xor_to}
+use Rattle.register_expressions.proofs.Goes.{goes_exch, goes_addi}
+use Rattle.register_expressions.proofs.Scratch.{keeping, mem}
 use Rattle.object_codegen.specs.declared.shape.Shape.{Shape}
 use Rattle.object_codegen.specs.declared.shape.Shape.TheVariants.{Fixed, Lengthy}
 use Rattle.object_codegen.specs.Code.{mark_cell, mark_of, block, move_cells, fill_cells, new_alter}

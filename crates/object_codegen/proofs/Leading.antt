@@ -8,9 +8,9 @@ use Rattle.paired_code.specs.Layout.{mirror_cells}
 use Rattle.paired_code.specs.Pieces.{Outcome, Trapped, Will, after}
 use Rattle.paired_code.proofs.Laws.{Next, will_of, will_more, will_seq, will_seq_back}
 use Rattle.paired_code.proofs.Mirrored.{will_mirror}
-use Rattle.expr_uncompute.specs.Code.{around}
+use Rattle.register_expressions.specs.Code.{around}
 use Rattle.expr_uncompute.specs.Found.{LeavesWithin, leaves_within, TrapsWithin, traps_within}
-use Rattle.expr_uncompute.proofs.Goes.{Goes, Traps}
+use Rattle.register_expressions.proofs.Goes.{Goes, Traps}
 
 pub record Leads (im : Image) (p : List Symbol) (lo hi : ℕ) (m m' : Memory) : Type 0 where
   pub ahead : Will im p false m (LeavesWithin m' lo hi)

@@ -15,6 +15,7 @@ pub mod SizeOrders
 pub mod SizeRows
 pub mod SizeOrdering
 pub mod Bounds
+pub mod Fields
 pub mod Clauses
 pub mod CopyRows
 pub mod MakeFacts

@@ -1,6 +1,6 @@
 -- What a relation of states and memories gives, so that `new` and `delete` are what the source says.
 use Rattle.std.proofs.Common.{◌≡◌, ◌≢◌, ℕ, ◌+◌, ◌^◌, ◌<◌, ◌≤◌, Bool, true, false, List, ◌∷◌, length}
-use Rattle.std.specs.Prelude.{slice_index, nat_eq, nat_lt, ◌||◌, is_none, replicate, Ok}
+use Rattle.std.specs.Prelude.{slice_index, nat_lt, ◌||◌, is_none, replicate, Ok}
 use Rattle.std.specs.Option.{unwrap_or}
 use Rattle.code_conventions.specs.declared.memory.TheConstants.{HEADER_WORDS}
 use Rattle.rpp_words.specs.Words.{is_less}
@@ -11,15 +11,16 @@ use Rattle.buddy_book.specs.Place.{Log, Taken, count_taken, place as place_log}
 use Rattle.buddy_pisa.specs.Promise.{most_steps}
 use Rattle.pisa_isa.specs.Machine.{Memory}
 use Rattle.paired_code.specs.Machine.{Image}
-use Rattle.roopl_semantics.specs.Store.{Value, Word, Nil, Name, Head, OfClass, State, number_of, zero_values, object_at}
+use Rattle.roopl_semantics.specs.Store.{Value, Nil, Name, Head, OfClass, State, number_of, zero_values, object_at}
 use Rattle.roopl_semantics.specs.Value.{Cell, cell_named, read, written, value, cell_of}
 use Rattle.roopl_semantics.specs.Elements.{index_elements, own_element, share_array}
 use Rattle.roopl_semantics.specs.Execution.{Setting, new_object, order_of_cells, is_of_class, all_zero, freed}
 use Rattle.refine_form.specs.Form.{registers}
 use Rattle.refine_form.specs.declared.spot.Spot.{Spot}
-use Rattle.expr_uncompute.specs.Code.{words, place_words}
-use Rattle.expr_uncompute.specs.Number.{read_of, index_of}
-use Rattle.expr_uncompute.specs.Laws.{bases_of}
+use Rattle.register_expressions.specs.Code.{words}
+use Rattle.expr_uncompute.specs.Code.{place_words}
+use Rattle.register_expressions.specs.Number.{read_of, index_of}
+use Rattle.register_expressions.specs.Laws.{bases_of}
 use Rattle.expr_uncompute.specs.Promises.{free_at, CanRun}
 use Rattle.expr_uncompute.specs.Found.{Changes}
 use Rattle.expr_uncompute.specs.Means.{shown, cell_address, Means, MeansPlace, TellsShares, SameValues, SameCells}

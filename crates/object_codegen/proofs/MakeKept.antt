@@ -7,11 +7,10 @@ use Rattle.rpp_tree.specs.declared.tree.BinOp.{BinOp}
 use Rattle.rpp_tree.specs.Tree.{Expression, Number, Null, Variable, Element, Binary, Lvalue, Whole, Item, Source}
 use Rattle.roopl_semantics.specs.Store.{Value, Word, Nil, Name, State, number_of, object_at}
 use Rattle.roopl_semantics.specs.Value.{Cell, Slot, Part, cell_named, variable_value, read, read_cell, element_cell}
-use Rattle.roopl_semantics.specs.Value.{element_of, combined, value, cell_of}
+use Rattle.roopl_semantics.specs.Value.{element_of, combined, value}
 use Rattle.refine_form.specs.declared.spot.Spot.{Spot}
-use Rattle.expr_uncompute.specs.Number.{Bases, number, Same, SamePlace}
-use Rattle.expr_uncompute.specs.Means.{shown, shown_result, cell_address, cell_result, Means, MeansPlace, SameValues}
-use Rattle.expr_uncompute.specs.Means.{SameCells}
+use Rattle.register_expressions.specs.Number.{Bases, number, Same, SamePlace}
+use Rattle.expr_uncompute.specs.Means.{shown, shown_result, cell_result, Means, MeansPlace, SameValues, SameCells}
 use Rattle.expr_uncompute.proofs.Meaning.{number_is, place_is}
 
 -- ---- a name that an expression gives is one that a cell holds

@@ -11,14 +11,16 @@ use Rattle.paired_code.specs.Machine.{Image}
 use Rattle.paired_code.specs.Pieces.{Will}
 use Rattle.refine_form.specs.Form.{registers}
 use Rattle.refine_form.specs.declared.spot.Spot.{Spot}
-use Rattle.expr_uncompute.specs.Code.{words, place_words, xori}
-use Rattle.expr_uncompute.specs.Number.{Bases}
-use Rattle.expr_uncompute.specs.Laws.{bases_of, Stays}
+use Rattle.register_expressions.specs.Code.{words, xori}
+use Rattle.expr_uncompute.specs.Code.{place_words}
+use Rattle.register_expressions.specs.Number.{Bases}
+use Rattle.register_expressions.specs.Laws.{bases_of}
+use Rattle.expr_uncompute.specs.Laws.{Stays}
 use Rattle.expr_uncompute.specs.Promises.{free_at}
 use Rattle.expr_uncompute.specs.Found.{found, Filled, Changes, Encloses, PlaceAroundLaw, ValueAroundLaw, LeavesWithin}
 use Rattle.expr_uncompute.specs.Found.{TrapsWithin, found_place_steps, found_value_steps}
-use Rattle.expr_uncompute.proofs.Goes.{Goes, goes_set}
-use Rattle.expr_uncompute.proofs.Scratch.{keeping, mem}
+use Rattle.register_expressions.proofs.Goes.{Goes, goes_set}
+use Rattle.register_expressions.proofs.Scratch.{keeping, mem}
 use Rattle.expr_uncompute.proofs.Updates.{place_low}
 use Rattle.object_codegen.specs.declared.shape.Shape.{Shape}
 use Rattle.object_codegen.specs.declared.shape.Shape.TheVariants.{Fixed, Lengthy}
@@ -171,8 +173,8 @@ module _ (im : Image) (m : Memory) (object frame low n steps a v o : ℕ) (shape
   there : (ys : List ℕ) → Filled low n m.cells ys → a < length ys
   there ys f = let k = f.count in omega arith
 
-  pub not_nil : slice_index m.cells a ≢ 0 → Will im p false m (TrapsWithin 4 (steps + 5))
-  not_nil h = stops false 4 5 (λ ys f. new_not_nil b a v im shape is_shape orders (order_steps shape) ys (there ys f)
+  pub not_nil : slice_index m.cells a ≢ 0 → Will im p false m (TrapsWithin 4 (steps + 2))
+  not_nil h = stops false 4 2 (λ ys f. new_not_nil b a v im shape is_shape orders (order_steps shape) ys (there ys f)
       (λ e. h (sym (f.below a a_low) ∙ e)))
 
   pub full : (most : ℕ) → IsLength v shape → slice_index m.cells a ≡ 0
@@ -182,22 +184,22 @@ module _ (im : Image) (m : Memory) (object frame low n steps a v o : ℕ) (shape
   full most l e k = stops false 8 _ (λ ys f. new_full b a v im shape is_shape orders (order_steps shape) ys o most l
       (there ys f) (f.below a a_low ∙ e) (finds l ys) (k.lacks ys f))
 
-  pub nil : slice_index m.cells a ≡ 0 → Will im p true m (TrapsWithin 5 (steps + 9))
-  nil e = stops true 5 9 (λ ys f. deleted_nil b a v im shape is_shape orders (order_steps shape) ys 0 (there ys f)
+  pub nil : slice_index m.cells a ≡ 0 → Will im p true m (TrapsWithin 5 (steps + 4))
+  nil e = stops true 5 4 (λ ys f. deleted_nil b a v im shape is_shape orders (order_steps shape) ys 0 (there ys f)
       (f.below a a_low ∙ e) refl)
 
   pub other : (x : ℕ) → slice_index m.cells a ≡ x → x < low → x < 2 ^ 31 → x ≢ 0
-      → slice_index m.cells x ≢ mark_of v shape → Will im p true m (TrapsWithin (mark_fault shape) (steps + 17))
+      → slice_index m.cells x ≢ mark_of v shape → Will im p true m (TrapsWithin (mark_fault shape) (steps + 8))
   other x e l s some h =
-      stops true (mark_fault shape) 17 (λ ys f. let k = f.count in
+      stops true (mark_fault shape) 8 (λ ys f. let k = f.count in
       deleted_other b a v im shape is_shape orders (order_steps shape) ys x (there ys f) (f.below a a_low ∙ e) s
       some (omega arith) (λ q. h (sym (f.below x l) ∙ q)))
 
   pub counted : (x : ℕ) → slice_index m.cells a ≡ x → x + 1 < low → x < 2 ^ 31 → x ≢ 0
       → slice_index m.cells x ≡ mark_of v shape → slice_index m.cells (x + 1) ≢ 1
-      → Will im p true m (TrapsWithin 6 (steps + 26))
+      → Will im p true m (TrapsWithin 6 (steps + 15))
   counted x e l s some q h =
-      stops true 6 26 (λ ys f. let k = f.count in deleted_shared b a v im shape is_shape orders (order_steps shape) ys x
+      stops true 6 15 (λ ys f. let k = f.count in deleted_shared b a v im shape is_shape orders (order_steps shape) ys x
       (there ys f) (f.below a a_low ∙ e) s some (omega arith) (f.below x (omega arith) ∙ q)
       (λ r. h (sym (f.below (x + 1) l) ∙ r)))
 
@@ -205,7 +207,7 @@ module _ (im : Image) (m : Memory) (object frame low n steps a v o : ℕ) (shape
       → x + HEADER_WORDS + size_of v shape < 2 ^ 31 → x ≢ 0 → slice_index m.cells x ≡ mark_of v shape
       → slice_index m.cells (x + 1) ≡ 1 → x + HEADER_WORDS ≤ i → i < x + HEADER_WORDS + size_of v shape
       → slice_index m.cells i ≢ 0
-      → Will im p true m (TrapsWithin 7 (steps + (37 + 15 * size_of v shape)))
+      → Will im p true m (TrapsWithin 7 (steps + (27 + 13 * size_of v shape)))
   not_empty x i e w s some q c lo hi h =
       stops true 7 _ (λ ys f. let k = f.count in deleted_full b a v im shape is_shape orders (order_steps shape) ys x
       (there ys f) (f.below a a_low ∙ e) (omega arith) some (size_of v shape) i refl (omega arith) s
@@ -259,8 +261,8 @@ array_law spot free target size p law = record {
   length_faults = λ im m object frame a v regs_are can at value apart e t.
       let i = can.ready.inside in
       let low = place_low spot free (bases_of m) target a m.cells can.first at in
-      (law.encloses im false m can a v at value apart).traps 13 12
-      (λ ys f. subst (λ z. Will im (new_mid Lengthy order_cells) false z (TrapsWithin 13 12))
+      (law.encloses im false m can a v at value apart).traps 13 5
+      (λ ys f. subst (λ z. Will im (new_mid Lengthy order_cells) false z (TrapsWithin 13 5))
       (found_is m object frame v a ys regs_are) (new_length (record { object = object; frame = frame }) a v im
       order_cells ys t (let k = f.count in omega arith) (f.below a low ∙ e)));
   place_faults = law.place_faults;

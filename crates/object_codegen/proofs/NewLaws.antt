@@ -1,32 +1,28 @@
 -- The middle of `new` and `delete`.
-use Rattle.std.proofs.Common.{◌≡◌, ◌≢◌, ℕ, ◌+◌, ◌*◌, ◌^◌, ◌<◌, ◌≤◌, Bool, true, false, List, [], ◌∷◌, ◌++◌, length}
-use Rattle.std.proofs.Common.{length-set, refl, sym, ap, ◌∙◌, arith}
-use Rattle.std.specs.Prelude.{slice_index, slice_set, not}
+use Rattle.std.proofs.Common.{◌≡◌, ◌≢◌, ℕ, ◌+◌, ◌*◌, ◌^◌, ◌<◌, ◌≤◌, true, false, List, [], ◌∷◌, ◌++◌, length}
+use Rattle.std.proofs.Common.{length-set, sym, ◌∙◌, arith}
+use Rattle.std.specs.Prelude.{slice_index, slice_set}
 use Rattle.std.proofs.lemmas.List.{get_or-set_same, get_or-set_other}
 use Rattle.code_conventions.specs.declared.memory.TheConstants.{HEADER_WORDS}
 use Rattle.rpp_words.specs.Words.{is_less}
-use Rattle.pisa_isa.specs.Table.{word_of}
 use Rattle.pisa_isa.specs.Machine.{Memory}
-use Rattle.code_conventions.specs.declared.registers.TheConstants.{AMOUNT, NOUGHT, OUTCOME}
+use Rattle.code_conventions.specs.declared.registers.TheConstants.{AMOUNT}
 use Rattle.paired_code.specs.declared.part.Symbol.{Symbol}
 use Rattle.paired_code.specs.declared.part.Symbol.TheVariants.{Enter}
 use Rattle.paired_code.specs.Machine.{Image}
 use Rattle.paired_code.specs.Layout.{mirror_cells}
 use Rattle.paired_code.specs.Pieces.{Will}
-use Rattle.roopl_semantics.specs.Operators.{truth_word}
-use Rattle.expr_uncompute.specs.Code.{sltx, xori}
-use Rattle.expr_uncompute.specs.Number.{Bases}
+use Rattle.register_expressions.specs.Number.{Bases}
 use Rattle.expr_uncompute.specs.Found.{TrapsWithin}
-use Rattle.expr_uncompute.proofs.Comparing.{not_less, above}
-use Rattle.expr_uncompute.proofs.Goes.{Goes, Traps, goes_cons, goes_seq, goes_around, goes_mirror, goes_set}
-use Rattle.expr_uncompute.proofs.Goes.{goes_xor_to, goes_check, traps_check, traps_mid, traps_then, traps_first}
-use Rattle.expr_uncompute.proofs.Scratch.{keeping, mem}
+use Rattle.register_expressions.proofs.Comparing.{above}
+use Rattle.register_expressions.proofs.Goes.{Goes, Traps, goes_seq, goes_mirror, traps_then, traps_first}
+use Rattle.register_expressions.proofs.Scratch.{keeping, mem}
 use Rattle.object_codegen.specs.declared.shape.Shape.{Shape}
 use Rattle.object_codegen.specs.declared.shape.Shape.TheVariants.{Fixed, Lengthy}
 use Rattle.object_codegen.specs.Code.{mark_of, mark_fault, size_of, positive, new_checks, delete_checks, new_alter}
 use Rattle.object_codegen.specs.Code.{new_mid}
-use Rattle.object_codegen.specs.News.{filled, IsShape, IsLength, check_steps, move_steps}
-use Rattle.object_codegen.proofs.Touching.{at, by_place, nil_goes, nil_traps, one_is_not}
+use Rattle.object_codegen.specs.News.{filled, IsShape, IsLength, check_steps, move_steps, zeros_steps}
+use Rattle.object_codegen.proofs.Touching.{by_place, nil_goes, nil_traps, goes_positive, traps_positive}
 use Rattle.object_codegen.proofs.Deleting.{delete_nil, delete_other, delete_shared, delete_full, delete_passes}
 use Rattle.object_codegen.proofs.Leading.{Leads, goes_leads, leads_seq, falls_first, goes_falls, fault_ahead}
 use Rattle.object_codegen.proofs.Leading.{fault_back}
@@ -35,20 +31,11 @@ use Rattle.object_codegen.proofs.Filling.{nothing_else, calling, Called, Blank, 
 -- what the middle costs, where the allocator makes t steps
 abbrev pub mid_steps : Shape → (n orders t : ℕ) → ℕ
 mid_steps shape n orders t = check_steps shape + (((move_steps shape + orders) +
-    ((t + 7) + (move_steps shape + orders))) + (51 + 15 * n))
+    ((t + 7) + (move_steps shape + orders))) + (22 + zeros_steps shape n))
 
 module _ (b : Bases) (p v : ℕ) where
   abbrev found : List ℕ → Memory
   found zs = mem b nothing_else (keeping v p 0) zs
-
-  positive_row : (zs : List ℕ) (t : Bool) → is_less 0 v ≡ t
-      → Goes (sltx OUTCOME NOUGHT AMOUNT ∷ xori OUTCOME 1 ∷ []) 2 (found zs)
-      (at b nothing_else (keeping v p 0) (truth_word (not t)) 0 0 zs)
-  positive_row zs t l =
-      let put : ℕ → Memory = λ z. at b nothing_else (keeping v p 0) z 0 0 zs in
-      goes_cons (goes_set _ put (word_of (is_less 0 v)) refl (omega arith) (λ z. refl) (λ z. refl))
-      (goes_xor_to _ put _ 1 _ (not_less (is_less 0 v) ∙ ap (λ t. truth_word (not t)) l) refl (omega arith)
-      (λ z. refl) (λ z. refl))
 
   pub checks_pass : (shape : Shape) (zs : List ℕ) → IsLength v shape → p < length zs → slice_index zs p ≡ 0
       → Goes (new_checks shape) (check_steps shape) (found zs) (found zs)
@@ -57,20 +44,20 @@ module _ (b : Bases) (p v : ℕ) where
   checks_pass Lengthy zs l h e =
       let t : is_less 0 v ≡ true = above v l.0 l.1 in
       goes_seq (nil_goes b nothing_else (keeping v p 0) (by_place b nothing_else (keeping v p 0) 0) 4 zs h e)
-      (goes_around (positive_row zs true t) (goes_check OUTCOME 13 _ refl) (positive_row zs true t))
+      (goes_positive AMOUNT 13 _ t)
 
   pub checks_not_nil : (shape : Shape) (zs : List ℕ) → p < length zs → slice_index zs p ≢ 0
-      → Traps (new_checks shape) 5 4 (found zs)
+      → Traps (new_checks shape) 2 4 (found zs)
   checks_not_nil (Fixed table fields) zs h n = nil_traps b nothing_else (keeping v p 0)
       (by_place b nothing_else (keeping v p 0) 0) 4 zs h n
   checks_not_nil Lengthy zs h n = traps_first positive (nil_traps b nothing_else (keeping v p 0)
       (by_place b nothing_else (keeping v p 0) 0) 4 zs h n)
 
   pub checks_length : (zs : List ℕ) → is_less 0 v ≡ false → p < length zs → slice_index zs p ≡ 0
-      → Traps (new_checks Lengthy) 12 13 (found zs)
+      → Traps (new_checks Lengthy) 5 13 (found zs)
   checks_length zs t h e = traps_then (nil_goes b nothing_else (keeping v p 0)
       (by_place b nothing_else (keeping v p 0) 0) 4 zs h e)
-      (traps_mid (positive_row zs false t) (traps_check OUTCOME 13 _ one_is_not))
+      (traps_positive AMOUNT 13 _ t)
 
   -- a block of zeros for so many cells
   pub record Room (x n : ℕ) (zs : List ℕ) : Type 0 where
@@ -123,7 +110,7 @@ module _ (b : Bases) (p v : ℕ) where
     -- ---- faults of a new
 
     pub new_not_nil : (zs : List ℕ) → p < length zs → slice_index zs p ≢ 0
-        → Will im (new_mid shape orders) false (found zs) (TrapsWithin 4 5)
+        → Will im (new_mid shape orders) false (found zs) (TrapsWithin 4 2)
     new_not_nil zs h n = fault_ahead (new_alter shape orders ++ mirror_cells (delete_checks shape))
         (checks_not_nil shape zs h n) im
 
@@ -139,17 +126,17 @@ module _ (b : Bases) (p v : ℕ) where
     -- ---- faults of a delete
 
     module _ (zs : List ℕ) (x : ℕ) (p_in : p < length zs) (source : slice_index zs p ≡ x) where
-      pub deleted_nil : x ≡ 0 → Will im (new_mid shape orders) true (found zs) (TrapsWithin 5 9)
+      pub deleted_nil : x ≡ 0 → Will im (new_mid shape orders) true (found zs) (TrapsWithin 5 4)
       deleted_nil e = fault_back (new_checks shape) (new_alter shape orders)
           (delete_nil b nothing_else v p x shape zs is_shape p_in source e) im
 
       pub deleted_other : x < 2 ^ 31 → x ≢ 0 → x < length zs → slice_index zs x ≢ mark_of v shape
-          → Will im (new_mid shape orders) true (found zs) (TrapsWithin (mark_fault shape) 17)
+          → Will im (new_mid shape orders) true (found zs) (TrapsWithin (mark_fault shape) 8)
       deleted_other small some h n = fault_back (new_checks shape) (new_alter shape orders)
           (delete_other b nothing_else v p x shape zs is_shape p_in source small some h n) im
 
       pub deleted_shared : x < 2 ^ 31 → x ≢ 0 → x + 1 < length zs → slice_index zs x ≡ mark_of v shape
-          → slice_index zs (x + 1) ≢ 1 → Will im (new_mid shape orders) true (found zs) (TrapsWithin 6 26)
+          → slice_index zs (x + 1) ≢ 1 → Will im (new_mid shape orders) true (found zs) (TrapsWithin 6 15)
       deleted_shared small some h e n = fault_back (new_checks shape) (new_alter shape orders)
           (delete_shared b nothing_else v p x shape zs is_shape p_in source small some h e n) im
 
@@ -157,7 +144,7 @@ module _ (b : Bases) (p v : ℕ) where
           → x + HEADER_WORDS + n < 2 ^ 31 → slice_index zs x ≡ mark_of v shape → slice_index zs (x + 1) ≡ 1
           → x + HEADER_WORDS ≤ a
           → a < x + HEADER_WORDS + n → slice_index zs a ≢ 0
-          → Will im (new_mid shape orders) true (found zs) (TrapsWithin 7 (37 + 15 * n))
+          → Will im (new_mid shape orders) true (found zs) (TrapsWithin 7 (27 + 13 * n))
       deleted_full small some n a n_is within ends e c lo hi nz =
           fault_back (new_checks shape) (new_alter shape orders)
           (delete_full b nothing_else v p x shape zs is_shape p_in source small some n n_is within ends a e c lo hi nz)
@@ -165,6 +152,6 @@ module _ (b : Bases) (p v : ℕ) where
 
   -- the length is not above 0
   pub new_length : (im : Image) (orders : List Symbol) (zs : List ℕ) → is_less 0 v ≡ false → p < length zs
-      → slice_index zs p ≡ 0 → Will im (new_mid Lengthy orders) false (found zs) (TrapsWithin 13 12)
+      → slice_index zs p ≡ 0 → Will im (new_mid Lengthy orders) false (found zs) (TrapsWithin 13 5)
   new_length im orders zs t h e = fault_ahead (new_alter Lengthy orders ++ mirror_cells (delete_checks Lengthy))
       (checks_length zs t h e) im

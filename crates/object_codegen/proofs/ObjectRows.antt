@@ -25,9 +25,10 @@ use Rattle.roopl_semantics.specs.Execution.{not_empty_fault, heap_full_fault, cl
 use Rattle.refine_form.specs.declared.spot.Spot.{Spot}
 use Rattle.refine_form.specs.Form.{told, turned as facing}
 use Rattle.expr_uncompute.specs.Code.{place_words}
-use Rattle.expr_uncompute.specs.Number.{place_address, update_shares}
+use Rattle.register_expressions.specs.Number.{place_address, update_shares}
 use Rattle.expr_uncompute.specs.Steps.{place_steps}
-use Rattle.expr_uncompute.specs.Laws.{bases_of, Stays}
+use Rattle.register_expressions.specs.Laws.{bases_of}
+use Rattle.expr_uncompute.specs.Laws.{Stays}
 use Rattle.expr_uncompute.specs.Promises.{free_at}
 use Rattle.expr_uncompute.specs.Found.{LeavesWithin, leaves_within, TrapsWithin, found_place_steps}
 use Rattle.expr_uncompute.specs.Means.{shown, cell_address, cell_result, SameCells}
@@ -36,6 +37,7 @@ use Rattle.expr_uncompute.proofs.Meaning.{place_is}
 use Rattle.expr_uncompute.proofs.Sharing.{update_shares_is}
 use Rattle.object_codegen.specs.declared.shape.Shape.TheVariants.{Fixed}
 use Rattle.object_codegen.specs.News.{filled, whole_steps, Makes, ObjectLaw}
+use Rattle.object_codegen.proofs.Bounds.{zeros_most}
 use Rattle.expr_uncompute.proofs.Rated.{rated, less, trap_meets, stop_meets}
 use Rattle.object_codegen.proofs.CopyRows.{Refers}
 use Rattle.object_codegen.proofs.MakeFacts.{made, number_in, count_at, is_empty, fresh_cells, same_class, is_full}
@@ -119,6 +121,7 @@ module _ (setting : Setting) (address slot : State → ℕ → ℕ) (R : State �
         over _ (leaves_within k lo hi) =
             let up = found_place_most target in
             let low = found_place_least target in
+            let zeros = zeros_most table fields fields in
             let all : k ≤ 500 * c = omega arith in
             let u = rated 500 rates.steps k c many all in
             fine r (less rates.counts k c some (omega arith)) (omega arith)
@@ -150,7 +153,7 @@ module _ (setting : Setting) (address slot : State → ℕ → ℕ) (R : State �
         word_at v e = facts.word st m cell r nc ∙ ap (shown (address st) (slot st)) e
 
         -- a fault with the cost of the place
-        fault_meets : (d : Bool) (code extra c : ℕ) → extra ≤ 26 → c ≡ 1 + index_nodes target + reads
+        fault_meets : (d : Bool) (code extra c : ℕ) → extra ≤ 15 → c ≡ 1 + index_nodes target + reads
             → Will im p d m (TrapsWithin code (found_place_steps target + extra))
             → Will im p d m (Meets R rates n0 0 (Fault code c))
         fault_meets d code extra c l e t = let up = found_place_most target in
@@ -162,7 +165,7 @@ module _ (setting : Setting) (address slot : State → ℕ → ℕ) (R : State �
             (λ c. kept_by reads false (new_end setting.limits.heap full v (with_new setting class c st))))))
         new_by (Word w) full e ef sh = absurd (subst (Refers (address st)) e (facts.refers st m cell r nc))
         new_by (Name name) full e ef sh =
-            fault_meets false 4 5 _ (omega arith) (omega arith)
+            fault_meets false 4 2 _ (omega arith) (omega arith)
             ((makes sh).not_nil_faults (λ q. subst (Refers (address st)) e (facts.refers st m cell r nc)
             (sym (word_at (Name name) e) ∙ q)))
         new_by Nil true e ef sh =
@@ -183,7 +186,7 @@ module _ (setting : Setting) (address slot : State → ℕ → ℕ) (R : State �
             → Will im p true m (Meets R rates n0 0 (told (one_row target (Ok cell)
             (λ c. kept_by reads false (delete_end setting class st c v)))))
         delete_by (Word w) e sh = absurd (subst (Refers (address st)) e (facts.refers st m cell r nc))
-        delete_by Nil e sh = fault_meets true 5 9 _ (omega arith) (omega arith) ((makes sh).nil_faults (word_at Nil e))
+        delete_by Nil e sh = fault_meets true 5 4 _ (omega arith) (omega arith) ((makes sh).nil_faults (word_at Nil e))
         delete_by (Name name) e sh = last (same_class setting class st name) (nat_eq (count_at st name) 1)
             (is_empty st name) refl refl refl
           where
@@ -201,14 +204,14 @@ module _ (setting : Setting) (address slot : State → ℕ → ℕ) (R : State �
             last false one empty es eo ez =
                 let i = s.there.inside in
                 let w = s.there.small in
-                fault_meets true 11 17 _ (omega arith) (omega arith)
+                fault_meets true 11 8 _ (omega arith) (omega arith)
                 ((makes sh).other_faults (address st name) (word_at (Name name) e) (omega arith) (omega arith) some_at
                 (s.other es))
             last true false empty es eo ez =
                 let i = s.there.inside in
                 let w = s.there.small in
                 let others : count_at st name ≢ 1 = grind (arith, nat_tests) in
-                fault_meets true 6 26 _ (omega arith) (omega arith)
+                fault_meets true 6 15 _ (omega arith) (omega arith)
                 ((makes sh).count_faults (address st name) (word_at (Name name) e) (omega arith) (omega arith) some_at
                 (s.mark es) (λ q. others (sym s.there.count ∙ q)))
             last true true false es eo ez =

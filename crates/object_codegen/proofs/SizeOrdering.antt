@@ -6,8 +6,8 @@ use Rattle.std.proofs.lemmas.Bool.Decides.{leb_tells}
 use Rattle.code_conventions.specs.declared.memory.TheConstants.{HEADER_WORDS}
 use Rattle.rpp_words.specs.Order.{IsOrderFor}
 use Rattle.buddy_book.specs.Book.{order_from, order_for}
-use Rattle.expr_uncompute.specs.Number.{Bases}
-use Rattle.expr_uncompute.proofs.Goes.{Goes, goes_to}
+use Rattle.register_expressions.specs.Number.{Bases}
+use Rattle.register_expressions.proofs.Goes.{Goes, goes_to}
 use Rattle.object_codegen.specs.declared.shape.Shape.TheVariants.{Lengthy}
 use Rattle.object_codegen.specs.Code.{order_cells}
 use Rattle.object_codegen.proofs.SizeOrders.{log_of, size_order}

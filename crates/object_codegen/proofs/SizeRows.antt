@@ -13,9 +13,9 @@ use Rattle.rpp_words.specs.Words.{shifted_right, turned_left, turned_right, is_l
 use Rattle.pisa_isa.specs.Table.{word_of}
 use Rattle.code_conventions.specs.declared.memory.TheConstants.{HEADER_WORDS}
 use Rattle.code_conventions.specs.declared.registers.TheConstants.{NOUGHT, AT_LENGTH as size}
-use Rattle.expr_uncompute.proofs.Goes.{Goes, goes_cons, goes_seq, goes_around, goes_to, goes_mirror, goes_set}
-use Rattle.expr_uncompute.proofs.Goes.{goes_xor_to, goes_addi, goes_add, goes_cell}
-use Rattle.expr_uncompute.specs.Code.{add, addi, sltx}
+use Rattle.register_expressions.proofs.Goes.{Goes, goes_cons, goes_seq, goes_around, goes_to, goes_mirror, goes_set}
+use Rattle.register_expressions.proofs.Goes.{goes_xor_to, goes_addi, goes_add, goes_cell}
+use Rattle.register_expressions.specs.Code.{add, addi, sltx}
 use Rattle.object_codegen.specs.Code.{srlvx, andix, turn_left, shifted as start, one_bit as end}
 use Rattle.object_codegen.specs.Code.{order, order_bit, order_cells as order_of_size}
 use Rattle.object_codegen.proofs.SizeOrders.{has_bit, with_bit, log_of, bit_small}

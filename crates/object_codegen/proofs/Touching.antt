@@ -1,25 +1,51 @@
 -- Words of memory at addresses in registers: opened, tried, loaded.
-use Rattle.std.proofs.Common.{◌≡◌, ◌≢◌, ℕ, ◌+◌, ◌^◌, ◌<◌, Bool, true, false, List, [], ◌∷◌, length, length-set, refl}
-use Rattle.std.proofs.Common.{ap, ◌∙◌, arith}
-use Rattle.std.specs.Prelude.{slice_index, slice_set, bit_xor, not}
+use Rattle.std.proofs.Common.{◌≡◌, ◌≢◌, ℕ, ◌+◌, ◌^◌, ◌<◌, true, false, List, [], ◌∷◌, length, length-set, refl}
+use Rattle.std.proofs.Common.{ap, arith}
+use Rattle.std.specs.Prelude.{slice_index, slice_set, bit_xor}
 use Rattle.std.proofs.lemmas.List.{get_or-set_same, set-set}
 use Rattle.pisa_isa.specs.Machine.{Memory}
 use Rattle.rpp_words.specs.Words.{is_less}
-use Rattle.pisa_isa.specs.Table.{word_of}
-use Rattle.code_conventions.specs.declared.registers.TheConstants.{CONTENT, FIRST_WORD, NOUGHT, OTHER_PLACE, OUTCOME}
-use Rattle.code_conventions.specs.declared.registers.TheConstants.{PLACE}
-use Rattle.roopl_semantics.specs.Operators.{truth_word}
-use Rattle.expr_uncompute.specs.Code.{xor, exch, addi, xori}
-use Rattle.expr_uncompute.specs.Code.{sltx}
-use Rattle.expr_uncompute.specs.Number.{Bases}
-use Rattle.expr_uncompute.proofs.Comparing.{not_less, above, not_above}
-use Rattle.expr_uncompute.proofs.Goes.{Goes, Traps, goes_cons, goes_around, goes_to, goes_set, goes_xor_to, goes_exch}
-use Rattle.expr_uncompute.proofs.Goes.{goes_check, traps_check, traps_mid}
-use Rattle.expr_uncompute.proofs.Scratch.{Scratch, mem}
+use Rattle.code_conventions.specs.declared.registers.TheConstants.{CONTENT, FIRST_WORD, NOUGHT, OTHER_PLACE, PLACE}
+use Rattle.paired_code.specs.Machine.{reg}
+use Rattle.paired_code.specs.Layout.{check_equal_cells, check_differ_cells, check_positive_cells}
+use Rattle.paired_code.specs.Layout.{Equal, Differ, Positive}
+use Rattle.paired_code.proofs.Checks.{runs_passes, runs_fails}
+use Rattle.register_expressions.specs.Code.{xor, exch}
+use Rattle.register_expressions.specs.Number.{Bases}
+use Rattle.register_expressions.proofs.Comparing.{above, not_above}
+use Rattle.register_expressions.proofs.Goes.{Goes, Traps, goes_around, goes_to, goes_xor_to, goes_exch, traps_mid}
+use Rattle.register_expressions.proofs.Scratch.{Scratch, mem}
 use Rattle.object_codegen.specs.Code.{nil_place, some_place, load_cells}
 
-pub one_is_not : ◌≡◌ {A = ℕ} 1 0 → ⊥
-one_is_not e = omega arith
+-- ---- checks
+
+pub goes_zero : (r code : ℕ) (m : Memory) → reg m r ≡ reg m NOUGHT → Goes (check_equal_cells r NOUGHT code) 2 m m
+goes_zero r code m e = record {
+  ahead = λ im. runs_passes im false (Equal r NOUGHT) code m e;
+  back = λ im. runs_passes im true (Equal r NOUGHT) code m e;
+}
+
+pub traps_zero : (r code : ℕ) (m : Memory) → reg m r ≢ reg m NOUGHT → Traps (check_equal_cells r NOUGHT code) 1 code m
+traps_zero r code m n = record { ahead = λ im. (1, omega arith, runs_fails im false (Equal r NOUGHT) code m n) }
+
+pub goes_differ : (r s code : ℕ) (m : Memory) → reg m r ≢ reg m s → Goes (check_differ_cells r s code) 2 m m
+goes_differ r s code m n = record {
+  ahead = λ im. runs_passes im false (Differ r s) code m n;
+  back = λ im. runs_passes im true (Differ r s) code m n;
+}
+
+pub traps_differ : (r s code : ℕ) (m : Memory) → reg m r ≡ reg m s → Traps (check_differ_cells r s code) 1 code m
+traps_differ r s code m e = record { ahead = λ im. (1, omega arith, runs_fails im false (Differ r s) code m e) }
+
+pub goes_positive : (r code : ℕ) (m : Memory) → is_less 0 (reg m r) ≡ true → Goes (check_positive_cells r code) 2 m m
+goes_positive r code m h = record {
+  ahead = λ im. runs_passes im false (Positive r) code m h;
+  back = λ im. runs_passes im true (Positive r) code m h;
+}
+
+pub traps_positive : (r code : ℕ) (m : Memory) → is_less 0 (reg m r) ≡ false
+    → Traps (check_positive_cells r code) 1 code m
+traps_positive r code m h = record { ahead = λ im. (1, omega arith, runs_fails im false (Positive r) code m h) }
 
 module _ (b : Bases) (f : ℕ → ℕ) (s : Scratch) where
   -- a flag, a word, and a reference
@@ -58,7 +84,7 @@ module _ (b : Bases) (f : ℕ → ℕ) (s : Scratch) where
   pub changed : {r a w k : ℕ} {mid : List Rattle.paired_code.specs.declared.part.Symbol.Symbol} → Points r a w
       → (zs : List ℕ) (x y : ℕ) → a < length zs → slice_index zs a ≡ x
       → Goes mid k (at 0 x w (slice_set zs a 0)) (at 0 y w (slice_set zs a 0))
-      → Goes (Rattle.expr_uncompute.specs.Code.around (exch CONTENT r ∷ []) mid) (1 + (k + 1)) (at 0 0 w zs)
+      → Goes (Rattle.register_expressions.specs.Code.around (exch CONTENT r ∷ []) mid) (1 + (k + 1)) (at 0 0 w zs)
       (at 0 0 w (slice_set zs a y))
   changed {a = a} {w = w} p zs x y h e g =
       let h' : a < length (slice_set zs a y) = rw (length-set zs a y) h in
@@ -68,35 +94,25 @@ module _ (b : Bases) (f : ℕ → ℕ) (s : Scratch) where
   -- ---- nil, or the fault
 
   pub nil_goes : {r a w : ℕ} → Points r a w → (code : ℕ) (zs : List ℕ) → a < length zs → slice_index zs a ≡ 0
-      → Goes (nil_place r code) 6 (at 0 0 w zs) (at 0 0 w zs)
-  nil_goes {a = a} {w = w} p code zs h e = goes_around (opened p zs 0 h e) (goes_check CONTENT code _ refl)
+      → Goes (nil_place r code) 4 (at 0 0 w zs) (at 0 0 w zs)
+  nil_goes {a = a} {w = w} p code zs h e = goes_around (opened p zs 0 h e) (goes_zero CONTENT code _ refl)
       (opened p zs 0 h e)
 
   pub nil_traps : {r a w : ℕ} → Points r a w → (code : ℕ) (zs : List ℕ) → a < length zs → slice_index zs a ≢ 0
-      → Traps (nil_place r code) 5 code (at 0 0 w zs)
+      → Traps (nil_place r code) 2 code (at 0 0 w zs)
   nil_traps {a = a} {w = w} p code zs h n = traps_mid (opened p zs (slice_index zs a) h refl)
-      (traps_check CONTENT code _ n)
+      (traps_zero CONTENT code _ n)
 
   -- ---- not nil, or the fault
 
-  some_row : {r a w : ℕ} → Points r a w → (zs : List ℕ) (x : ℕ) (t : Bool) → a < length zs → slice_index zs a ≡ x
-      → is_less 0 x ≡ t
-      → Goes (exch CONTENT r ∷ sltx OUTCOME NOUGHT CONTENT ∷ xori OUTCOME 1 ∷ []) 3 (at 0 0 w zs)
-      (at (truth_word (not t)) x w (slice_set zs a 0))
-  some_row {a = a} {w = w} p zs x t h e l =
-      let put : ℕ → Memory = λ z. at z x w (slice_set zs a 0) in
-      goes_cons (opened p zs x h e) (goes_cons (goes_set _ put (word_of (is_less 0 x)) refl (omega arith) (λ z. refl)
-      (λ z. refl)) (goes_xor_to _ put _ 1 _ (not_less (is_less 0 x) ∙ ap (λ t. truth_word (not t)) l) refl
-      (omega arith) (λ z. refl) (λ z. refl)))
-
   pub some_goes : {r a w : ℕ} → Points r a w → (code : ℕ) (zs : List ℕ) (x : ℕ) → a < length zs → slice_index zs a ≡ x
-      → x < 2 ^ 31 → x ≢ 0 → Goes (some_place r code) 10 (at 0 0 w zs) (at 0 0 w zs)
-  some_goes p code zs x h e l n = goes_around (some_row p zs x true h e (above x l n)) (goes_check OUTCOME code _ refl)
-      (some_row p zs x true h e (above x l n))
+      → x < 2 ^ 31 → x ≢ 0 → Goes (some_place r code) 4 (at 0 0 w zs) (at 0 0 w zs)
+  some_goes p code zs x h e l n = goes_around (opened p zs x h e) (goes_positive CONTENT code _ (above x l n))
+      (opened p zs x h e)
 
   pub some_traps : {r a w : ℕ} → Points r a w → (code : ℕ) (zs : List ℕ) → a < length zs → slice_index zs a ≡ 0
-      → Traps (some_place r code) 7 code (at 0 0 w zs)
-  some_traps p code zs h e = traps_mid (some_row p zs 0 false h e not_above) (traps_check OUTCOME code _ one_is_not)
+      → Traps (some_place r code) 2 code (at 0 0 w zs)
+  some_traps p code zs h e = traps_mid (opened p zs 0 h e) (traps_positive CONTENT code _ not_above)
 
   -- ---- a word xored into the reference
 

@@ -13,10 +13,10 @@ use Rattle.paired_code.specs.Machine.{Image}
 use Rattle.paired_code.specs.Pieces.{Done, Trapped, Runs}
 use Rattle.paired_code.specs.Laws.{Rounds, leaves, ends_in_tail, again}
 use Rattle.paired_code.proofs.MoreLaws.{while_law}
-use Rattle.expr_uncompute.specs.Code.{addi}
-use Rattle.expr_uncompute.specs.Number.{Bases}
-use Rattle.expr_uncompute.proofs.Goes.{Goes, Traps, goes_cons, goes_seq, goes_xor_to, goes_addi, traps_first}
-use Rattle.expr_uncompute.proofs.Scratch.{Scratch, keeping, mem}
+use Rattle.register_expressions.specs.Code.{addi}
+use Rattle.register_expressions.specs.Number.{Bases}
+use Rattle.register_expressions.proofs.Goes.{Goes, Traps, goes_cons, goes_seq, goes_xor_to, goes_addi, traps_first}
+use Rattle.register_expressions.proofs.Scratch.{Scratch, keeping, mem}
 use Rattle.object_codegen.specs.Code.{walk_head, walk_tail, walk_cells}
 use Rattle.object_codegen.proofs.Touching.{by_first, nil_goes, nil_traps}
 
@@ -92,7 +92,7 @@ module _ (b : Bases) (f : ℕ → ℕ) (v p st en : ℕ) (zs : List ℕ) (order 
       (λ z. refl) (λ z. refl)) (goes_xor_to _ put _ (word_of (is_less w en)) _ (flag_is w h k) refl (omega arith)
       (λ z. refl) (λ z. refl))
 
-  tail_goes : (w : ℕ) → w < en → slice_index zs w ≡ 0 → Goes walk_tail 7 (walking 0 w) (walking 0 (w + 1))
+  tail_goes : (w : ℕ) → w < en → slice_index zs w ≡ 0 → Goes walk_tail 5 (walking 0 w) (walking 0 (w + 1))
   tail_goes w k e = goes_seq (nil_goes b f kept (by_first b f kept w) 7 zs (omega arith) e)
       (goes_addi _ (λ z. walking 0 z) w 1 (omega arith) refl (omega arith) (λ z. refl) (λ z. refl))
 
@@ -123,7 +123,7 @@ module _ (b : Bases) (f : ℕ → ℕ) (v p st en : ℕ) (zs : List ℕ) (order 
   -- from a cell on, r cells are left
   up : (im : Image) (r w o : ℕ) → w + r ≡ en → st ≤ w → word_of (nat_eq st w) ≡ o
       → ((a : ℕ) → w ≤ a → a < en → slice_index zs a ≡ 0) → Rounds im 10 walk_head walk_tail false (walking o w)
-      (Done (walking 1 en) (5 + 15 * r))
+      (Done (walking 1 en) (5 + 13 * r))
   up im zero w o e h eo z =
       let same : w ≡ en = omega arith in
       subst (λ x. Rounds im 10 walk_head walk_tail false (walking o w) (Done (walking 1 x) 5)) same
@@ -132,13 +132,13 @@ module _ (b : Bases) (f : ℕ → ℕ) (v p st en : ℕ) (zs : List ℕ) (order 
       let here : Runs im walk_head false (walking o w) (Done (walking 0 w) 2) =
       head_ahead im w o 0 h (omega arith) eo (not_last w (omega arith)) in
       let next = up im r (w + 1) 0 (omega arith) (omega arith) (not_before w h) (λ a lo hi. z a (omega arith) hi) in
-      let k : 15 + (5 + 15 * r) ≡ 5 + 15 * suc r = omega arith in
+      let k : 13 + (5 + 13 * r) ≡ 5 + 13 * suc r = omega arith in
       subst (λ x. Rounds im 10 walk_head walk_tail false (walking o w) (Done (walking 1 en) x)) k
       (again here refl ((tail_goes w (omega arith) (z w (omega arith) (omega arith))).ahead im) refl next)
 
   down : (im : Image) (r w o : ℕ) → w ≡ st + r → w ≤ en → word_of (nat_eq w en) ≡ o
       → ((a : ℕ) → st ≤ a → a < w → slice_index zs a ≡ 0) → Rounds im 10 walk_head walk_tail true (walking o w)
-      (Done (walking 1 st) (5 + 15 * r))
+      (Done (walking 1 st) (5 + 13 * r))
   down im zero w o e h eo z =
       let same : w ≡ st = omega arith in
       subst (λ x. Rounds im 10 walk_head walk_tail true (walking o w) (Done (walking 1 x) 5)) same
@@ -149,28 +149,28 @@ module _ (b : Bases) (f : ℕ → ℕ) (v p st en : ℕ) (zs : List ℕ) (order 
       let here : Runs im walk_head true (walking o w) (Done (walking 0 w) 2) =
       head_back im w 0 o (omega arith) h (ap (λ x. word_of (nat_eq st x)) up1 ∙ not_before (st + r) (omega arith))
       eo in
-      let back : Runs im walk_tail true (walking 0 w) (Done (walking 0 (st + r)) 7) =
-      subst (λ x. Runs im walk_tail true (walking 0 x) (Done (walking 0 (st + r)) 7)) (sym up1)
+      let back : Runs im walk_tail true (walking 0 w) (Done (walking 0 (st + r)) 5) =
+      subst (λ x. Runs im walk_tail true (walking 0 x) (Done (walking 0 (st + r)) 5)) (sym up1)
       ((tail_goes (st + r) (omega arith) (z (st + r) (omega arith) (omega arith))).back im) in
       let next = down im r (st + r) 0 refl (omega arith) (not_last (st + r) (omega arith))
       (λ a lo hi. z a lo (omega arith)) in
-      let k : 15 + (5 + 15 * r) ≡ 5 + 15 * suc r = omega arith in
+      let k : 13 + (5 + 13 * r) ≡ 5 + 13 * suc r = omega arith in
       subst (λ x. Rounds im 10 walk_head walk_tail true (walking o w) (Done (walking 1 st) x)) k
       (again here refl back refl next)
 
   -- all cells are 0
   pub walk_goes : ((a : ℕ) → st ≤ a → a < en → slice_index zs a ≡ 0) → (n : ℕ) → st + n ≡ en
-      → Goes walk_cells (3 + (5 + 15 * n)) (walking 1 st) (walking 1 en)
+      → Goes walk_cells (3 + (5 + 13 * n)) (walking 1 st) (walking 1 en)
   walk_goes z n e = record {
-    ahead = λ im. (while_law 10 walk_head walk_tail).turns im false (walking 1 st) (Done (walking 1 en) (5 + 15 * n))
+    ahead = λ im. (while_law 10 walk_head walk_tail).turns im false (walking 1 st) (Done (walking 1 en) (5 + 13 * n))
         (not_zero 1 refl) (up im n st 1 e (omega arith) (is_one st st refl) z);
-    back = λ im. (while_law 10 walk_head walk_tail).turns im true (walking 1 en) (Done (walking 1 st) (5 + 15 * n))
+    back = λ im. (while_law 10 walk_head walk_tail).turns im true (walking 1 en) (Done (walking 1 st) (5 + 13 * n))
         (not_zero 1 refl) (down im n en 1 (sym e) (omega arith) (is_one en en refl) z);
   }
 
   -- or one is not
   stops : (im : Image) (r w o j : ℕ) → w + r ≡ en → st ≤ w → word_of (nat_eq st w) ≡ o → w ≤ j → j < en
-      → slice_index zs j ≢ 0 → (k : ℕ) × (k ≤ 15 * r) × Rounds im 10 walk_head walk_tail false (walking o w)
+      → slice_index zs j ≢ 0 → (k : ℕ) × (k ≤ 13 * r) × Rounds im 10 walk_head walk_tail false (walking o w)
       (Trapped 7 k)
   stops im zero w o j e h eo lo hi nz = absurd (omega arith)
   stops im (suc r) w o j e h eo lo hi nz =
@@ -181,7 +181,7 @@ module _ (b : Bases) (f : ℕ → ℕ) (v p st en : ℕ) (zs : List ℕ) (order 
       head : Runs im walk_head false (walking o w) (Done (walking 0 w) 2)
       head = head_ahead im w o 0 h (omega arith) eo (not_last w (omega arith))
 
-      here : slice_index zs w ≢ 0 → (k : ℕ) × (k ≤ 15 * suc r)
+      here : slice_index zs w ≢ 0 → (k : ℕ) × (k ≤ 13 * suc r)
           × Rounds im 10 walk_head walk_tail false (walking o w) (Trapped 7 k)
       here n =
           let t = (traps_first (addi FIRST_WORD 1 ∷ []) (nil_traps b f kept (by_first b f kept w) 7 zs (omega arith)
@@ -189,18 +189,18 @@ module _ (b : Bases) (f : ℕ → ℕ) (v p st en : ℕ) (zs : List ℕ) (order 
           let l = t.1 in
           (6 + t.0, omega arith, ends_in_tail head refl t.2 tt)
 
-      onward : slice_index zs w ≡ 0 → (k : ℕ) × (k ≤ 15 * r)
+      onward : slice_index zs w ≡ 0 → (k : ℕ) × (k ≤ 13 * r)
           × Rounds im 10 walk_head walk_tail false (walking 0 (w + 1)) (Trapped 7 k)
-          → (k : ℕ) × (k ≤ 15 * suc r) × Rounds im 10 walk_head walk_tail false (walking o w) (Trapped 7 k)
+          → (k : ℕ) × (k ≤ 13 * suc r) × Rounds im 10 walk_head walk_tail false (walking o w) (Trapped 7 k)
       onward z t = let l = t.1 in (
-        15 + t.0,
+        13 + t.0,
         omega arith,
         again head refl ((tail_goes w (omega arith) z).ahead im) refl
             t.2,
       )
 
   pub walk_traps : (j n : ℕ) → st + n ≡ en → st ≤ j → j < en → slice_index zs j ≢ 0
-      → Traps walk_cells (3 + 15 * n) 7 (walking 1 st)
+      → Traps walk_cells (3 + 13 * n) 7 (walking 1 st)
   walk_traps j n e lo hi nz = record {
     ahead = λ im. let t = stops im n st 1 j e (omega arith) (is_one st st refl) lo hi nz in let l = t.1 in (
       3 + t.0,

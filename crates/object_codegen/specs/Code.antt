@@ -1,5 +1,6 @@
 -- The cells of `copy` and `uncopy`, `new` and `delete`: one piece for both directions.
-use Rattle.std.specs.Prelude.{ℕ, ◌-◌, ◌^◌, false, List, [], ◌∷◌, ◌++◌}
+use Rattle.std.specs.Prelude.{ℕ, zero, suc, ◌+◌, ◌-◌, ◌^◌, false, List, [], ◌∷◌, ◌++◌, nat_le}
+use Rattle.std.specs.Prelude.{if◌then◌else◌}
 use Rattle.rpp_words.specs.Words.{negated}
 use Rattle.pisa_isa.specs.declared.cell.Op.TheVariants.{Rl, Srlvx, Andix}
 use Rattle.code_conventions.specs.declared.faults.TheConstants.{NOT_NIL, NIL, COUNT, NOT_EMPTY}
@@ -12,22 +13,23 @@ use Rattle.code_conventions.specs.declared.registers.TheConstants.{OTHER_PLACE, 
 use Rattle.code_conventions.specs.declared.registers.TheConstants.{RIGHT_TRUTH, AT_LENGTH, AT_PLACE}
 use Rattle.paired_code.specs.declared.part.Symbol.{Symbol}
 use Rattle.paired_code.specs.declared.part.Symbol.TheVariants.{Own, Enter}
-use Rattle.paired_code.specs.Layout.{mirror_cells, check_cells, loop_cells}
+use Rattle.paired_code.specs.Layout.{mirror_cells, check_equal_cells, check_differ_cells}
+use Rattle.paired_code.specs.Layout.{check_positive_cells, loop_cells}
+use Rattle.object_codegen.specs.declared.news.TheConstants.{FEW_FIELDS}
 use Rattle.object_codegen.specs.declared.shape.Shape.{Shape}
 use Rattle.object_codegen.specs.declared.shape.Shape.TheVariants.{Fixed, Lengthy}
-use Rattle.expr_uncompute.specs.Code.{with_word, three, xor, add}
-use Rattle.expr_uncompute.specs.Code.{exch, addi, xori, sltx, around}
+use Rattle.register_expressions.specs.Code.{with_word, three, xor, add}
+use Rattle.register_expressions.specs.Code.{exch, addi, xori, sltx, around}
 
 -- ---- checks of a place
 
 -- the word at the address in r is nil, or the fault
 abbrev pub nil_place : (r code : ℕ) → List Symbol
-nil_place r code = around (exch CONTENT r ∷ []) (check_cells CONTENT code)
+nil_place r code = around (exch CONTENT r ∷ []) (check_equal_cells CONTENT NOUGHT code)
 
 -- it is not nil, or the fault
 abbrev pub some_place : (r code : ℕ) → List Symbol
-some_place r code = around (exch CONTENT r ∷ sltx OUTCOME NOUGHT CONTENT ∷ xori OUTCOME 1 ∷ [])
-    (check_cells OUTCOME code)
+some_place r code = around (exch CONTENT r ∷ []) (check_positive_cells CONTENT code)
 
 -- ---- copies
 
@@ -37,11 +39,11 @@ load_cells r = around (exch CONTENT r ∷ []) (xor FIRST_WORD CONTENT ∷ [])
 
 -- the words at the two places are the same, and the places are two
 abbrev pub same_words : List Symbol
-same_words = around (load_cells PLACE ++ load_cells OTHER_PLACE) (check_cells FIRST_WORD NOT_SAME)
+same_words = around (load_cells PLACE ++ load_cells OTHER_PLACE)
+    (check_equal_cells FIRST_WORD NOUGHT NOT_SAME)
 
 abbrev pub two_places : List Symbol
-two_places = around (sltx OUTCOME PLACE OTHER_PLACE ∷ sltx OUTCOME OTHER_PLACE PLACE
-    ∷ xori OUTCOME 1 ∷ []) (check_cells OUTCOME NOT_SAME)
+two_places = check_differ_cells PLACE OTHER_PLACE NOT_SAME
 
 -- what is tried before a copy, and before its inverse
 abbrev pub copy_checks : List Symbol
@@ -83,18 +85,17 @@ grow_cell d Lengthy = add d AMOUNT
 
 -- the reference is not nil
 abbrev pub some_reference : List Symbol
-some_reference = around (sltx OUTCOME NOUGHT FIRST_WORD ∷ xori OUTCOME 1 ∷ [])
-    (check_cells OUTCOME NIL)
+some_reference = check_positive_cells FIRST_WORD NIL
 
 -- the first word of the block is what it is to be
 abbrev pub same_mark : Shape → List Symbol
 same_mark shape = around (exch CONTENT FIRST_WORD ∷ mark_cell AMOUNT shape ∷ [])
-    (check_cells CONTENT (mark_fault shape))
+    (check_equal_cells CONTENT NOUGHT (mark_fault shape))
 
 -- one variable has it
 abbrev pub single : List Symbol
 single = around (addi FIRST_WORD COUNT_WORD ∷ exch CONTENT FIRST_WORD ∷ xori CONTENT 1 ∷ [])
-    (check_cells CONTENT COUNT)
+    (check_equal_cells CONTENT NOUGHT COUNT)
 
 -- the flag turns where the word is past the first one, and where it is before the end
 abbrev pub walk_head : List Symbol
@@ -112,10 +113,26 @@ ends_cells shape =
     addi FIRST_WORD HEADER_WORDS ∷ xor LEFT_TRUTH FIRST_WORD ∷ xor RIGHT_TRUTH FIRST_WORD
     ∷ grow_cell RIGHT_TRUTH shape ∷ []
 
--- all cells are 0
-abbrev pub zeros_cells : Shape → List Symbol
-zeros_cells shape = around (ends_cells shape)
+-- all cells are 0, in a walk
+abbrev pub walked_cells : Shape → List Symbol
+walked_cells shape = around (ends_cells shape)
     (around (xori OUTCOME 1 ∷ []) walk_cells ++ mirror_cells (grow_cell FIRST_WORD shape ∷ []))
+
+-- a field is 0, by its number
+abbrev pub field_cells : ℕ → List Symbol
+field_cells number = around (addi FIRST_WORD (HEADER_WORDS + number) ∷ [])
+    (nil_place FIRST_WORD NOT_EMPTY)
+
+-- so many fields are 0, one after the other
+abbrev pub fields_cells : ℕ → List Symbol
+fields_cells zero = []
+fields_cells (suc n) = fields_cells n ++ field_cells n
+
+-- all cells are 0: few fields are tried one after the other, and others in a walk
+abbrev pub zeros_cells : Shape → List Symbol
+zeros_cells (Fixed table fields) = if nat_le fields FEW_FIELDS then fields_cells fields
+    else walked_cells (Fixed table fields)
+zeros_cells Lengthy = walked_cells Lengthy
 
 -- what is tried before a delete
 abbrev pub delete_checks : Shape → List Symbol
@@ -124,7 +141,7 @@ delete_checks shape = around (load_cells PLACE)
 
 -- the length is above 0
 abbrev pub positive : List Symbol
-positive = around (sltx OUTCOME NOUGHT AMOUNT ∷ xori OUTCOME 1 ∷ []) (check_cells OUTCOME LENGTH)
+positive = check_positive_cells AMOUNT LENGTH
 
 -- what is tried before a new
 abbrev pub new_checks : Shape → List Symbol

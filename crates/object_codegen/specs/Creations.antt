@@ -9,8 +9,10 @@ use Rattle.code_conventions.specs.declared.memory.TheConstants.{HEADER_WORDS}
 use Rattle.paired_code.specs.declared.part.Symbol.{Symbol}
 use Rattle.roopl_semantics.specs.Layout.{table_at}
 use Rattle.refine_form.specs.declared.spot.Spot.{Spot}
-use Rattle.expr_uncompute.specs.Code.{words, place_words}
-use Rattle.expr_uncompute.specs.Steps.{tokens, place_tokens}
+use Rattle.register_expressions.specs.Code.{words}
+use Rattle.expr_uncompute.specs.Code.{place_words}
+use Rattle.register_expressions.specs.Steps.{tokens}
+use Rattle.expr_uncompute.specs.Steps.{place_tokens}
 use Rattle.object_codegen.specs.News.{ObjectLaw, ArrayLaw}
 
 -- the number of the class of a name, and the number of its fields
@@ -28,9 +30,9 @@ creation_words (Objects class size) target = place_words target + words size
 
 -- the most cells that it has
 abbrev pub creation_size : Creation → Lvalue → ℕ
-creation_size (Object class) target = 87 + 80 * (1 + place_tokens target)
-creation_size (Ints size) target = 184 + 80 * (place_tokens target + tokens size)
-creation_size (Objects class size) target = 184 + 80 * (place_tokens target + tokens size)
+creation_size (Object class) target = 86 + 80 * (1 + place_tokens target)
+creation_size (Ints size) target = 164 + 80 * (place_tokens target + tokens size)
+creation_size (Objects class size) target = 164 + 80 * (place_tokens target + tokens size)
 
 -- an object has the address of its class's table, and so many cells as the class has fields
 abbrev pub NewLaw : Source → (List ℕ → Spot) → ℕ → Creation → Lvalue → List Symbol → Type 0

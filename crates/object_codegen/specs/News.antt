@@ -1,7 +1,7 @@
 -- What the code of `new` and `delete` does, by the memory alone, over any call of the allocator
 -- that takes a block and gives it back.
 use Rattle.std.specs.Prelude.{◌≡◌, ◌≢◌, ℕ, ◌+◌, ◌*◌, ◌^◌, ◌<◌, ◌≤◌, Bool, true, false, List, []}
-use Rattle.std.specs.Prelude.{◌∷◌, slice_index, slice_set, Ok, Err}
+use Rattle.std.specs.Prelude.{◌∷◌, slice_index, slice_set, nat_le, if◌then◌else◌, Ok, Err}
 use Rattle.rpp_words.specs.Words.{is_less}
 use Rattle.rpp_tree.specs.Tree.{Expression, Null, Lvalue}
 use Rattle.buddy_book.specs.Book.{order_for}
@@ -17,13 +17,16 @@ use Rattle.roopl_semantics.specs.Execution.{not_nil_fault, count_fault, not_empt
 use Rattle.roopl_semantics.specs.Execution.{length_fault, heap_full_fault}
 use Rattle.refine_form.specs.Form.{registers}
 use Rattle.refine_form.specs.declared.spot.Spot.{Spot}
-use Rattle.expr_uncompute.specs.Code.{words, place_words}
-use Rattle.expr_uncompute.specs.Number.{number, read_of, place_address, update_shares}
+use Rattle.register_expressions.specs.Code.{words}
+use Rattle.expr_uncompute.specs.Code.{place_words}
+use Rattle.register_expressions.specs.Number.{number, read_of, place_address, update_shares}
 use Rattle.expr_uncompute.specs.Steps.{place_steps, fetch_steps}
-use Rattle.expr_uncompute.specs.Laws.{bases_of, Stays}
+use Rattle.register_expressions.specs.Laws.{bases_of}
+use Rattle.expr_uncompute.specs.Laws.{Stays}
 use Rattle.expr_uncompute.specs.Promises.{free_at, CanRun, IsTrap}
 use Rattle.expr_uncompute.specs.Found.{LeavesWithin, TrapsWithin, Filled, Changes}
 use Rattle.expr_uncompute.specs.Found.{found_place_steps, found_value_steps}
+use Rattle.object_codegen.specs.declared.news.TheConstants.{FEW_FIELDS}
 use Rattle.object_codegen.specs.declared.shape.Shape.{Shape}
 use Rattle.object_codegen.specs.declared.shape.Shape.TheVariants.{Fixed, Lengthy}
 use Rattle.object_codegen.specs.Code.{mark_fault, mark_of, size_of}
@@ -107,8 +110,8 @@ IsLength v Lengthy = (v < 2 ^ 31) × (v ≢ 0)
 
 -- the checks of a new, the moves of place and length, and the order
 abbrev pub check_steps : Shape → ℕ
-check_steps (Fixed table fields) = 6
-check_steps Lengthy = 14
+check_steps (Fixed table fields) = 4
+check_steps Lengthy = 6
 
 abbrev pub move_steps : Shape → ℕ
 move_steps (Fixed table fields) = 2
@@ -118,11 +121,17 @@ abbrev pub order_steps : Shape → ℕ
 order_steps (Fixed table fields) = 1
 order_steps Lengthy = 43
 
+-- whether so many cells are 0
+abbrev pub zeros_steps : Shape → (size : ℕ) → ℕ
+zeros_steps (Fixed table fields) size = if nat_le fields FEW_FIELDS then 6 * size
+    else 19 + 13 * size
+zeros_steps Lengthy size = 19 + 13 * size
+
 -- the middle, with so many cells, where the allocator makes t steps
 abbrev pub middle_steps : Shape → (size t : ℕ) → ℕ
 middle_steps shape size t = check_steps shape +
     (((move_steps shape + order_steps shape) + ((t + 7) + (move_steps shape + order_steps shape))) +
-    (51 + 15 * size))
+    (22 + zeros_steps shape size))
 
 -- and with what finds the place, in so many steps there and back
 abbrev pub whole_steps : (steps : ℕ) → Shape → (size t : ℕ) → ℕ
@@ -153,19 +162,19 @@ pub record Makes (im : Image) (m : Memory) (object frame low n steps a v order :
       (whole_steps steps shape (size_of v shape) least)
       (whole_steps steps shape (size_of v shape) most))
   pub not_nil_faults : slice_index m.cells a ≢ 0
-      → Will im p false m (TrapsWithin not_nil_fault (steps + 5))
+      → Will im p false m (TrapsWithin not_nil_fault (steps + 2))
   pub full_faults : (most : ℕ) → IsLength v shape → slice_index m.cells a ≡ 0
       → Lacks im object frame order a v shape low n most m.cells
       → Will im p false m
       (TrapsWithin heap_full_fault
       (steps + (check_steps shape + ((move_steps shape + order_steps shape) + most))))
-  pub nil_faults : slice_index m.cells a ≡ 0 → Will im p true m (TrapsWithin nil_fault (steps + 9))
+  pub nil_faults : slice_index m.cells a ≡ 0 → Will im p true m (TrapsWithin nil_fault (steps + 4))
   pub other_faults : (x : ℕ) → slice_index m.cells a ≡ x → x < low → x < 2 ^ 31 → x ≢ 0
       → slice_index m.cells x ≢ mark_of v shape
-      → Will im p true m (TrapsWithin (mark_fault shape) (steps + 17))
+      → Will im p true m (TrapsWithin (mark_fault shape) (steps + 8))
   pub count_faults : (x : ℕ) → slice_index m.cells a ≡ x → x + 1 < low → x < 2 ^ 31 → x ≢ 0
       → slice_index m.cells x ≡ mark_of v shape → slice_index m.cells (x + 1) ≢ 1
-      → Will im p true m (TrapsWithin count_fault (steps + 26))
+      → Will im p true m (TrapsWithin count_fault (steps + 15))
   pub not_empty_faults : (x i : ℕ) → slice_index m.cells a ≡ x
       → x + HEADER_WORDS + size_of v shape ≤ low
       → x + HEADER_WORDS + size_of v shape < 2 ^ 31 → x ≢ 0
@@ -173,7 +182,7 @@ pub record Makes (im : Image) (m : Memory) (object frame low n steps a v order :
       → slice_index m.cells (x + COUNT_WORD) ≡ 1 → x + HEADER_WORDS ≤ i
       → i < x + HEADER_WORDS + size_of v shape
       → slice_index m.cells i ≢ 0
-      → Will im p true m (TrapsWithin not_empty_fault (steps + (37 + 15 * size_of v shape)))
+      → Will im p true m (TrapsWithin not_empty_fault (steps + (27 + 13 * size_of v shape)))
 
 -- a new and a delete of an object with a class's table and so many fields, in a block of this order
 pub record ObjectLaw (spot : List ℕ → Spot) (free table fields order : ℕ) (target : Lvalue)
@@ -216,7 +225,7 @@ pub record ArrayLaw (spot : List ℕ → Spot) (free : ℕ) (target : Lvalue) (s
       → number spot (bases_of m) m.cells size ≡ Ok v
       → update_shares spot (bases_of m) m.cells target size ≡ false → slice_index m.cells a ≡ 0
       → is_less 0 v ≡ false
-      → Will im p false m (TrapsWithin length_fault (found_value_steps target size + 12))
+      → Will im p false m (TrapsWithin length_fault (found_value_steps target size + 5))
   pub place_faults : (im : Image) (d : Bool) (m : Memory)
       → CanRun spot free (place_words target + words size) (read_of target) size m → (code : ℕ)
       → place_address spot (bases_of m) m.cells target ≡ Err code

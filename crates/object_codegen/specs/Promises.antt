@@ -11,9 +11,9 @@ use Rattle.roopl_semantics.specs.Value.{nil_fault}
 use Rattle.roopl_semantics.specs.Execution.{not_nil_fault, not_same_fault}
 use Rattle.refine_form.specs.declared.spot.Spot.{Spot}
 use Rattle.expr_uncompute.specs.Code.{place_words}
-use Rattle.expr_uncompute.specs.Number.{read_of, index_of, place_address, shares}
+use Rattle.register_expressions.specs.Number.{read_of, index_of, place_address, shares}
 use Rattle.expr_uncompute.specs.Steps.{place_steps}
-use Rattle.expr_uncompute.specs.Laws.{bases_of}
+use Rattle.register_expressions.specs.Laws.{bases_of}
 use Rattle.expr_uncompute.specs.Promises.{free_at, CanRun, IsTrap}
 use Rattle.expr_uncompute.specs.Found.{LeavesWithin, TrapsWithin, PlacesStay, found_places_steps}
 
@@ -70,7 +70,7 @@ pub record Places (spot : List ℕ → Spot) (free : ℕ) (source target : Lvalu
 -- the steps of a copy and of an uncopy
 abbrev pub copy_steps : (source target : Lvalue) → ℕ
 copy_steps source target = found_places_steps source target +
-    (66 + found_places_steps source target)
+    (42 + found_places_steps source target)
 
 -- run along a copy: the second place refers to what the first one refers to, and its count grows;
 -- run back the inverse. The faults of the places come first, in both directions; then nil in the
@@ -112,15 +112,15 @@ pub record CopyLaw (spot : List ℕ → Spot) (free : ℕ) (source target : Lval
   pub nil_faults : (im : Image) (d : Bool) (m : Memory) (a a' : ℕ)
       → Places spot free source target m a a'
       → slice_index m.cells a ≡ 0
-      → Will im p d m (TrapsWithin nil_fault (found_places_steps source target + 7))
+      → Will im p d m (TrapsWithin nil_fault (found_places_steps source target + 2))
   pub not_nil_faults : (im : Image) (m : Memory) (a a' x : ℕ)
       → Places spot free source target m a a'
       → slice_index m.cells a ≡ x → x < 2 ^ 31 → x ≢ 0 → slice_index m.cells a' ≢ 0
-      → Will im p false m (TrapsWithin not_nil_fault (found_places_steps source target + 15))
+      → Will im p false m (TrapsWithin not_nil_fault (found_places_steps source target + 6))
   pub not_same_faults : (im : Image) (m : Memory) (a a' x y : ℕ)
       → Places spot free source target m a a'
       → slice_index m.cells a ≡ x → slice_index m.cells a' ≡ y → x < 2 ^ 31 → x ≢ 0 → x ≢ y
-      → Will im p true m (TrapsWithin not_same_fault (found_places_steps source target + 20))
+      → Will im p true m (TrapsWithin not_same_fault (found_places_steps source target + 11))
   pub one_place_faults : (im : Image) (m : Memory) (a x : ℕ) → Places spot free source target m a a
       → slice_index m.cells a ≡ x → x < 2 ^ 31 → x ≢ 0
-      → Will im p true m (TrapsWithin not_same_fault (found_places_steps source target + 33))
+      → Will im p true m (TrapsWithin not_same_fault (found_places_steps source target + 19))

@@ -5,8 +5,10 @@ ghost use Rattle.roopl_semantics.specs.Layout.{table_at as address_of};
 ghost use Rattle.rpp_tree.specs.Tree.{index_nodes};
 ghost use Rattle.rpp_tree.specs.Views.{expression_of, lvalue_of, creation_of, source_of};
 ghost use Rattle.roopl_semantics.specs.Elements.{index_elements, own_element, read_cost};
-ghost use Rattle.expr_uncompute.specs.Code.{words as words_of, place_words as words_of_place};
-ghost use Rattle.expr_uncompute.specs.Steps.{tokens, place_tokens};
+ghost use Rattle.register_expressions.specs.Code.{words as words_of};
+ghost use Rattle.expr_uncompute.specs.Code.{place_words as words_of_place};
+ghost use Rattle.register_expressions.specs.Steps.{tokens};
+ghost use Rattle.expr_uncompute.specs.Steps.{place_tokens};
 ghost use Rattle.code_conventions.specs.declared.memory.TheConstants.{HEADER_WORDS};
 ghost use Rattle.code_scope.specs.Visible.{spot_of, free_of, known_in};
 ghost use Rattle.object_codegen.specs.News.{ObjectLaw, ArrayLaw};
@@ -48,7 +50,7 @@ pub fn copy_code(
         (own_element (lvalue_of target.now))
         (index_elements (lvalue_of source.now) ++ index_elements (lvalue_of target.now))) }
     ensures size { IfOk result (λ p.
-        length p.cells ≤ 71 + 80 * (place_tokens (lvalue_of source.now) + place_tokens
+        length p.cells ≤ 47 + 80 * (place_tokens (lvalue_of source.now) + place_tokens
         (lvalue_of target.now))) }
 {
     let middle = copy_middle(alloc)?;
@@ -74,7 +76,7 @@ pub fn object_code(
         ObjectLaw (spot_of (known_in scope.now)) (free_of (known_in scope.now)) table fields order
         (lvalue_of place.now) p.cells) }
     ensures marks { IfOk result (λ p. p.marks ≡ []) }
-    ensures size { IfOk result (λ p. length p.cells ≤ 87 + 80 * (1 + place_tokens
+    ensures size { IfOk result (λ p. length p.cells ≤ 86 + 80 * (1 + place_tokens
         (lvalue_of place.now))) }
 {
     let orders = fixed_order(alloc, order)?;
@@ -97,7 +99,7 @@ pub fn array_code(
         ArrayLaw (spot_of (known_in scope.now)) (free_of (known_in scope.now))
         (lvalue_of place.now) (expression_of size.now) p.cells) }
     ensures marks { IfOk result (λ p. p.marks ≡ []) }
-    ensures size { IfOk result (λ p. length p.cells ≤ 184 + 80 *
+    ensures size { IfOk result (λ p. length p.cells ≤ 164 + 80 *
         (place_tokens (lvalue_of place.now) + tokens (expression_of size.now))) }
 {
     let orders = order_code(alloc)?;
@@ -121,7 +123,7 @@ pub fn class_code(
         (order_for (HEADER_WORDS + fields_of (source_of scope.now.program) class.now))
         (lvalue_of place.now) p.cells) }
     ensures marks { IfOk result (λ p. p.marks ≡ []) }
-    ensures size { IfOk result (λ p. length p.cells ≤ 87 + 80 * (1 + place_tokens
+    ensures size { IfOk result (λ p. length p.cells ≤ 86 + 80 * (1 + place_tokens
         (lvalue_of place.now))) }
 {
     let checked = scope.checked();

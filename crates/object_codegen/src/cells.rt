@@ -1,7 +1,7 @@
 // Single cells as pieces.
 ghost use Rattle.std.specs.Prelude.{◌≡◌, ◌≢◌, ◌<◌, ◌≤◌, ◌^◌, [], ◌∷◌, IfOk};
 ghost use Rattle.paired_code.specs.Code.{unmarked};
-ghost use Rattle.expr_uncompute.specs.Code.{two as two_of, three as three_of, with_word as with_word_of, around};
+ghost use Rattle.register_expressions.specs.Code.{two as two_of, three as three_of, with_word as with_word_of, around};
 ghost use Rattle.object_codegen.specs.Code.{turn_left, srlvx as srlvx_of, andix as andix_of};
 
 use code_conventions::cells::{

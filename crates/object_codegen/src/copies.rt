@@ -3,12 +3,12 @@ ghost use Rattle.std.specs.Prelude.{◌≡◌, ◌++◌, IfOk};
 ghost use Rattle.paired_code.specs.Code.{unmarked};
 ghost use Rattle.object_codegen.specs.Code.{same_words as same_cells, two_places as two_cells, copy_checks as copy_checks_cells, uncopy_checks as uncopy_checks_cells, refer_cells, count_cells, copy_alter, copy_mid};
 
-use crate::cells::{addi, enclosed, exch, sltx, xor, xori};
+use crate::cells::{addi, enclosed, exch, xor};
 use crate::guards::{REFERENCE, load, nil_place, some_place};
 use code_conventions::faults::{NIL, NOT_NIL, NOT_SAME};
 use code_conventions::memory::COUNT_WORD;
-use code_conventions::registers::{CONTENT, OTHER_PLACE, OUTCOME, PLACE};
-use paired_code::{Piece, check_zero, mirror, seq};
+use code_conventions::registers::{CONTENT, NOUGHT, OTHER_PLACE, PLACE};
+use paired_code::{Piece, check_differ, check_equal, mirror, seq};
 use rpp_words::NoMemory;
 use std::alloc::Global;
 
@@ -18,20 +18,14 @@ fn same_words(alloc: Global) -> Result<Piece, NoMemory>
     let first = load(alloc, PLACE)?;
     let second = load(alloc, OTHER_PLACE)?;
     let both = seq(first, second)?;
-    let check = check_zero(alloc, REFERENCE, NOT_SAME)?;
+    let check = check_equal(alloc, REFERENCE, NOUGHT, NOT_SAME)?;
     enclosed(alloc, both, check)
 }
 
 fn two_places(alloc: Global) -> Result<Piece, NoMemory>
     ensures { IfOk result (λ p. p ≡ unmarked two_cells) }
 {
-    let below = sltx(alloc, OUTCOME, PLACE, OTHER_PLACE)?;
-    let above = sltx(alloc, OUTCOME, OTHER_PLACE, PLACE)?;
-    let turned = xori(alloc, OUTCOME, 1)?;
-    let row = seq(below, above)?;
-    let row = seq(row, turned)?;
-    let check = check_zero(alloc, OUTCOME, NOT_SAME)?;
-    enclosed(alloc, row, check)
+    check_differ(alloc, PLACE, OTHER_PLACE, NOT_SAME)
 }
 
 fn copy_checks(alloc: Global) -> Result<Piece, NoMemory>

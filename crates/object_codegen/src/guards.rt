@@ -3,9 +3,9 @@ ghost use Rattle.std.specs.Prelude.{◌≡◌, ◌≢◌, ◌<◌, [], ◌∷◌
 ghost use Rattle.paired_code.specs.Code.{unmarked};
 ghost use Rattle.object_codegen.specs.Code.{nil_place as nil_cells, some_place as some_cells, load_cells};
 
-use crate::cells::{enclosed, exch, sltx, xor, xori};
-use code_conventions::registers::{CONTENT, FIRST_WORD, NOUGHT, OUTCOME};
-use paired_code::{Piece, check_zero, seq};
+use crate::cells::{enclosed, exch, xor};
+use code_conventions::registers::{CONTENT, FIRST_WORD, NOUGHT};
+use paired_code::{Piece, check_equal, check_positive};
 use rpp_words::NoMemory;
 use std::alloc::Global;
 
@@ -19,7 +19,7 @@ pub fn nil_place(alloc: Global, at: u8, code: u32) -> Result<Piece, NoMemory>
     ensures { IfOk result (λ p. p ≡ unmarked (nil_cells at code)) }
 {
     let word = exch(alloc, CONTENT, at)?;
-    let check = check_zero(alloc, CONTENT, code)?;
+    let check = check_equal(alloc, CONTENT, NOUGHT, code)?;
     enclosed(alloc, word, check)
 }
 
@@ -30,12 +30,8 @@ pub fn some_place(alloc: Global, at: u8, code: u32) -> Result<Piece, NoMemory>
     ensures { IfOk result (λ p. p ≡ unmarked (some_cells at code)) }
 {
     let word = exch(alloc, CONTENT, at)?;
-    let above = sltx(alloc, OUTCOME, NOUGHT, CONTENT)?;
-    let turned = xori(alloc, OUTCOME, 1)?;
-    let row = seq(word, above)?;
-    let row = seq(row, turned)?;
-    let check = check_zero(alloc, OUTCOME, code)?;
-    enclosed(alloc, row, check)
+    let check = check_positive(alloc, CONTENT, code)?;
+    enclosed(alloc, word, check)
 }
 
 //// The word at the address in the register xored into the reference.

@@ -1,9 +1,9 @@
 // The code of objects and arrays that are made and deleted.
 ghost use Rattle.std.specs.Prelude.{◌≡◌, ◌≢◌, ◌<◌, ◌≤◌, ◌+◌, ◌^◌, false, [], ◌∷◌, ◌++◌, IfOk};
 ghost use Rattle.paired_code.specs.Code.{unmarked};
-ghost use Rattle.paired_code.specs.Layout.{mirror_cells, check_cells, loop_cells};
-ghost use Rattle.expr_uncompute.specs.Code.{around, xor as xor_cell};
-ghost use Rattle.object_codegen.specs.Code.{mark_cell, mark_fault as fault_of_mark, grow_cell, some_reference as some_reference_cells, same_mark as same_mark_cells, single as single_cells, walk_head as head_cells, walk_tail as tail_cells, walk_cells, ends_cells, zeros_cells, delete_checks as delete_checks_cells, positive as positive_cells, new_checks as new_checks_cells, move_cells, fill_cells, new_alter, new_mid};
+ghost use Rattle.paired_code.specs.Layout.{mirror_cells, loop_cells};
+ghost use Rattle.register_expressions.specs.Code.{around, xor as xor_cell};
+ghost use Rattle.object_codegen.specs.Code.{mark_cell, mark_fault as fault_of_mark, grow_cell, some_reference as some_reference_cells, same_mark as same_mark_cells, single as single_cells, walk_head as head_cells, walk_tail as tail_cells, walk_cells, ends_cells, walked_cells, field_cells, fields_cells, zeros_cells, delete_checks as delete_checks_cells, positive as positive_cells, new_checks as new_checks_cells, move_cells, fill_cells, new_alter, new_mid};
 
 use crate::cells::{add, addi, enclosed, exch, sltx, xor, xori};
 use crate::guards::{REFERENCE, load, nil_place};
@@ -15,13 +15,16 @@ use code_conventions::memory::{COUNT_WORD, HEADER_WORDS};
 use code_conventions::registers::{
     AMOUNT, AT_LENGTH, AT_PLACE, BLOCK, CONTENT, LEFT_TRUTH, NOUGHT, OUTCOME, PLACE, RIGHT_TRUTH,
 };
-use paired_code::{Piece, check_zero, enter, mirror, seq, turn_while};
+use paired_code::{Piece, check_equal, check_positive, empty, enter, mirror, seq, turn_while};
 use rpp_words::NoMemory;
 use std::alloc::Global;
 
 const START: u8 = LEFT_TRUTH;
 
 const END: u8 = RIGHT_TRUTH;
+
+/// The most fields that are tried one after the other, with no walk.
+pub const FEW_FIELDS: u32 = 6;
 
 fn mark(alloc: Global, length: u8, shape: Shape) -> Result<Piece, NoMemory>
     requires register { length < 32 }
@@ -57,11 +60,7 @@ fn grow(alloc: Global, to: u8, shape: Shape) -> Result<Piece, NoMemory>
 fn some_reference(alloc: Global) -> Result<Piece, NoMemory>
     ensures { IfOk result (λ p. p ≡ unmarked some_reference_cells) }
 {
-    let above = sltx(alloc, OUTCOME, NOUGHT, REFERENCE)?;
-    let turned = xori(alloc, OUTCOME, 1)?;
-    let row = seq(above, turned)?;
-    let check = check_zero(alloc, OUTCOME, NIL)?;
-    enclosed(alloc, row, check)
+    check_positive(alloc, REFERENCE, NIL)
 }
 
 fn same_mark(alloc: Global, shape: Shape) -> Result<Piece, NoMemory>
@@ -70,7 +69,7 @@ fn same_mark(alloc: Global, shape: Shape) -> Result<Piece, NoMemory>
     let word = exch(alloc, CONTENT, REFERENCE)?;
     let compared = mark(alloc, AMOUNT, shape)?;
     let row = seq(word, compared)?;
-    let check = check_zero(alloc, CONTENT, mark_fault(shape))?;
+    let check = check_equal(alloc, CONTENT, NOUGHT, mark_fault(shape))?;
     enclosed(alloc, row, check)
 }
 
@@ -82,7 +81,7 @@ fn single(alloc: Global) -> Result<Piece, NoMemory>
     let compared = xori(alloc, CONTENT, 1)?;
     let row = seq(at, word)?;
     let row = seq(row, compared)?;
-    let check = check_zero(alloc, CONTENT, COUNT)?;
+    let check = check_equal(alloc, CONTENT, NOUGHT, COUNT)?;
     enclosed(alloc, row, check)
 }
 
@@ -122,8 +121,9 @@ fn ends(alloc: Global, shape: Shape) -> Result<Piece, NoMemory>
     seq(row, grown)
 }
 
-fn zeros(alloc: Global, shape: Shape) -> Result<Piece, NoMemory>
-    ensures { IfOk result (λ p. p ≡ unmarked (zeros_cells shape)) }
+// Whether all cells of a block are 0, in a walk.
+fn walked(alloc: Global, shape: Shape) -> Result<Piece, NoMemory>
+    ensures { IfOk result (λ p. p ≡ unmarked (walked_cells shape)) }
 {
     let outer = ends(alloc, shape)?;
     let flag = xori(alloc, OUTCOME, 1)?;
@@ -133,6 +133,50 @@ fn zeros(alloc: Global, shape: Shape) -> Result<Piece, NoMemory>
     let back = mirror(alloc, &grown)?;
     let mid = seq(flagged, back)?;
     enclosed(alloc, outer, mid)
+}
+
+// Whether a field is 0, by its number.
+fn field(alloc: Global, number: u32) -> Result<Piece, NoMemory>
+    requires { number < FEW_FIELDS }
+    ensures { IfOk result (λ p. p ≡ unmarked (field_cells number)) }
+{
+    let at = addi(alloc, REFERENCE, HEADER_WORDS + number)?;
+    let zero = nil_place(alloc, REFERENCE, NOT_EMPTY)?;
+    enclosed(alloc, at, zero)
+}
+
+// So many fields, from the first one on.
+#[tactic(auto, using(crate::proofs::Fields::last_field))]
+fn fields(alloc: Global, count: u32) -> Result<Piece, NoMemory>
+    requires { count ≤ FEW_FIELDS }
+    ensures { IfOk result (λ p. p ≡ unmarked (fields_cells count)) }
+{
+    if count == 0 {
+        return Ok(empty(alloc));
+    }
+    let before = fields(alloc, count - 1)?;
+    let last = field(alloc, count - 1)?;
+    seq(before, last)
+}
+
+// Few fields one after the other, and others in a walk.
+#[tactic(auto, using(crate::proofs::Fields::few_fields, crate::proofs::Fields::many_fields))]
+fn object_zeros(alloc: Global, table: u32, count: u32) -> Result<Piece, NoMemory>
+    ensures { IfOk result (λ p. p ≡ unmarked (zeros_cells (Shape.Fixed table count))) }
+{
+    if count <= FEW_FIELDS {
+        return fields(alloc, count);
+    }
+    walked(alloc, Shape::Fixed(table, count))
+}
+
+fn zeros(alloc: Global, shape: Shape) -> Result<Piece, NoMemory>
+    ensures { IfOk result (λ p. p ≡ unmarked (zeros_cells shape)) }
+{
+    match shape {
+        Shape::Fixed(table, count) => object_zeros(alloc, table, count),
+        Shape::Lengthy => walked(alloc, Shape::Lengthy),
+    }
 }
 
 fn delete_checks(alloc: Global, shape: Shape) -> Result<Piece, NoMemory>
@@ -152,11 +196,7 @@ fn delete_checks(alloc: Global, shape: Shape) -> Result<Piece, NoMemory>
 fn positive(alloc: Global) -> Result<Piece, NoMemory>
     ensures { IfOk result (λ p. p ≡ unmarked positive_cells) }
 {
-    let above = sltx(alloc, OUTCOME, NOUGHT, AMOUNT)?;
-    let turned = xori(alloc, OUTCOME, 1)?;
-    let row = seq(above, turned)?;
-    let check = check_zero(alloc, OUTCOME, LENGTH)?;
-    enclosed(alloc, row, check)
+    check_positive(alloc, AMOUNT, LENGTH)
 }
 
 fn new_checks(alloc: Global, shape: Shape) -> Result<Piece, NoMemory>

@@ -2,7 +2,7 @@
 ghost use Rattle.std.specs.Prelude.{◌≡◌, ◌<◌, ◌≤◌, ◌-◌, ◌^◌, [], ◌∷◌, ◌++◌, IfOk};
 ghost use Rattle.rpp_words.specs.Words.{negated};
 ghost use Rattle.paired_code.specs.Code.{unmarked};
-ghost use Rattle.expr_uncompute.specs.Code.{addi as addi_cell, xori as xori_cell, sltx as sltx_cell, add as add_cell, around};
+ghost use Rattle.register_expressions.specs.Code.{addi as addi_cell, xori as xori_cell, sltx as sltx_cell, add as add_cell, around};
 ghost use Rattle.object_codegen.specs.Code.{turn_left, srlvx as srlvx_cell, andix as andix_cell, order_bit as bit_cells, order_cells};
 
 use crate::cells::{add, addi, andix, enclosed, rl, sltx, srlvx, xori};

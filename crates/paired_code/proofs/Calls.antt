@@ -5,7 +5,7 @@ use Rattle.pisa_isa.specs.Machine.{Memory}
 use Rattle.paired_code.specs.declared.part.Symbol.{Symbol}
 use Rattle.paired_code.specs.declared.part.Symbol.TheVariants.{Enter}
 use Rattle.paired_code.specs.Machine.{Image, reg, with_reg}
-use Rattle.paired_code.specs.Layout.{xor, code_line, Routine, Tidy, enter_at_cells}
+use Rattle.paired_code.specs.Layout.{xor, Routine, Tidy, enter_at_cells}
 use Rattle.paired_code.specs.Pieces.{Outcome, Will}
 use Rattle.paired_code.specs.Link.{Whole, Linked}
 use Rattle.paired_code.specs.Does.{Rates, Told, plus, Meets, fine, faults, more}

@@ -10,10 +10,10 @@ use Rattle.paired_code.specs.Machine.{Image, effect_along, reg}
 use Rattle.paired_code.specs.Layout.{xor, code_line, at, Stands}
 use Rattle.paired_code.specs.Pieces.{Outcome, Done, Trapped, Bad, Still, Ends, finishes, traps, bad, still, Will, after}
 use Rattle.paired_code.specs.Pieces.{around, around_no, to_tail, to_head, near_end, far_end}
-use Rattle.paired_code.specs.Laws.{outcome_of, lead}
+use Rattle.paired_code.specs.Laws.{outcome_of, Passes, Fails, lead}
 use Rattle.paired_code.specs.Literal.{Stays}
 use Rattle.paired_code.specs.Closed as four
-use Rattle.paired_code.specs.Closed.{Shape, Nothing, One, Then, Turned, Choose, Loop, Check, Call, Call_at}
+use Rattle.paired_code.specs.Closed.{Shape, Nothing, One, Then, Turned, Choose, Loop, Check, Try, Call, Call_at}
 use Rattle.paired_code.specs.Closed.{cells_of_shape, IsMade, Routines, Stand, And_next, Left, Back, Back_at}
 use Rattle.paired_code.specs.Closed.{rounds_fine, fine_with, fine, any, One_of_four, Closed}
 use Rattle.pisa_isa.proofs.Ranges.{imm_word}
@@ -23,6 +23,7 @@ use Rattle.paired_code.proofs.Mirrored.{will_mirror}
 use Rattle.paired_code.proofs.Branch.{will_branch_yes, will_branch_no}
 use Rattle.paired_code.proofs.Loop.{Turns, turn, no_turn, turns_more, will_loop, After_head}
 use Rattle.paired_code.proofs.Small.{runs_still, runs_empty, runs_single, runs_check_zero, runs_check_other}
+use Rattle.paired_code.proofs.Checks.{runs_passes, runs_fails}
 use Rattle.paired_code.proofs.Call.{Returns, will_enter}
 use Rattle.paired_code.proofs.EnterAt.{Returns_any, will_enter_place}
 use Rattle.paired_code.proofs.Literal.{path_comes, path_stops, path_stays}
@@ -190,6 +191,12 @@ module _ (im : Image) (rs : Routines) (there : Stand im rs) where
         (l.1, tt))
         (λ (l : (reg m r ≢ 0) × ((k : ℕ) → k ≤ 4 → Q (Trapped code k))). let k = runs_check_other im d r code m l.0 in
         will_of im _ d m (Trapped code k.0) _ k.2 (l.1 k.0 k.1, tt))
+        h
+    holds (Try t code) g d m Q h =
+        ⊎_elim
+        (λ (l : Passes t m × Q (Done m 2)). will_of im _ d m (Done m 2) _ (runs_passes im d t code m l.0) (l.1, tt))
+        (λ (l : Fails t m × Q (Trapped code 1)). will_of im _ d m (Trapped code 1) _ (runs_fails im d t code m l.0)
+        (l.1, tt))
         h
     holds (Call r b) g d m Q h =
         will_enter im r (rs.top r) (cells_of_shape (rs.body r)) b d m _ (there.placed r h.0) there.tidy.short h.1 h.2

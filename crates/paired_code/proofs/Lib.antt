@@ -7,6 +7,7 @@ pub mod Branch
 pub mod Loop
 pub mod Mirrored
 pub mod Small
+pub mod Checks
 pub mod Contract
 pub mod Fits
 pub mod Marks
@@ -21,7 +22,6 @@ pub mod Whole
 pub mod Writing
 pub mod Shifted
 pub mod Does
-pub mod If
 pub mod Calls
 pub mod Line
 pub mod Undone

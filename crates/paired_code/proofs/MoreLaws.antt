@@ -4,14 +4,15 @@ use Rattle.pisa_isa.specs.Machine.{Memory}
 use Rattle.paired_code.specs.declared.part.Symbol.{Symbol}
 use Rattle.paired_code.specs.declared.part.Symbol.TheVariants.{Enter}
 use Rattle.paired_code.specs.Machine.{Image, with_reg}
-use Rattle.paired_code.specs.Layout.{xor, loop_cells, check_cells, place_register, enter_at_cells}
+use Rattle.paired_code.specs.Layout.{xor, loop_cells, check_cells, Test, test_cells, place_register, enter_at_cells}
 use Rattle.paired_code.specs.Pieces.{Outcome, Done, Trapped, Bad, Still, Ends, after, IsOver, to_tail, to_head}
 use Rattle.paired_code.specs.Pieces.{near_end, far_end}
 use Rattle.paired_code.specs.Laws.{Rounds, pause, ends_in_head, leaves, ends_in_tail, again, WhileLaw, CheckLaw}
-use Rattle.paired_code.specs.Laws.{EnterLaw, EnterAtLaw, came_back, called, called_at}
+use Rattle.paired_code.specs.Laws.{TestLaw, EnterLaw, EnterAtLaw, came_back, called, called_at}
 use Rattle.paired_code.proofs.Laws.{Next, will_of, runs_of}
 use Rattle.paired_code.proofs.Loop.{Turns, turn, no_turn, turns_more, will_loop}
 use Rattle.paired_code.proofs.Small.{runs_check_zero, runs_check_other}
+use Rattle.paired_code.proofs.Checks.{runs_passes, runs_fails}
 use Rattle.paired_code.proofs.Call.{Returns, will_enter}
 use Rattle.paired_code.proofs.EnterAt.{Returns_any, will_enter_at_any, not_two, other_register}
 
@@ -58,6 +59,12 @@ pub check_law : (r code : ℕ) → CheckLaw r code (check_cells r code)
 check_law r code = record {
   zero_part = λ im d m z. runs_check_zero im d r code m z;
   other_part = λ im d m nz. runs_check_other im d r code m nz;
+}
+
+pub test_law : (t : Test) (code : ℕ) → TestLaw t code (test_cells t code)
+test_law t code = record {
+  passes_part = λ im d m h. runs_passes im d t code m h;
+  fails_part = λ im d m h. runs_fails im d t code m h;
 }
 
 -- ---- calls

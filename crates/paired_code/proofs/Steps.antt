@@ -1,11 +1,11 @@
 -- One cell, or one pair of branches, along the line or back.
 use Rattle.std.proofs.Common.{◌≡◌, ◌≢◌, ℕ, ◌^◌, ◌<◌, ◌≤◌, Bool, true, false, List, Some, None, refl, sym, ap, ◌∙◌}
 use Rattle.std.proofs.Common.{subst, arith}
-use Rattle.std.specs.Prelude.{ℤ, pos, ◌+ℤ◌, Option, nat_lt, if◌then◌else◌, slice_index}
+use Rattle.std.specs.Prelude.{ℤ, pos, ◌+ℤ◌, Option, not, nat_eq, nat_lt, if◌then◌else◌, slice_index}
 use Rattle.std.proofs.lemmas.Bool.Decides.{nat_tests}
 use Rattle.rpp_words.specs.Words.{sum_of}
 use Rattle.pisa_isa.specs.declared.cell.Op.{Op}
-use Rattle.pisa_isa.specs.declared.cell.Op.TheVariants.{Add, Sub, Rl, Rr, Rlv, Rrv, Addi, Exch, Swapbr, Bra, Rbra, Beq}
+use Rattle.pisa_isa.specs.declared.cell.Op.TheVariants.{Add, Addi, Exch, Swapbr, Bra, Rbra, Beq}
 use Rattle.pisa_isa.specs.declared.cell.Op.TheVariants.{Bne, Bgez, Bgtz, Blez, Bltz, Start, Finish, DataWord}
 use Rattle.pisa_isa.specs.declared.cell.Cell.{Cell}
 use Rattle.pisa_isa.specs.Table.{inverse_op, inverse_word, inverse_of}
@@ -15,7 +15,7 @@ use Rattle.pisa_isa.specs.Machine.{State, row, row_of, faced, effect, moved, str
 use Rattle.pisa_isa.specs.Machine.{Memory, memory_of}
 use Rattle.pisa_isa.proofs.Mirror.{inverse_op-twice, inverse_word-twice}
 use Rattle.code_conventions.specs.Cells.{bra}
-use Rattle.paired_code.specs.Cells.{bgtz, bltz}
+use Rattle.paired_code.specs.Cells.{beq, bne, bgtz, bltz}
 use Rattle.paired_code.specs.Machine.{state, Image, act, reversed, reversed_word, effect_along, is_single_op, is_single}
 use Rattle.paired_code.specs.Machine.{is_end_op, is_end, reg, change_by, change, Same, Level, same}
 use Rattle.paired_code.specs.Layout.{xor, Frame, spot, place, at, between}
@@ -134,6 +134,22 @@ lt_acts false true r m w t h pc br = ap (λ t. state pc (after_test t br (turned
 lt_acts true false r m w t h pc br = ap (λ t. state pc (after_test t br (flipped true w)) false m) h
 lt_acts true true r m w t h pc br = ap (λ t. state pc (after_test t br (turned true (flipped true w))) true m) h
 
+eq_acts : (flip k : Bool) (r s : ℕ) (m : Memory) (w : ℕ) (t : Bool) → nat_eq (reg m r) (reg m s) ≡ t → (pc : ℤ) (br : ℕ)
+    → effect (oriented flip (beq r s w)) (state pc br k m) ≡ state pc (after_test t br (turned k (flipped flip w))) k m
+eq_acts false false r s m w t h pc br = ap (λ t. state pc (after_test t br w) false m) h
+eq_acts false true r s m w t h pc br = ap (λ t. state pc (after_test t br (turned true w)) true m) h
+eq_acts true false r s m w t h pc br = ap (λ t. state pc (after_test t br (flipped true w)) false m) h
+eq_acts true true r s m w t h pc br = ap (λ t. state pc (after_test t br (turned true (flipped true w))) true m) h
+
+ne_acts : (flip k : Bool) (r s : ℕ) (m : Memory) (w : ℕ) (t : Bool) → nat_eq (reg m r) (reg m s) ≡ t → (pc : ℤ) (br : ℕ)
+    → effect (oriented flip (bne r s w)) (state pc br k m)
+    ≡ state pc (after_test (not t) br (turned k (flipped flip w))) k m
+ne_acts false false r s m w t h pc br = ap (λ t. state pc (after_test (not t) br w) false m) h
+ne_acts false true r s m w t h pc br = ap (λ t. state pc (after_test (not t) br (turned true w)) true m) h
+ne_acts true false r s m w t h pc br = ap (λ t. state pc (after_test (not t) br (flipped true w)) false m) h
+ne_acts true true r s m w t h pc br =
+    ap (λ t. state pc (after_test (not t) br (turned true (flipped true w))) true m) h
+
 pub takes_bra : (flip : Bool) (m : Memory) (w : ℕ) → Takes flip (bra w) m w
 takes_bra false m w = record {
   acts = λ pc b k. bra_acts false k m w pc b;
@@ -174,6 +190,66 @@ takes_lt true r m w h = record {
   own = refl;
   goes = λ pc b k. refl;
   level = λ rs pc b k. refl;
+}
+
+pub takes_eq : (flip : Bool) (r s : ℕ) (m : Memory) (w : ℕ) → nat_eq (reg m r) (reg m s) ≡ true
+    → Takes flip (beq r s w) m w
+takes_eq false r s m w h = record {
+  acts = λ pc b k. eq_acts false k r s m w true h pc b;
+  own = refl;
+  goes = λ pc b k. refl;
+  level = λ rs pc b k. refl;
+}
+takes_eq true r s m w h = record {
+  acts = λ pc b k. eq_acts true k r s m w true h pc b;
+  own = refl;
+  goes = λ pc b k. refl;
+  level = λ rs pc b k. refl;
+}
+
+pub calm_eq : (flip d : Bool) (r s : ℕ) (m : Memory) (w : ℕ) → nat_eq (reg m r) (reg m s) ≡ false
+    → Calm flip d (beq r s w) m m
+calm_eq false d r s m w h = record {
+  acts = λ pc. eq_acts false (xor false d) r s m w false h pc 0;
+  own = refl;
+  goes = λ pc. refl;
+  level = λ rs pc. refl;
+}
+calm_eq true d r s m w h = record {
+  acts = λ pc. eq_acts true (xor true d) r s m w false h pc 0;
+  own = refl;
+  goes = λ pc. refl;
+  level = λ rs pc. refl;
+}
+
+pub takes_ne : (flip : Bool) (r s : ℕ) (m : Memory) (w : ℕ) → nat_eq (reg m r) (reg m s) ≡ false
+    → Takes flip (bne r s w) m w
+takes_ne false r s m w h = record {
+  acts = λ pc b k. ne_acts false k r s m w false h pc b;
+  own = refl;
+  goes = λ pc b k. refl;
+  level = λ rs pc b k. refl;
+}
+takes_ne true r s m w h = record {
+  acts = λ pc b k. ne_acts true k r s m w false h pc b;
+  own = refl;
+  goes = λ pc b k. refl;
+  level = λ rs pc b k. refl;
+}
+
+pub calm_ne : (flip d : Bool) (r s : ℕ) (m : Memory) (w : ℕ) → nat_eq (reg m r) (reg m s) ≡ true
+    → Calm flip d (bne r s w) m m
+calm_ne false d r s m w h = record {
+  acts = λ pc. ne_acts false (xor false d) r s m w true h pc 0;
+  own = refl;
+  goes = λ pc. refl;
+  level = λ rs pc. refl;
+}
+calm_ne true d r s m w h = record {
+  acts = λ pc. ne_acts true (xor true d) r s m w true h pc 0;
+  own = refl;
+  goes = λ pc. refl;
+  level = λ rs pc. refl;
 }
 
 pub calm_gt : (flip d : Bool) (r : ℕ) (m : Memory) (w : ℕ) → is_positive (reg m r) ≡ false → Calm flip d (bgtz r w) m m

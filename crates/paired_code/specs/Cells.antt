@@ -1,6 +1,6 @@
 -- The instructions of which pieces are made, beside those that all code is made of.
 use Rattle.std.specs.Prelude.{ℕ}
-use Rattle.pisa_isa.specs.declared.cell.Op.TheVariants.{Swapbr, Rbra, Bgtz, Bltz, Start}
+use Rattle.pisa_isa.specs.declared.cell.Op.TheVariants.{Swapbr, Rbra, Beq, Bne, Bgtz, Bltz, Start}
 use Rattle.pisa_isa.specs.declared.cell.Op.TheVariants.{Finish, DataWord}
 use Rattle.pisa_isa.specs.declared.cell.Cell.{Cell}
 use Rattle.code_conventions.specs.Cells.{with_word}
@@ -16,6 +16,12 @@ bgtz d o = with_word Bgtz d o
 
 abbrev pub bltz : ℕ → ℕ → Cell
 bltz d o = with_word Bltz d o
+
+abbrev pub beq : ℕ → ℕ → ℕ → Cell
+beq d s o = record { op = Beq; a = d; b = s; c = 0; imm = o }
+
+abbrev pub bne : ℕ → ℕ → ℕ → Cell
+bne d s o = record { op = Bne; a = d; b = s; c = 0; imm = o }
 
 abbrev pub start : Cell
 start = with_word Start 0 0

@@ -10,10 +10,11 @@ use Rattle.pisa_isa.specs.Machine.{State, Memory}
 use Rattle.pisa_isa.specs.declared.machine.Stop.TheVariants.{Trap, BadAddress}
 use Rattle.paired_code.specs.Machine.{Image, reg, with_reg, is_single}
 use Rattle.paired_code.specs.Layout.{xor, at, code_line, mirror_cells, branch_cells, loop_cells}
-use Rattle.paired_code.specs.Layout.{check_cells, place_register, enter_at_cells, Routine, Tidy}
+use Rattle.paired_code.specs.Layout.{check_cells, Test, test_cells, place_register, enter_at_cells}
+use Rattle.paired_code.specs.Layout.{Routine, Tidy}
 use Rattle.paired_code.specs.Pieces.{Outcome, Done, Trapped, Bad, Still, after, around, around_no}
 use Rattle.paired_code.specs.Pieces.{to_tail, to_head, near_end, far_end}
-use Rattle.paired_code.specs.Laws.{outcome_of, lead, left_in}
+use Rattle.paired_code.specs.Laws.{outcome_of, Passes, Fails, lead, left_in}
 use Rattle.paired_code.specs.Literal.{Comes, Stops, Stays}
 
 -- how the calls made a piece
@@ -25,6 +26,7 @@ pub data Shape : Type 0 where
   Choose : (r : ℕ) (p q : Shape) → Shape
   Loop : (r : ℕ) (p q : Shape) → Shape
   Check : (r code : ℕ) → Shape
+  Try : (t : Test) (code : ℕ) → Shape
   Call : (r : ℕ) (b : Bool) → Shape
   Call_at : (a : ℕ) (b : Bool) → Shape
 
@@ -36,6 +38,7 @@ cells_of_shape (Turned p) = mirror_cells (cells_of_shape p)
 cells_of_shape (Choose r p q) = branch_cells r (cells_of_shape p) (cells_of_shape q)
 cells_of_shape (Loop r p q) = loop_cells r (cells_of_shape p) (cells_of_shape q)
 cells_of_shape (Check r code) = check_cells r code
+cells_of_shape (Try t code) = test_cells t code
 cells_of_shape (Call r b) = Enter r b ∷ []
 cells_of_shape (Call_at a b) = enter_at_cells (place_register a) b
 
@@ -133,6 +136,8 @@ fine_with rs n calls (Loop r p q) d m Q =
     (λ o. Q (after 3 o))
 fine_with rs n calls (Check r code) d m Q =
     ((reg m r ≡ 0) × Q (Done m 4)) ⊎ ((reg m r ≢ 0) × ((k : ℕ) → k ≤ 4 → Q (Trapped code k)))
+fine_with rs n calls (Try t code) d m Q =
+    (Passes t m × Q (Done m 2)) ⊎ (Fails t m × Q (Trapped code 1))
 fine_with rs n calls (Call r b) d m Q =
     (r < rs.count) × (LINK < length m.regs) × (reg m LINK ≡ 0)
     × ((w : ℕ) → 0 < w → w < 2 ^ 32

@@ -4,7 +4,7 @@ use Rattle.std.specs.Prelude.{◌++◌}
 use Rattle.pisa_isa.specs.Machine.{Memory}
 use Rattle.paired_code.specs.declared.part.Symbol.{Symbol}
 use Rattle.paired_code.specs.Machine.{Image}
-use Rattle.paired_code.specs.Layout.{xor, branch_cells, check_cells}
+use Rattle.paired_code.specs.Layout.{xor}
 use Rattle.paired_code.specs.Pieces.{Outcome, Done, Trapped, Still, Will}
 
 -- what the source says, with its cost
@@ -76,7 +76,3 @@ if_told t u p q n a =
     ticked n (λ n. told_then (t n a)
     (λ c v. told_then (chosen v (p (n - c) a) (q (n - c) a))
     (λ c2 a1. told_then (u (n - c - c2) a1) (λ c3 w. agreed (xor v w) a1))))
-
--- its code, where t and u stand for the code of the tests
-abbrev pub if_cells : ℕ → (t u p q : List Symbol) → List Symbol
-if_cells r t u p q = check_cells r 1 ++ (t ++ (branch_cells r p q ++ (u ++ check_cells r 1)))

@@ -4,10 +4,10 @@ use Rattle.std.specs.Prelude.{if◌then◌else◌, pos}
 use Rattle.pisa_isa.specs.declared.cell.Cell.{Cell}
 use Rattle.code_conventions.specs.declared.registers.TheConstants.{LINK}
 use Rattle.paired_code.specs.declared.part.Symbol.{Symbol}
-use Rattle.rpp_words.specs.Words.{difference_of}
+use Rattle.rpp_words.specs.Words.{difference_of, is_less}
 use Rattle.pisa_isa.specs.Machine.{has_cell, Memory}
 use Rattle.paired_code.specs.Machine.{state, Image, reg, with_reg, effect_along}
-use Rattle.paired_code.specs.Layout.{xor, Frame, Stands, Routine, Tidy}
+use Rattle.paired_code.specs.Layout.{xor, Frame, Stands, Routine, Tidy, Test, Equal, Differ, Positive}
 use Rattle.paired_code.specs.Pieces.{Outcome, Done, Trapped, Bad, Still, Ends, near_end, far_end}
 use Rattle.paired_code.specs.Pieces.{Runs, after, IsOver, to_tail, to_head, then_do, around}
 use Rattle.paired_code.specs.Pieces.{around_no}
@@ -52,6 +52,22 @@ pub record CheckLaw (r code : ℕ) (all : List Symbol) : Type 0 where
   pub zero_part : (im : Image) (d : Bool) (m : Memory) → reg m r ≡ 0 → Runs im all d m (Done m 4)
   pub other_part : (im : Image) (d : Bool) (m : Memory) → reg m r ≢ 0 → (k : ℕ) × (k ≤ 4)
       × Runs im all d m (Trapped code k)
+
+abbrev pub Passes : Test → Memory → Type 0
+Passes (Equal r s) m = reg m r ≡ reg m s
+Passes (Differ r s) m = reg m r ≢ reg m s
+Passes (Positive r) m = is_less 0 (reg m r) ≡ true
+
+abbrev pub Fails : Test → Memory → Type 0
+Fails (Equal r s) m = reg m r ≢ reg m s
+Fails (Differ r s) m = reg m r ≡ reg m s
+Fails (Positive r) m = is_less 0 (reg m r) ≡ false
+
+-- a stop with the code exactly where the test fails
+pub record TestLaw (t : Test) (code : ℕ) (all : List Symbol) : Type 0 where
+  pub passes_part : (im : Image) (d : Bool) (m : Memory) → Passes t m → Runs im all d m (Done m 2)
+  pub fails_part : (im : Image) (d : Bool) (m : Memory) → Fails t m
+      → Runs im all d m (Trapped code 1)
 
 -- what a body's run makes of a call, where it leaves LINK as it found it: w
 abbrev pub came_back : ℕ → Outcome → Type 0

@@ -5,7 +5,7 @@ use Rattle.std.specs.Prelude.{negsuc, ◌+ℤ◌, ◌-ℤ◌}
 use Rattle.pisa_isa.specs.declared.cell.Cell.{Cell}
 use Rattle.code_conventions.specs.Cells.{add, neg, addi, bra}
 use Rattle.code_conventions.specs.declared.registers.TheConstants.{LINK}
-use Rattle.paired_code.specs.Cells.{swapbr, rbra, bgtz, bltz, data_word}
+use Rattle.paired_code.specs.Cells.{swapbr, rbra, beq, bne, bgtz, bltz, data_word}
 use Rattle.paired_code.specs.declared.part.Symbol.{Symbol}
 use Rattle.paired_code.specs.declared.part.Symbol.TheVariants.{Own, Enter, Fixed, Aim, Turn}
 use Rattle.rpp_words.specs.Words.{negated}
@@ -114,6 +114,32 @@ loop_cells r head tail =
 abbrev pub check_cells : ℕ → ℕ → List Symbol
 check_cells r code = Own (bra (between 0 2)) ∷ Own (data_word code) ∷ Own (bra (between 2 0))
     ∷ Own (bgtz r (between 3 1)) ∷ Own (bltz r (between 4 1)) ∷ []
+
+-- what a check of two branches tries: two registers, or whether a register's word is above 0
+pub data Test : Type 0 where
+  Equal : (r s : ℕ) → Test
+  Differ : (r s : ℕ) → Test
+  Positive : (r : ℕ) → Test
+
+-- the branch that is taken where the test passes
+abbrev pub branch_of : Test → ℕ → Cell
+branch_of (Equal r s) o = beq r s o
+branch_of (Differ r s) o = bne r s o
+branch_of (Positive r) o = bgtz r o
+
+-- two such branches over a DATA cell
+abbrev pub test_cells : Test → ℕ → List Symbol
+test_cells t code = Own (branch_of t (between 0 2)) ∷ Own (data_word code)
+    ∷ Own (branch_of t (between 2 0)) ∷ []
+
+abbrev pub check_equal_cells : ℕ → ℕ → ℕ → List Symbol
+check_equal_cells r s code = test_cells (Equal r s) code
+
+abbrev pub check_differ_cells : ℕ → ℕ → ℕ → List Symbol
+check_differ_cells r s code = test_cells (Differ r s) code
+
+abbrev pub check_positive_cells : ℕ → ℕ → List Symbol
+check_positive_cells r code = test_cells (Positive r) code
 
 -- LINK is 0 before a call and holds no place of a routine, so that a call by it is never made; its
 -- cells are those of another

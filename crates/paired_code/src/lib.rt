@@ -12,8 +12,8 @@ mod writer;
 
 pub use part::{StaticWord, Symbol};
 pub use piece::{
-    Piece, branch_if, cells_of, check_zero, empty, enter, enter_at, marked, marks_in, mirror,
-    plain, seq, turn_while,
+    Piece, branch_if, cells_of, check_differ, check_equal, check_positive, check_zero, empty,
+    enter, enter_at, marked, marks_in, mirror, plain, seq, turn_while,
 };
 pub use span::Span;
 pub use writer::link;

@@ -3,10 +3,10 @@
 ghost use Rattle.std.specs.Prelude.{◌≡◌, ◌≢◌, ℕ, ◌+◌, ◌-◌, ◌%◌, ◌^◌, ◌<◌, ◌≤◌, IsTrue, List, [], ◌∷◌, ◌++◌, length, map, reverse, IfOk, OnOk};
 ghost use Rattle.pisa_isa.specs.Table.{IsCell};
 ghost use Rattle.code_conventions.specs.Cells.{bra};
-ghost use Rattle.paired_code.specs.Cells.{swapbr, bgtz, bltz, data_word};
+ghost use Rattle.paired_code.specs.Cells.{swapbr, beq, bne, bgtz, bltz, data_word};
 ghost use Rattle.paired_code.specs.Machine.{reversed, is_single};
-ghost use Rattle.paired_code.specs.Layout.{between, fork, branch_cells, loop_cells, mirror_cells, inverse_sym, check_cells, place_register, enter_at_cells};
-ghost use Rattle.paired_code.specs.Laws.{SeqLaw, MirrorLaw, BranchLaw, WhileLaw, PlainLaw, CheckLaw, EmptyLaw, EnterLaw, EnterAtLaw};
+ghost use Rattle.paired_code.specs.Layout.{between, fork, branch_cells, loop_cells, mirror_cells, inverse_sym, check_cells, check_equal_cells, check_differ_cells, check_positive_cells, Equal, Differ, Positive, place_register, enter_at_cells};
+ghost use Rattle.paired_code.specs.Laws.{SeqLaw, MirrorLaw, BranchLaw, WhileLaw, PlainLaw, CheckLaw, TestLaw, EmptyLaw, EnterLaw, EnterAtLaw};
 ghost use Rattle.paired_code.specs.Fit.{AllFit};
 ghost use Rattle.paired_code.specs.Code.{Code, Kept, AllWithin, shift, unmarked, seq_code, branch_code, loop_code, marked_code, parts};
 
@@ -120,6 +120,47 @@ pub fn check_zero(alloc: Global, reg: u8, code: u32) -> Result<Piece, NoMemory>
     cells.push(Symbol::Own(bra(behind(2, 0))))?;
     cells.push(Symbol::Own(bgtz(reg, behind(2, 0))))?;
     cells.push(Symbol::Own(bltz(reg, behind(3, 0))))?;
+    Ok(sealed(cells, Vec::new(alloc)))
+}
+
+/// A stop with the code where the two registers differ.
+pub fn check_equal(alloc: Global, one: u8, other: u8, code: u32) -> Result<Piece, NoMemory>
+    requires one { one < 32 }
+    requires other { other < 32 }
+    ensures code { IfOk result (λ p. p ≡ unmarked (check_equal_cells one other code)) }
+    ensures law { IfOk result (λ p. TestLaw (Equal one other) code p.cells) }
+{
+    let mut cells = Vec::new(alloc);
+    cells.push(Symbol::Own(beq(one, other, 2)))?;
+    cells.push(Symbol::Own(data_word(code)))?;
+    cells.push(Symbol::Own(beq(one, other, behind(2, 0))))?;
+    Ok(sealed(cells, Vec::new(alloc)))
+}
+
+/// A stop with the code where the two registers are equal.
+pub fn check_differ(alloc: Global, one: u8, other: u8, code: u32) -> Result<Piece, NoMemory>
+    requires one { one < 32 }
+    requires other { other < 32 }
+    ensures code { IfOk result (λ p. p ≡ unmarked (check_differ_cells one other code)) }
+    ensures law { IfOk result (λ p. TestLaw (Differ one other) code p.cells) }
+{
+    let mut cells = Vec::new(alloc);
+    cells.push(Symbol::Own(bne(one, other, 2)))?;
+    cells.push(Symbol::Own(data_word(code)))?;
+    cells.push(Symbol::Own(bne(one, other, behind(2, 0))))?;
+    Ok(sealed(cells, Vec::new(alloc)))
+}
+
+/// A stop with the code where the register's word, with its sign, is not above 0.
+pub fn check_positive(alloc: Global, reg: u8, code: u32) -> Result<Piece, NoMemory>
+    requires { reg < 32 }
+    ensures code { IfOk result (λ p. p ≡ unmarked (check_positive_cells reg code)) }
+    ensures law { IfOk result (λ p. TestLaw (Positive reg) code p.cells) }
+{
+    let mut cells = Vec::new(alloc);
+    cells.push(Symbol::Own(bgtz(reg, 2)))?;
+    cells.push(Symbol::Own(data_word(code)))?;
+    cells.push(Symbol::Own(bgtz(reg, behind(2, 0))))?;
     Ok(sealed(cells, Vec::new(alloc)))
 }
 
@@ -306,6 +347,30 @@ pub(crate) fn bra(offset: u32) -> Cell
     ensures { result ≡ bra offset }
 {
     with_word(Op::Bra, 0, offset)
+}
+
+fn beq(one: u8, other: u8, offset: u32) -> Cell
+    ensures { result ≡ beq one other offset }
+{
+    Cell {
+        op: Op::Beq,
+        a: one,
+        b: other,
+        c: 0,
+        imm: offset,
+    }
+}
+
+fn bne(one: u8, other: u8, offset: u32) -> Cell
+    ensures { result ≡ bne one other offset }
+{
+    Cell {
+        op: Op::Bne,
+        a: one,
+        b: other,
+        c: 0,
+        imm: offset,
+    }
 }
 
 fn bgtz(reg: u8, offset: u32) -> Cell

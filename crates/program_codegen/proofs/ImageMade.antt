@@ -116,7 +116,7 @@ module _ (program : Source) (pieces : List Code) (are : AreRoutines program piec
           few =
               (let outside = of_all (λ ps. unmarked_from (link_marks main ps) 0 (link_size main.cells (bodies ps)) ≤ 2 +
               length main.cells + spare ps) (all_spare main (are.allocator ∷ are.methods)) in
-              let in_all = of_all (λ ps. spare ps ≤ 4 + 104 + 12 * length (entries program))
+              let in_all = of_all (λ ps. spare ps ≤ 4 + 100 + 12 * length (entries program))
               (let few = few_unmarked (entries program) are.methods are.codes in
               let heap = at_most_all are.allocator.marks 0 (length are.allocator.cells) in
               omega (arith, few, heap, are.allocates.size)) in

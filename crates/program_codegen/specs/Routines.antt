@@ -25,7 +25,7 @@ pub record IsRoutine (program : Source) (entry : Entry) (p : Code) : Type 0 wher
 pub record IsAllocator (p : Code) : Type 0 where
   pub law : AllocatorLaw p.cells
   pub marks : p.marks ≡ []
-  pub size : length p.cells ≡ 104
+  pub size : length p.cells ≡ 100
 
 -- the allocator, and a routine for each method
 pub record AreRoutines (program : Source) (pieces : List Code) : Type 0 where

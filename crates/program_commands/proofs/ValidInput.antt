@@ -7,6 +7,7 @@ use Rattle.std.specs.List.{All, slice_index_or}
 use Rattle.std.proofs.lemmas.Bool.Decides.{nat_tests}
 use Rattle.std.proofs.lemmas.List.{length-replicate}
 use Rattle.rpp_words.specs.declared.input.FieldWord.{FieldWord}
+use Rattle.rpp_words.specs.declared.input.TheConstants.{HEADER_WORDS}
 use Rattle.rpp_tree.specs.declared.tree.Var.{Var}
 use Rattle.rpp_tree.specs.Tree.{Source}
 use Rattle.pisa_isa.specs.Image.{Segments}
@@ -76,7 +77,7 @@ below (var ∷ vars) zero h = omega arith
 below (var ∷ vars) (suc i) h = omega (arith, below vars i h)
 
 length-statics : (program : Source) (image : Segments) → HasStatics program image
-    → 2 + length (main_fields program) ≤ length image.statics
+    → HEADER_WORDS + length (main_fields program) ≤ length image.statics
 length-statics program image has =
     let is = ap length has.words in
     omega (
@@ -87,11 +88,11 @@ length-statics program image has =
 
 -- an int field of the main object is a static cell
 pub field_fits : (program : Source) (image : Segments) (field : ℕ) → HasStatics program image
-    → IsTrue (is_int_field (slice_get (main_fields program) field)) → 2 + field < length image.statics
+    → IsTrue (is_int_field (slice_get (main_fields program) field)) → HEADER_WORDS + field < length image.statics
 field_fits program image field has int = let in_fields = below (main_fields program) field int in
     omega (arith, length-statics program image has)
 
 pub input_fits : (program : Source) (image : Segments) (words : List FieldWord) → HasStatics program image
-    → IsValid program words → All (λ (entry : FieldWord). 2 + entry.field < length image.statics) words
+    → IsValid program words → All (λ (entry : FieldWord). HEADER_WORDS + entry.field < length image.statics) words
 input_fits program image words has valid = λ k d h. field_fits program image (slice_index_or words k d).field has
     (valid.ints k d h)

@@ -45,7 +45,8 @@ module _ (setting : Setting) (statics : List ℕ) (few : length statics ≤ MOST
         by : (b : Bool) → nat_eq u.self main_name ≡ b → (if b then statics_at else base setting statics + block_of
             h.keeps.placed.at.blocks u.self) + HEADER_WORDS ≤ stack_base setting statics
         by true e = let q : FIXED_CELLS + length statics ≤ base setting statics = base_above (setup setting statics) in
-            let r : 2 ≤ length statics = (let z = h.keeps.grounded.room in omega (arith, z)) in omega (arith, q, r)
+            let r : HEADER_WORDS ≤ length statics = (let z = h.keeps.grounded.room in omega (arith, z)) in
+            omega (arith, q, r)
         by false e = let r = region_inside setting st.store st.log h.keeps.placed u.self (OfClass u.class)
             h.keeps.own_is (differs u.self main_name e) in omega (arith, r)
 

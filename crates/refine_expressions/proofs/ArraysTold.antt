@@ -15,7 +15,7 @@ use Rattle.refine_frame.proofs.Tells.{IsRef, name_word, words_tell, reference_ce
 use Rattle.refine_form.specs.Form.{Scope}
 use Rattle.refine_form.specs.Frames.{Under, value_word}
 use Rattle.refine_form.specs.Stands.{shape_of, extra, setup, Reads}
-use Rattle.expr_uncompute.specs.Number.{index_of}
+use Rattle.register_expressions.specs.Number.{index_of}
 use Rattle.expr_uncompute.specs.Means.{shown, TellsArrays, TellsShares}
 use Rattle.refine_expressions.specs.Typing.{spot_in}
 use Rattle.refine_expressions.proofs.WordsRead.{named_has}

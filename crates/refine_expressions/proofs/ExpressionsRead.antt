@@ -31,7 +31,7 @@ use Rattle.refine_frame.proofs.ExpressionWords.{both_or_none, value_refers}
 use Rattle.refine_form.specs.Form.{Scope}
 use Rattle.refine_form.specs.Frames.{Under, base, value_word}
 use Rattle.refine_form.specs.Stands.{shape_of, extra, setup, Reads}
-use Rattle.expr_uncompute.specs.Number.{Bases, word_of, IsArray, Sees, read_of}
+use Rattle.register_expressions.specs.Number.{Bases, word_of, IsArray, Sees, read_of}
 use Rattle.expr_uncompute.specs.Means.{is_equation, shown, AreOperands, words as both_words, compared, OperandsOf}
 use Rattle.expr_uncompute.specs.Means.{IsInt, StandsArray, Means, MeansPlace}
 use Rattle.refine_expressions.specs.Typing.{spot_in, free_in}

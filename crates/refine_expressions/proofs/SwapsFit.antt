@@ -27,8 +27,9 @@ use Rattle.refine_form.specs.Worlds.{Place, world_of, rates_of}
 use Rattle.refine_calls.proofs.Bridge.{typed, reads_of}
 use Rattle.refine_calls.proofs.MovesFit.{place_of}
 use Rattle.expr_uncompute.specs.Code.{place_words}
-use Rattle.expr_uncompute.specs.Number.{read_of, index_of}
-use Rattle.expr_uncompute.specs.Laws.{bases_of, swapped_at}
+use Rattle.register_expressions.specs.Number.{read_of, index_of}
+use Rattle.register_expressions.specs.Laws.{bases_of}
+use Rattle.expr_uncompute.specs.Laws.{swapped_at}
 use Rattle.expr_uncompute.specs.Promises.{CanRun, SwapLaw}
 use Rattle.expr_uncompute.specs.Means.{cell_address, MeansPlace, TellsShares}
 use Rattle.expr_uncompute.proofs.StatementRows.{swap_does}

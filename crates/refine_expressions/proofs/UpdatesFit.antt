@@ -24,9 +24,10 @@ use Rattle.refine_form.specs.Frames.{Under, value_word}
 use Rattle.refine_form.specs.Stands.{shape_of, extra, Reads, Stands}
 use Rattle.refine_form.specs.Worlds.{Place, world_of, rates_of}
 use Rattle.refine_calls.proofs.Bridge.{typed, reads_of}
-use Rattle.expr_uncompute.specs.Code.{words, place_words}
-use Rattle.expr_uncompute.specs.Number.{read_of, index_of}
-use Rattle.expr_uncompute.specs.Laws.{bases_of}
+use Rattle.register_expressions.specs.Code.{words}
+use Rattle.expr_uncompute.specs.Code.{place_words}
+use Rattle.register_expressions.specs.Number.{read_of, index_of}
+use Rattle.register_expressions.specs.Laws.{bases_of}
 use Rattle.expr_uncompute.specs.Promises.{CanRun, UpdateLaw}
 use Rattle.expr_uncompute.specs.Means.{shown, cell_address, Means, MeansPlace, TellsShares}
 use Rattle.expr_uncompute.proofs.StatementRows.{update_does}

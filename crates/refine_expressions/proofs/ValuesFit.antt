@@ -29,8 +29,8 @@ use Rattle.meaning_sound.proofs.Classes.{KnowsClasses}
 use Rattle.meaning_sound.proofs.Stores.{other_number}
 use Rattle.meaning_sound.proofs.Values.{IsInt as IsWord, int_value, value_found}
 use Rattle.refine_frame.proofs.Tells.{cells_small}
-use Rattle.expr_uncompute.specs.Code.{words}
-use Rattle.expr_uncompute.specs.Laws.{Temporary, Ready}
+use Rattle.register_expressions.specs.Code.{words}
+use Rattle.register_expressions.specs.Laws.{Temporary, Ready}
 use Rattle.expr_uncompute.specs.Means.{shown, IsInt}
 use Rattle.expr_uncompute.specs.Promises as code
 use Rattle.expr_uncompute.proofs.Meeting.{told_value, told_test, value_meets, test_meets}

@@ -40,7 +40,7 @@ use Rattle.refine_form.specs.declared.spot.Spot.TheVariants.{Field, Frame}
 use Rattle.refine_form.specs.Form.{Scope}
 use Rattle.refine_form.specs.Frames.{Under, base, stack_base, address_of, value_word, stack_words}
 use Rattle.refine_form.specs.Stands.{shape_of, extra, setup, Reads}
-use Rattle.expr_uncompute.specs.Number.{Bases, address_of as spot_address}
+use Rattle.register_expressions.specs.Number.{Bases, address_of as spot_address}
 use Rattle.expr_uncompute.specs.Means.{shown, cell_address}
 use Rattle.refine_expressions.specs.Typing.{spot_in, free_in}
 use Rattle.refine_expressions.proofs.Names.{var_name, word_at, word_is}

@@ -7,7 +7,8 @@ use Rattle.class_table.specs.declared.kind.Kind.{Kind}
 use Rattle.class_table.specs.declared.kind.Kind.TheVariants as kind
 use Rattle.class_table.specs.Program.{IsAccepted}
 use Rattle.paired_code.specs.declared.part.Symbol.{Symbol}
-use Rattle.expr_uncompute.specs.Code.{words, place_words}
+use Rattle.register_expressions.specs.Code.{words}
+use Rattle.expr_uncompute.specs.Code.{place_words}
 use Rattle.expr_uncompute.specs.Promises as code
 use Rattle.refine_form.specs.Form.{Scope, TestLaw, ValueLaw, StmtLaw}
 use Rattle.refine_form.specs.Worlds.{Place, world_of}

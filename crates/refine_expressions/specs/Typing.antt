@@ -9,7 +9,7 @@ use Rattle.class_table.specs.Statements.{passed, check_statement}
 use Rattle.class_table.specs.Program.{setting_in}
 use Rattle.meaning_sound.specs.Plain.{HasWords, StatementHasWords}
 use Rattle.code_scope.specs.Visible.{Known, spot_of, free_of}
-use Rattle.expr_uncompute.specs.Code.{words}
+use Rattle.register_expressions.specs.Code.{words}
 use Rattle.refine_form.specs.declared.spot.Spot.{Spot}
 use Rattle.refine_form.specs.Form.{Scope}
 use Rattle.refine_form.specs.Stands.{shape_of}

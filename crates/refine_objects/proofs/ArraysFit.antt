@@ -45,10 +45,11 @@ use Rattle.refine_calls.specs.Laws.{IsLinked}
 use Rattle.refine_calls.proofs.Bridge.{typed, reads_of}
 use Rattle.refine_calls.proofs.FactsFit.{known as known_classes}
 use Rattle.refine_calls.proofs.MovesFit.{frame_address}
-use Rattle.expr_uncompute.specs.Code.{words, place_words}
-use Rattle.expr_uncompute.specs.Laws.{bases_of}
+use Rattle.register_expressions.specs.Code.{words}
+use Rattle.expr_uncompute.specs.Code.{place_words}
+use Rattle.register_expressions.specs.Laws.{bases_of}
 use Rattle.expr_uncompute.specs.Means.{shown, cell_address, Means, MeansPlace, SameValues}
-use Rattle.expr_uncompute.specs.Number.{read_of}
+use Rattle.register_expressions.specs.Number.{read_of}
 use Rattle.expr_uncompute.specs.Promises.{free_at, CanRun}
 use Rattle.refine_expressions.specs.Typing.{HasRoom, IsPassed, typing_in, spot_in, free_in}
 use Rattle.refine_expressions.proofs.ExpressionsRead.{means, sees, means_place, sees_place, value_is}

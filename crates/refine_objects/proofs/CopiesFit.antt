@@ -28,9 +28,9 @@ use Rattle.refine_form.specs.Stands.{shape_of, extra, setup, Reads, Stands}
 use Rattle.refine_form.specs.Worlds.{Place, world_of, rates_of}
 use Rattle.refine_form.specs.declared.spot.Spot.{Spot}
 use Rattle.expr_uncompute.specs.Code.{place_words}
-use Rattle.expr_uncompute.specs.Laws.{bases_of}
+use Rattle.register_expressions.specs.Laws.{bases_of}
 use Rattle.expr_uncompute.specs.Means.{shown, cell_address, MeansPlace, TellsShares}
-use Rattle.expr_uncompute.specs.Number.{read_of, index_of}
+use Rattle.register_expressions.specs.Number.{read_of, index_of}
 use Rattle.expr_uncompute.specs.Promises.{free_at, CanRun}
 use Rattle.object_codegen.specs.Promises.{CopyLaw, referring, unreferring}
 use Rattle.object_codegen.proofs.CopyRows as rows

@@ -46,9 +46,9 @@ use Rattle.refine_form.specs.Stands.{shape_of, extra, Reads, Stands}
 use Rattle.refine_form.specs.Worlds.{Place, world_of, rates_of}
 use Rattle.refine_form.specs.declared.spot.Spot.{Spot}
 use Rattle.expr_uncompute.specs.Code.{place_words}
-use Rattle.expr_uncompute.specs.Laws.{bases_of}
+use Rattle.register_expressions.specs.Laws.{bases_of}
 use Rattle.expr_uncompute.specs.Means.{cell_address, MeansPlace, TellsShares, SameCells}
-use Rattle.expr_uncompute.specs.Number.{read_of, index_of}
+use Rattle.register_expressions.specs.Number.{read_of, index_of}
 use Rattle.expr_uncompute.specs.Promises.{free_at, CanRun}
 use Rattle.refine_calls.specs.Laws.{IsLinked}
 use Rattle.refine_calls.proofs.Bridge.{typed, reads_of}

@@ -10,7 +10,7 @@ use Rattle.rpp_words.specs.Limits.{IsLimits}
 use Rattle.rpp_tree.specs.Tree.{Source, Statements, End, Then}
 use Rattle.rpp_tree.specs.Places.{statement_place}
 use Rattle.class_table.specs.Program.{IsAccepted}
-use Rattle.roopl_semantics.specs.Run.{Run, Done, Fault, More, ◌>>=◌}
+use Rattle.roopl_semantics.specs.Run.{Run, Done, Fault, More}
 use Rattle.roopl_semantics.specs.Store.{State, Store, Binding, main_name}
 use Rattle.roopl_semantics.specs.Source.{source, IsValid}
 use Rattle.roopl_semantics.specs.Execution.{Setting}

@@ -1,16 +1,4 @@
-pub mod Blocks
-pub mod Around
-pub mod Opened
 pub mod Over
-pub mod Begun
-pub mod Asking
-pub mod Entered
-pub mod Ended
 pub mod Undone
-pub mod Dispatched
-pub mod Scoped
-pub mod Callee
-pub mod Stepped
+pub mod Walked
 pub mod Started
-pub mod Returned
-pub mod Last

@@ -20,14 +20,14 @@ use Rattle.source_store.specs.HeapView.{Kept}
 use Rattle.source_store.specs.ValueView.{values_of}
 use Rattle.source_steps.specs.StateView.{bindings}
 use Rattle.source_steps.proofs.Tables.{fields_read}
-use Rattle.source_execution.specs.declared.frames.Frame.{Frame}
-use Rattle.source_execution.specs.declared.run.Run.{Run}
-use Rattle.source_execution.specs.Blocks.{rest_at, past_at, count_of}
-use Rattle.source_execution.specs.Tasks.{task_of}
-use Rattle.source_execution.specs.Opens.{open_of, IsOpen}
-use Rattle.source_execution.specs.Runs.{IsSound, config_of}
+use Rattle.source_blocks.specs.declared.frames.Frame.{Frame}
+use Rattle.source_blocks.specs.declared.run.Run.{Run}
+use Rattle.source_blocks.specs.Blocks.{rest_at, past_at, count_of}
+use Rattle.source_blocks.specs.Tasks.{task_of}
+use Rattle.source_blocks.specs.Opens.{open_of, IsOpen}
+use Rattle.source_blocks.specs.Runs.{IsSound, config_of}
 use Rattle.source_execution.specs.Standing.{IsOver, starting_heap}
-use Rattle.source_execution.proofs.Blocks.{rest_here, rest_end}
+use Rattle.source_blocks.proofs.Blocks.{rest_here, rest_end}
 
 -- ---- the heap
 

@@ -1,19 +1,18 @@
 -- A run as contracts see it.
-use Rattle.std.specs.Prelude.{◌≡◌, ◌<◌, ℕ, Bool, List, [], ◌∷◌, Option, Some, None, Result}
+use Rattle.std.specs.Prelude.{◌≡◌, ℕ, Bool, List, [], ◌∷◌, Option, Some, None, Result}
 use Rattle.rpp_words.specs.declared.input.FieldWord.{FieldWord}
 use Rattle.rpp_tree.specs.Tree.{Source, Statements, End, Then}
 use Rattle.rpp_tree.specs.Places.{statement_place}
 use Rattle.roopl_semantics.specs.Store.{main_name}
 use Rattle.roopl_semantics.specs.Source.{main_object}
 use Rattle.roopl_semantics.specs.Execution.{Setting}
-use Rattle.meaning_machine.specs.Machine.{Config, Open, walk}
+use Rattle.meaning_machine.specs.Machine.{Config, walk}
 use Rattle.source_store.specs.HeapView.{Kept}
 use Rattle.source_steps.specs.declared.stop.Stop.{Stop}
 use Rattle.source_steps.specs.Metered.{metered, Gives}
 use Rattle.source_steps.specs.StateView.{setting_of}
-use Rattle.source_execution.specs.declared.run.Run.{Run}
-use Rattle.source_execution.specs.Runs.{config_of}
-use Rattle.source_execution.specs.Endings.{Falls}
+use Rattle.source_blocks.specs.declared.run.Run.{Run}
+use Rattle.source_blocks.specs.Runs.{config_of}
 
 -- where a run stands, and whether it is broken off
 pub record Standing : Type 0 where
@@ -39,14 +38,6 @@ pub record Walks {E : Type 0} (from to : Standing) (fuel : ℕ) (result : Result
   pub steps : ℕ
   pub gives : Gives (λ (e : E). config_at to) result left
       (metered fuel (walk (setting_at from) steps (config_at from)))
-
--- a measure falls at a step of a run that is not over
-abbrev pub FallsBehind : Statements → List Open → ℕ → ℕ → Type 0
-FallsBehind End around after first = Falls around after first
-FallsBehind (Then s rest) around after first = after < first
-
-abbrev pub StepFalls : Config → ℕ → ℕ → Type 0
-StepFalls x after first = FallsBehind x.rest x.around after first
 
 -- the heap of a run before its first step
 abbrev pub starting_heap : Source → List FieldWord → ℕ → Kept

@@ -10,23 +10,18 @@ ghost use Rattle.meaning_machine.specs.SourceLaws.{set_for, start_of};
 ghost use Rattle.meaning_machine.specs.Reversed.{back as next_back};
 ghost use Rattle.source_store.specs.ValueView.{values_of};
 ghost use Rattle.source_steps.specs.Metered.{Gives, metered};
-ghost use Rattle.source_steps.specs.StateView.{setting_of};
-ghost use Rattle.source_execution.specs.Backwards.{step_in};
-ghost use Rattle.source_execution.specs.Tasks.{task_of};
-ghost use Rattle.source_execution.specs.Runs.{IsSound, config_of};
+ghost use Rattle.source_blocks.specs.Tasks.{task_of};
+ghost use Rattle.source_statements.specs.Steps.{StepFalls, step_in};
 ghost use Rattle.source_execution.specs.Variables.{binding_of};
-ghost use Rattle.source_execution.specs.Standing.{IsOver, Walks, StepFalls, config_at, setting_at, next_place, starting_heap};
+ghost use Rattle.source_execution.specs.Standing.{IsOver, Walks, config_at, setting_at, next_place, starting_heap};
 
-use crate::ends::end;
-use crate::methods::method_at;
 use crate::places::line_place;
-use crate::requests::begin_line;
-use crate::run::{Run, turn};
-use crate::task::{Task, line_at};
 use crate::variables::{Variable, variables_in};
 use class_table::Checked;
 use rpp_words::{FieldWord, Input, Limits, NoMemory};
-use source_steps::{Setting, Stop, put_value, spend, zeros};
+use source_blocks::{Run, Task, line_at, turn};
+use source_statements::{method_at, step};
+use source_steps::{Setting, Stop, put_value, zeros};
 use source_store::{Head, Heap, Value};
 use std::alloc::Global;
 use std::marker::Model;
@@ -77,29 +72,6 @@ fn main_task<'a>(checked: &'a Checked) -> Task<'a>
     }
 }
 
-/// A step of a run, turned round or not.
-fn step<'a>(run: &mut Run<'a>, fuel: &mut u64, back: bool) -> Result<(), Stop>
-    requires sound { IsSound run.old }
-    ensures gives { Gives (λ u. config_of run.new) result fuel.new
-        (metered fuel.old (step_in back (setting_of run.old.setting) (config_of run.old))) }
-    ensures sound { OnOk result (IsSound run.new) }
-    ensures falls { OnOk result (StepFalls (config_of run.old)
-        (2 * fuel.new + length run.new.frames.items)
-        (2 * fuel.old + length run.old.frames.items)) }
-    ensures setting { setting_of run.new.setting ≡ setting_of run.old.setting }
-    ensures less { fuel.new ≤ fuel.old }
-{
-    match line_at(&run.task, run.at) {
-        None => end(run, fuel),
-        Some(line) => {
-            match spend(fuel, 1) {
-                Err(why) => Err(why),
-                Ok(()) => begin_line(run, fuel, &line, back),
-            }
-        }
-    }
-}
-
 /// A run of the source: where it stands, and what is open around it.
 #[derive(Drop)]
 pub struct Execution<'a> {
@@ -114,7 +86,7 @@ impl<'a> Model for Execution<'a> {
     ghost use Rattle.std.specs.Coded.{codes};
     ghost use Rattle.std.specs.Prelude.{◌≡◌, false};
     ghost use Rattle.source_execution.specs.Standing.{Standing};
-    ghost use Rattle.source_execution.specs.Runs.{IsSound};
+    ghost use Rattle.source_blocks.specs.Runs.{IsSound};
 
     ghost Value = { Standing };
 

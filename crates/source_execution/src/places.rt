@@ -1,10 +1,10 @@
 // The places of statements in the text.
 ghost use Rattle.std.specs.Prelude.{◌≡◌};
 ghost use Rattle.rpp_tree.specs.Places.{statement_place};
-ghost use Rattle.source_execution.specs.Tasks.{line_of};
+ghost use Rattle.source_blocks.specs.Tasks.{line_of};
 
-use crate::task::Line;
 use rpp_tree::place_of;
+use source_blocks::Line;
 
 /// The place of a statement that runs: undone, it stands where it did.
 #[tactic(auto, using(crate::proofs::Undone::place_turned))]

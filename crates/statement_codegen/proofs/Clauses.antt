@@ -8,7 +8,7 @@ use Rattle.class_table.specs.declared.kind.Kind.TheVariants as kind
 use Rattle.paired_code.specs.declared.part.Symbol.{Symbol}
 use Rattle.paired_code.specs.Code.{Code}
 use Rattle.code_scope.specs.Visible.{Known, spot_of, free_of}
-use Rattle.expr_uncompute.specs.Code.{words}
+use Rattle.register_expressions.specs.Code.{words}
 use Rattle.expr_uncompute.specs.Promises as code
 use Rattle.refine_form.specs.Form.{Scope, ValueLaw}
 use Rattle.refine_form.specs.Worlds.{Place, world_of}

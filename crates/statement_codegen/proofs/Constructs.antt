@@ -139,8 +139,8 @@ construct_held body inside (Ok x) first rest = holds_in body inside x first rest
 construct_held body inside (Err e) first rest = tt
 
 pub construct_size : {E : Type 0} (making p inside : List Symbol) (r : Result Code E)
-    → inside ≡ making ++ (p ++ mirror_cells making) → IfOk r (λ x. length x.cells ≤ 58 * (1 + 1) + length inside + 16)
-    → IfOk r (λ x. length x.cells ≤ 2 * length making + length p + 132)
+    → inside ≡ making ++ (p ++ mirror_cells making) → IfOk r (λ x. length x.cells ≤ 58 * (1 + 1) + length inside + 12)
+    → IfOk r (λ x. length x.cells ≤ 2 * length making + length p + 128)
 construct_size making p inside (Ok x) is size =
     let a = ap length is in
     omega (

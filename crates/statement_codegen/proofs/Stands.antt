@@ -31,7 +31,8 @@ use Rattle.refine_form.specs.Form.{Scope}
 use Rattle.refine_form.specs.Stands.{shape_of}
 use Rattle.refine_form.specs.Worlds.{Place}
 use Rattle.code_scope.specs.Visible.{Visible, Known, spot_of, free_of, known_in}
-use Rattle.expr_uncompute.specs.Code.{words, place_words}
+use Rattle.register_expressions.specs.Code.{words}
+use Rattle.expr_uncompute.specs.Code.{place_words}
 use Rattle.expr_uncompute.specs.Promises as code
 use Rattle.expr_uncompute.proofs.Bounds.{words_most, place_words_most}
 use Rattle.method_calls.specs.Names.{IsNull, IsInit}

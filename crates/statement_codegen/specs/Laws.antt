@@ -14,7 +14,7 @@ use Rattle.roopl_semantics.specs.Execution.{constructed, element_call, element_n
 use Rattle.meaning_sound.specs.Plain.{ReceiverIsPlain}
 use Rattle.code_conventions.specs.declared.memory.TheConstants.{MOST_VARIABLES}
 use Rattle.code_scope.specs.Visible.{Known, Visible, spot_of, free_of, kind_named, known_in}
-use Rattle.expr_uncompute.specs.Code.{words}
+use Rattle.register_expressions.specs.Code.{words}
 use Rattle.expr_uncompute.specs.Promises.{SwapLaw}
 use Rattle.refine_form.specs.Form.{Scope, with_var, BlockLaw, StmtLaw}
 use Rattle.refine_form.specs.Worlds.{Place, world_of}

@@ -133,7 +133,7 @@ fn own_code(
     requires few { length args.now ≤ 32 }
     ensures law { IfOk result (λ p. CallLaw scope.now back None method.now args.now p.cells) }
     ensures none { IfOk result (λ p. p.marks ≡ []) }
-    ensures size { IfOk result (λ p. length p.cells ≡ 22 * length args.now + 49) }
+    ensures size { IfOk result (λ p. length p.cells ≡ 18 * length args.now + 41) }
 {
     let spots = spots_at(alloc, args, scope)?;
     let id = scope.method();
@@ -154,7 +154,7 @@ fn code_on(
     ensures law { IfOk result (λ p. CallLaw scope.now back (Some receiver.now) method.now args.now
         p.cells) }
     ensures none { IfOk result (λ p. p.marks ≡ []) }
-    ensures size { IfOk result (λ p. length p.cells ≡ 22 * length args.now + 97) }
+    ensures size { IfOk result (λ p. length p.cells ≡ 18 * length args.now + 77) }
 {
     let spots = spots_at(alloc, args, scope)?;
     let class = class_at(scope, receiver);
@@ -181,7 +181,7 @@ pub fn call_code(
         CallLaw scope.now back (option_map (λ name. name.now) receiver.entry) method.now args.now
         p.cells) }
     ensures none { IfOk result (λ p. p.marks ≡ []) }
-    ensures size { IfOk result (λ p. length p.cells ≤ 22 * length args.now + 97) }
+    ensures size { IfOk result (λ p. length p.cells ≤ 18 * length args.now + 77) }
 {
     match receiver {
         None => own_code(alloc, back, method, args, scope),

@@ -109,7 +109,7 @@ fn exchanged_call(
     ensures none { IfOk result (λ p. p.marks ≡ []) }
     ensures size { IfOk result (λ p.
         length p.cells ≤ 160 * (2 + place_tokens (lvalue_of element.now))
-        + 22 * length call.now.args.now + 97) }
+        + 18 * length call.now.args.now + 77) }
 {
     let first = exchange_code(alloc, name, element, scope)?;
     let called = call_code(alloc, call.back, Some(name), call.method, call.args, scope)?;
@@ -138,7 +138,7 @@ pub fn element_call_code(
     ensures none { IfOk result (λ p. p.marks ≡ []) }
     ensures size { IfOk result (λ p.
         length p.cells ≤ 160 * (2 + place_tokens (lvalue_of element.now))
-        + 22 * length call.now.args.now + 229) }
+        + 18 * length call.now.args.now + 205) }
     ensures scope { OnOk result (scope.new ≡ scope.old) }
 {
     let var = element_var(alloc, call.at, &element.name, scope)?;

@@ -3,8 +3,8 @@ ghost use Rattle.std.specs.Prelude.{◌≡◌, ◌≤◌, ◌+◌, ◌*◌, [], 
 ghost use Rattle.paired_code.specs.Layout.{mirror_cells};
 ghost use Rattle.rpp_tree.specs.Views.{expression_of};
 ghost use Rattle.code_scope.specs.Visible.{known_in};
-ghost use Rattle.expr_uncompute.specs.Code.{words as words_of};
-ghost use Rattle.expr_uncompute.specs.Steps.{tokens};
+ghost use Rattle.register_expressions.specs.Code.{words as words_of};
+ghost use Rattle.register_expressions.specs.Steps.{tokens};
 ghost use Rattle.refine_form.specs.Held.{Holds};
 ghost use Rattle.statement_codegen.specs.Laws.{LocalLaw, ConstructLaw};
 
@@ -36,7 +36,7 @@ pub fn local_code(
     ensures held { IfOk result (λ p. Holds body p) }
     ensures size { IfOk result (λ p.
         length p.cells ≤ 58 * (tokens (expression_of value.now) + tokens (expression_of last.now)) +
-        length body.cells + 16) }
+        length body.cells + 12) }
 {
     let word = scope.free();
     let begins = value_code(alloc, value, scope, VALUE)?;
@@ -72,7 +72,7 @@ pub fn construct_code(
     requires none { making.marks ≡ [] }
     ensures law { IfOk result (λ p. ConstructLaw scope.now at _var.now making.cells body.cells p.cells) }
     ensures held { IfOk result (λ p. Holds body p) }
-    ensures size { IfOk result (λ p. length p.cells ≤ 2 * length making.cells + length body.cells + 132) }
+    ensures size { IfOk result (λ p. length p.cells ≤ 2 * length making.cells + length body.cells + 128) }
 {
     let nothing = Expr::Nil { at };
     let inside = between_piece(alloc, making, body)?;

@@ -1,8 +1,9 @@
-// Blocks that the allocator takes and gives back, through a linked image of its routine alone.
+// Blocks that the allocator takes and gives back, and checks of registers, through a linked image of
+// its routine alone.
 ghost use Rattle.std.specs.Prelude.{◌≢◌, ◌<◌, ◌^◌, length};
 
 use buddy_pisa::{BLOCK, ORDER, allocator};
-use paired_code::{Piece, cells_of, empty, enter, link, marks_in, plain, seq};
+use paired_code::{Piece, cells_of, check_zero, empty, enter, link, marks_in, plain, seq};
 use pisa_isa::{Cell, Cells, Core, Image, Op, Stop, step};
 use std::alloc::Global;
 use std::process::Abort;
@@ -93,11 +94,13 @@ fn xored(alloc: Global, to: u8, from: u8) -> Result<Piece, Fail>
     Ok(plain(alloc, cell)?)
 }
 
-/// A block is taken and its address moved to a register, or the block of a register is given back.
+/// A block is taken and its address moved to a register, or the block of a register is given back, or
+/// the run traps with 7 where a register is not 0.
 #[derive(Clone, Copy)]
 enum Move {
     Take(u8),
     Give(u8),
+    Zero(u8),
 }
 
 fn piece_of<R: Abort>(rt: &R, alloc: Global, step: Move) -> Result<Piece, Fail> {
@@ -109,6 +112,10 @@ fn piece_of<R: Abort>(rt: &R, alloc: Global, step: Move) -> Result<Piece, Fail> 
         Move::Give(from) => {
             assert!(rt; from < 12);
             Ok(seq(moved(alloc, BLOCK, from)?, enter(alloc, 0, true)?)?)
+        }
+        Move::Zero(reg) => {
+            assert!(rt; reg < 12);
+            Ok(check_zero(alloc, reg, 7)?)
         }
     }
 }
@@ -124,7 +131,7 @@ struct Row<'a> {
     heads: (u32, u32, u32),
 }
 
-const ROWS: [Row<'static>; 4] = [
+const ROWS: [Row<'static>; 6] = [
     Row {
         title: "a take: the upper half is taken, the lower half is free",
         moves: &[Move::Take(5)],
@@ -152,6 +159,20 @@ const ROWS: [Row<'static>; 4] = [
         stop: Stop::Finished,
         blocks: (0, 0),
         heads: (0, 40, 0),
+    },
+    Row {
+        title: "a register that is 0 passes its check",
+        moves: &[Move::Zero(5)],
+        stop: Stop::Finished,
+        blocks: (0, 0),
+        heads: (0, 40, 0),
+    },
+    Row {
+        title: "a register that holds a block does not",
+        moves: &[Move::Take(5), Move::Zero(6), Move::Zero(5)],
+        stop: Stop::Trap(7),
+        blocks: (42, 0),
+        heads: (40, 0, 0),
     },
 ];
 

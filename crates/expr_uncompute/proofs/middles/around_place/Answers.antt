@@ -4,7 +4,8 @@ use Rattle.rpp_tree.specs.Views.{lvalue_of}
 use Rattle.paired_code.specs.Code.{unmarked}
 use Rattle.paired_code.proofs.Contract.{if_ok_law}
 use Rattle.code_scope.specs.Visible.{spot_of, free_of, known_by}
-use Rattle.expr_uncompute.specs.Code.{around, found_place_cells}
+use Rattle.register_expressions.specs.Code.{around}
+use Rattle.expr_uncompute.specs.Code.{found_place_cells}
 use Rattle.expr_uncompute.specs.Found.{PlaceAroundLaw}
 use Rattle.expr_uncompute.specs.Steps.{place_tokens}
 use Rattle.expr_uncompute.proofs.Bounds

@@ -4,9 +4,11 @@ use Rattle.rpp_tree.specs.Views.{expression_of, lvalue_of}
 use Rattle.paired_code.specs.Code.{unmarked}
 use Rattle.paired_code.proofs.Contract.{if_ok_law}
 use Rattle.code_scope.specs.Visible.{spot_of, free_of, known_by}
-use Rattle.expr_uncompute.specs.Code.{around, found_value_cells}
+use Rattle.register_expressions.specs.Code.{around}
+use Rattle.expr_uncompute.specs.Code.{found_value_cells}
 use Rattle.expr_uncompute.specs.Found.{ValueAroundLaw}
-use Rattle.expr_uncompute.specs.Steps.{tokens, place_tokens}
+use Rattle.register_expressions.specs.Steps.{tokens}
+use Rattle.expr_uncompute.specs.Steps.{place_tokens}
 use Rattle.expr_uncompute.proofs.Bounds
 use Rattle.expr_uncompute.proofs.AroundLaws
 use Rattle.expr_uncompute.proofs.middles.around_value.Goals as goal

@@ -6,7 +6,8 @@ use Rattle.code_scope.specs.Visible.{spot_of, free_of, known_by}
 use Rattle.expr_uncompute.specs.Code.{update_cells}
 use Rattle.expr_uncompute.specs.Promises.{UpdateLaw}
 use Rattle.std.specs.Prelude.{◌≤◌, ◌*◌, ◌+◌, length}
-use Rattle.expr_uncompute.specs.Steps.{tokens, place_tokens}
+use Rattle.register_expressions.specs.Steps.{tokens}
+use Rattle.expr_uncompute.specs.Steps.{place_tokens}
 use Rattle.expr_uncompute.proofs.Bounds
 use Rattle.expr_uncompute.proofs.ForContracts.{update_law}
 use Rattle.expr_uncompute.proofs.places.update_piece.Goals as goal

@@ -6,7 +6,7 @@ use Rattle.code_scope.specs.Visible.{spot_of, free_of, known_by}
 use Rattle.expr_uncompute.specs.Code.{value_cells}
 use Rattle.expr_uncompute.specs.Promises.{ValueLaw}
 use Rattle.std.specs.Prelude.{◌≤◌, ◌*◌, length}
-use Rattle.expr_uncompute.specs.Steps.{tokens}
+use Rattle.register_expressions.specs.Steps.{tokens}
 use Rattle.expr_uncompute.proofs.Bounds
 use Rattle.expr_uncompute.proofs.ForContracts.{value_law}
 use Rattle.expr_uncompute.proofs.values.value_piece.Goals as goal

@@ -1,11 +1,12 @@
-use Rattle.std.proofs.Common.{refl}
 use Rattle.std.specs.Prelude.{◌+◌, ◌*◌}
 use Rattle.rpp_tree.specs.Views.{expression_of, lvalue_of}
 use Rattle.code_scope.specs.Visible.{spot_of, free_of, known_in}
-use Rattle.expr_uncompute.specs.Steps.{tokens, place_tokens}
+use Rattle.register_expressions.specs.Steps.{tokens}
+use Rattle.expr_uncompute.specs.Steps.{place_tokens}
 use Rattle.object_codegen.specs.declared.shape.Shape.TheVariants.{Lengthy}
 use Rattle.object_codegen.specs.Code.{order_cells, new_mid}
-use Rattle.object_codegen.proofs.Clauses.{array_returns, array_length, size_returns}
+use Rattle.object_codegen.proofs.Bounds.{array_cells_are}
+use Rattle.object_codegen.proofs.Clauses.{array_returns, array_length, size_returns, no_more}
 use Rattle.object_codegen.proofs.calls.array_code.Goals as goal
 
 pub returns-clause-law : goal.returns-clause-law
@@ -15,6 +16,7 @@ returns-clause-law c = array_returns (spot_of (known_in c.args.scope.now)) (free
 
 pub returns-clause-size : goal.returns-clause-size
 returns-clause-size c =
-    size_returns 184 (80 * (place_tokens (lvalue_of c.args.place.now) + tokens (expression_of c.args.size.now)))
+    size_returns 164 (80 * (place_tokens (lvalue_of c.args.place.now) + tokens (expression_of c.args.size.now)))
     (new_mid Lengthy order_cells) _ c.place_and_value_around.result
-    (array_length _ _ c.in_ok-orders.ensures c.in_ok-middle.ensures) refl c.place_and_value_around.ensures.size
+    (array_length _ _ c.in_ok-orders.ensures c.in_ok-middle.ensures) (no_more array_cells_are)
+    c.place_and_value_around.ensures.size

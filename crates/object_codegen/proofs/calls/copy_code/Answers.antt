@@ -1,10 +1,10 @@
-use Rattle.std.proofs.Common.{refl}
 use Rattle.std.specs.Prelude.{◌+◌, ◌*◌}
 use Rattle.rpp_tree.specs.Views.{lvalue_of}
 use Rattle.code_scope.specs.Visible.{spot_of, free_of, known_in}
 use Rattle.expr_uncompute.specs.Steps.{place_tokens}
 use Rattle.object_codegen.specs.Code.{copy_mid}
-use Rattle.object_codegen.proofs.Clauses.{copy_returns, size_returns, copy_most}
+use Rattle.object_codegen.proofs.Bounds.{copy_cells_are}
+use Rattle.object_codegen.proofs.Clauses.{copy_returns, size_returns, no_more, copy_most}
 use Rattle.object_codegen.proofs.calls.copy_code.Goals as goal
 
 pub returns-clause-law : goal.returns-clause-law
@@ -16,6 +16,7 @@ pub returns-in_err-middle-clause-steps : goal.returns-in_err-middle-clause-steps
 returns-in_err-middle-clause-steps c = copy_most (lvalue_of c.args.source.now) (lvalue_of c.args.target.now)
 
 pub returns-clause-size : goal.returns-clause-size
-returns-clause-size c = size_returns 71 (80 * (place_tokens (lvalue_of c.args.source.now) + place_tokens
-    (lvalue_of c.args.target.now))) copy_mid _ c.places_around.result c.in_ok-middle.ensures refl
+returns-clause-size c = size_returns 47 (80 * (place_tokens (lvalue_of c.args.source.now) + place_tokens
+    (lvalue_of c.args.target.now))) copy_mid _ c.places_around.result c.in_ok-middle.ensures
+    (no_more copy_cells_are)
     c.places_around.ensures.size

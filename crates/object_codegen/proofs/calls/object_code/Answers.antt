@@ -1,11 +1,12 @@
-use Rattle.std.proofs.Common.{[], ◌∷◌, refl, arith}
+use Rattle.std.proofs.Common.{[], ◌∷◌, arith}
 use Rattle.std.specs.Prelude.{◌+◌, ◌*◌}
 use Rattle.rpp_tree.specs.Views.{lvalue_of}
 use Rattle.code_scope.specs.Visible.{spot_of, free_of, known_in}
-use Rattle.expr_uncompute.specs.Code.{xori}
+use Rattle.register_expressions.specs.Code.{xori}
 use Rattle.expr_uncompute.specs.Steps.{place_tokens}
 use Rattle.object_codegen.specs.declared.shape.Shape.TheVariants.{Fixed}
 use Rattle.object_codegen.specs.Code.{order, new_mid}
+use Rattle.object_codegen.proofs.Bounds.{object_cells_are}
 use Rattle.object_codegen.proofs.Clauses.{object_returns, object_length, size_returns}
 use Rattle.object_codegen.proofs.calls.object_code.Goals as goal
 
@@ -16,7 +17,8 @@ returns-clause-law c = object_returns (spot_of (known_in c.args.scope.now)) (fre
 
 pub returns-clause-size : goal.returns-clause-size
 returns-clause-size c =
-    size_returns 87 (80 * (1 + place_tokens (lvalue_of c.args.place.now)))
+    size_returns 86 (80 * (1 + place_tokens (lvalue_of c.args.place.now)))
     (new_mid (Fixed c.args.table c.args.fields) (xori order c.args.order ∷ [])) _ c.place_around.result
-    (object_length c.args.table c.args.fields c.args.order _ _ c.in_ok-orders.ensures c.in_ok-middle.ensures) refl
+    (object_length c.args.table c.args.fields c.args.order _ _ c.in_ok-orders.ensures c.in_ok-middle.ensures)
+    (object_cells_are c.args.table c.args.fields c.args.order)
     c.place_around.ensures.size

@@ -1,4 +1,4 @@
-use Rattle.std.proofs.Common.{◌<◌, length, arith}
+use Rattle.std.proofs.Common.{arith}
 use Rattle.rpp_tree.specs.Views.{source_of}
 use Rattle.roopl_semantics.proofs.MainPlace.{class_inside}
 use Rattle.object_codegen.proofs.tables.class_number.Goals as goal

@@ -1,4 +1,4 @@
-use Rattle.std.proofs.Common.{◌≡◌, ◌∙◌, ap, List, length}
+use Rattle.std.proofs.Common.{◌∙◌, ap, List, length}
 use Rattle.rpp_tree.specs.declared.tree.Var.{Var}
 use Rattle.rpp_tree.specs.Views.{source_of}
 use Rattle.class_table.specs.Table.{Table, fields_in}

@@ -1,7 +1,7 @@
-use Rattle.std.proofs.Common.{◌∙◌, ap, sym, subst, refl, arith, ◌≡◌, ◌+◌, ◌^◌, ◌++◌, length}
+use Rattle.std.proofs.Common.{◌∙◌, ap, sym, subst, refl, arith, ◌≡◌, ◌+◌, ◌^◌, ◌++◌}
 use Rattle.paired_code.specs.Laws.{BranchLaw}
 use Rattle.paired_code.specs.Fit.{AllFit}
-use Rattle.paired_code.specs.Code.{Code, branch_code, shift, parts}
+use Rattle.paired_code.specs.Code.{Code, branch_code, parts}
 use Rattle.paired_code.proofs.Contract.{branch_law}
 use Rattle.paired_code.proofs.Fits.{fit_branch, branch_within, branch_room, room_at, two_marks, code_is}
 use Rattle.paired_code.proofs.Marks.{branch_parts, kept_view}

@@ -1,7 +1,7 @@
-use Rattle.std.proofs.Common.{◌∙◌, ap, sym, subst, refl, arith, ◌≡◌, ◌+◌, ◌^◌, ◌++◌, length}
+use Rattle.std.proofs.Common.{◌∙◌, ap, sym, subst, refl, arith, ◌≡◌, ◌+◌, ◌^◌, ◌++◌}
 use Rattle.paired_code.specs.Laws.{WhileLaw}
 use Rattle.paired_code.specs.Fit.{AllFit}
-use Rattle.paired_code.specs.Code.{Code, loop_code, shift, parts}
+use Rattle.paired_code.specs.Code.{Code, loop_code, parts}
 use Rattle.paired_code.proofs.MoreLaws.{while_law}
 use Rattle.paired_code.proofs.Fits.{fit_loop, loop_within, loop_room, room_at, two_marks, code_is}
 use Rattle.paired_code.proofs.Marks.{loop_parts, kept_view}

@@ -1,4 +1,4 @@
-use Rattle.std.proofs.Common.{◌≡◌, List, subst, ap, ◌∙◌, sym}
+use Rattle.std.proofs.Common.{List, subst, sym}
 use Rattle.std.specs.List.Sorted.{IsPermutation}
 use Rattle.pisa_isa.specs.Notes.{NotedImage}
 use Rattle.paired_code.specs.Code.{Code, link_marks, EachWithin}

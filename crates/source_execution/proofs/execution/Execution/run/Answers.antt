@@ -1,4 +1,4 @@
-use Rattle.source_execution.proofs.Stepped.{gone_nowhere, gone_further, gone_breaks, gone_walks}
+use Rattle.source_execution.proofs.Walked.{gone_nowhere, gone_further, gone_breaks, gone_walks}
 use Rattle.source_execution.proofs.execution.Execution.run.Goals as goal
 
 pub loop-self-init : goal.loop-self-init

@@ -1,6 +1,6 @@
 use Rattle.std.proofs.Common.{◌+◌, ◌*◌, length}
 use Rattle.source_execution.specs.Standing.{config_at}
-use Rattle.source_execution.proofs.Stepped.{HasGone}
+use Rattle.source_execution.proofs.Walked.{HasGone}
 use Rattle.source_execution.proofs.execution.Execution.run.Given as goal
 
 abbrev pub invariant-loop-self : goal.invariant-loop-self

@@ -1,0 +1,15 @@
+pub mod Goes
+pub mod Comparing
+pub mod Scratch
+pub mod Operators
+pub mod Reading
+pub mod Results
+pub mod Checks
+pub mod Numbers
+pub mod Ways
+pub mod HeldBounds
+pub mod Known
+pub mod Giving
+pub mod Opened
+pub mod HeldLaws
+pub mod HeldChecks

@@ -1,0 +1,5 @@
+pub mod Number
+pub mod Held
+pub mod Code
+pub mod Steps
+pub mod Laws

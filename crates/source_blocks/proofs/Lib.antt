@@ -1,0 +1,5 @@
+pub mod Blocks
+pub mod TurnedKinds
+pub mod Around
+pub mod Opened
+pub mod Scoped

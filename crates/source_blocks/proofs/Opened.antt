@@ -1,0 +1,144 @@
+-- Blocks that are opened and closed, as the machine sees them.
+use Rattle.std.proofs.Common.{◌≡◌, ◌<◌, ℕ, suc, ◌+◌, refl, sym, ap, subst, ◌∙◌, arith, List, [], ◌∷◌, ◌++◌, map}
+use Rattle.std.proofs.Common.{reverse, length, All, Option, Some, option_to_list}
+use Rattle.std.proofs.lemmas.List.{reverse-append, length-map, length-reverse}
+use Rattle.std.proofs.lemmas.List.Elements.{All-push, All-pop}
+use Rattle.rpp_tree.specs.Tree.{End}
+use Rattle.meaning_machine.specs.Machine.{Config, Open, Part as Runs, past_it, inside}
+use Rattle.source_blocks.specs.declared.task.Task.{Task}
+use Rattle.source_blocks.specs.declared.frames.Part.{Part}
+use Rattle.source_blocks.specs.declared.frames.Frame.{Frame}
+use Rattle.source_blocks.specs.declared.run.Run.{Run}
+use Rattle.source_blocks.specs.Blocks.{count_of}
+use Rattle.source_blocks.specs.Tasks.{task_of}
+use Rattle.source_blocks.specs.Opens.{open_of, part_of, IsOpen, HasPart}
+use Rattle.source_blocks.specs.Runs.{IsSound, config_of, state_in, here_in, rest_in, leaving, going_on}
+
+-- one more open statement is the innermost
+pub around_more : (frames : List Frame) (frame : Frame)
+    → map open_of (reverse (frames ++ frame ∷ [])) ≡ open_of frame ∷ map open_of (reverse frames)
+around_more frames frame = ap (map open_of) (reverse-append frames (frame ∷ []))
+
+pub passed : (run : Run) (next : ℕ) → next ≡ run.at + 1
+    → config_of (record run { at = next }) ≡ past_it (config_of run) (here_in run) (rest_in run) (state_in run)
+passed run next e =
+    let same : next ≡ suc run.at = omega arith in
+    ap (λ n. config_of (record run { at = n })) same
+
+module _ (run new : Run) where
+  pub opened_is : (part : Part) (task : Task) → new ≡ record run { task = task; at = 0; frames = new.frames }
+      → new.frames.items ≡ run.frames.items ++ record { task = run.task; at = run.at; part = part } ∷ []
+      → config_of new ≡ inside (config_of run) (here_in run) (rest_in run) (part_of part) (task_of task) (state_in run)
+  opened_is part task e f =
+      let build : List Open → Config = λ around. record {
+        past = End;
+        rest = task_of task;
+        params = length run.params.now;
+        state = state_in run;
+        around = around;
+      } in
+      ap config_of e
+      ∙ ap build (ap (λ frames. map open_of (reverse frames)) f
+      ∙ around_more run.frames.items (record { task = run.task; at = run.at; part = part }))
+
+  pub closed_is : (frame : Frame) (next : ℕ) → run.frames.items ≡ new.frames.items ++ frame ∷ []
+      → next ≡ frame.at + 1 → new ≡ record run { task = frame.task; at = next; frames = new.frames }
+      → config_of new ≡ leaving (config_of run) (config_of run).around
+  closed_is frame next f n e =
+      let same : next ≡ suc frame.at = omega arith in
+      let outer : (config_of run).around ≡ open_of frame ∷ map open_of (reverse new.frames.items) =
+      ap (λ frames. map open_of (reverse frames)) f ∙ around_more new.frames.items frame in
+      ap config_of e
+      ∙ ap (λ n. config_of (record run { task = frame.task; at = n; frames = new.frames })) same
+      ∙ sym (ap (leaving (config_of run)) outer)
+
+pub passed_sound : (run : Run) (next : ℕ) → next ≡ run.at + 1 → run.at < count_of (task_of run.task) → IsSound run
+    → IsSound (record run { at = next })
+passed_sound run next e h s = record { each = s.each; order = s.order; opens = s.opens; within = omega arith }
+
+module _ (run new : Run) (frame : Frame) where
+  pub opened_sound : (task : Task) → new ≡ record run { task = task; at = 0; frames = new.frames }
+      → new.frames.items ≡ run.frames.items ++ frame ∷ [] → IsSound run → IsOpen frame → IsSound new
+  opened_sound task e f s o = subst IsSound (sym e) (record {
+    each = s.each;
+    order = s.order;
+    opens = subst (All IsOpen) (sym f) (All-push IsOpen run.frames.items frame s.opens o);
+    within = omega arith;
+  })
+
+  popped : (r : Option Frame) → r ≡ Some frame → run.frames.items ≡ new.frames.items ++ option_to_list r
+      → run.frames.items ≡ new.frames.items ++ frame ∷ []
+  popped r is f = f ∙ ap (λ o. new.frames.items ++ option_to_list o) is
+
+  pub frame_open : run.frames.items ≡ new.frames.items ++ frame ∷ [] → IsSound run → IsOpen frame
+  frame_open f s = (All-pop IsOpen run.frames.items new.frames.items (Some frame) f s.opens).1
+
+  pub closed_sound : (next : ℕ) → next ≡ frame.at + 1
+      → new ≡ record run { task = frame.task; at = next; frames = new.frames }
+      → run.frames.items ≡ new.frames.items ++ frame ∷ [] → IsSound run → IsSound new
+  closed_sound next n e f s = let o = (frame_open f s).within in subst IsSound (sym e) (record {
+    each = s.each;
+    order = s.order;
+    opens = (All-pop IsOpen run.frames.items new.frames.items (Some frame) f s.opens).0;
+    within = omega arith;
+  })
+
+-- the innermost open statement goes on in another part
+module _ (run new : Run) (frame next : Frame) (front : List Frame) (f : run.frames.items ≡ front ++ frame ∷ [])
+    (g : new.frames.items ≡ front ++ next ∷ []) where
+  pub turned_is : (part : Part) (task : Task) → next ≡ record frame { part = part }
+      → new ≡ record run { task = task; at = 0; frames = new.frames }
+      → config_of new ≡ going_on (config_of run) (part_of part) (task_of task) (config_of run).around
+  turned_is part task n e =
+      let outer : (config_of run).around ≡ open_of frame ∷ map open_of (reverse front) =
+      ap (λ frames. map open_of (reverse frames)) f ∙ around_more front frame in
+      let inner : (config_of new).around ≡ open_of (record frame { part = part }) ∷ map open_of (reverse front) =
+      ap (λ frames. map open_of (reverse frames)) g ∙ around_more front next
+      ∙ ap (λ o. open_of o ∷ map open_of (reverse front)) n in
+      let build : List Open → Config = λ around. record {
+        past = End;
+        rest = task_of task;
+        params = length run.params.now;
+        state = state_in run;
+        around = around;
+      } in
+      ap config_of e ∙ ap build inner ∙ sym (ap (going_on (config_of run) (part_of part) (task_of task)) outer)
+
+  pub turned_sound : (task : Task) → new ≡ record run { task = task; at = 0; frames = new.frames } → IsSound run
+      → IsOpen next → IsSound new
+  turned_sound task e s o =
+      let all : All IsOpen front = (All-pop IsOpen run.frames.items front (Some frame) f s.opens).0 in
+      subst IsSound (sym e) (record {
+        each = s.each;
+        order = s.order;
+        opens = subst (All IsOpen) (sym g) (All-push IsOpen front next all o);
+        within = omega arith;
+      })
+
+  pub turned_count : length new.frames.items ≡ length run.frames.items
+  turned_count = ap (λ (fs : List Frame). length fs) g ∙ pushed front next ∙ sym (pushed front frame)
+      ∙ sym (ap (λ (fs : List Frame). length fs) f)
+    where
+      pushed : (fs : List Frame) (o : Frame) → length (fs ++ o ∷ []) ≡ suc (length fs)
+      pushed [] o = refl
+      pushed (x ∷ fs) o = ap suc (pushed fs o)
+
+-- the part of the innermost open statement
+abbrev pub in_front : (run : Run) (front : List Frame) (frame : Frame) → run.frames.items ≡ front ++ frame ∷ []
+    → HasPart (config_of run).around (part_of frame.part)
+in_front run front frame f = record {
+  inmost = open_of frame;
+  others = map open_of (reverse front);
+  is = ap (λ frames. map open_of (reverse frames)) f ∙ around_more front frame;
+  same = refl;
+}
+
+-- where a part runs, a statement is open
+pub some_open : (run : Run) (part : Runs) → HasPart (config_of run).around part → 0 < length run.frames.items
+some_open run part h =
+    let one : length (map open_of (reverse run.frames.items)) ≡ suc (length h.others) =
+    ap (λ (os : List Open). length os)
+    h.is in
+    let as_many = length-map (reverse run.frames.items) open_of in
+    let as_long = length-reverse run.frames.items in
+    omega arith

@@ -1,0 +1,32 @@
+use Rattle.std.proofs.Common.{ap₂, refl, subst}
+use Rattle.rpp_tree.specs.Tree.{Delete, Whole, Object as AnObject}
+use Rattle.rpp_tree.specs.Views.{lvalue_with}
+use Rattle.source_steps.specs.Ends.{Ends, does_simply}
+use Rattle.source_steps.specs.StateView.{state_of}
+use Rattle.source_blocks.proofs.Scoped.{framed_in, changed_gives, sound_after}
+use Rattle.source_blocks.proofs.simple.unmake.Goals as goal
+
+pub delete_object-requires : goal.delete_object-requires
+delete_object-requires c = record {
+  framed = framed_in c.args.run.now c.scope_of-scope.result c.scope_of-scope.ensures c.requires.sound;
+}
+
+pub returns-in-Ok-clause-gives : goal.returns-in-Ok-clause-gives
+returns-in-Ok-clause-gives c =
+    changed_gives c.args.run.now c.scope_of-scope.result c.scope_of-scope.ensures
+    (record c.args.run.now { heap = c.delete_object.new.heap; values = c.delete_object.new.values }) refl
+    c.delete_object.result
+    c.delete_object.new.fuel (λ st. does_simply c.args.run.now.setting c.args.fuel.now
+    (Delete c.args.at (AnObject c.args.class.now) (Whole c.args.name.now)) st)
+    (subst (λ l. Ends c.args.run.now.setting c.scope_of-scope.result c.delete_object.result c.delete_object.new.heap
+    c.delete_object.new.values.items c.delete_object.new.fuel (does_simply c.args.run.now.setting c.args.fuel.now
+    (Delete c.args.at (AnObject c.args.class.now) l) (state_of c.args.run.now.setting c.scope_of-scope.result
+    c.args.run.now.heap
+    c.args.run.now.values.items))) (ap₂ lvalue_with c.in-Ok.ensures.0 c.in-Ok.ensures.1) c.delete_object.ensures.ends)
+
+pub returns-in-Ok-clause-sound : goal.returns-in-Ok-clause-sound
+returns-in-Ok-clause-sound c =
+    sound_after c.args.run.now c.scope_of-scope.result c.scope_of-scope.ensures
+    (record c.args.run.now { heap = c.delete_object.new.heap; values = c.delete_object.new.values }) refl
+    c.delete_object.result c.requires.sound
+    c.delete_object.ensures.framed

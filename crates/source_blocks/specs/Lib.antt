@@ -1,0 +1,5 @@
+pub mod Blocks
+pub mod Tasks
+pub mod Opens
+pub mod Runs
+pub mod Requests

@@ -1,0 +1,81 @@
+-- Where a run stands, as the machine sees it.
+use Rattle.std.specs.Prelude.{◌≡◌, ◌≤◌, ℕ, suc, List, [], ◌∷◌, ◌++◌, map, reverse, length, All}
+use Rattle.std.specs.Prelude.{Option}
+use Rattle.std.specs.Prelude.{Some, None}
+use Rattle.rpp_tree.specs.Tree.{Statement, Statements, Update, Swap, New, Delete, Copy, Uncopy}
+use Rattle.rpp_tree.specs.Tree.{Skip}
+use Rattle.roopl_semantics.specs.Store.{State}
+use Rattle.meaning_machine.specs.Machine.{Config, Open, Part, left, turned_to}
+use Rattle.source_store.specs.ValueView.{values_of}
+use Rattle.source_steps.specs.StateView.{bindings}
+use Rattle.roopl_semantics.specs.Value.{Cell}
+use Rattle.source_steps.specs.declared.cell.Cell.{Cell as Place}
+use Rattle.source_steps.specs.CellView.{cell_of}
+use Rattle.source_blocks.specs.declared.run.Run.{Run}
+use Rattle.source_blocks.specs.Blocks.{statement_at, rest_at, past_at, count_of}
+use Rattle.source_blocks.specs.Tasks.{task_of}
+use Rattle.source_blocks.specs.Opens.{open_of, IsOpen}
+
+-- the names of the variables, the innermost first
+abbrev pub names_in : Run → List (List ℕ)
+names_in run = map (λ own. own.now) run.locals.items
+    ++ map (λ var. var.name.text) run.params.now
+
+abbrev pub state_in : Run → State
+state_in run = record {
+  frame = bindings (names_in run) (values_of run.values.items);
+  self = run.setting.object;
+  depth = run.setting.depth;
+  store = run.heap.store;
+  log = run.heap.log;
+}
+
+-- the statement that begins, and those behind it
+abbrev pub here_in : Run → Statement
+here_in run = statement_at run.at (task_of run.task)
+
+abbrev pub rest_in : Run → Statements
+rest_in run = rest_at (suc run.at) (task_of run.task)
+
+abbrev pub config_of : Run → Config
+config_of run = record {
+  past = past_at run.at (task_of run.task);
+  rest = rest_at run.at (task_of run.task);
+  params = length run.params.now;
+  state = state_in run;
+  around = map open_of (reverse run.frames.items);
+}
+
+-- each variable has a value, in each open method, the heap is of the order that the limits say, and
+-- no more statements are past than the block has
+pub record IsSound (run : Run) : Type 0 where
+  pub each : length run.values.items ≡ length (names_in run)
+  pub order : run.heap.order ≡ run.setting.limits.heap
+  pub opens : All IsOpen run.frames.items
+  pub within : run.at ≤ count_of (task_of run.task)
+
+-- the cell of a receiver, if there is one
+abbrev pub only_cell : Option Place → List Cell
+only_cell None = []
+only_cell (Some cell) = cell_of cell ∷ []
+
+-- a statement that holds no block, and is no call
+abbrev pub IsSimple : Statement → Type 0
+IsSimple (Update at op target value) = Unit {0}
+IsSimple (Swap at l r) = Unit {0}
+IsSimple (New at made target) = Unit {0}
+IsSimple (Delete at made target) = Unit {0}
+IsSimple (Copy at kind source target) = Unit {0}
+IsSimple (Uncopy at kind source target) = Unit {0}
+IsSimple (Skip at) = Unit {0}
+IsSimple _ = ⊥
+
+-- behind the innermost open statement, if one is open
+abbrev pub leaving : Config → List Open → Config
+leaving x [] = x
+leaving x (o ∷ around) = left o around x.params x.state
+
+-- the innermost open statement goes on in this part, if one is open
+abbrev pub going_on : Config → Part → Statements → List Open → Config
+going_on x part body [] = x
+going_on x part body (o ∷ around) = turned_to x o around part body

@@ -1,0 +1,9 @@
+pub mod Begun
+pub mod Asking
+pub mod Entered
+pub mod Callee
+pub mod Ended
+pub mod Last
+pub mod Returned
+pub mod Dispatched
+pub mod Stepped

@@ -1,0 +1,21 @@
+use Rattle.std.proofs.Common.{◌∙◌, ap, Some}
+use Rattle.rpp_tree.specs.declared.tree.Ident.{Ident}
+use Rattle.rpp_tree.specs.Tree.{Whole}
+use Rattle.roopl_semantics.specs.Execution.{element_name}
+use Rattle.meaning_machine.specs.Machine.{called}
+use Rattle.source_steps.specs.StateView.{setting_of}
+use Rattle.source_blocks.specs.Tasks.{line_of}
+use Rattle.source_blocks.specs.Runs.{config_of, here_in, rest_in}
+use Rattle.source_statements.proofs.Begun.{call_begun, same_gives}
+use Rattle.source_statements.proofs.begins.begin.Goals as goal
+
+pub returns-in-Ok-clause-gives : goal.returns-in-Ok-clause-gives
+returns-in-Ok-clause-gives c =
+    same_gives (λ u. config_of c.call_on.new.run) c.call_on.result c.call_on.new.fuel c.args.fuel.now _ _
+    (ap (λ (name : Ident). called (setting_of c.args.run.now.setting) (config_of c.args.run.now)
+    (here_in c.args.run.now) (rest_in c.args.run.now) c.in-Call.calls.at c.in-Call.calls.back (Some (Whole name))
+    c.in-Call.calls.method.now c.in-Call.calls.args.now) c.in-Ok.ensures.0
+    ∙ call_begun (setting_of c.args.run.now.setting) (config_of c.args.run.now) (here_in c.args.run.now)
+    (rest_in c.args.run.now) c.in-Call.calls.at c.in-Call.calls.back
+    (Some (Whole (element_name c.in-Call.calls.at))) c.in-Call.calls.method.now c.in-Call.calls.args.now
+    (c.requires.here ∙ ap line_of c.in-Call.is)) c.call_on.ensures.gives

@@ -1,0 +1,18 @@
+use Rattle.std.proofs.Common.{◌≡◌, map}
+use Rattle.std.specs.Prelude.{MatchResult}
+use Rattle.roopl_semantics.specs.Execution.{cells_named}
+use Rattle.source_steps.specs.CellView.{cell_of}
+use Rattle.source_steps.specs.StateView.{setting_of}
+use Rattle.source_steps.specs.declared.stop.Stop.TheVariants as stop
+use Rattle.source_blocks.proofs.Scoped.{framed_in, at_state}
+use Rattle.source_statements.proofs.calls.cells_in_order.Goals as goal
+
+pub cells_of-requires : goal.cells_of-requires
+cells_of-requires c = framed_in c.args.run.now c.scope_of-scope.result c.scope_of-scope.ensures c.requires.sound
+
+pub returns : goal.returns
+returns c =
+    at_state c.args.run.now c.scope_of-scope.result c.scope_of-scope.ensures
+    (λ st. MatchResult c.cells_of.result (λ cells. map cell_of cells.items
+    ≡ cells_named (setting_of c.args.run.now.setting) st c.args.calls.now.args.now) (λ why. why ≡ stop.NoMemory))
+    c.cells_of.ensures

@@ -1,0 +1,18 @@
+use Rattle.std.proofs.Common.{◌∙◌, sym, ap, ◌∷◌, [], Option, map}
+use Rattle.roopl_semantics.specs.Store.{Value}
+use Rattle.roopl_semantics.specs.Value.{read}
+use Rattle.source_steps.specs.declared.cell.Cell.{Cell as Place}
+use Rattle.source_steps.specs.CellView.{cell_of}
+use Rattle.source_blocks.specs.Runs.{state_in, only_cell}
+use Rattle.source_blocks.proofs.Scoped.{framed_by, slice_is}
+use Rattle.source_statements.proofs.calls.receiver_of.Goals as goal
+
+pub read_cell-value-requires : goal.read_cell-value-requires
+read_cell-value-requires c = framed_by c.args.run.now c.scope_of-scope.result c.scope_of-scope.ensures
+    c.deref.result.now c.deref.ensures.value c.requires.sound
+
+pub returns-in-Some-clause-values : goal.returns-in-Some-clause-values
+returns-in-Some-clause-values c =
+    ap (λ (v : Value). v ∷ []) (c.read_cell-value.ensures ∙ ap (λ st. read st (cell_of c.in-Some.cell))
+    (slice_is c.args.run.now c.scope_of-scope.result c.scope_of-scope.ensures c.deref.result.now c.deref.ensures.value))
+    ∙ sym (ap (λ (o : Option Place). map (read (state_in c.args.run.now)) (only_cell o)) c.in-Some.is)

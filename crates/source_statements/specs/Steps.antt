@@ -1,0 +1,26 @@
+-- Steps of a run, also of one that is turned round: there `new` and `delete` take requests to the
+-- heap back.
+use Rattle.std.specs.Prelude.{◌<◌, ℕ, Bool, true, false, List}
+use Rattle.rpp_tree.specs.Tree.{Statement, Statements, End, Then}
+use Rattle.roopl_semantics.specs.Run.{Run}
+use Rattle.roopl_semantics.specs.Execution.{Setting}
+use Rattle.meaning_machine.specs.Machine.{Config, Open, begun, next}
+use Rattle.meaning_machine.specs.Reversed.{begun_back, back}
+use Rattle.source_statements.specs.Endings.{Falls}
+
+-- a statement that begins, and a step, where the run is turned round or not
+abbrev pub begun_in : Bool → Setting → Config → Statement → Statements → Run Config
+begun_in true setting x s rest = begun_back setting x s rest
+begun_in false setting x s rest = begun setting x s rest
+
+abbrev pub step_in : Bool → Setting → Config → Run Config
+step_in true setting x = back setting x
+step_in false setting x = next setting x
+
+-- a measure falls at a step of a run that is not over
+abbrev pub FallsBehind : Statements → List Open → ℕ → ℕ → Type 0
+FallsBehind End around after first = Falls around after first
+FallsBehind (Then s rest) around after first = after < first
+
+abbrev pub StepFalls : Config → ℕ → ℕ → Type 0
+StepFalls x after first = FallsBehind x.rest x.around after first

@@ -1,0 +1,375 @@
+// A call that begins.
+ghost use Rattle.std.specs.Prelude.{◌≡◌, ◌+◌, ◌<◌, ◌≤◌, ◌^◌, [], ◌∷◌, OnOk, MatchResult, length, map, take, min, None, Some};
+ghost use Rattle.std.specs.Option.{unwrap_or, option_map};
+ghost use Rattle.rpp_tree.specs.Tree.{Whole, Procedure};
+ghost use Rattle.rpp_tree.specs.Views.{procedure_of, optional_lvalue_of};
+ghost use Rattle.class_table.specs.Members.{no_procedure};
+ghost use Rattle.class_table.specs.Classes.{method_named};
+ghost use Rattle.roopl_semantics.specs.Value.{read, cell_named};
+ghost use Rattle.roopl_semantics.specs.Execution.{in_direction, cells_named, class_of, moved_out, bound};
+ghost use Rattle.meaning_machine.specs.Machine.{called, entered, held_local};
+ghost use Rattle.source_store.specs.ValueView.{value_of, values_of};
+ghost use Rattle.source_steps.specs.CellView.{cell_of};
+ghost use Rattle.source_steps.specs.Metered.{Gives, metered};
+ghost use Rattle.source_steps.specs.StateView.{setting_of};
+ghost use Rattle.source_blocks.specs.Blocks.{count_of};
+ghost use Rattle.source_blocks.specs.Tasks.{task_of};
+ghost use Rattle.source_blocks.specs.Opens.{cells_in, values_in, part_of, IsCaller};
+ghost use Rattle.source_blocks.specs.Runs.{IsSound, config_of, state_in, here_in, rest_in, only_cell};
+
+use crate::begins::open_local;
+use crate::methods::{begin, called, cost_of, is_deep, method_of};
+use rpp_tree::text::Text;
+use rpp_tree::tree::{Ident, Method, Place, Var};
+use source_blocks::{
+    Caller, Calls, Closing, Local, Part, Receiver, Run, Task, open_block, scope_of,
+};
+use source_steps::{
+    Cell, Stop, cell_of_name, cells_of, move_out, read_cell, read_cells, refuse, spend,
+};
+use source_store::Value;
+use std::mem::replace;
+use std::slice::from_ref;
+
+/// What the body of a method is, in the direction of its call: nothing where there is no method.
+fn task_for<'a>(method: Option<&'a Method>, back: bool) -> Task<'a>
+    ensures { task_of result ≡ in_direction back
+        (unwrap_or (option_map (λ method. procedure_of method.now) method.entry) no_procedure).body }
+{
+    match method {
+        None => Task::Nothing,
+        Some(method) => Task::Text {
+            block: &method.body,
+            back,
+        },
+    }
+}
+
+/// The variables of a method that begins with these values: as many as both have.
+fn params_for<'a>(method: Option<&'a Method>, inside: &mut Vec<Value>) -> &'a [Var]
+    ensures params { result.now
+        ≡ take (min (length (unwrap_or (option_map (λ method. procedure_of method.now)
+        method.entry) no_procedure).params) (length inside.old.items))
+        (unwrap_or (option_map (λ method. procedure_of method.now) method.entry)
+        no_procedure).params }
+    ensures values { inside.new.items
+        ≡ take (min (length (unwrap_or (option_map (λ method. procedure_of method.now)
+        method.entry) no_procedure).params) (length inside.old.items)) inside.old.items }
+{
+    match method {
+        None => {
+            inside.truncate(0);
+            &[]
+        }
+        Some(method) => begin(inside, method),
+    }
+}
+
+/// The receiver of a call with its value, where it is a variable or a field.
+fn receiver_of(run: &Run, cell: Option<Cell>) -> Option<Receiver>
+    requires sound { IsSound run.now }
+    ensures cells { cells_in result ≡ only_cell cell }
+    ensures values { values_in result ≡ map (read (state_in run.now)) (only_cell cell) }
+{
+    match cell {
+        None => None,
+        Some(cell) => {
+            let scope = scope_of(&run.locals, run.params);
+            let value = read_cell(&run.setting, &scope, &run.heap, &run.values, cell);
+            Some(Receiver { cell, value })
+        }
+    }
+}
+
+/// The values of these cells move away.
+fn empty(run: &mut Run, cells: &[Cell])
+    requires sound { IsSound run.old }
+    ensures moved { state_in run.new ≡ moved_out (map cell_of cells.now) (state_in run.old) }
+    ensures sound { IsSound run.new }
+    ensures same { run.new ≡ record run.old { heap = run.new.heap; values = run.new.values } }
+{
+    let scope = scope_of(&run.locals, run.params);
+    move_out(&run.setting, &scope, &mut run.heap, &mut run.values, cells);
+}
+
+/// A cell alone.
+pub fn alone(cell: &Cell) -> &[Cell]
+    ensures cell { map cell_of result.now ≡ cell_of cell.now ∷ [] }
+    ensures one { length result.now ≡ 1 }
+{
+    from_ref(cell)
+}
+
+/// The values of a receiver and of arguments move away.
+fn move_in(run: &mut Run, receiver: &Option<Receiver>, args: &Vec<Cell>)
+    requires sound { IsSound run.old }
+    ensures moved { state_in run.new ≡ moved_out (map cell_of args.now.items)
+        (moved_out (cells_in receiver.now) (state_in run.old)) }
+    ensures sound { IsSound run.new }
+    ensures same { run.new ≡ record run.old { heap = run.new.heap; values = run.new.values } }
+{
+    match receiver {
+        None => empty(run, args),
+        Some(receiver) => {
+            empty(run, alone(&receiver.cell));
+            empty(run, args);
+        }
+    }
+}
+
+/// A method is open on an object, with its variables; what was open is its caller.
+fn become_callee<'a>(
+    run: &mut Run<'a>,
+    object: u32,
+    params: &'a [Var],
+    inside: Vec<Value>,
+    receiver: Option<Receiver>,
+    args: Vec<Cell>,
+) -> Caller<'a>
+    requires sound { IsSound run.old }
+    requires shallow { run.old.setting.depth < (setting_of run.old.setting).limits.deep }
+    requires each { length inside.items ≡ length params.now }
+    ensures caller { result ≡ record {
+      params = run.old.params;
+      locals = run.old.locals;
+      values = run.old.values;
+      object = run.old.setting.object;
+      depth = run.old.setting.depth;
+      receiver = receiver;
+      args = args;
+    } }
+    ensures bare { run.new.locals.items ≡ [] }
+    ensures params { run.new.params.now ≡ params.now }
+    ensures values { run.new.values.items ≡ inside.items }
+    ensures callee { run.new ≡ record run.old {
+      setting = record run.old.setting { object = object; depth = 1 + run.old.setting.depth };
+      params = run.new.params;
+      locals = run.new.locals;
+      values = run.new.values;
+    } }
+{
+    let setting = called(&run.setting, object);
+    let locals = replace(&mut run.locals, Vec::new(setting.alloc));
+    let values = replace(&mut run.values, inside);
+    let caller = Caller {
+        params: run.params,
+        locals,
+        values,
+        object: run.setting.object,
+        depth: run.setting.depth,
+        receiver,
+        args,
+    };
+    run.params = params;
+    run.setting = setting;
+    caller
+}
+
+/// A method begins on an object.
+fn enter<'a>(
+    run: &mut Run<'a>,
+    object: u32,
+    cell: Option<Cell>,
+    calls: &Calls<'a>,
+) -> Result<(), Stop>
+    requires sound { IsSound run.old }
+    requires within { run.old.at < count_of (task_of run.old.task) }
+    requires shallow { run.old.setting.depth < (setting_of run.old.setting).limits.deep }
+    ensures entered { MatchResult result (λ u. config_of run.new
+        ≡ entered (setting_of run.old.setting) (config_of run.old) (here_in run.old)
+        (rest_in run.old) calls.now.back
+        (method_named (setting_of run.old.setting).program
+        (class_of (setting_of run.old.setting) (state_in run.old) object) calls.now.method.now.text)
+        object (only_cell cell)
+        (cells_named (setting_of run.old.setting) (state_in run.old) calls.now.args.now))
+        (λ why. why ≡ Stop.NoMemory) }
+    ensures sound { OnOk result (IsSound run.new) }
+    ensures opens { OnOk result (length run.new.frames.items ≤ 1 + length run.old.frames.items) }
+    ensures setting { setting_of run.new.setting ≡ setting_of run.old.setting }
+{
+    match cells_in_order(run, calls) {
+        Err(why) => Err(why),
+        Ok(args) => match values_in_order(run, &args) {
+            Err(why) => Err(why),
+            Ok(inside) => enter_with(run, object, cell, calls, args, inside),
+        },
+    }
+}
+
+/// A method begins on an object, with these values of its arguments' cells.
+fn enter_with<'a>(
+    run: &mut Run<'a>,
+    object: u32,
+    cell: Option<Cell>,
+    calls: &Calls<'a>,
+    args: Vec<Cell>,
+    inside: Vec<Value>,
+) -> Result<(), Stop>
+    requires sound { IsSound run.old }
+    requires within { run.old.at < count_of (task_of run.old.task) }
+    requires shallow { run.old.setting.depth < (setting_of run.old.setting).limits.deep }
+    requires cells { map cell_of args.items
+        ≡ cells_named (setting_of run.old.setting) (state_in run.old) calls.now.args.now }
+    requires held { values_of inside.items
+        ≡ map (read (state_in run.old)) (map cell_of args.items) }
+    ensures entered { MatchResult result (λ u. config_of run.new
+        ≡ entered (setting_of run.old.setting) (config_of run.old) (here_in run.old)
+        (rest_in run.old) calls.now.back
+        (method_named (setting_of run.old.setting).program
+        (class_of (setting_of run.old.setting) (state_in run.old) object) calls.now.method.now.text)
+        object (only_cell cell)
+        (cells_named (setting_of run.old.setting) (state_in run.old) calls.now.args.now))
+        (λ why. why ≡ Stop.NoMemory) }
+    ensures sound { OnOk result (IsSound run.new) }
+    ensures opens { OnOk result (length run.new.frames.items ≤ 1 + length run.old.frames.items) }
+    ensures setting { setting_of run.new.setting ≡ setting_of run.old.setting }
+{
+    let class = run.heap.class_of(object);
+    let method = method_of(&run.setting, class, &calls.method.text);
+    let receiver = receiver_of(run, cell);
+    move_in(run, &receiver, &args);
+    let mut kept = inside;
+    let params = params_for(method, &mut kept);
+    let caller = become_callee(run, object, params, kept, receiver, args);
+    let task = task_for(method, calls.back);
+    open_block(run, Part::Calling(caller), task)
+}
+
+/// The cells of a call's arguments.
+fn cells_in_order(run: &Run, calls: &Calls) -> Result<Vec<Cell>, Stop>
+    requires sound { IsSound run.now }
+    ensures { MatchResult result (λ cells. map cell_of cells.items
+        ≡ cells_named (setting_of run.now.setting) (state_in run.now) calls.now.args.now)
+        (λ why. why ≡ Stop.NoMemory) }
+{
+    let scope = scope_of(&run.locals, run.params);
+    cells_of(&run.setting, &scope, &run.heap, &run.values, calls.args)
+}
+
+/// What these cells hold.
+fn values_in_order(run: &Run, cells: &Vec<Cell>) -> Result<Vec<Value>, Stop>
+    requires sound { IsSound run.now }
+    ensures { MatchResult result (λ values. values_of values.items
+        ≡ map (read (state_in run.now)) (map cell_of cells.now.items)) (λ why. why ≡ Stop.NoMemory) }
+{
+    let scope = scope_of(&run.locals, run.params);
+    match read_cells(
+        run.setting.alloc,
+        &run.setting,
+        &scope,
+        &run.heap,
+        &run.values,
+        cells,
+    ) {
+        Ok(values) => Ok(values),
+        Err(_full) => Err(Stop::NoMemory),
+    }
+}
+
+/// A call of a method of the present object begins.
+fn call_own<'a>(run: &mut Run<'a>, fuel: &mut u64, calls: &Calls<'a>) -> Result<(), Stop>
+    requires sound { IsSound run.old }
+    requires within { run.old.at < count_of (task_of run.old.task) }
+    ensures gives { Gives (λ u. config_of run.new) result fuel.new
+        (metered fuel.old (called (setting_of run.old.setting) (config_of run.old)
+        (here_in run.old) (rest_in run.old) calls.now.at calls.now.back None calls.now.method.now
+        calls.now.args.now)) }
+    ensures sound { OnOk result (IsSound run.new) }
+    ensures opens { OnOk result (length run.new.frames.items ≤ 1 + length run.old.frames.items) }
+    ensures setting { setting_of run.new.setting ≡ setting_of run.old.setting }
+    ensures less { fuel.new ≤ fuel.old }
+{
+    let deep = is_deep(&run.setting);
+    match spend(fuel, cost_of(calls.args)) {
+        Err(why) => Err(why),
+        Ok(()) => match refuse(fuel, 14, deep) {
+            Err(why) => Err(why),
+            Ok(()) => enter(run, run.setting.object, None, calls),
+        },
+    }
+}
+
+/// A call of a method of what a variable or field refers to begins.
+pub fn call_on<'a>(
+    run: &mut Run<'a>,
+    fuel: &mut u64,
+    name: &Ident,
+    calls: &Calls<'a>,
+) -> Result<(), Stop>
+    requires sound { IsSound run.old }
+    requires within { run.old.at < count_of (task_of run.old.task) }
+    ensures gives { Gives (λ u. config_of run.new) result fuel.new
+        (metered fuel.old (called (setting_of run.old.setting) (config_of run.old)
+        (here_in run.old) (rest_in run.old) calls.now.at calls.now.back (Some (Whole name.now))
+        calls.now.method.now calls.now.args.now)) }
+    ensures sound { OnOk result (IsSound run.new) }
+    ensures opens { OnOk result (length run.new.frames.items ≤ 1 + length run.old.frames.items) }
+    ensures setting { setting_of run.new.setting ≡ setting_of run.old.setting }
+    ensures less { fuel.new ≤ fuel.old }
+{
+    let deep = is_deep(&run.setting);
+    let (cell, value) = named(run, &name.text);
+    match spend(fuel, cost_of(calls.args)) {
+        Err(why) => Err(why),
+        Ok(()) => match refuse(fuel, 5, value.is_nil()) {
+            Err(why) => Err(why),
+            Ok(()) => match refuse(fuel, 14, deep) {
+                Err(why) => Err(why),
+                Ok(()) => enter(run, value.number(), Some(cell), calls),
+            },
+        },
+    }
+}
+
+/// The cell of a name, and what it holds.
+fn named(run: &Run, name: &Text) -> (Cell, Value)
+    requires sound { IsSound run.now }
+    ensures cell { cell_of result.0 ≡ cell_named (setting_of run.now.setting).program
+        (state_in run.now) name.now }
+    ensures value { value_of result.1 ≡ read (state_in run.now) (cell_named
+        (setting_of run.now.setting).program (state_in run.now) name.now) }
+{
+    let scope = scope_of(&run.locals, run.params);
+    let cell = cell_of_name(&run.setting, &scope, &run.heap, &run.values, name);
+    let value = read_cell(&run.setting, &scope, &run.heap, &run.values, cell);
+    (cell, value)
+}
+
+/// A call begins: on an element, a local variable holds the element meanwhile.
+pub fn call<'a>(
+    run: &mut Run<'a>,
+    fuel: &mut u64,
+    receiver: &'a Option<Place>,
+    calls: &Calls<'a>,
+) -> Result<(), Stop>
+    requires sound { IsSound run.old }
+    requires within { run.old.at < count_of (task_of run.old.task) }
+    ensures gives { Gives (λ u. config_of run.new) result fuel.new
+        (metered fuel.old (called (setting_of run.old.setting) (config_of run.old)
+        (here_in run.old) (rest_in run.old) calls.now.at calls.now.back
+        (optional_lvalue_of receiver.now) calls.now.method.now calls.now.args.now)) }
+    ensures sound { OnOk result (IsSound run.new) }
+    ensures opens { OnOk result (length run.new.frames.items ≤ 1 + length run.old.frames.items) }
+    ensures setting { setting_of run.new.setting ≡ setting_of run.old.setting }
+    ensures less { fuel.new ≤ fuel.old }
+{
+    match receiver {
+        None => call_own(run, fuel, calls),
+        Some(place) => match &place.index {
+            None => call_on(run, fuel, &place.name, calls),
+            Some(_index) => open_local(
+                run,
+                fuel,
+                &Local {
+                    name: &[],
+                    value: Closing::Nil(calls.at),
+                    end_value: Closing::Nil(calls.at),
+                },
+                Task::Exchange {
+                    element: place,
+                    calls: *calls,
+                },
+            ),
+        },
+    }
+}

@@ -1,0 +1,356 @@
+// The end of a block.
+ghost use Rattle.std.specs.Prelude.{◌≡◌, ◌+◌, ◌*◌, ◌<◌, ◌≤◌, ◌^◌, ◌++◌, [], suc, not, if◌then◌else◌, OnOk, OnErr, length, map, reverse};
+ghost use Rattle.rpp_tree.specs.Views.{expression_of};
+ghost use Rattle.roopl_semantics.specs.Value.{Slot, read};
+ghost use Rattle.roopl_semantics.specs.Execution.{closed, moved_back};
+ghost use Rattle.meaning_machine.specs.Machine.{closing};
+ghost use Rattle.source_store.specs.ValueView.{value_of, values_of};
+ghost use Rattle.source_steps.specs.CellView.{cell_of};
+ghost use Rattle.source_steps.specs.Metered.{Gives, metered};
+ghost use Rattle.source_steps.specs.StateView.{setting_of};
+ghost use Rattle.source_blocks.specs.Blocks.{past_at, rest_at, count_of};
+ghost use Rattle.source_blocks.specs.Tasks.{task_of};
+ghost use Rattle.source_blocks.specs.Opens.{open_of, part_of, caller_of, caller_names, cells_in, values_in, HasPart};
+ghost use Rattle.source_blocks.specs.Runs.{IsSound, config_of, state_in};
+ghost use Rattle.source_statements.specs.Endings.{IsEnding, IsInSide, IsInCall, caller_state, HasRoom, Falls};
+
+use rpp_tree::tree::Expr;
+use source_blocks::{
+    Caller, Frame, Local, Loop, Part, Run, Task, close_block, closing_value, scope_of, turn_to,
+    value_in,
+};
+use source_steps::{Cell, Setting, Stop, is_true, read_cell, refuse, return_values};
+use source_store::{Heap, Value};
+use std::slice::from_ref;
+
+/// What a block ends in.
+#[derive(Clone, Copy)]
+pub enum Ending<'a> {
+    /// The run.
+    Over,
+    /// A side of a choice.
+    Chosen {
+        side: bool,
+        test: &'a Expr,
+        after: &'a Expr,
+    },
+    /// The first part of a loop's turn.
+    First(Loop<'a>),
+    /// The second.
+    Again(Loop<'a>),
+    /// A local variable.
+    Holding(Local<'a>),
+    /// A call.
+    Calling,
+}
+
+/// What the block that runs ends in.
+fn block_ending<'a>(frames: &Vec<Frame<'a>>) -> Ending<'a>
+    ensures { IsEnding result (map open_of (reverse frames.now.items)) }
+{
+    match frames.last() {
+        None => Ending::Over,
+        Some(frame) => match &frame.part {
+            Part::Chosen { side, test, after } => Ending::Chosen {
+                side: *side,
+                test,
+                after,
+            },
+            Part::First(turns) => Ending::First(*turns),
+            Part::Again(turns) => Ending::Again(*turns),
+            Part::Holding(local) => Ending::Holding(*local),
+            Part::Calling(_caller) => Ending::Calling,
+        },
+    }
+}
+
+/// Whether a choice that took this side is left with a test that is not that of the side.
+fn differs(side: bool, test: bool) -> bool
+    ensures { result ≡ (if side then not test else test) }
+{
+    if side { !test } else { test }
+}
+
+/// A side of a choice ends.
+fn end_side(run: &mut Run, fuel: &mut u64, side: bool, after: &Expr) -> Result<(), Stop>
+    requires sound { IsSound run.old }
+    requires within { IsInSide (config_of run.old) side (expression_of after.now) }
+    ensures gives { Gives (λ u. config_of run.new) result fuel.new
+        (metered fuel.old (closing (setting_of run.old.setting) (config_of run.old)
+        (config_of run.old).around)) }
+    ensures sound { OnOk result (IsSound run.new) }
+    ensures opens { OnOk result (length run.new.frames.items < length run.old.frames.items) }
+    ensures setting { setting_of run.new.setting ≡ setting_of run.old.setting }
+    ensures less { fuel.new ≤ fuel.old }
+{
+    match value_in(run, fuel, after) {
+        Err(why) => Err(why),
+        Ok(value) => match refuse(fuel, 1, differs(side, is_true(value))) {
+            Err(why) => Err(why),
+            Ok(()) => {
+                close_block(run);
+                Ok(())
+            }
+        },
+    }
+}
+
+/// The first part of a loop's turn ends: the loop is left where its exit holds.
+fn end_first<'a>(run: &mut Run<'a>, fuel: &mut u64, turns: &Loop<'a>) -> Result<(), Stop>
+    requires sound { IsSound run.old }
+    requires within { HasPart (config_of run.old).around (part_of (Part.First turns.now)) }
+    ensures gives { Gives (λ u. config_of run.new) result fuel.new
+        (metered fuel.old (closing (setting_of run.old.setting) (config_of run.old)
+        (config_of run.old).around)) }
+    ensures sound { OnOk result (IsSound run.new) }
+    ensures opens { OnOk result (length run.new.frames.items ≤ length run.old.frames.items) }
+    ensures setting { setting_of run.new.setting ≡ setting_of run.old.setting }
+    ensures some { OnOk result (fuel.new < fuel.old) }
+    ensures less { fuel.new ≤ fuel.old }
+{
+    match value_in(run, fuel, turns.exit) {
+        Err(why) => Err(why),
+        Ok(value) => {
+            if is_true(value) {
+                close_block(run);
+                return Ok(());
+            }
+            let task = Task::Text {
+                block: turns.again,
+                back: turns.back,
+            };
+            turn_to(run, Part::Again(*turns), task)
+        }
+    }
+}
+
+/// The second part of a loop's turn ends: the next turn begins where the entry does not hold.
+fn end_again<'a>(run: &mut Run<'a>, fuel: &mut u64, turns: &Loop<'a>) -> Result<(), Stop>
+    requires sound { IsSound run.old }
+    requires within { HasPart (config_of run.old).around (part_of (Part.Again turns.now)) }
+    ensures gives { Gives (λ u. config_of run.new) result fuel.new
+        (metered fuel.old (closing (setting_of run.old.setting) (config_of run.old)
+        (config_of run.old).around)) }
+    ensures sound { OnOk result (IsSound run.new) }
+    ensures opens { OnOk result (length run.new.frames.items ≤ length run.old.frames.items) }
+    ensures setting { setting_of run.new.setting ≡ setting_of run.old.setting }
+    ensures some { OnOk result (fuel.new < fuel.old) }
+    ensures less { fuel.new ≤ fuel.old }
+{
+    match value_in(run, fuel, turns.entry) {
+        Err(why) => Err(why),
+        Ok(value) => match refuse(fuel, 2, is_true(value)) {
+            Err(why) => Err(why),
+            Ok(()) => {
+                let task = Task::Text {
+                    block: turns.first,
+                    back: turns.back,
+                };
+                turn_to(run, Part::First(*turns), task)
+            }
+        },
+    }
+}
+
+/// The innermost local variable goes.
+fn close_variable(run: &mut Run)
+    requires sound { IsSound run.old }
+    requires local { 0 < length run.old.locals.items }
+    ensures closed { state_in run.new ≡ closed (state_in run.old) }
+    ensures sound { IsSound run.new }
+    ensures same { run.new
+        ≡ record run.old { locals = run.new.locals; values = run.new.values } }
+{
+    run.locals.remove(0);
+    run.values.remove(0);
+}
+
+/// The innermost variable.
+fn innermost(run: &Run) -> Value
+    requires sound { IsSound run.now }
+    ensures { value_of result ≡ read (state_in run.now) (Slot 0) }
+{
+    let scope = scope_of(&run.locals, run.params);
+    read_cell(&run.setting, &scope, &run.heap, &run.values, Cell::Slot(0))
+}
+
+/// The block of a local variable ends: its value is compared with the closing one, and it goes.
+/// Where no local variable is open, that is refused, as want of memory.
+fn end_local(run: &mut Run, fuel: &mut u64, local: &Local) -> Result<(), Stop>
+    requires sound { IsSound run.old }
+    requires within { HasPart (config_of run.old).around (part_of (Part.Holding local.now)) }
+    ensures gives { Gives (λ u. config_of run.new) result fuel.new
+        (metered fuel.old (closing (setting_of run.old.setting) (config_of run.old)
+        (config_of run.old).around)) }
+    ensures sound { OnOk result (IsSound run.new) }
+    ensures opens { OnOk result (length run.new.frames.items < length run.old.frames.items) }
+    ensures setting { setting_of run.new.setting ≡ setting_of run.old.setting }
+    ensures less { fuel.new ≤ fuel.old }
+{
+    match closing_value(run, fuel, &local.end_value) {
+        Err(why) => Err(why),
+        Ok(last) => match refuse(fuel, 3, !innermost(run).same(last)) {
+            Err(why) => Err(why),
+            Ok(()) => {
+                if run.locals.is_empty() {
+                    return Err(Stop::NoMemory);
+                }
+                close_variable(run);
+                close_block(run);
+                Ok(())
+            }
+        },
+    }
+}
+
+/// The values of a receiver and of the arguments move back to a caller. Where one finds its cell
+/// written, all stays.
+fn give_back(
+    setting: &Setting,
+    heap: &mut Heap,
+    fuel: &mut u64,
+    caller: &mut Caller,
+    inside: &[Value],
+) -> Result<(), Stop>
+    requires room { HasRoom setting.now caller.old heap.old }
+    ensures gives { Gives (λ u. caller_state setting.now caller.new heap.new) result fuel.new
+        (metered fuel.old (moved_back (cells_in caller.old.receiver ++ map cell_of
+        caller.old.args.items) (values_in caller.old.receiver ++ values_of inside.now)
+        (caller_state setting.now caller.old heap.old))) }
+    ensures stays { OnErr result (caller_state setting.now caller.new heap.new
+        ≡ caller_state setting.now caller.old heap.old) }
+    ensures room { HasRoom setting.now caller.new heap.new }
+    ensures same { caller.new ≡ record caller.old { values = caller.new.values } }
+    ensures fuel { fuel.new ≡ fuel.old }
+{
+    let scope = scope_of(&caller.locals, caller.params);
+    let values = &mut caller.values;
+    match &caller.receiver {
+        None => return_values(
+            setting,
+            &scope,
+            heap,
+            values,
+            fuel,
+            &[],
+            &caller.args,
+            &[],
+            inside,
+        ),
+        Some(receiver) => return_values(
+            setting,
+            &scope,
+            heap,
+            values,
+            fuel,
+            from_ref(&receiver.cell),
+            &caller.args,
+            from_ref(&receiver.value),
+            inside,
+        ),
+    }
+}
+
+/// A method is past: what its caller stood in is open again.
+fn become_caller<'a>(run: &mut Run<'a>, task: Task<'a>, at: usize, caller: Caller<'a>)
+    requires within { at < count_of (task_of task) }
+    requires sound { IsSound run.old }
+    requires each { length caller.values.items ≡ length (caller_names caller) }
+    ensures state { state_in run.new ≡ record {
+      frame = (caller_of caller.entry).frame;
+      self = caller.entry.object;
+      depth = caller.entry.depth;
+      store = run.old.heap.store;
+      log = run.old.heap.log;
+    } }
+    ensures place { config_of run.new ≡ record {
+      past = past_at (suc at) (task_of task.entry);
+      rest = rest_at (suc at) (task_of task.entry);
+      params = length caller.entry.params.now;
+      state = state_in run.new;
+      around = (config_of run.old).around;
+    } }
+    ensures sound { IsSound run.new }
+    ensures frames { run.new.frames ≡ run.old.frames }
+    ensures setting { setting_of run.new.setting ≡ setting_of run.old.setting }
+{
+    run.setting = caller_setting(&run.setting, &caller);
+    run.params = caller.params;
+    run.locals = caller.locals;
+    run.values = caller.values;
+    run.task = task;
+    run.at = at + 1;
+}
+
+/// What a caller stands in.
+fn caller_setting<'a>(setting: &Setting<'a>, caller: &Caller) -> Setting<'a>
+    ensures { result ≡ record setting.now {
+      object = caller.now.object;
+      depth = caller.now.depth;
+    } }
+{
+    Setting {
+        alloc: setting.alloc,
+        checked: setting.checked,
+        limits: setting.limits,
+        object: caller.object,
+        depth: caller.depth,
+    }
+}
+
+/// A method ends: the values move back, and its caller goes on.
+fn end_call(run: &mut Run, fuel: &mut u64) -> Result<(), Stop>
+    requires sound { IsSound run.old }
+    requires within { IsInCall (config_of run.old).around }
+    ensures gives { Gives (λ u. config_of run.new) result fuel.new
+        (metered fuel.old (closing (setting_of run.old.setting) (config_of run.old)
+        (config_of run.old).around)) }
+    ensures sound { OnOk result (IsSound run.new) }
+    ensures opens { OnOk result (length run.new.frames.items < length run.old.frames.items) }
+    ensures setting { setting_of run.new.setting ≡ setting_of run.old.setting }
+    ensures less { fuel.new ≤ fuel.old }
+{
+    match run.frames.pop() {
+        None => Ok(()),
+        Some(Frame { task, at, part }) => match part {
+            Part::Calling(mut caller) => {
+                let setting = caller_setting(&run.setting, &caller);
+                match give_back(&setting, &mut run.heap, fuel, &mut caller, &run.values) {
+                    Ok(()) => {
+                        become_caller(run, task, at, caller);
+                        Ok(())
+                    }
+                    Err(why) => Err(why),
+                }
+            }
+            _ => Ok(()),
+        },
+    }
+}
+
+/// The block that runs ends.
+pub fn end(run: &mut Run, fuel: &mut u64) -> Result<(), Stop>
+    requires sound { IsSound run.old }
+    ensures gives { Gives (λ u. config_of run.new) result fuel.new
+        (metered fuel.old (closing (setting_of run.old.setting) (config_of run.old)
+        (config_of run.old).around)) }
+    ensures sound { OnOk result (IsSound run.new) }
+    ensures falls { OnOk result (Falls (config_of run.old).around
+        (2 * fuel.new + length run.new.frames.items)
+        (2 * fuel.old + length run.old.frames.items)) }
+    ensures setting { setting_of run.new.setting ≡ setting_of run.old.setting }
+    ensures less { fuel.new ≤ fuel.old }
+{
+    match block_ending(&run.frames) {
+        Ending::Over => Ok(()),
+        Ending::Chosen {
+            side,
+            test: _test,
+            after,
+        } => end_side(run, fuel, side, after),
+        Ending::First(turns) => end_first(run, fuel, &turns),
+        Ending::Again(turns) => end_again(run, fuel, &turns),
+        Ending::Holding(local) => end_local(run, fuel, &local),
+        Ending::Calling => end_call(run, fuel),
+    }
+}

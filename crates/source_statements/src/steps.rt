@@ -1,0 +1,87 @@
+// A step of a run: a statement of the block that runs begins, or the block ends.
+ghost use Rattle.std.specs.Prelude.{◌≡◌, ◌+◌, ◌*◌, ◌<◌, ◌≤◌, OnOk, length, true};
+ghost use Rattle.source_steps.specs.Metered.{Gives, metered};
+ghost use Rattle.source_steps.specs.StateView.{setting_of};
+ghost use Rattle.source_blocks.specs.Blocks.{count_of};
+ghost use Rattle.source_blocks.specs.Tasks.{task_of, line_of};
+ghost use Rattle.source_blocks.specs.Requests.{is_request as asks};
+ghost use Rattle.source_blocks.specs.Runs.{IsSound, config_of, here_in, rest_in};
+ghost use Rattle.source_statements.specs.Steps.{StepFalls, begun_in, step_in};
+
+use crate::begins::begin;
+use crate::ends::end;
+use source_blocks::{Line, Run, is_request, line_at, pass, take_line_back};
+use source_steps::{Stop, spend};
+
+/// A `new` or `delete` begins where the run is turned round, and is past.
+fn begin_request(run: &mut Run, fuel: &mut u64, line: &Line) -> Result<(), Stop>
+    requires sound { IsSound run.old }
+    requires within { run.old.at < count_of (task_of run.old.task) }
+    requires here { here_in run.old ≡ line_of line.now }
+    requires asks { asks (line_of line.now) ≡ true }
+    ensures gives { Gives (λ u. config_of run.new) result fuel.new
+        (metered fuel.old (begun_in true (setting_of run.old.setting) (config_of run.old)
+        (here_in run.old) (rest_in run.old))) }
+    ensures sound { OnOk result (IsSound run.new) }
+    ensures opens { OnOk result (length run.new.frames.items ≤ 1 + length run.old.frames.items) }
+    ensures setting { setting_of run.new.setting ≡ setting_of run.old.setting }
+    ensures less { fuel.new ≤ fuel.old }
+{
+    match take_line_back(run, fuel, line) {
+        Err(why) => Err(why),
+        Ok(()) => {
+            pass(run);
+            Ok(())
+        }
+    }
+}
+
+/// A statement of the block that runs begins, where the run is turned round or not.
+fn begin_line<'a>(
+    run: &mut Run<'a>,
+    fuel: &mut u64,
+    line: &Line<'a>,
+    back: bool,
+) -> Result<(), Stop>
+    requires sound { IsSound run.old }
+    requires within { run.old.at < count_of (task_of run.old.task) }
+    requires here { here_in run.old ≡ line_of line.now }
+    ensures gives { Gives (λ u. config_of run.new) result fuel.new
+        (metered fuel.old (begun_in back (setting_of run.old.setting) (config_of run.old)
+        (here_in run.old) (rest_in run.old))) }
+    ensures sound { OnOk result (IsSound run.new) }
+    ensures opens { OnOk result (length run.new.frames.items ≤ 1 + length run.old.frames.items) }
+    ensures setting { setting_of run.new.setting ≡ setting_of run.old.setting }
+    ensures less { fuel.new ≤ fuel.old }
+{
+    if !back {
+        return begin(run, fuel, line);
+    }
+    if is_request(line) {
+        return begin_request(run, fuel, line);
+    }
+    begin(run, fuel, line)
+}
+
+/// A step of a run, turned round or not.
+pub fn step<'a>(run: &mut Run<'a>, fuel: &mut u64, back: bool) -> Result<(), Stop>
+    requires sound { IsSound run.old }
+    ensures gives { Gives (λ u. config_of run.new) result fuel.new
+        (metered fuel.old (step_in back (setting_of run.old.setting) (config_of run.old))) }
+    ensures sound { OnOk result (IsSound run.new) }
+    ensures falls { OnOk result (StepFalls (config_of run.old)
+        (2 * fuel.new + length run.new.frames.items)
+        (2 * fuel.old + length run.old.frames.items)) }
+    ensures setting { setting_of run.new.setting ≡ setting_of run.old.setting }
+    ensures less { fuel.new ≤ fuel.old }
+{
+    match line_at(&run.task, run.at) {
+        None => end(run, fuel),
+        Some(line) => {
+            match spend(fuel, 1) {
+                Err(why) => Err(why),
+                Ok(()) => begin_line(run, fuel, &line, back),
+            }
+        }
+    }
+}
